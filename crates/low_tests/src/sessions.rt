@@ -4,11 +4,11 @@ ghost use Rattle.std.specs.Prelude.{◌≡◌};
 use crate::checks::{is_line, is_printed};
 use made::{id, key, shard, stamp};
 use message::{Answer, Done, Envelope, Outbox, ReadAnswer};
-use session::{Closing, Finished, Heard, Open, Phase, Tx};
+use session::{Closed, Closing, Finished, Heard, Ongoing, Open, Tx};
 use std::alloc::Global;
 use texts::Text;
 use tickets::{Drawer, Tickets};
-use units::{Epoch, Fault, Key, Run, Splits, Value};
+use units::{Epoch, Fault, Key, Run, Splits, Stamp, Value};
 
 // What transaction 1.2 does while it is open, with keys of one letter.
 enum Does {
@@ -17,6 +17,14 @@ enum Does {
     Erase(u8),
     // It hears the answer of shard 1 for a key, in an epoch.
     Hears(u8, u64, &'static [u8]),
+}
+
+// What it does behind its closing: it is given up; it hears its end; or it is given up and asks once more, and then hears its end, at a
+// timestamp or aborted.
+enum Then {
+    GivesUp,
+    Hears,
+    Quits(Option<u64>),
 }
 
 struct Story {
@@ -28,17 +36,17 @@ struct Story {
     refused: &'static str,
     // What it says when it is given up then, unless it hears its end.
     farewells: &'static [&'static str],
-    hears: bool,
+    then: Then,
 }
 
-static STORIES: [Story; 5] = [
+static STORIES: [Story; 7] = [
     Story {
         name: "nothing is not closed, and is given up",
         does: &[],
         closing: &[],
         refused: "7 BadRequest(nothing)",
         farewells: &[],
-        hears: false,
+        then: Then::GivesUp,
     },
     Story {
         name: "two shards are written",
@@ -53,7 +61,7 @@ static STORIES: [Story; 5] = [
         ],
         refused: "",
         farewells: &["shard 0 giveup 1.2", "shard 1 giveup 1.2"],
-        hears: false,
+        then: Then::GivesUp,
     },
     Story {
         name: "a read is answered once",
@@ -67,7 +75,7 @@ static STORIES: [Story; 5] = [
         closing: &["shard 1 commit 1.2 1 1 z -"],
         refused: "",
         farewells: &["shard 1 giveup 1.2"],
-        hears: false,
+        then: Then::GivesUp,
     },
     Story {
         name: "a second epoch dooms",
@@ -81,7 +89,7 @@ static STORIES: [Story; 5] = [
         closing: &[],
         refused: "7 BadRequest(doomed)",
         farewells: &["shard 1 giveup 1.2"],
-        hears: false,
+        then: Then::GivesUp,
     },
     Story {
         name: "it takes its own end, and no other",
@@ -89,7 +97,37 @@ static STORIES: [Story; 5] = [
         closing: &["shard 0 commit 1.2 0 0 - a!"],
         refused: "",
         farewells: &[],
-        hears: true,
+        then: Then::Hears,
+    },
+    Story {
+        name: "given up, it asks once more, and was committed",
+        does: &[
+            (Does::Write(b'z', b"2"), "done"),
+            (Does::Write(b'a', b"1"), "done"),
+        ],
+        closing: &[
+            "shard 0 commit 1.2 0,1 0 - a=1",
+            "shard 1 prepare 1.2 0 0 - z=2",
+        ],
+        refused: "",
+        farewells: &[
+            "shard 0 giveup 1.2",
+            "shard 1 giveup 1.2",
+            "shard 0 commit 1.2 0,1 0 - a=1",
+            "shard 1 prepare 1.2 0 0 - z=2",
+        ],
+        then: Then::Quits(Some(200)),
+    },
+    Story {
+        name: "given up, it asks once more, and is aborted",
+        does: &[
+            (Does::Read(b'z'), "shard 1 read 1.2 z"),
+            (Does::Hears(b'z', 1, b"2"), "=2"),
+        ],
+        closing: &["shard 1 commit 1.2 1 1 z -"],
+        refused: "",
+        farewells: &["shard 1 giveup 1.2", "shard 1 commit 1.2 1 1 z -"],
+        then: Then::Quits(None),
     },
 ];
 
@@ -176,7 +214,7 @@ fn goes_on(tx: &mut Tx<'_, Open>, alloc: Global, does: &[(Does, &str)]) -> bool 
     went
 }
 
-fn gives_up<S: Phase>(tx: Tx<'_, S>, alloc: Global, lines: &[&str]) -> bool {
+fn gives_up<S: Ongoing>(tx: Tx<'_, S>, alloc: Global, lines: &[&str]) -> bool {
     match tx.give_up(alloc) {
         Ok(out) => says(alloc, out, lines),
         Err((_, tx)) => {
@@ -186,10 +224,13 @@ fn gives_up<S: Phase>(tx: Tx<'_, S>, alloc: Global, lines: &[&str]) -> bool {
     }
 }
 
-fn takes_its_end(tx: Tx<'_, Closing>) -> bool {
-    let (txn, outcome) = (id(2), Some(stamp(200)));
-    match tx.take(&Done::said(txn, outcome)) {
-        Ok(finished) => finished == Finished::Committed(stamp(200)),
+// It says so as it quits and as it asks once more, and takes its end then.
+fn quits(tx: Tx<'_, Closing>, alloc: Global, story: &Story, outcome: Option<Stamp>) -> bool {
+    match tx.quit(alloc) {
+        Ok((tx, out)) => {
+            let said = says(alloc, out, story.farewells) && says_again(&tx, alloc, story.closing);
+            takes_no_other(tx, outcome) && said
+        }
         Err((_, tx)) => {
             tx.spend();
             false
@@ -197,18 +238,39 @@ fn takes_its_end(tx: Tx<'_, Closing>) -> bool {
     }
 }
 
-fn takes_no_other(tx: Tx<'_, Closing>) -> bool {
-    let (txn, outcome) = (id(3), None);
+fn takes_its_end<S: Closed>(tx: Tx<'_, S>, outcome: Option<Stamp>) -> bool {
+    let txn = id(2);
     match tx.take(&Done::said(txn, outcome)) {
-        Ok(_) => false,
-        Err((fault, tx)) => takes_its_end(tx) && fault == Fault::Stranger,
+        Ok(Finished::Committed(at)) => outcome == Some(at),
+        Ok(Finished::Aborted) => outcome == None,
+        Err((_, tx)) => {
+            tx.spend();
+            false
+        }
     }
 }
 
-fn says_again(tx: &Tx<'_, Closing>, alloc: Global, lines: &[&str]) -> bool {
+fn takes_no_other<S: Closed>(tx: Tx<'_, S>, outcome: Option<Stamp>) -> bool {
+    let txn = id(3);
+    match tx.take(&Done::said(txn, outcome)) {
+        Ok(_) => false,
+        Err((fault, tx)) => takes_its_end(tx, outcome) && fault == Fault::Stranger,
+    }
+}
+
+fn says_again<S: Closed>(tx: &Tx<'_, S>, alloc: Global, lines: &[&str]) -> bool {
     match tx.again(alloc) {
         Ok(out) => says(alloc, out, lines),
         Err(_) => false,
+    }
+}
+
+fn goes_on_closed(tx: Tx<'_, Closing>, alloc: Global, story: &Story) -> bool {
+    match story.then {
+        Then::GivesUp => gives_up(tx, alloc, story.farewells),
+        Then::Hears => takes_no_other(tx, Some(stamp(200))),
+        Then::Quits(None) => quits(tx, alloc, story, None),
+        Then::Quits(Some(at)) => quits(tx, alloc, story, Some(stamp(at))),
     }
 }
 
@@ -216,11 +278,7 @@ fn closes(tx: Tx<'_, Open>, alloc: Global, story: &Story) -> bool {
     match tx.close(alloc) {
         Ok((tx, out)) => {
             let said = says(alloc, out, story.closing) && says_again(&tx, alloc, story.closing);
-            if story.hears {
-                takes_no_other(tx) && said
-            } else {
-                gives_up(tx, alloc, story.farewells) && said
-            }
+            goes_on_closed(tx, alloc, story) && said
         }
         Err((fault, tx)) => {
             gives_up(tx, alloc, story.farewells) && is_printed(alloc, &fault, story.refused)

@@ -1,13 +1,14 @@
 //! A transaction closes, gives up, and hears its end.
-ghost use Rattle.std.specs.Prelude.{◌≡◌, [], ◌++◌, map, true, false, not, ◌&&◌, MatchResult, IfOk, IfErr, IfNone, IfSome, option_to_list};
+ghost use Rattle.std.specs.Prelude.{◌≡◌, List, [], ◌++◌, map, true, false, not, ◌&&◌, MatchResult, IfOk, IfErr, IfNone, IfSome, option_to_list};
 ghost use Rattle.units.specs.Ids.{same_id};
 ghost use Rattle.units.specs.Keys.{shard_of};
 ghost use Rattle.units.specs.Lists.{once, sorted};
+ghost use Rattle.message.specs.declared.message.Envelope.{Envelope};
 ghost use Rattle.session.specs.Sessions.{asked_keys, is_none, IsClosing, IsOver, Goes, closes, closing_messages, gives_up, shards_told, asked_shards};
 ghost use Rattle.session.specs.Shown.{IsDenied, finished_as, give_up_to, is_closing};
 
 use crate::request::{Request, push_asked, push_taken};
-use crate::{Closing, Finished, Open, Phase, Tx};
+use crate::{Closed, Closing, Finished, Ongoing, Open, Phase, Quitting, Tx};
 use message::{Address, Done, Envelope, GiveUp, Message, Outbox};
 use std::alloc::Global;
 use std::marker::PhantomData;
@@ -24,7 +25,7 @@ impl<'s> Tx<'s, Open> {
             (λ r. (r.1 ≡ self.entry) × IsDenied (closes self.entry.splits self.entry.client) r.0) }
     {
         match self.requests(alloc) {
-            Ok(out) => Ok((self.into_closing(), out)),
+            Ok(out) => Ok((self.into_phase(), out)),
             Err(fault) => Err((fault, self)),
         }
     }
@@ -62,34 +63,52 @@ impl<'s> Tx<'s, Open> {
     {
         !self.awaited.is_empty()
     }
+}
 
-    // The same transaction, closing.
-    fn into_closing(self) -> Tx<'s, Closing>
-        ensures splits { result.splits ≡ self.entry.splits }
-        ensures client { result.client ≡ record self.entry.client { stage = IsClosing } }
+impl<'s> Tx<'s, Closing> {
+    /// Gives the transaction up, and asks once more how it ended. Each shard that takes part is told, by shard, and behind that come the
+    /// messages of the closing, the same as before. The shard that decides aborts what it does not know any more, and says so; or it says
+    /// that the transaction was committed, and when. Either can be taken then.
+    #[tactic(auto, unfolding(crate::specs::Sessions::gives_up))]
+    pub fn quit(self, alloc: Global) -> Result<(Tx<'s, Quitting>, Outbox), (Fault, Tx<'s, Closing>)>
+        ensures splits { IfOk result (λ r. r.0.splits ≡ self.entry.splits) }
+        ensures step { MatchResult result
+            (λ r. (told : List Envelope)
+            × (gives_up self.entry.splits self.entry.client ≡ Goes r.0.client told)
+            × (r.1 ≡ told ++ closing_messages self.entry.splits self.entry.client))
+            (λ r. (r.1 ≡ self.entry) × (r.0 ≡ Fault.Memory)) }
     {
-        let Tx {
-            splits,
-            txn,
-            doom,
-            taken,
-            awaited,
-            writes,
-            phase: _,
-        } = self;
-        Tx {
-            splits,
-            txn,
-            doom,
-            taken,
-            awaited,
-            writes,
-            phase: PhantomData,
+        match self.partings(alloc) {
+            Ok(out) => Ok((self.into_phase(), out)),
+            Err(fault) => Err((fault, self)),
+        }
+    }
+
+    // What the shards are told, and behind that the messages of the closing.
+    fn partings(&self, alloc: Global) -> Result<Outbox, Fault>
+        ensures same { IfOk result
+            (λ out. out ≡ map (give_up_to self.now.client.txn)
+            (shards_told self.now.splits self.now.client)
+            ++ closing_messages self.now.splits self.now.client) }
+        ensures memory { IfErr result (λ fault. fault ≡ Fault.Memory) }
+    {
+        let farewells = self.farewells(alloc)?;
+        let mut envelopes = farewells.into_vec();
+        match self.again(alloc) {
+            Ok(closing) => {
+                let mut closing = closing.into_vec();
+                envelopes.append(&mut closing)?;
+                Ok(Outbox::from_vec(envelopes))
+            }
+            Err(fault) => {
+                drop(envelopes);
+                Err(fault)
+            }
         }
     }
 }
 
-impl<'s> Tx<'s, Closing> {
+impl<'s, S: Closed> Tx<'s, S> {
     /// The messages of the closing once more, the same each time.
     pub fn again(&self, alloc: Global) -> Result<Outbox, Fault>
         ensures same { IfOk result (λ out. out ≡ closing_messages self.now.splits self.now.client) }
@@ -100,7 +119,7 @@ impl<'s> Tx<'s, Closing> {
     }
 
     /// Hears the end of the transaction, and spends it. The end of another is a `Stranger`.
-    pub fn take(self, done: &Done) -> Result<Finished, (Fault, Tx<'s, Closing>)>
+    pub fn take(self, done: &Done) -> Result<Finished, (Fault, Tx<'s, S>)>
         ensures { MatchResult result
             (λ finished. (same_id self.entry.client.txn done.now.txn ≡ true)
             × (finished ≡ finished_as done.now.outcome))
@@ -118,7 +137,7 @@ impl<'s> Tx<'s, Closing> {
     }
 }
 
-impl<'s, S: Phase> Tx<'s, S> {
+impl<'s, S: Ongoing> Tx<'s, S> {
     /// Gives the transaction up, and spends it: each shard that was asked, or when closing each that takes part, is told,
     /// by shard.
     #[tactic(auto, unfolding(crate::specs::Sessions::gives_up))]
@@ -187,6 +206,33 @@ impl<'s, S: Phase> Tx<'s, S> {
         push_asked(&mut shards, self.splits, self.doom.as_slice())?;
         push_asked(&mut shards, self.splits, self.awaited.as_slice())?;
         Ok(Parts::of(shards.as_slice()))
+    }
+}
+
+impl<'s, S: Phase> Tx<'s, S> {
+    // The same transaction at another stage.
+    fn into_phase<P: Phase>(self) -> Tx<'s, P>
+        ensures splits { result.splits ≡ self.entry.splits }
+        ensures client { result.client ≡ record self.entry.client { stage = P.stage } }
+    {
+        let Tx {
+            splits,
+            txn,
+            doom,
+            taken,
+            awaited,
+            writes,
+            phase: _,
+        } = self;
+        Tx {
+            splits,
+            txn,
+            doom,
+            taken,
+            awaited,
+            writes,
+            phase: PhantomData,
+        }
     }
 
     // What it asks its shards to commit.

@@ -9,4 +9,4 @@ mod taking;
 mod tx;
 
 pub use answered::{Answered, Finished, Heard};
-pub use tx::{Closing, Open, Phase, Tx};
+pub use tx::{Closed, Closing, Ongoing, Open, Phase, Quitting, Tx};

@@ -2,7 +2,7 @@
 ghost use Rattle.std.specs.Prelude.{◌≡◌, ◌⊎◌, ◌^◌, [], ◌∷◌, ◌++◌, length, true, false, not, ◌&&◌, nat_le, Option, MatchResult, IfOk, IfErr, OnOk};
 ghost use Rattle.units.specs.Ids.{same_id};
 ghost use Rattle.units.specs.Keys.{Bytes, has_key, writes_key};
-ghost use Rattle.session.specs.Sessions.{Stage, IsOpen, IsClosing, begun, reads, buffers, hears, asked_keys, was_answered, was_taken, is_doomed};
+ghost use Rattle.session.specs.Sessions.{Stage, IsOpen, IsClosing, IsOver, begun, reads, buffers, hears, asked_keys, was_answered, was_taken, is_doomed};
 ghost use Rattle.session.specs.Sessions.{epochs_agree, Goes, Denies};
 ghost use Rattle.session.specs.Shown.{Session, IsDenied, is_closing, heard_as};
 
@@ -14,8 +14,13 @@ use std::marker::{Model, PhantomData};
 use tickets::{Drawer, Tickets};
 use units::{Fault, Key, Reason, Run, Splits, TxnId, Value, Write};
 
-/// A stage of a transaction's session.
-pub trait Phase {
+mod stages {
+    /// What only a stage of this crate is.
+    pub trait Stage {}
+}
+
+/// A stage of a transaction's session: `Open`, `Closing` or `Quitting`. No other crate has one of its own.
+pub trait Phase: stages::Stage {
     ghost stage: { Stage };
 
     /// The messages that close the transaction are out.
@@ -23,8 +28,18 @@ pub trait Phase {
         ensures { result ≡ is_closing Self.stage };
 }
 
+/// A stage at which a transaction can be given up: `Open` or `Closing`.
+pub trait Ongoing: Phase {}
+
+/// A stage at which the messages that close the transaction are out, and its end is awaited: `Closing` or `Quitting`.
+pub trait Closed: Phase {}
+
 /// The transaction reads and buffers writes.
 pub struct Open;
+
+impl stages::Stage for Open {}
+
+impl Ongoing for Open {}
 
 impl Phase for Open {
     ghost stage = { IsOpen };
@@ -37,6 +52,12 @@ impl Phase for Open {
 /// The transaction's messages are out, and its end is awaited.
 pub struct Closing;
 
+impl stages::Stage for Closing {}
+
+impl Ongoing for Closing {}
+
+impl Closed for Closing {}
+
 impl Phase for Closing {
     ghost stage = { IsClosing };
 
@@ -45,8 +66,24 @@ impl Phase for Closing {
     }
 }
 
+/// The transaction was given up behind its closing, and its shards were asked once more how it ended. By the definition the session is
+/// over: its client only hears what became of the transaction.
+pub struct Quitting;
+
+impl stages::Stage for Quitting {}
+
+impl Closed for Quitting {}
+
+impl Phase for Quitting {
+    ghost stage = { IsOver };
+
+    fn is_closing() -> bool {
+        false
+    }
+}
+
 /// A transaction, as its client sees it. Its reads do not see its own writes, which are buffered until it closes. It has
-/// to be spent, by `take` or `give_up`.
+/// to be spent, by `take`, `give_up` or `spend`.
 pub struct Tx<'s, S: Phase> {
     pub(crate) splits: &'s Splits,
     pub(crate) txn: TxnId,
@@ -194,13 +231,6 @@ impl<'s> Tx<'s, Open> {
         Ok(())
     }
 
-    /// Its id.
-    pub fn txn(&self) -> TxnId
-        ensures { result ≡ self.now.client.txn }
-    {
-        self.txn
-    }
-
     /// No key that is awaited was taken before.
     pub fn awaits_only_new(&self)
         ensures { (key : Bytes) → has_key self.now.client.awaited key ≡ true
@@ -217,8 +247,8 @@ impl<'s> Tx<'s, Open> {
         self.taken.len() + doomed + self.awaited.len()
     }
 
-    // It can only give up.
-    pub(crate) fn is_doomed(&self) -> bool
+    /// It can only give up.
+    pub fn is_doomed(&self) -> bool
         ensures { result ≡ is_doomed self.now.client }
     {
         match &self.doom {
@@ -313,7 +343,42 @@ impl<'s> Tx<'s, Open> {
     }
 }
 
-impl<S: Phase> Tx<'_, S> {
+impl<'s, S: Phase> Tx<'s, S> {
+    /// Its id.
+    pub fn txn(&self) -> TxnId
+        ensures { result ≡ self.now.client.txn }
+    {
+        self.txn
+    }
+
+    /// The splits of the shards that it goes over.
+    pub fn splits(&self) -> &'s Splits
+        ensures { result.now ≡ self.now.splits }
+    {
+        self.splits
+    }
+
+    /// The answers with a value that it took, in their order.
+    pub fn taken(&self) -> &[Answered]
+        ensures { result.now ≡ self.now.client.taken }
+    {
+        self.taken.as_slice()
+    }
+
+    /// The keys that it asked for, and whose answers it has not taken.
+    pub fn awaited(&self) -> &[Key]
+        ensures { result.now ≡ self.now.client.awaited }
+    {
+        self.awaited.as_slice()
+    }
+
+    /// Its writes, by ascending keys.
+    pub fn writes(&self) -> &[Write]
+        ensures { result.now ≡ self.now.client.writes }
+    {
+        self.writes.as_slice()
+    }
+
     /// It is this transaction.
     pub(crate) fn is_of(&self, txn: TxnId) -> bool
         ensures { result ≡ same_id self.now.client.txn txn }

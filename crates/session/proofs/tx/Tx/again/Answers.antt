@@ -3,10 +3,10 @@ use Rattle.std.proofs.lemmas.Result.{IfOk-weaker}
 use Rattle.session.specs.Sessions.{closing_messages}
 use Rattle.session.specs.Shown.{closing_client}
 use Rattle.session.proofs.Steps.{closing_same}
-use Rattle.session.proofs.closing.Tx+Closing.again.Goals as goal
+use Rattle.session.proofs.tx.Tx.again.Goals as goal
 
 pub returns-clause-same : goal.returns-clause-same
-returns-clause-same c =
+returns-clause-same g c =
     let s = c.args.self.now in
     let e = c.request-request.ensures in
     IfOk-weaker c.messages.result _ _
