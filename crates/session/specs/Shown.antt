@@ -15,7 +15,7 @@ use Rattle.message.specs.declared.message.Answer.TheVariants.{Holds, Refused}
 use Rattle.session.specs.declared.answered.Answered.{Answered}
 use Rattle.session.specs.declared.answered.Heard.{Heard}
 use Rattle.session.specs.declared.answered.Finished.{Finished}
-use Rattle.session.specs.Sessions.{Client, Stage, IsOpen, IsClosing, Moved, Denies, Goes, is_doomed, epochs_agree, prepare_for, read_set, writes_at_shard}
+use Rattle.session.specs.Sessions.{Client, Stage, IsOpen, IsClosing, Moved, Denies, Goes, is_doomed, epochs_agree, prepare_for, read_set, shards_told, writes_at_shard}
 
 -- a transaction: the splits of the shards that it goes over, and its client
 pub record Session : Type 0 where
@@ -76,6 +76,10 @@ closing_client t taken writes = record { txn = t; stage = IsOpen; doom = None; t
 -- what a shard is told of a transaction that is given up
 abbrev pub give_up_to : Id → ℕ → Envelope
 give_up_to t n = record { to = Shard n; message = Message.GiveUp (record { txn = t }) }
+
+-- what a giving up says
+abbrev pub farewells : List Bytes → Client → List Envelope
+farewells splits c = map (give_up_to c.txn) (shards_told splits c)
 
 -- the message to a part: Commit with all parts to the one that decides, Prepare to any other
 abbrev pub message_for : List Bytes → Client → Option (List ℕ) → ℕ → ℕ → Envelope

@@ -1,11 +1,10 @@
 //! A transaction closes, gives up, and hears its end.
-ghost use Rattle.std.specs.Prelude.{◌≡◌, List, [], ◌++◌, map, true, false, not, ◌&&◌, MatchResult, IfOk, IfErr, IfNone, IfSome, option_to_list};
+ghost use Rattle.std.specs.Prelude.{◌≡◌, [], ◌++◌, map, true, false, not, ◌&&◌, MatchResult, IfOk, IfErr, IfNone, IfSome, option_to_list};
 ghost use Rattle.units.specs.Ids.{same_id};
 ghost use Rattle.units.specs.Keys.{shard_of};
 ghost use Rattle.units.specs.Lists.{once, sorted};
-ghost use Rattle.message.specs.declared.message.Envelope.{Envelope};
 ghost use Rattle.session.specs.Sessions.{asked_keys, is_none, IsClosing, IsOver, Goes, closes, closing_messages, gives_up, shards_told, asked_shards};
-ghost use Rattle.session.specs.Shown.{IsDenied, finished_as, give_up_to, is_closing};
+ghost use Rattle.session.specs.Shown.{IsDenied, farewells, finished_as, give_up_to, is_closing};
 
 use crate::request::{Request, push_asked, push_taken};
 use crate::{Closed, Closing, Finished, Ongoing, Open, Phase, Quitting, Tx};
@@ -72,10 +71,13 @@ impl<'s> Tx<'s, Closing> {
     #[tactic(auto, unfolding(crate::specs::Sessions::gives_up))]
     pub fn quit(self, alloc: Global) -> Result<(Tx<'s, Quitting>, Outbox), (Fault, Tx<'s, Closing>)>
         ensures splits { IfOk result (λ r. r.0.splits ≡ self.entry.splits) }
+        ensures client { IfOk result
+            (λ r. r.0.client ≡ record self.entry.client { stage = IsOver }) }
         ensures step { MatchResult result
-            (λ r. (told : List Envelope)
-            × (gives_up self.entry.splits self.entry.client ≡ Goes r.0.client told)
-            × (r.1 ≡ told ++ closing_messages self.entry.splits self.entry.client))
+            (λ r. (gives_up self.entry.splits self.entry.client ≡
+            Goes r.0.client (farewells self.entry.splits self.entry.client))
+            × (r.1 ≡ farewells self.entry.splits self.entry.client
+            ++ closing_messages self.entry.splits self.entry.client))
             (λ r. (r.1 ≡ self.entry) × (r.0 ≡ Fault.Memory)) }
     {
         match self.partings(alloc) {
@@ -87,8 +89,7 @@ impl<'s> Tx<'s, Closing> {
     // What the shards are told, and behind that the messages of the closing.
     fn partings(&self, alloc: Global) -> Result<Outbox, Fault>
         ensures same { IfOk result
-            (λ out. out ≡ map (give_up_to self.now.client.txn)
-            (shards_told self.now.splits self.now.client)
+            (λ out. out ≡ farewells self.now.splits self.now.client
             ++ closing_messages self.now.splits self.now.client) }
         ensures memory { IfErr result (λ fault. fault ≡ Fault.Memory) }
     {

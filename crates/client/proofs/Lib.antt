@@ -1,0 +1,2 @@
+mod Closings
+mod Steps

@@ -1,0 +1,171 @@
+//! A transaction closes or is given up, and hears its end.
+ghost use Rattle.std.specs.Prelude.{◌≡◌, ◌⊎◌, ℕ, List, [], ◌++◌, Err, Ok, IfErr, IsOk, MatchResult};
+ghost use Rattle.message.specs.declared.message.Done.{Done};
+ghost use Rattle.message.specs.declared.message.Envelope.{Envelope};
+ghost use Rattle.session.specs.Sessions.{closing_messages};
+ghost use Rattle.client.specs.Ends.{IsAskedOnce, IsAwaited, IsEnded, IsGivenUp, IsPressed, IsRefused, IsTold, left, times};
+ghost use Rattle.client.specs.declared.ended.Ended.TheVariants.{Committed};
+
+use crate::ended::end_of;
+use crate::hearing::Hearing;
+use crate::{Ended, Halt, Wire};
+use message::Done;
+use session::{Closed, Closing, Ongoing, Open, Tx};
+use std::sync::Wait;
+use std::time;
+use units::{Fault, Reason};
+
+impl<'s, R: Wait + time::Clock> Wire<'_, 's, R> {
+    /// Ends a transaction whose code has run: one that went to its end is closed, and any other is given up.
+    pub fn finish(&mut self, tx: Tx<'s, Open>, ran: Result<(), Halt>) -> Result<Ended, Fault>
+        ensures committed { (at : ℕ) → result ≡ Ok (Committed at) → IsOk ran }
+        ensures ended { (sent : List Envelope) × (heard : List Done)
+            × (self.new.sent ≡ self.old.sent ++ sent)
+            × (self.new.heard ≡ self.old.heard ++ heard)
+            × MatchResult ran
+            (λ _. MatchResult result
+            (λ ended. IsEnded tx.entry.splits tx.entry.client ended sent heard)
+            (λ fault. IsRefused tx.entry.splits tx.entry.client fault sent))
+            (λ halt. IsGivenUp tx.entry.client.txn sent
+            × ((result ≡ left halt) ⊎ (result ≡ Err Fault.Memory))) }
+    {
+        match ran {
+            Ok(()) => self.close(tx),
+            Err(Halt::Again | Halt::Abandon) => {
+                self.give_up(tx)?;
+                Ok(Ended::Aborted)
+            }
+            Err(Halt::Refused(fault)) => {
+                self.give_up(tx)?;
+                Err(fault)
+            }
+        }
+    }
+
+    // Closes the transaction, and hears how it ended. One that may not close is given up.
+    fn close(&mut self, tx: Tx<'s, Open>) -> Result<Ended, Fault>
+        ensures { (sent : List Envelope) × (heard : List Done)
+            × (self.new.sent ≡ self.old.sent ++ sent)
+            × (self.new.heard ≡ self.old.heard ++ heard)
+            × MatchResult result
+            (λ ended. IsEnded tx.entry.splits tx.entry.client ended sent heard)
+            (λ fault. IsRefused tx.entry.splits tx.entry.client fault sent) }
+    {
+        match tx.close(self.alloc) {
+            Ok((tx, outbox)) => {
+                self.send_all(outbox);
+                Ok(self.end(tx))
+            }
+            Err((Fault::BadRequest(Reason::Doomed), tx)) => {
+                self.give_up(tx)?;
+                Ok(Ended::Aborted)
+            }
+            Err((fault, tx)) => {
+                self.give_up(tx)?;
+                Err(fault)
+            }
+        }
+    }
+
+    // Hears the end of a transaction that is closing. Where it does not come, the transaction is given up, and asked for once more.
+    fn end(&mut self, tx: Tx<'s, Closing>) -> Ended
+        ensures { (sent : List Envelope) × (heard : List Done)
+            × (self.new.sent ≡ self.old.sent ++ sent)
+            × (self.new.heard ≡ self.old.heard ++ heard)
+            × IsPressed tx.entry.splits tx.entry.client sent
+            × IsTold tx.entry.client.txn result heard }
+    {
+        match self.await_end(&tx) {
+            Some(done) => end_of(tx, &done),
+            None => self.quit(tx),
+        }
+    }
+
+    // Gives up a transaction that is closing, and asks once more how it ended; behind the word to stop nobody is told or asked.
+    fn quit(&mut self, tx: Tx<'s, Closing>) -> Ended
+        ensures { (sent : List Envelope) × (heard : List Done)
+            × (self.new.sent ≡ self.old.sent ++ sent)
+            × (self.new.heard ≡ self.old.heard ++ heard)
+            × ((sent ≡ []) ⊎ IsAskedOnce tx.entry.splits tx.entry.client sent)
+            × IsTold tx.entry.client.txn result heard }
+    {
+        let txn = tx.txn();
+        if self.stop.is_told() {
+            tx.spend();
+            return Ended::Unknown(txn);
+        }
+        match tx.quit(self.alloc) {
+            Ok((tx, outbox)) => {
+                self.send_all(outbox);
+                self.listen_anew();
+                match self.await_end(&tx) {
+                    Some(done) => end_of(tx, &done),
+                    None => {
+                        tx.spend();
+                        Ended::Unknown(txn)
+                    }
+                }
+            }
+            Err((_, tx)) => {
+                tx.spend();
+                Ended::Unknown(txn)
+            }
+        }
+    }
+
+    // Waits for the end, and asks for it after each silence. There is none where it does not come.
+    fn await_end<S: Closed>(&mut self, tx: &Tx<'s, S>) -> Option<Done>
+        ensures sent { (n : ℕ) × (self.new.sent ≡
+            self.old.sent ++ times n (closing_messages tx.now.splits tx.now.client)) }
+        ensures heard { (heard : List Done) × (self.new.heard ≡ self.old.heard ++ heard)
+            × IsAwaited tx.now.client.txn result heard }
+    {
+        for _heard in self.rt.forever() {
+            match self.hear() {
+                Hearing::End(done) => {
+                    if tx.txn().is(done.txn) {
+                        return Some(done);
+                    }
+                }
+                Hearing::Silence => self.ask_again(tx),
+                Hearing::Enough => return None,
+                Hearing::Heard(message) => drop(message),
+            }
+        }
+        unreachable!()
+    }
+
+    // Sends the messages of the closing once more, where there is memory.
+    fn ask_again<S: Closed>(&mut self, tx: &Tx<'s, S>)
+        ensures sent { (n : ℕ) × (self.new.sent ≡
+            self.old.sent ++ times n (closing_messages tx.now.splits tx.now.client)) }
+        ensures heard { self.new.heard ≡ self.old.heard }
+    {
+        if let Ok(outbox) = tx.again(self.alloc) {
+            self.send_all(outbox);
+        }
+    }
+
+    // Gives a transaction up. Its shards are told, unless clients are to stop.
+    fn give_up(&mut self, tx: Tx<'s, Open>) -> Result<(), Fault>
+        ensures sent { (sent : List Envelope) × (self.new.sent ≡ self.old.sent ++ sent)
+            × IsGivenUp tx.entry.client.txn sent }
+        ensures heard { self.new.heard ≡ self.old.heard }
+        ensures memory { IfErr result (λ fault. fault ≡ Fault.Memory) }
+    {
+        match tx.give_up(self.alloc) {
+            Ok(outbox) => {
+                if self.stop.is_told() {
+                    drop(outbox);
+                } else {
+                    self.send_all(outbox);
+                }
+                Ok(())
+            }
+            Err((fault, tx)) => {
+                tx.spend();
+                Err(fault)
+            }
+        }
+    }
+}

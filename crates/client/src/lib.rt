@@ -1,0 +1,13 @@
+//! What runs one transaction over a network, at its client: it reads, closes, and hears how the transaction ended.
+#![tactic(auto)]
+
+mod ended;
+mod ending;
+mod hearing;
+mod reading;
+mod stop;
+mod wire;
+
+pub use ended::{Ended, Halt};
+pub use stop::Stop;
+pub use wire::Wire;

@@ -1,0 +1,278 @@
+//! A transaction reads, at its client.
+ghost use Rattle.std.specs.Prelude.{◌≡◌, ◌++◌, true, List, Some, None, map, IfOk, IfNone, IfSome};
+ghost use Rattle.units.specs.Keys.{same_key};
+ghost use Rattle.units.specs.Lists.{first};
+ghost use Rattle.message.specs.declared.message.Done.{Done};
+ghost use Rattle.message.specs.declared.message.Envelope.{Envelope};
+ghost use Rattle.client.specs.Readings.{AreReads, HasRead, is_read, seen};
+
+use crate::hearing::Hearing;
+use crate::{Halt, Wire};
+use message::{Address, Envelope, Message, Read, ReadAnswer};
+use session::{Answered, Heard, Open, Tx};
+use std::alloc::Global;
+use std::sync::Wait;
+use std::time;
+use units::{Fault, Key, Reason, ShardNo, Value, Write, copy_value};
+
+impl<'s, R: Wait + time::Clock> Wire<'_, 's, R> {
+    /// The value of a key: what the transaction has written to it, or else what its shard answers, which is the same each time.
+    pub fn get(&mut self, tx: &mut Tx<'s, Open>, key: &Key) -> Result<Option<Value>, Halt>
+        ensures sent { (sent : List Envelope) × (self.new.sent ≡ self.old.sent ++ sent)
+            × AreReads tx.old.client.txn sent }
+        ensures heard { (heard : List Done) × (self.new.heard ≡ self.old.heard ++ heard) }
+        ensures splits { tx.new.splits ≡ tx.old.splits }
+        ensures txn { tx.new.client.txn ≡ tx.old.client.txn }
+        ensures read { HasRead tx.old.splits tx.old.client tx.new.client }
+        ensures value { IfOk result (λ value. seen tx.new.client key.now ≡ Some value) }
+    {
+        ask(tx, key)?;
+        self.await_answers(tx)?;
+        Ok(value_of(self.alloc, tx, key)?)
+    }
+
+    /// The values of some keys, which are asked for together.
+    pub fn get_all(
+        &mut self,
+        tx: &mut Tx<'s, Open>,
+        keys: &[Key],
+    ) -> Result<Vec<Option<Value>>, Halt>
+        ensures sent { (sent : List Envelope) × (self.new.sent ≡ self.old.sent ++ sent)
+            × AreReads tx.old.client.txn sent }
+        ensures heard { (heard : List Done) × (self.new.heard ≡ self.old.heard ++ heard) }
+        ensures splits { tx.new.splits ≡ tx.old.splits }
+        ensures txn { tx.new.client.txn ≡ tx.old.client.txn }
+        ensures read { HasRead tx.old.splits tx.old.client tx.new.client }
+        ensures values { IfOk result
+            (λ values. map Some values.items ≡ map (seen tx.new.client) keys.now) }
+    {
+        self.fetch(tx, keys)?;
+        Ok(values_of(self.alloc, tx, keys)?)
+    }
+
+    /// Asks for some keys together, and waits for the answers. Each of these keys is then there for `get`.
+    pub fn fetch(&mut self, tx: &mut Tx<'s, Open>, keys: &[Key]) -> Result<(), Halt>
+        ensures sent { (sent : List Envelope) × (self.new.sent ≡ self.old.sent ++ sent)
+            × AreReads tx.old.client.txn sent }
+        ensures heard { (heard : List Done) × (self.new.heard ≡ self.old.heard ++ heard) }
+        ensures splits { tx.new.splits ≡ tx.old.splits }
+        ensures txn { tx.new.client.txn ≡ tx.old.client.txn }
+        ensures read { HasRead tx.old.splits tx.old.client tx.new.client }
+    {
+        for key in keys {
+            ask(tx, key)?;
+        }
+        self.await_answers(tx)
+    }
+
+    // Sends what is asked for, and waits for all answers. Behind the word to stop nothing is sent.
+    fn await_answers(&mut self, tx: &mut Tx<'s, Open>) -> Result<(), Halt>
+        ensures sent { (sent : List Envelope) × (self.new.sent ≡ self.old.sent ++ sent)
+            × AreReads tx.old.client.txn sent }
+        ensures heard { (heard : List Done) × (self.new.heard ≡ self.old.heard ++ heard) }
+        ensures splits { tx.new.splits ≡ tx.old.splits }
+        ensures txn { tx.new.client.txn ≡ tx.old.client.txn }
+        ensures read { HasRead tx.old.splits tx.old.client tx.new.client }
+    {
+        if tx.awaited().is_empty() {
+            return Ok(());
+        }
+        if self.stop.is_told() {
+            return Err(Halt::Again);
+        }
+        self.send_awaited(tx);
+        for _heard in self.rt.forever() {
+            self.await_one(tx)?;
+            if tx.awaited().is_empty() {
+                return Ok(());
+            }
+        }
+        unreachable!()
+    }
+
+    // Hears one message, or nothing for a while.
+    fn await_one(&mut self, tx: &mut Tx<'s, Open>) -> Result<(), Halt>
+        ensures sent { (sent : List Envelope) × (self.new.sent ≡ self.old.sent ++ sent)
+            × AreReads tx.old.client.txn sent }
+        ensures heard { (heard : List Done) × (self.new.heard ≡ self.old.heard ++ heard) }
+        ensures splits { tx.new.splits ≡ tx.old.splits }
+        ensures txn { tx.new.client.txn ≡ tx.old.client.txn }
+        ensures read { HasRead tx.old.splits tx.old.client tx.new.client }
+    {
+        match self.hear() {
+            Hearing::Heard(message) => {
+                let taken = match &message {
+                    Message::ReadAnswer(answer) => self.take(tx, answer),
+                    _ => Ok(()),
+                };
+                drop(message);
+                taken
+            }
+            Hearing::Silence => {
+                self.send_awaited(tx);
+                Ok(())
+            }
+            Hearing::Enough => Err(Halt::Again),
+            Hearing::End(_) => Ok(()),
+        }
+    }
+
+    // Takes an answer, which may be to an earlier transaction. A shard passes over what is read there while an earlier read waits, so what
+    // it has not answered is sent again, where nothing else has come.
+    fn take(&mut self, tx: &mut Tx<'s, Open>, answer: &ReadAnswer) -> Result<(), Halt>
+        ensures sent { (sent : List Envelope) × (self.new.sent ≡ self.old.sent ++ sent)
+            × AreReads tx.old.client.txn sent }
+        ensures heard { (heard : List Done) × (self.new.heard ≡ self.old.heard ++ heard) }
+        ensures splits { tx.new.splits ≡ tx.old.splits }
+        ensures txn { tx.new.client.txn ≡ tx.old.client.txn }
+        ensures read { HasRead tx.old.splits tx.old.client tx.new.client }
+    {
+        match tx.answered(self.alloc, answer) {
+            Ok(Heard::Value(value)) => drop(value),
+            Ok(Heard::Again) | Err(Fault::Stranger) => {}
+            Ok(Heard::Doomed) => return Err(Halt::Again),
+            Err(fault) => return Err(Halt::Refused(fault)),
+        }
+        if self.inbox.is_empty() {
+            self.send_awaited_of(tx, answer.from);
+        }
+        Ok(())
+    }
+
+    // Sends each read whose answer is awaited.
+    fn send_awaited(&mut self, tx: &Tx<'s, Open>)
+        ensures sent { (sent : List Envelope) × (self.new.sent ≡ self.old.sent ++ sent)
+            × AreReads tx.now.client.txn sent }
+        ensures heard { self.new.heard ≡ self.old.heard }
+    {
+        for key in tx.awaited() {
+            self.send(read_of(tx, key));
+        }
+    }
+
+    // Sends each read of a shard whose answer is awaited.
+    fn send_awaited_of(&mut self, tx: &Tx<'s, Open>, shard: ShardNo)
+        ensures sent { (sent : List Envelope) × (self.new.sent ≡ self.old.sent ++ sent)
+            × AreReads tx.now.client.txn sent }
+        ensures heard { self.new.heard ≡ self.old.heard }
+    {
+        for key in tx.awaited() {
+            self.send_at(tx, key, shard);
+        }
+    }
+
+    // Sends the read of a key, where it is the shard's.
+    fn send_at(&mut self, tx: &Tx<'s, Open>, key: &Key, shard: ShardNo)
+        ensures sent { (sent : List Envelope) × (self.new.sent ≡ self.old.sent ++ sent)
+            × AreReads tx.now.client.txn sent }
+        ensures heard { self.new.heard ≡ self.old.heard }
+    {
+        if tx.splits().shard_of(key) == shard {
+            self.send(read_of(tx, key));
+        }
+    }
+}
+
+// The message that asks for a key.
+fn read_of(tx: &Tx<'_, Open>, key: &Key) -> Envelope
+    ensures { is_read tx.now.client.txn result ≡ true }
+{
+    Envelope {
+        to: Address::Shard(tx.splits().shard_of(key)),
+        message: Message::Read(Read {
+            txn: tx.txn(),
+            key: *key,
+        }),
+    }
+}
+
+// Asks for a key, unless that was done, or the transaction has written it. Nothing is sent.
+fn ask(tx: &mut Tx<'_, Open>, key: &Key) -> Result<(), Halt>
+    ensures splits { tx.new.splits ≡ tx.old.splits }
+    ensures txn { tx.new.client.txn ≡ tx.old.client.txn }
+    ensures read { HasRead tx.old.splits tx.old.client tx.new.client }
+{
+    if is_known(tx, key) {
+        return Ok(());
+    }
+    let envelope = tx.read(*key)?;
+    drop(envelope);
+    Ok(())
+}
+
+// The key is written, or was asked for.
+fn is_known(tx: &Tx<'_, Open>, key: &Key) -> bool {
+    match (write_of(tx.writes(), key), answer_for(tx.taken(), key)) {
+        (None, None) => is_among(tx.awaited(), key),
+        _ => true,
+    }
+}
+
+// The key is in the list.
+fn is_among(keys: &[Key], key: &Key) -> bool {
+    for other in keys {
+        if other.is(key) {
+            return true;
+        }
+    }
+    false
+}
+
+// The write of a key.
+fn write_of<'a>(writes: &'a [Write], key: &Key) -> Option<&'a Write>
+    ensures none { IfNone result (first (λ w. same_key w.key key.now) writes.now ≡ None) }
+    ensures some { IfSome result (λ w. first (λ v. same_key v.key key.now) writes.now ≡ Some w.now) }
+{
+    match writes.split_first() {
+        None => None,
+        Some((write, rest)) => {
+            if write.key.is(key) {
+                Some(write)
+            } else {
+                write_of(rest, key)
+            }
+        }
+    }
+}
+
+// The answer for a key.
+fn answer_for<'a>(taken: &'a [Answered], key: &Key) -> Option<&'a Answered>
+    ensures none { IfNone result (first (λ a. same_key a.key key.now) taken.now ≡ None) }
+    ensures some { IfSome result (λ a. first (λ b. same_key b.key key.now) taken.now ≡ Some a.now) }
+{
+    match taken.split_first() {
+        None => None,
+        Some((answered, rest)) => {
+            if answered.key.is(key) {
+                Some(answered)
+            } else {
+                answer_for(rest, key)
+            }
+        }
+    }
+}
+
+// The value of a key that was written or answered. One that was not is `awaited`.
+fn value_of(alloc: Global, tx: &Tx<'_, Open>, key: &Key) -> Result<Option<Value>, Fault>
+    ensures { IfOk result (λ value. seen tx.now.client key.now ≡ Some value) }
+{
+    if let Some(write) = write_of(tx.writes(), key) {
+        return Ok(copy_value(alloc, &write.value)?);
+    }
+    if let Some(answered) = answer_for(tx.taken(), key) {
+        return Ok(copy_value(alloc, &answered.value)?);
+    }
+    Err(Fault::BadRequest(Reason::Awaited))
+}
+
+// The values of some keys.
+fn values_of(alloc: Global, tx: &Tx<'_, Open>, keys: &[Key]) -> Result<Vec<Option<Value>>, Fault>
+    ensures { IfOk result
+        (λ values. map Some values.items ≡ map (seen tx.now.client) keys.now) }
+{
+    let mut values = Vec::new(alloc);
+    for key in keys {
+        values.push(value_of(alloc, tx, key)?)?;
+    }
+    Ok(values)
+}
