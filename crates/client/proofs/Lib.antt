@@ -1,2 +1,3 @@
 mod Closings
+mod Seen
 mod Steps

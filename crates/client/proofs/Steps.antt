@@ -25,7 +25,7 @@ client_after (Goes c es) d = c
 client_after (Denies f) d = d
 
 -- a step that is made leaves the session that it says
-made : (rs : List (Bool × Reason)) (c d : Client) (es fs : List Envelope) → unless rs (Goes c es) ≡ Goes d fs → d ≡ c
+pub made : (rs : List (Bool × Reason)) (c d : Client) (es fs : List Envelope) → unless rs (Goes c es) ≡ Goes d fs → d ≡ c
 unfolding client_after
 made [] c d es fs e = sym (ap (λ m. client_after m d) e)
 made (r ∷ rs) c d es fs e = by_test (made rs c d es fs) r.0 e

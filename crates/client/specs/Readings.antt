@@ -52,3 +52,7 @@ or_else None y = y
 -- what a transaction sees of a key: what it has written to it, or else what was answered
 abbrev pub seen : Client → Bytes → Option (Option Bytes)
 seen c k = or_else (written c.writes k) (answered c.taken k)
+
+-- what is seen of a key stays, whatever is read behind it
+abbrev pub SeenStays : Type 0
+SeenStays = (splits : List Bytes) (c d : Client) (k : Bytes) (value : Option Bytes) → HasRead splits c d → seen c k ≡ Some value → seen d k ≡ Some value

@@ -9,5 +9,6 @@ mod stop;
 mod wire;
 
 pub use ended::{Ended, Halt};
+pub use reading::seen_stays;
 pub use stop::Stop;
 pub use wire::Wire;

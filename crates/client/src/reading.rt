@@ -4,7 +4,7 @@ ghost use Rattle.units.specs.Keys.{same_key};
 ghost use Rattle.units.specs.Lists.{first};
 ghost use Rattle.message.specs.declared.message.Done.{Done};
 ghost use Rattle.message.specs.declared.message.Envelope.{Envelope};
-ghost use Rattle.client.specs.Readings.{AreReads, HasRead, is_read, seen};
+ghost use Rattle.client.specs.Readings.{AreReads, HasRead, SeenStays, is_read, seen};
 
 use crate::hearing::Hearing;
 use crate::{Halt, Wire};
@@ -172,6 +172,11 @@ impl<'s, R: Wait + time::Clock> Wire<'_, 's, R> {
         }
     }
 }
+
+/// What a transaction sees of a key that it has read or written stays, whatever it reads behind that.
+pub fn seen_stays()
+    ensures { SeenStays }
+{}
 
 // The message that asks for a key.
 fn read_of(tx: &Tx<'_, Open>, key: &Key) -> Envelope
