@@ -9,7 +9,7 @@ use Rattle.units.specs.declared.fault.Fault.TheVariants.{BadRequest, Memory}
 use Rattle.units.specs.declared.fault.Reason.{Reason}
 use Rattle.units.specs.declared.fault.Reason.TheVariants.{Nothing, Awaited, Doomed}
 use Rattle.units.proofs.IdLaws.{same_id-refl}
-use Rattle.message.specs.declared.message.Done.{Done}
+use Rattle.message.specs.Ends.{End}
 use Rattle.message.specs.declared.message.Envelope.{Envelope}
 use Rattle.session.specs.Sessions.{Client, Stage, IsClosing, IsOver, Moved, Denies, Goes, unless, asked_keys, is_none, is_doomed, closes, closing_messages, gives_up, shards_told}
 use Rattle.session.specs.Shown.{IsDenied, farewells, finished_as, give_up_to, is_made}
@@ -107,35 +107,35 @@ asked_once splits ss c d out old mid new same over says one more =
 -- ---- ends
 
 -- what an end tells that was heard
-pub told_by : (txn : Id) (done : Done) (heard : List Done) → IsAwaited txn (Some done) heard → IsTold txn (ended_of (finished_as done.outcome)) heard
+pub told_by : (txn : Id) (done : End) (heard : List End) → IsAwaited txn (Some done) heard → IsTold txn (ended_of (finished_as done.outcome)) heard
 told_by txn done heard is = by_outcome done.outcome refl
   where
     by_outcome : (o : Option ℕ) → done.outcome ≡ o → IsTold txn (ended_of (finished_as o)) heard
     by_outcome None e = (is.0, done, is.1, is.2, e)
     by_outcome (Some s) e = (is.0, done, is.1, is.2, e)
 
-was_heard_on : (txn : Id) (o : Option ℕ) (before heard : List Done) → WasHeard txn o heard → WasHeard txn o (before ++ heard)
+was_heard_on : (txn : Id) (o : Option ℕ) (before heard : List End) → WasHeard txn o heard → WasHeard txn o (before ++ heard)
 was_heard_on txn o before heard is = (
   before ++ is.0,
   is.1,
-  ap (λ (l : List Done). before ++ l) is.2 ∙ sym (append_assoc before is.0 (is.1 ∷ [])),
+  ap (λ (l : List End). before ++ l) is.2 ∙ sym (append_assoc before is.0 (is.1 ∷ [])),
   is.3,
   is.4,
 )
 
 -- what is told behind ends of other transactions
-told_on : (txn : Id) (e : Ended) (before heard : List Done) → WasNotHeard txn before → IsTold txn e heard → IsTold txn e (before ++ heard)
+told_on : (txn : Id) (e : Ended) (before heard : List End) → WasNotHeard txn before → IsTold txn e heard → IsTold txn e (before ++ heard)
 told_on txn (ended.Committed s) before heard none told = was_heard_on txn (Some s) before heard told
 told_on txn ended.Aborted before heard none told = was_heard_on txn None before heard told
 told_on txn (ended.Unknown t) before heard none told = (told.0, all_both (is_other txn) before heard none told.1)
 
 -- what was put out and heard of a session that is closing
-pub pressed_on : (splits : List Bytes) (c : Client) (e : Ended) (old mid new : List Envelope) (before between behind : List Done)
+pub pressed_on : (splits : List Bytes) (c : Client) (e : Ended) (old mid new : List Envelope) (before between behind : List End)
     → ((n : ℕ) × (mid ≡ old ++ times n (closing_messages splits c)))
-    → ((heard : List Done) × (between ≡ before ++ heard) × WasNotHeard c.txn heard)
-    → ((sent : List Envelope) × (heard : List Done) × (new ≡ mid ++ sent) × (behind ≡ between ++ heard)
+    → ((heard : List End) × (between ≡ before ++ heard) × WasNotHeard c.txn heard)
+    → ((sent : List Envelope) × (heard : List End) × (new ≡ mid ++ sent) × (behind ≡ between ++ heard)
     × ((sent ≡ []) ⊎ IsAskedOnce splits c sent) × IsTold c.txn e heard)
-    → (sent : List Envelope) × (heard : List Done) × (new ≡ old ++ sent) × (behind ≡ before ++ heard)
+    → (sent : List Envelope) × (heard : List End) × (new ≡ old ++ sent) × (behind ≡ before ++ heard)
     × IsPressed splits c sent × IsTold c.txn e heard
 pressed_on splits c e old mid new before between behind one none more = (
   times one.0 (closing_messages splits c) ++ more.0,
@@ -147,10 +147,10 @@ pressed_on splits c e old mid new before between behind one none more = (
 )
 
 -- what was put out and heard of a session that closes
-pub closed_on : (splits ss : List Bytes) (c d : Client) (e : Ended) (out old mid new : List Envelope) (before between behind : List Done)
+pub closed_on : (splits ss : List Bytes) (c d : Client) (e : Ended) (out old mid new : List Envelope) (before between behind : List End)
     → ss ≡ splits → closes splits c ≡ Goes d out → mid ≡ old ++ out → between ≡ before
-    → ((sent : List Envelope) × (heard : List Done) × (new ≡ mid ++ sent) × (behind ≡ between ++ heard) × IsPressed ss d sent × IsTold d.txn e heard)
-    → (sent : List Envelope) × (heard : List Done) × (new ≡ old ++ sent) × (behind ≡ before ++ heard)
+    → ((sent : List Envelope) × (heard : List End) × (new ≡ mid ++ sent) × (behind ≡ between ++ heard) × IsPressed ss d sent × IsTold d.txn e heard)
+    → (sent : List Envelope) × (heard : List End) × (new ≡ old ++ sent) × (behind ≡ before ++ heard)
     × IsClosed splits c sent × IsTold c.txn e heard
 closed_on splits ss c d e out old mid new before between behind same goes one still more =
     let shown = closed_as splits c d out goes in
@@ -159,7 +159,7 @@ closed_on splits ss c d e out old mid new before between behind same goes one st
       out ++ more.0,
       more.1,
       longer old mid new out more.0 one more.2,
-      more.3 ∙ ap (λ (l : List Done). l ++ more.1) still,
+      more.3 ∙ ap (λ (l : List End). l ++ more.1) still,
       record {
         behind = more.0;
         may = goes ∙ (λ i. Goes (shown.0 i) (shown.1 i));

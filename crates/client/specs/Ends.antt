@@ -6,7 +6,7 @@ use Rattle.units.specs.Keys.{Bytes}
 use Rattle.units.specs.declared.fault.Fault.{Fault}
 use Rattle.units.specs.declared.fault.Fault.TheVariants.{BadRequest, Memory}
 use Rattle.units.specs.declared.fault.Reason.TheVariants.{Doomed}
-use Rattle.message.specs.declared.message.Done.{Done}
+use Rattle.message.specs.Ends.{End}
 use Rattle.message.specs.declared.message.Envelope.{Envelope}
 use Rattle.message.specs.declared.message.Message.{Message}
 use Rattle.session.specs.Sessions.{Client, IsClosing, Denies, Goes, closes, closing_messages}
@@ -37,7 +37,7 @@ finish_of ended.Aborted = Some finished.Aborted
 finish_of (ended.Unknown t) = None
 
 -- the end that was heard, where it was one
-abbrev pub end_heard : Hearing → List Done
+abbrev pub end_heard : Hearing → List End
 end_heard (hearing.End done) = done ∷ []
 end_heard _ = []
 
@@ -74,32 +74,32 @@ pub record IsClosed (splits : List Bytes) (c : Client) (sent : List Envelope) : 
   pub presses : IsPressed splits (record c { stage = IsClosing }) behind
 
 -- an end is of another transaction
-abbrev pub is_other : Id → Done → Bool
+abbrev pub is_other : Id → End → Bool
 is_other txn done = not (same_id txn done.txn)
 
 -- of some ends none is of the transaction
-abbrev pub WasNotHeard : Id → List Done → Type 0
+abbrev pub WasNotHeard : Id → List End → Type 0
 WasNotHeard txn heard = list_all (is_other txn) heard ≡ true
 
 -- the last of some ends is the transaction's, and tells this
-abbrev pub WasHeard : Id → Option ℕ → List Done → Type 0
+abbrev pub WasHeard : Id → Option ℕ → List End → Type 0
 WasHeard txn outcome heard =
-    (before : List Done) × (done : Done) × (heard ≡ before ++ done ∷ []) × (same_id txn done.txn ≡ true) × (done.outcome ≡ outcome)
+    (before : List End) × (done : End) × (heard ≡ before ++ done ∷ []) × (same_id txn done.txn ≡ true) × (done.outcome ≡ outcome)
 
 -- what the ends come to that were heard of a transaction that closed
-abbrev pub IsTold : Id → Ended → List Done → Type 0
+abbrev pub IsTold : Id → Ended → List End → Type 0
 IsTold txn (ended.Committed s) heard = WasHeard txn (Some s) heard
 IsTold txn ended.Aborted heard = WasHeard txn None heard
 IsTold txn (ended.Unknown t) heard = (t ≡ txn) × WasNotHeard txn heard
 
 -- the end that a client waits for
-abbrev pub IsAwaited : Id → Option Done → List Done → Type 0
+abbrev pub IsAwaited : Id → Option End → List End → Type 0
 IsAwaited txn None heard = WasNotHeard txn heard
-IsAwaited txn (Some done) heard = (before : List Done) × (heard ≡ before ++ done ∷ []) × (same_id txn done.txn ≡ true)
+IsAwaited txn (Some done) heard = (before : List End) × (heard ≡ before ++ done ∷ []) × (same_id txn done.txn ≡ true)
 
 -- how a session ends whose code has gone to its end, by what was put out and heard: it closed, and that was told; or it was doomed, and is given
 -- up and aborted
-abbrev pub IsEnded : List Bytes → Client → Ended → List Envelope → List Done → Type 0
+abbrev pub IsEnded : List Bytes → Client → Ended → List Envelope → List End → Type 0
 IsEnded splits c end sent heard =
     (IsClosed splits c sent × IsTold c.txn end heard)
     ⊎ ((closes splits c ≡ Denies (BadRequest Doomed)) × (end ≡ ended.Aborted) × IsGivenUp c.txn sent)

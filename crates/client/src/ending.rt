@@ -1,6 +1,6 @@
 //! A transaction closes or is given up, and hears its end.
 ghost use Rattle.std.specs.Prelude.{◌≡◌, ◌⊎◌, ℕ, List, [], ◌++◌, Err, Ok, IfErr, IsOk, MatchResult};
-ghost use Rattle.message.specs.declared.message.Done.{Done};
+ghost use Rattle.message.specs.Ends.{End};
 ghost use Rattle.message.specs.declared.message.Envelope.{Envelope};
 ghost use Rattle.session.specs.Sessions.{closing_messages};
 ghost use Rattle.client.specs.Ends.{IsAskedOnce, IsAwaited, IsEnded, IsGivenUp, IsPressed, IsRefused, IsTold, left, times};
@@ -19,7 +19,7 @@ impl<'s, R: Wait + time::Clock> Wire<'_, 's, R> {
     /// Ends a transaction whose code has run: one that went to its end is closed, and any other is given up.
     pub fn finish(&mut self, tx: Tx<'s, Open>, ran: Result<(), Halt>) -> Result<Ended, Fault>
         ensures committed { (at : ℕ) → result ≡ Ok (Committed at) → IsOk ran }
-        ensures ended { (sent : List Envelope) × (heard : List Done)
+        ensures ended { (sent : List Envelope) × (heard : List End)
             × (self.new.sent ≡ self.old.sent ++ sent)
             × (self.new.heard ≡ self.old.heard ++ heard)
             × MatchResult ran
@@ -44,7 +44,7 @@ impl<'s, R: Wait + time::Clock> Wire<'_, 's, R> {
 
     // Closes the transaction, and hears how it ended. One that may not close is given up.
     fn close(&mut self, tx: Tx<'s, Open>) -> Result<Ended, Fault>
-        ensures { (sent : List Envelope) × (heard : List Done)
+        ensures { (sent : List Envelope) × (heard : List End)
             × (self.new.sent ≡ self.old.sent ++ sent)
             × (self.new.heard ≡ self.old.heard ++ heard)
             × MatchResult result
@@ -69,7 +69,7 @@ impl<'s, R: Wait + time::Clock> Wire<'_, 's, R> {
 
     // Hears the end of a transaction that is closing. Where it does not come, the transaction is given up, and asked for once more.
     fn end(&mut self, tx: Tx<'s, Closing>) -> Ended
-        ensures { (sent : List Envelope) × (heard : List Done)
+        ensures { (sent : List Envelope) × (heard : List End)
             × (self.new.sent ≡ self.old.sent ++ sent)
             × (self.new.heard ≡ self.old.heard ++ heard)
             × IsPressed tx.entry.splits tx.entry.client sent
@@ -83,7 +83,7 @@ impl<'s, R: Wait + time::Clock> Wire<'_, 's, R> {
 
     // Gives up a transaction that is closing, and asks once more how it ended; behind the word to stop nobody is told or asked.
     fn quit(&mut self, tx: Tx<'s, Closing>) -> Ended
-        ensures { (sent : List Envelope) × (heard : List Done)
+        ensures { (sent : List Envelope) × (heard : List End)
             × (self.new.sent ≡ self.old.sent ++ sent)
             × (self.new.heard ≡ self.old.heard ++ heard)
             × ((sent ≡ []) ⊎ IsAskedOnce tx.entry.splits tx.entry.client sent)
@@ -117,13 +117,13 @@ impl<'s, R: Wait + time::Clock> Wire<'_, 's, R> {
     fn await_end<S: Closed>(&mut self, tx: &Tx<'s, S>) -> Option<Done>
         ensures sent { (n : ℕ) × (self.new.sent ≡
             self.old.sent ++ times n (closing_messages tx.now.splits tx.now.client)) }
-        ensures heard { (heard : List Done) × (self.new.heard ≡ self.old.heard ++ heard)
+        ensures heard { (heard : List End) × (self.new.heard ≡ self.old.heard ++ heard)
             × IsAwaited tx.now.client.txn result heard }
     {
         for _heard in self.rt.forever() {
             match self.hear() {
                 Hearing::End(done) => {
-                    if tx.txn().is(done.txn) {
+                    if tx.txn().is(done.txn()) {
                         return Some(done);
                     }
                 }

@@ -2,7 +2,7 @@
 ghost use Rattle.std.specs.Prelude.{◌≡◌, ◌++◌, true, List, Some, None, map, IfOk, IfNone, IfSome};
 ghost use Rattle.units.specs.Keys.{same_key};
 ghost use Rattle.units.specs.Lists.{first};
-ghost use Rattle.message.specs.declared.message.Done.{Done};
+ghost use Rattle.message.specs.Ends.{End};
 ghost use Rattle.message.specs.declared.message.Envelope.{Envelope};
 ghost use Rattle.client.specs.Readings.{AreReads, HasRead, SeenStays, is_read, seen};
 
@@ -20,7 +20,7 @@ impl<'s, R: Wait + time::Clock> Wire<'_, 's, R> {
     pub fn get(&mut self, tx: &mut Tx<'s, Open>, key: &Key) -> Result<Option<Value>, Halt>
         ensures sent { (sent : List Envelope) × (self.new.sent ≡ self.old.sent ++ sent)
             × AreReads tx.old.client.txn sent }
-        ensures heard { (heard : List Done) × (self.new.heard ≡ self.old.heard ++ heard) }
+        ensures heard { (heard : List End) × (self.new.heard ≡ self.old.heard ++ heard) }
         ensures splits { tx.new.splits ≡ tx.old.splits }
         ensures txn { tx.new.client.txn ≡ tx.old.client.txn }
         ensures read { HasRead tx.old.splits tx.old.client tx.new.client }
@@ -39,7 +39,7 @@ impl<'s, R: Wait + time::Clock> Wire<'_, 's, R> {
     ) -> Result<Vec<Option<Value>>, Halt>
         ensures sent { (sent : List Envelope) × (self.new.sent ≡ self.old.sent ++ sent)
             × AreReads tx.old.client.txn sent }
-        ensures heard { (heard : List Done) × (self.new.heard ≡ self.old.heard ++ heard) }
+        ensures heard { (heard : List End) × (self.new.heard ≡ self.old.heard ++ heard) }
         ensures splits { tx.new.splits ≡ tx.old.splits }
         ensures txn { tx.new.client.txn ≡ tx.old.client.txn }
         ensures read { HasRead tx.old.splits tx.old.client tx.new.client }
@@ -54,7 +54,7 @@ impl<'s, R: Wait + time::Clock> Wire<'_, 's, R> {
     pub fn fetch(&mut self, tx: &mut Tx<'s, Open>, keys: &[Key]) -> Result<(), Halt>
         ensures sent { (sent : List Envelope) × (self.new.sent ≡ self.old.sent ++ sent)
             × AreReads tx.old.client.txn sent }
-        ensures heard { (heard : List Done) × (self.new.heard ≡ self.old.heard ++ heard) }
+        ensures heard { (heard : List End) × (self.new.heard ≡ self.old.heard ++ heard) }
         ensures splits { tx.new.splits ≡ tx.old.splits }
         ensures txn { tx.new.client.txn ≡ tx.old.client.txn }
         ensures read { HasRead tx.old.splits tx.old.client tx.new.client }
@@ -69,7 +69,7 @@ impl<'s, R: Wait + time::Clock> Wire<'_, 's, R> {
     fn await_answers(&mut self, tx: &mut Tx<'s, Open>) -> Result<(), Halt>
         ensures sent { (sent : List Envelope) × (self.new.sent ≡ self.old.sent ++ sent)
             × AreReads tx.old.client.txn sent }
-        ensures heard { (heard : List Done) × (self.new.heard ≡ self.old.heard ++ heard) }
+        ensures heard { (heard : List End) × (self.new.heard ≡ self.old.heard ++ heard) }
         ensures splits { tx.new.splits ≡ tx.old.splits }
         ensures txn { tx.new.client.txn ≡ tx.old.client.txn }
         ensures read { HasRead tx.old.splits tx.old.client tx.new.client }
@@ -94,7 +94,7 @@ impl<'s, R: Wait + time::Clock> Wire<'_, 's, R> {
     fn await_one(&mut self, tx: &mut Tx<'s, Open>) -> Result<(), Halt>
         ensures sent { (sent : List Envelope) × (self.new.sent ≡ self.old.sent ++ sent)
             × AreReads tx.old.client.txn sent }
-        ensures heard { (heard : List Done) × (self.new.heard ≡ self.old.heard ++ heard) }
+        ensures heard { (heard : List End) × (self.new.heard ≡ self.old.heard ++ heard) }
         ensures splits { tx.new.splits ≡ tx.old.splits }
         ensures txn { tx.new.client.txn ≡ tx.old.client.txn }
         ensures read { HasRead tx.old.splits tx.old.client tx.new.client }
@@ -122,7 +122,7 @@ impl<'s, R: Wait + time::Clock> Wire<'_, 's, R> {
     fn take(&mut self, tx: &mut Tx<'s, Open>, answer: &ReadAnswer) -> Result<(), Halt>
         ensures sent { (sent : List Envelope) × (self.new.sent ≡ self.old.sent ++ sent)
             × AreReads tx.old.client.txn sent }
-        ensures heard { (heard : List Done) × (self.new.heard ≡ self.old.heard ++ heard) }
+        ensures heard { (heard : List End) × (self.new.heard ≡ self.old.heard ++ heard) }
         ensures splits { tx.new.splits ≡ tx.old.splits }
         ensures txn { tx.new.client.txn ≡ tx.old.client.txn }
         ensures read { HasRead tx.old.splits tx.old.client tx.new.client }

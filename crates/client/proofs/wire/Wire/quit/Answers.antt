@@ -1,6 +1,6 @@
 use Rattle.std.proofs.Common.{◌≡◌, [], ◌++◌, List, inl, inr, refl, ap, sym, ◌∙◌, subst, append-nil}
 use Rattle.units.specs.Ids.{Id}
-use Rattle.message.specs.declared.message.Done.{Done}
+use Rattle.message.specs.Ends.{End}
 use Rattle.session.specs.Sessions.{Client}
 use Rattle.client.specs.Traffic.{Traffic}
 use Rattle.session.specs.Shown.{finished_as}
@@ -30,7 +30,7 @@ returns-in-Some g c =
       sent.0,
       heard.0,
       sent.1,
-      heard.1 ∙ ap (λ (l : List Done). l ++ heard.0) (ap (λ (t : Traffic). t.heard) listens ∙ c.send_all.ensures.heard),
+      heard.1 ∙ ap (λ (l : List End). l ++ heard.0) (ap (λ (t : Traffic). t.heard) listens ∙ c.send_all.ensures.heard),
       inr sent.2,
       subst (λ (e : Ended). IsTold tx.client.txn e heard.0) (sym c.end_of.ensures)
           (subst (λ (t : Id). IsTold t (ended_of (finished_as c.in-Some.done.outcome)) heard.0) (ap (λ (k : Client). k.txn) c.in-Ok.ensures.client)
@@ -50,7 +50,7 @@ returns-in-None g c =
       sent.0,
       heard.0,
       sent.1,
-      heard.1 ∙ ap (λ (l : List Done). l ++ heard.0) (ap (λ (t : Traffic). t.heard) listens ∙ c.send_all.ensures.heard),
+      heard.1 ∙ ap (λ (l : List End). l ++ heard.0) (ap (λ (t : Traffic). t.heard) listens ∙ c.send_all.ensures.heard),
       inr sent.2,
       (c.txn-txn.ensures, subst (λ (t : Id). WasNotHeard t heard.0) (ap (λ (k : Client). k.txn) c.in-Ok.ensures.client) heard.2),
     )
