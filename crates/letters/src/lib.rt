@@ -7,10 +7,10 @@ mod chores;
 mod gate;
 mod letter;
 mod network;
+mod put_off;
 mod serves;
 mod sessions;
 mod threads;
-mod waiting;
 
 pub use gate::Gate;
 pub use letter::{Letter, Post};

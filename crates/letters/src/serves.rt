@@ -3,7 +3,7 @@ use crate::acts::act;
 use crate::chores::Chores;
 use crate::gate::Gate;
 use crate::letter::{Letter, Post};
-use crate::waiting::{Next, Waiting};
+use crate::put_off::{Next, Waiting};
 use crossbeam_channel::Receiver;
 use message::{Input, Outbox};
 use std::alloc::Global;
