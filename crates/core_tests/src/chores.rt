@@ -1,4 +1,5 @@
 //! What a node does besides its letters, while they come and while none does.
+use crate::cores::plain;
 use crate::given::{Given, message_of, reading};
 use crate::logs::{Line, compare_log};
 use crate::nodes::fresh_node;
@@ -37,28 +38,40 @@ struct Row {
     // So many letters follow at most: reads of `y` by 1.9, which has read it before, or words that somebody looked in vain.
     letters: u64,
     reads: bool,
-    // Somebody has looked in vain.
+    // Somebody has looked in vain, once the first letters were taken.
     looked: bool,
-    // By how many microseconds each reading is later than the one before.
+    // By how many microseconds each reading is later than the one before; and all by so many more, once the first letters were taken.
     tick: u64,
+    later: u64,
     // So many sessions are answered, 1.1 and on, one right after the other, and so many answers come before these at most.
     sessions: usize,
     before: u64,
-    // How often the node tells up to when it serves, at most, and the log at the end, where it matters.
+    // How often the node tells up to when it serves, at most; and what it told last, and the log at the end, where they matter.
     tells: u64,
-    log: Option<&'static [Line]>,
+    end: Option<End>,
 }
 
-// Each reading is ten microseconds wide, and later than the one before.
+// What a node told last up to when it serves, or 0, and what its log holds then.
+struct End {
+    served: u64,
+    log: &'static [Line],
+}
+
+// Each reading is ten microseconds wide, and by a tick later than the one before.
 #[derive(Drop)]
 struct Ticking<'a> {
     now: &'a AtomicU64,
     tick: u64,
+    later: u64,
+    seen: &'a Seen,
 }
 
 impl Clock for Ticking<'_> {
     fn now(&mut self) -> Option<Reading> {
-        let earliest = self.now.fetch_add(self.tick, Ordering::SeqCst);
+        let mut earliest = self.now.fetch_add(self.tick, Ordering::SeqCst);
+        if self.seen.has_begun() {
+            earliest = earliest.saturating_add(self.later);
+        }
         let latest = earliest.saturating_add(10);
         let earliest = Stamp::new(earliest).ok()?;
         let latest = Stamp::new(latest).ok()?;
@@ -67,36 +80,47 @@ impl Clock for Ticking<'_> {
 }
 
 // What was seen of a node: how many messages it posted, which of them was the first to 1.1, 1.2 and 1.3, counted from 1, how many letters it has
-// taken, whether somebody has looked in vain, and how often it told up to when it serves.
+// taken, and how many come first; whether somebody has looked in vain; and how often it told up to when it serves, and what it told last.
 struct Seen {
+    first: u64,
     posted: AtomicU64,
     places: [AtomicU64; 3],
     taken: AtomicU64,
     looked: AtomicBool,
     tells: AtomicU64,
+    served: AtomicU64,
 }
 
 impl Drop for Seen {
     fn drop(self) {
         let Seen {
+            first: _,
             posted: _,
             places: _,
             taken: _,
             looked: _,
             tells: _,
+            served: _,
         } = self;
     }
 }
 
 impl Seen {
-    fn new(looked: bool) -> Seen {
+    fn new(row: &Row) -> Seen {
         Seen {
+            first: row.first.len() as u64,
             posted: AtomicU64::new(0),
             places: [AtomicU64::new(0), AtomicU64::new(0), AtomicU64::new(0)],
             taken: AtomicU64::new(0),
-            looked: AtomicBool::new(looked),
+            looked: AtomicBool::new(row.looked),
             tells: AtomicU64::new(0),
+            served: AtomicU64::new(0),
         }
+    }
+
+    // The first letters were taken.
+    fn has_begun(&self) -> bool {
+        self.taken.load(Ordering::SeqCst) >= self.first
     }
 
     // Which message was the first to a session, from 1, or 0.
@@ -140,14 +164,15 @@ impl Post for &Seen {
     }
 
     fn is_looked_for(&self, _shard: ShardNo) -> bool {
-        self.looked.load(Ordering::SeqCst)
+        self.looked.load(Ordering::SeqCst) && self.has_begun()
     }
 
     fn silence(&mut self, _shard: ShardNo) {
         self.looked.store(false, Ordering::SeqCst);
     }
 
-    fn tell(&mut self, _shard: ShardNo, _served: Stamp) {
+    fn tell(&mut self, _shard: ShardNo, served: Stamp) {
+        self.served.store(served.micros(), Ordering::SeqCst);
         self.tells.fetch_add(1, Ordering::SeqCst);
     }
 }
@@ -217,6 +242,8 @@ fn serve<'r, R: Wait + time::Clock>(
     let mut clock = Ticking {
         now: &now,
         tick: row.tick,
+        later: row.later,
+        seen,
     };
     let mut post = seen;
     node.serve(rt, inbox, &mut post, &mut clock, &seen);
@@ -224,10 +251,10 @@ fn serve<'r, R: Wait + time::Clock>(
 
 // A node is served by the letters of the row, and does what the row tells.
 fn tell<R: Threads + Wait + time::Clock + Sync + Abort>(rt: &R, alloc: Global, row: &Row) {
-    let (node, viewers) = fresh_node(rt, rt, alloc, 1, None);
+    let (node, viewers) = fresh_node(rt, rt, alloc, plain(1, 0));
     drop(viewers);
     let (to, inbox) = unbounded(alloc).ok().expect(rt, "a channel");
-    let seen = Seen::new(row.looked);
+    let seen = Seen::new(row);
     thread::join(
         rt,
         || serve(rt, &node, &inbox, &seen, row),
@@ -239,10 +266,14 @@ fn tell<R: Threads + Wait + time::Clock + Sync + Abort>(rt: &R, alloc: Global, r
     told(rt, answered, row.name, seen.place(0));
     let tells = seen.tells.load(Ordering::SeqCst);
     told(rt, tells <= row.tells, row.name, tells);
+    let served = seen.served.load(Ordering::SeqCst);
     drop(seen);
     let disk = node.close();
-    match row.log {
-        Some(lines) => compare_log(rt, alloc, disk, row.name, lines),
+    match &row.end {
+        Some(end) => {
+            told(rt, served == end.served, row.name, served);
+            compare_log(rt, alloc, disk, row.name, end.log);
+        }
         None => drop(disk),
     }
 }
@@ -256,10 +287,11 @@ static OPEN: [Row; 3] = [
         reads: true,
         looked: false,
         tick: 1,
+        later: 0,
         sessions: 1,
         before: 20_000,
         tells: 20_000,
-        log: None,
+        end: None,
     },
     Row {
         name: "a commit is settled within a burst of letters",
@@ -269,10 +301,11 @@ static OPEN: [Row; 3] = [
         reads: true,
         looked: false,
         tick: 5,
+        later: 0,
         sessions: 1,
         before: 1_000,
         tells: 10_000,
-        log: None,
+        end: None,
     },
     Row {
         name: "who waits behind a commit goes on with it",
@@ -286,10 +319,11 @@ static OPEN: [Row; 3] = [
         reads: true,
         looked: false,
         tick: 5,
+        later: 0,
         sessions: 3,
         before: 1_000,
         tells: 10_000,
-        log: None,
+        end: None,
     },
 ];
 
@@ -301,7 +335,7 @@ fn letters_keep_a_node_from_its_chores(rt: HostRuntime) {
 }
 
 // A millisecond passes with each reading.
-static SILENT: [Row; 2] = [
+static SILENT: [Row; 3] = [
     Row {
         name: "an idle node logs and shows nothing",
         first: &[],
@@ -310,10 +344,14 @@ static SILENT: [Row; 2] = [
         reads: false,
         looked: false,
         tick: 1_000,
+        later: 0,
         sessions: 0,
         before: 0,
         tells: 0,
-        log: Some(&[Line::Opened(1)]),
+        end: Some(End {
+            served: 0,
+            log: &[Line::Opened(1)],
+        }),
     },
     Row {
         name: "a node advances once for who looked",
@@ -323,10 +361,31 @@ static SILENT: [Row; 2] = [
         reads: false,
         looked: true,
         tick: 0,
+        later: 0,
         sessions: 0,
         before: 0,
         tells: 1,
-        log: Some(&[Line::Opened(1), Line::Ceiling(1_010)]),
+        end: Some(End {
+            served: 1_010,
+            log: &[Line::Opened(1), Line::Ceiling(1_010)],
+        }),
+    },
+    Row {
+        name: "a node advances to the latest of a reading, beside a commit that waits",
+        first: &[Given::Commit(2, 1, b"z", b"2")],
+        pace: Pace::OneByOne,
+        letters: 1_000,
+        reads: false,
+        looked: true,
+        tick: 0,
+        later: 5,
+        sessions: 0,
+        before: 0,
+        tells: 1,
+        end: Some(End {
+            served: 1_010,
+            log: &[Line::Opened(1), Line::Decided(1_011), Line::Ceiling(1_015)],
+        }),
     },
 ];
 

@@ -1,4 +1,5 @@
 //! Nodes that are served by the letters of their inboxes, each on a thread of its own.
+use crate::cores::plain;
 use crate::given::{Given, message_of, reading};
 use crate::nodes::fresh_node;
 use crate::verdict::told;
@@ -159,7 +160,7 @@ fn inbox<R: Wait + Abort>(
 fn nodes_of<'r, R: Wait + Abort>(rt: &'r R, alloc: Global, row: &Row) -> Vec<Node<SimDisk, &'r R>> {
     let mut nodes = Vec::new(alloc);
     for (shard, _) in row.nodes {
-        let (node, viewers) = fresh_node(rt, rt, alloc, *shard, None);
+        let (node, viewers) = fresh_node(rt, rt, alloc, plain(*shard, 0));
         drop(viewers);
         nodes.push(node).ok().expect(rt, row.name);
     }

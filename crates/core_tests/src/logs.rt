@@ -6,12 +6,13 @@ use simdisk::SimDisk;
 use std::alloc::Global;
 use std::process::Abort;
 
-/// A record: an opening with its epoch, a ceiling, or a promise or a commit of 1.2 with its timestamp.
+/// A record: an opening with its epoch, a ceiling, or a promise, a decision or a commit of 1.2 with its timestamp.
 #[derive(Clone, Copy)]
 pub enum Line {
     Opened(u64),
     Ceiling(u64),
     Promised(u64),
+    Decided(u64),
     Committed(u64),
 }
 
@@ -21,6 +22,8 @@ fn is_line(record: &Record, line: Line) -> bool {
         (Record::Ceiling { at }, Line::Ceiling(micros)) => at.micros() == micros,
         (Record::Prepare(part), Line::Promised(micros)) => part.txn.number() == 2
             && part.at.micros() == micros,
+        (Record::Commit(commit), Line::Decided(micros)) => commit.txn.number() == 2
+            && commit.at.micros() == micros,
         (
             Record::Outcome {
                 txn,

@@ -45,25 +45,21 @@ pub struct Moment {
     pub log: &'static [Line],
 }
 
-// A device call of the next append fails, where there is one.
+// A device call of the next append fails, where there is one. The book has room for so many inputs; 0 where there is none.
 pub struct Story {
     pub fails: Option<u64>,
+    pub room: u32,
     pub asks: &'static [Asked],
     pub moments: &'static [Moment],
 }
 
-/// The node of a new shard on a new disk, of which a device call of its next append is to fail where there is one.
+/// The node of a new shard on a new disk.
 pub fn fresh_node<R: Wait + Drop>(
     own: R,
     rt: &impl Abort,
     alloc: Global,
-    shard: u8,
-    fails: Option<u64>,
+    setting: Setting,
 ) -> (Node<SimDisk, R>, Vec<Viewer>) {
-    let setting = Setting {
-        fails,
-        ..plain(shard, 0)
-    };
     let core = opened(rt, alloc, formatted(rt, alloc), setting).ok();
     match Node::new(own, alloc, core.expect(rt, "a core"), 1) {
         Ok(made) => made,
@@ -131,7 +127,12 @@ fn is_answered<'a, R: Threads + Wait + Sync + Abort>(
 
 // The story goes as it is told, up to the moment. The viewer is refused once the node is closed.
 fn go<R: Threads + Wait + Sync + Abort>(rt: &R, alloc: Global, story: &Story, moment: &Moment) {
-    let (node, mut viewers) = fresh_node(rt, rt, alloc, 1, story.fails);
+    let setting = Setting {
+        fails: story.fails,
+        capacity: story.room,
+        ..plain(1, 0)
+    };
+    let (node, mut viewers) = fresh_node(rt, rt, alloc, setting);
     for asked in story.asks.get(..moment.after).expect(rt, moment.name) {
         let answered = is_answered(rt, alloc, &node, &mut viewers, asked);
         told(rt, answered, moment.name, asked.0);

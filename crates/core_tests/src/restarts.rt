@@ -44,6 +44,7 @@ const SERVES: Asked = (
 pub static NODES: [Story; 6] = [
     Story {
         fails: None,
+        room: 0,
         asks: &[
             SERVES,
             (
@@ -64,6 +65,7 @@ pub static NODES: [Story; 6] = [
     },
     Story {
         fails: Some(3),
+        room: 0,
         asks: &[
             FAILS,
             STOPPED,
@@ -78,6 +80,7 @@ pub static NODES: [Story; 6] = [
     },
     Story {
         fails: Some(3),
+        room: 0,
         asks: &[
             FAILS,
             OPENS,
@@ -93,6 +96,7 @@ pub static NODES: [Story; 6] = [
     },
     Story {
         fails: Some(3),
+        room: 0,
         asks: &[
             FAILS,
             OPENS,
@@ -119,6 +123,7 @@ pub static NODES: [Story; 6] = [
     },
     Story {
         fails: Some(3),
+        room: 0,
         asks: &[
             FAILS,
             (
@@ -143,6 +148,7 @@ pub static NODES: [Story; 6] = [
     // What 1.2 wrote at 200, once the node has advanced to 210.
     Story {
         fails: None,
+        room: 0,
         asks: &[
             (
                 200,
@@ -179,3 +185,45 @@ pub static NODES: [Story; 6] = [
         }],
     },
 ];
+
+// A book of three inputs, and what fills it. So it fails where a call of the node makes two of its core, whichever of them it answers by.
+pub static ONCE: [Story; 1] = [Story {
+    fails: None,
+    room: 3,
+    asks: &[
+        (
+            100,
+            110,
+            Ask::Deliver(Given::Commit(2, 1, b"z", b"2"), Told::Says(&[])),
+        ),
+        (
+            112,
+            122,
+            Ask::Deliver(Given::Settle(2), Told::Says(&[(b'd', 9, 2, 111)])),
+        ),
+        (
+            112,
+            122,
+            Ask::Advance {
+                to: 120,
+                tells: Ok(120),
+            },
+        ),
+        (
+            112,
+            122,
+            Ask::Deliver(Given::Resume, Told::Refused(Fault::BookFull)),
+        ),
+        (112, 122, Ask::Look((120, Ok(Seen::Value(1))))),
+    ],
+    moments: &[Moment {
+        name: "each call is one input",
+        after: 5,
+        log: &[
+            Line::Opened(1),
+            Line::Decided(111),
+            Line::Committed(111),
+            Line::Ceiling(120),
+        ],
+    }],
+}];

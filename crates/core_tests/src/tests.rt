@@ -4,7 +4,7 @@ use crate::coordinating::COORDINATING;
 use crate::one_commit::{COMMITS, FAILING};
 use crate::promising::PROMISING;
 use crate::reopening::{ARMED, REFUSED, REOPENED};
-use crate::restarts::NODES;
+use crate::restarts::{NODES, ONCE};
 use crate::served::SERVING;
 use crate::viewed::VIEWED;
 use crate::{damaged, nodes, stories, together};
@@ -43,6 +43,12 @@ fn shards_are_opened_side_by_side(rt: HostRuntime) {
 #[test]
 fn what_was_stopped_is_opened_again(rt: HostRuntime) {
     nodes::tell(&rt, rt.alloc(), &NODES);
+}
+
+// It fails where a node delivers an input twice, or advances twice.
+#[test]
+fn each_call_is_one_input(rt: HostRuntime) {
+    nodes::tell(&rt, rt.alloc(), &ONCE);
 }
 
 // It fails where viewers always answer that they are stopped.

@@ -8,6 +8,7 @@ use units::{Fault, Seen};
 // A promise at 200, and two advances to 250 with the outcome between them.
 pub static VIEWED: [Story; 1] = [Story {
     fails: None,
+    room: 0,
     asks: &[
         (0, 0, Ask::Look((0, Ok(Seen::Absent)))),
         (0, 0, Ask::Look((1, Err(Fault::NotYet)))),
