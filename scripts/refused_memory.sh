@@ -35,7 +35,8 @@ is_memory() {
 
 # It ended as without a refusal, but for what says which call was refused.
 is_whole() {
-    [ "$status" -eq 0 ] && [ ! -s "$room/err" ] && grep -v '^refused: ' "$room/out" | cmp -s - "$room/whole"
+    [ "$status" -eq 0 ] && [ ! -s "$room/err" ] && ! grep -q '^refused: .*, not all as before$' "$room/out" \
+        && grep -v '^refused: ' "$room/out" | cmp -s - "$room/whole"
 }
 
 # The drive ended with the verdict yes, or with `1 Memory`, behind its four counts where its workers had reported.
