@@ -1,5 +1,5 @@
 -- What lies under a node's lock, and what it is to open a stopped node's disk again.
-use Rattle.std.specs.Prelude.{◌≡◌, ℕ, Bool, true, IsTrue, IsFalse, List}
+use Rattle.std.specs.Prelude.{◌≡◌, ℕ, Bool, true, IsTrue, IsFalse, List, Option, Some, None}
 use Rattle.units.specs.declared.fault.Fault.{Fault}
 use Rattle.units.specs.declared.fault.Fault.TheVariants.{BadRequest}
 use Rattle.units.specs.declared.fault.Reason.TheVariants.{Again}
@@ -31,6 +31,12 @@ disk_of_place (Resting disk) = disk
 abbrev pub is_at_rest : {D : Type 0} → PlaceView D → Bool
 is_at_rest (Serving desk) = desk.core.stopped
 is_at_rest (Resting disk) = true
+
+-- what the core of a desk was told; of a disk alone there is no core, and it is this
+abbrev pub told_of : {D : Type 0} → Setup → Option (PlaceView D) → Setup
+told_of setup (Some (Serving desk)) = desk.core.setup
+told_of setup (Some (Resting disk)) = setup
+told_of setup None = setup
 
 module _ {D : Type 0} (keeps obeys : Type 0) (file : D → File) (clock : D → ℕ) (since : D → ℕ → List ℕ → Type 0) (failures : D → ℕ)
     (plan : D → FailurePlan) where

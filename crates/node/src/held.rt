@@ -1,8 +1,9 @@
 //! What lies under a node's lock.
-ghost use Rattle.std.specs.Prelude.{◌≡◌, IfOk, IfErr, IfSome, IfNone, IsSome, length};
+ghost use Rattle.std.specs.Prelude.{◌≡◌, IfOk, IfErr, IfSome, IfNone, IsSome, length, option_map};
 ghost use Rattle.board.specs.Board.{first_entries};
 ghost use Rattle.desk.specs.InStep.{IsNoDesk};
-ghost use Rattle.node.specs.Restart.{AreOnNewBoard, HasRestarted, HasNotRestarted, is_at_rest, disk_of_place};
+ghost use Rattle.node.specs.Restart.{AreOnNewBoard, HasRestarted, HasNotRestarted, is_at_rest, disk_of_place, told_of};
+ghost use Rattle.node.specs.Seen.{seen_place};
 ghost use Rattle.node.specs.Under.{IsDeskOf, IsUnder, IsEarliestIn, Became, HasDelivered, HasAdvancedIn, HasNotAdvancedIn, HasKeptUp, HasNotKeptUp};
 ghost use Rattle.node.specs.Under.{is_ready_in, due_in, versions_in};
 ghost use Rattle.shard.specs.Core.{seen, book_of};
@@ -20,12 +21,14 @@ use std::sync::Wait;
 use truetime::Reading;
 use units::{Fault, Setup, Stamp, TxnId};
 
-/// What a node's lock holds: what its shard is told, and the place, which is there whenever the lock is free.
+/// What a node's lock holds: what its shard is told, and the place. Whenever the lock is free the place is there, and its core, where it has
+/// one, was told the same.
 #[derive(Drop)]
 pub struct Held<D: Disk + Drop, R: Wait + Drop> {
     pub setup: Setup,
     pub place: Option<Place<D, R>>,
     ghost there: { IsSome place },
+    ghost told: { told_of setup (option_map seen_place place) ≡ setup },
 }
 
 impl<D: Disk + Drop, R: Wait + Drop> Held<D, R> {
