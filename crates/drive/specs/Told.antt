@@ -1,7 +1,9 @@
 -- What is told of a drive.
-use Rattle.std.specs.Prelude.{◌≡◌, ◌≤◌, ℕ, List, None}
+use Rattle.std.specs.Prelude.{◌≡◌, ◌⊎◌, ◌≤◌, ℕ, List, None, IsTrue}
 use Rattle.units.specs.declared.fault.Fault.{Fault}
+use Rattle.units.specs.declared.fault.Fault.TheVariants.{Device, Memory}
 use Rattle.units.specs.declared.line.Verdict.{Verdict}
+use Rattle.gatelog.specs.Log.{is_no_log}
 use Rattle.workers.specs.declared.summary.Counts.{Counts}
 use Rattle.workers.specs.Summaries.{counts_text, summary_text, tried}
 use Rattle.drive.specs.declared.engine.NoVerdict.{NoVerdict}
@@ -19,6 +21,10 @@ pub record AreCounts (transactions : ℕ) (text : List ℕ) : Type 0 where
   pub lines : text ≡ counts_text counts
   pub all : tried counts ≡ transactions
   pub looks : counts.looks ≤ tried counts
+
+-- why there is no verdict once the workers have reported: memory is wanting, a device has failed, or a disk holds no log that can be read
+abbrev pub IsUnjudged : Fault → Type 0
+IsUnjudged fault = (fault ≡ Memory) ⊎ ((fault ≡ Device) ⊎ IsTrue (is_no_log fault))
 
 -- nothing was driven
 abbrev pub refused_for : Fault → NoVerdict

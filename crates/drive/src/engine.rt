@@ -2,7 +2,7 @@
 ghost use Rattle.std.specs.Prelude.{◌≡◌, ◌≢◌, ◌+◌, ◌*◌, ◌≤◌, IfErr, IfOk, IfSome, IsOk, Err, Some, length};
 ghost use Rattle.std.specs.Thread.{IsSync, IsSend};
 ghost use Rattle.disk.specs.File.{surface};
-ghost use Rattle.drive.specs.Told.{refused_for};
+ghost use Rattle.drive.specs.Told.{IsUnjudged, refused_for};
 ghost use Rattle.workers.specs.Course.{IsDrivable};
 ghost use Rattle.workers.specs.Reports.{IsCounted, IsTally};
 ghost use Rattle.workers.specs.Staffs.{IsStaffOf};
@@ -177,6 +177,8 @@ pub fn drive_counted<
     ensures counted { IfErr result (λ none. IfSome none.counts (λ counts.
         (tried counts ≡ settings.now.workers * settings.now.transactions)
         × (counts.looks ≤ tried counts))) }
+    ensures unjudged { IfErr result (λ none. IfSome none.counts (λ counts.
+        IsUnjudged none.fault)) }
     ensures shards { IsOk result → length disks.items ≡ length settings.now.splits + 1 }
     ensures limits { IsOk result
         → IsDrivable settings.now.workers settings.now.transactions settings.now.keys }
@@ -223,6 +225,8 @@ fn drive_nodes<
     ensures counted { IfErr result (λ none. IfSome none.counts (λ counts.
         (tried counts ≡ course.workers * course.transactions)
         × (counts.looks ≤ tried counts))) }
+    ensures unjudged { IfErr result (λ none. IfSome none.counts (λ counts.
+        IsUnjudged none.fault)) }
 {
     let Opened {
         nodes,
@@ -255,6 +259,7 @@ fn outcome<N: Closes<D> + Serves + Drop, D: Disk + Drop, R: Wait>(
     ensures counts { IfOk result (λ driven. driven.summary.counts ≡ report.counts) }
     ensures lines { IfOk result (λ driven. driven.lines.items ≡ report.lines.items) }
     ensures counted { IfErr result (λ none. none.counts ≡ Some report.counts) }
+    ensures unjudged { IfErr result (λ none. IsUnjudged none.fault) }
 {
     let Report { counts, lines } = report;
     match judged(rt, alloc, nodes, &lines) {
@@ -283,6 +288,7 @@ fn judged<N: Closes<D> + Serves + Drop, D: Disk + Drop, R: Wait>(
     ensures verdict { IfOk result (λ judged. D.keeps_model
         → IsJudged (λ disk. (surface (D.file disk)).seen) judged.1.items lines.now judged.0) }
     ensures disks { IfOk result (λ judged. length judged.1.items ≡ length nodes.items) }
+    ensures unjudged { IfErr result IsUnjudged }
 {
     if any_stopped(rt, &nodes) {
         drop(nodes);
@@ -449,7 +455,8 @@ fn run_beside<
 
 // Closes the nodes.
 fn closed<N: Closes<D> + Drop, D: Drop>(alloc: Global, nodes: Vec<N>) -> Result<Vec<D>, Fault>
-    ensures { IfOk result (λ disks. length disks.items ≡ length nodes.items) }
+    ensures disks { IfOk result (λ disks. length disks.items ≡ length nodes.items) }
+    ensures memory { IfErr result (λ fault. fault ≡ Fault.Memory) }
 {
     let mut disks = Vec::new(alloc);
     for node in nodes {

@@ -4,7 +4,7 @@ ghost use Rattle.units.specs.declared.line.Verdict.{Verdict};
 ghost use Rattle.workers.specs.Course.{IsDrivable};
 ghost use Rattle.workers.specs.Summaries.{counts_text, summary_text};
 ghost use Rattle.workers.specs.declared.summary.Counts.{Counts};
-ghost use Rattle.drive.specs.Told.{AreCounts, IsTold};
+ghost use Rattle.drive.specs.Told.{AreCounts, IsTold, IsUnjudged};
 
 use crate::engine::{self, clock_of, drive_counted};
 use disk::Disk;
@@ -52,6 +52,8 @@ pub fn drive_shards<
         (string_bytes driven.text) driven.verdict) }
     ensures counted { IfErr result (λ none. IfSome none.text (λ text.
         AreCounts (settings.now.workers * settings.now.transactions) (string_bytes text))) }
+    ensures unjudged { IfErr result (λ none. IfSome none.text (λ text.
+        IsUnjudged none.fault)) }
     ensures limits { IsOk result
         → IsDrivable settings.now.workers settings.now.transactions settings.now.keys }
 {
@@ -94,6 +96,8 @@ fn drive_watched<
         (string_bytes driven.text) driven.verdict) }
     ensures counted { IfErr result (λ none. IfSome none.text (λ text.
         AreCounts (settings.now.workers * settings.now.transactions) (string_bytes text))) }
+    ensures unjudged { IfErr result (λ none. IfSome none.text (λ text.
+        IsUnjudged none.fault)) }
     ensures limits { IsOk result
         → IsDrivable settings.now.workers settings.now.transactions settings.now.keys }
 {
@@ -127,6 +131,8 @@ fn drive_over<
         (string_bytes driven.text) driven.verdict) }
     ensures counted { IfErr result (λ none. IfSome none.text (λ text.
         AreCounts (settings.now.workers * settings.now.transactions) (string_bytes text))) }
+    ensures unjudged { IfErr result (λ none. IfSome none.text (λ text.
+        IsUnjudged none.fault)) }
     ensures limits { IsOk result
         → IsDrivable settings.now.workers settings.now.transactions settings.now.keys }
 {
