@@ -241,12 +241,18 @@ fn quits(tx: Tx<'_, Closing>, alloc: Global, story: &Story, outcome: Option<Stam
 fn takes_its_end<S: Closed>(tx: Tx<'_, S>, outcome: Option<Stamp>) -> bool {
     let txn = id(2);
     match tx.take(&Done::said(txn, outcome)) {
-        Ok(Finished::Committed(at)) => outcome == Some(at),
-        Ok(Finished::Aborted) => outcome == None,
+        Ok(finished) => finished == finished_at(outcome),
         Err((_, tx)) => {
             tx.spend();
             false
         }
+    }
+}
+
+fn finished_at(outcome: Option<Stamp>) -> Finished {
+    match outcome {
+        Some(at) => Finished::Committed(at),
+        None => Finished::Aborted,
     }
 }
 
