@@ -12,7 +12,7 @@ use crate::wire::{Hearing, Wire};
 use crate::worker::Worker;
 use message::{Done, Message, ReadAnswer};
 use progress::{Ended, Watch};
-use session::{Closing, Finished, Open, Phase, Tx};
+use session::{Closing, Finished, Ongoing, Open, Tx};
 use std::sync::Wait;
 use std::time;
 use truetime::Clock;
@@ -233,7 +233,7 @@ impl<'s, R: Wait + time::Clock> Wire<'_, 's, R> {
     }
 
     // Gives a transaction up, which has then ended so. Its shards are told, unless all workers are to stop.
-    fn give_up<S: Phase>(
+    fn give_up<S: Ongoing>(
         &self,
         tx: Tx<'s, S>,
         finished: Option<Finished>,
