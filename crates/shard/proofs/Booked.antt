@@ -50,7 +50,7 @@ first-cause memory true gate p Failed planned fault own runs because (inr same) 
 first-cause memory false gate (Err why) Failed planned fault own runs because (inl first) =
     absurd (false≢true (subst (λ (f : Fault). is_own f ≡ true) (sym because ∙ first.0) own))
 first-cause memory false gate (Err why) Failed planned fault own runs because (inr same) = same.0 ∙ because
-first-cause memory false gate (Ok p) Failed planned fault own runs (inl want) (inl first) = inr (inr (first.1.0, not-full gate p.logged first.1.1))
+first-cause memory false gate (Ok p) Failed planned fault own runs (inl want) (inl first) = inr (inr (first.1, not-full gate p.logged first.2))
 first-cause memory false gate (Ok p) Failed planned fault own runs (inl want) (inr same) = inl (same.0 ∙ want, same.1 want)
 first-cause memory false gate (Ok p) Failed planned fault own runs (inr (inl spent)) (inl first) = absurd (other spent.0 first.0)
   where
