@@ -17,7 +17,7 @@ use Rattle.session.specs.Sessions.{Client, Moved, Denies, Goes, unless, asked_ke
 use Rattle.session.specs.Sessions.{doomed_by, without_key}
 use Rattle.session.specs.Shown.{heard_as, is_made}
 use Rattle.session.specs.declared.answered.Heard.{Heard}
-use Rattle.client.specs.Readings.{Step, Asks, Hears, IsStep, AreSteps, HasRead, AreReads, is_read}
+use Rattle.client.specs.Readings.{Step, Asks, Hears, AreSteps, HasRead, AreReads, is_read}
 
 -- the session after a step, where it is made
 client_after : Moved → Client → Client

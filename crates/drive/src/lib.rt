@@ -8,4 +8,5 @@ mod shards;
 mod watched;
 
 pub use engine::{Driven, drive, drive_by};
+pub use opening::{Opened, open_shards, run_of};
 pub use shards::{NoVerdict, drive_shards, run};

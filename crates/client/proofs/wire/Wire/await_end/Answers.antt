@@ -1,4 +1,4 @@
-use Rattle.std.proofs.Common.{◌≡◌, ◌++◌, List, ap, ◌∙◌, append-nil}
+use Rattle.std.proofs.Common.{◌++◌, List, ap, ◌∙◌, append-nil}
 use Rattle.message.specs.declared.message.Envelope.{Envelope}
 use Rattle.session.specs.Sessions.{closing_messages}
 use Rattle.client.specs.Ends.{times}

@@ -1,4 +1,4 @@
-use Rattle.std.proofs.Common.{◌≡◌, [], ◌++◌, List, inl, inr, refl, ap, sym, ◌∙◌, subst, append-nil}
+use Rattle.std.proofs.Common.{[], ◌++◌, List, inl, inr, refl, ap, sym, ◌∙◌, subst, append-nil}
 use Rattle.units.specs.Ids.{Id}
 use Rattle.message.specs.Ends.{End}
 use Rattle.session.specs.Sessions.{Client}
