@@ -3,11 +3,12 @@ use Rattle.std.specs.Prelude.{◌≡◌, ◌⊎◌, ℕ, Result, Ok, Err}
 use Rattle.units.specs.declared.fault.Fault.{Fault}
 use Rattle.units.specs.declared.fault.Fault.TheVariants.{BadRequest, Device, Memory}
 use Rattle.units.specs.declared.fault.Reason.TheVariants.{Unlawful}
-use Rattle.command_line.specs.Commands.{Asked, help, once_asked, format_asked, play_asked, inspect_asked, drive_asked}
+use Rattle.command_line.specs.Commands.{Asked, help, once_asked, format_asked, play_asked, inspect_asked, drive_asked, dump_asked}
 use Rattle.inspection.specs.Files.{IsNotJudged}
 use Rattle.output.specs.declared.failure.Failure.{Failure}
 use Rattle.output.specs.declared.failure.Failure.TheVariants.{Refused, Unwritten}
 use Rattle.script.specs.Refusals.{IsNoSchedule}
+use Rattle.showing.specs.Dumps.{IsNotShown}
 
 -- memory is wanting, or the system refuses the file
 abbrev pub IsNotMade : Fault → Type 0
@@ -25,6 +26,7 @@ MayRefuse (format_asked file) fault = IsNotMade fault
 MayRefuse (play_asked file) fault = IsNotPlayed fault
 MayRefuse (inspect_asked lines logs) fault = IsNotJudged fault
 MayRefuse (drive_asked file) fault = Unit {0}
+MayRefuse (dump_asked file) fault = IsNotShown fault
 
 abbrev pub MayRefuseTo : Result Asked Fault → Fault → Type 0
 MayRefuseTo (Ok asked) fault = MayRefuse asked fault

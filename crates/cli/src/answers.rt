@@ -19,6 +19,7 @@ ghost use Rattle.cli.specs.Replies.{Tells, TellsTo, reply_of, reply_to};
 ghost use Rattle.output.specs.Streams.{failures_of, fault_line, writer_of};
 
 use crate::drive_command::run_drive;
+use crate::dump::dump;
 use crate::format::format;
 use crate::help::help;
 use crate::inspect::inspect;
@@ -64,7 +65,7 @@ pub fn answer<
     ensures helped { asks_help (map (λ w. w.now) words.entry.now) ≡ true → result.0 ≢ 2
         → (result.0 ≡ 0)
         × Appends (O.contents (writer_of out.old)) (O.contents (writer_of out.new)) USAGE.now }
-    // What files tell: a format prints nothing, and an inspection a verdict, which its status goes with.
+    // What files tell: a format prints nothing, an inspection a verdict, which its status goes with, and a dump lines of records.
     ensures tells { are_plain (map (λ w. w.now) words.entry.now) ≡ true → result.0 ≢ 2
         → (text : List ℕ) × TellsTo (command_of (map (λ w. w.now) words.entry.now)) result.0 text
         × Appends (O.contents (writer_of out.old)) (O.contents (writer_of out.new)) text }
@@ -187,5 +188,6 @@ fn run<F: Files, D: Fn(Global, &Settings) -> Result<Driven, NoVerdict>, O: Write
             (inspect(alloc, lines, &logs, &system.files, out), disk)
         }
         Command::Drive { file } => (run_drive(alloc, file, system, out), disk),
+        Command::Dump { file } => (dump(alloc, file, &system.files, out), disk),
     }
 }

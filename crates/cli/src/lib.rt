@@ -3,6 +3,7 @@
 
 mod answers;
 mod drive_command;
+mod dump;
 mod format;
 mod help;
 mod host;

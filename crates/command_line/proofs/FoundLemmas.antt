@@ -13,7 +13,7 @@ use Rattle.clap.specs.declared.parser.matches.SubCommand.{SubCommand}
 use Rattle.units.specs.declared.fault.Fault.{Fault}
 use Rattle.units.specs.declared.fault.Fault.TheVariants.{BadRequest, Memory}
 use Rattle.units.specs.declared.fault.Reason.TheVariants.{Command as command_reason}
-use Rattle.command_line.specs.Lines.{CommandLine, Word, once, format, play, inspect, drive}
+use Rattle.command_line.specs.Lines.{CommandLine, Word, once, format, play, inspect, drive, dump}
 use Rattle.command_line.specs.Parser.{entry_of, row}
 use Rattle.command_line.specs.Views.{line_view}
 use Rattle.command_line.specs.declared.parsing.Line.{Line}
@@ -65,6 +65,7 @@ once_found (format f) inner key value e1 l1 e2 l2 name rows rk rv ra rb rc rd = 
 once_found (play f) inner key value e1 l1 e2 l2 name rows rk rv ra rb rc rd = absurd (differ _ _ refl refl name)
 once_found (inspect ls fs) inner key value e1 l1 e2 l2 name rows rk rv ra rb rc rd = absurd (differ _ _ refl refl name)
 once_found (drive f) inner key value e1 l1 e2 l2 name rows rk rv ra rb rc rd = absurd (differ _ _ refl refl name)
+once_found (dump f) inner key value e1 l1 e2 l2 name rows rk rv ra rb rc rd = absurd (differ _ _ refl refl name)
 
 -- the words are those that the argument was given
 abbrev pub ReadsAll : Found → Word → List Word → Type 0
@@ -81,6 +82,7 @@ inspect_found (inspect ls fs) inner lines logs name rows rl rs =
     let es = rs fs (ap (all_of (codes "logs")) rows) in
     λ i. inspect (el i) (es i)
 inspect_found (drive f) inner lines logs name rows rl rs = absurd (differ _ _ refl refl name)
+inspect_found (dump f) inner lines logs name rows rl rs = absurd (differ _ _ refl refl name)
 
 -- a line with this name has one file
 abbrev pub HasFile : (Word → CommandLine) → CommandLine → Type 0
@@ -92,6 +94,7 @@ format_has (format f) e = (f, refl, refl)
 format_has (play f) e = absurd (differ _ _ refl refl e)
 format_has (inspect ls fs) e = absurd (differ _ _ refl refl e)
 format_has (drive f) e = absurd (differ _ _ refl refl e)
+format_has (dump f) e = absurd (differ _ _ refl refl e)
 
 play_has : (line : CommandLine) → (entry_of line).0 ≡ codes "play" → HasFile play line
 play_has (once k v a b c d) e = absurd (differ _ _ refl refl e)
@@ -99,6 +102,7 @@ play_has (format f) e = absurd (differ _ _ refl refl e)
 play_has (play f) e = (f, refl, refl)
 play_has (inspect ls fs) e = absurd (differ _ _ refl refl e)
 play_has (drive f) e = absurd (differ _ _ refl refl e)
+play_has (dump f) e = absurd (differ _ _ refl refl e)
 
 drive_has : (line : CommandLine) → (entry_of line).0 ≡ codes "drive" → HasFile drive line
 drive_has (once k v a b c d) e = absurd (differ _ _ refl refl e)
@@ -106,6 +110,15 @@ drive_has (format f) e = absurd (differ _ _ refl refl e)
 drive_has (play f) e = absurd (differ _ _ refl refl e)
 drive_has (inspect ls fs) e = absurd (differ _ _ refl refl e)
 drive_has (drive f) e = (f, refl, refl)
+drive_has (dump f) e = absurd (differ _ _ refl refl e)
+
+dump_has : (line : CommandLine) → (entry_of line).0 ≡ codes "dump" → HasFile dump line
+dump_has (once k v a b c d) e = absurd (differ _ _ refl refl e)
+dump_has (format f) e = absurd (differ _ _ refl refl e)
+dump_has (play f) e = absurd (differ _ _ refl refl e)
+dump_has (inspect ls fs) e = absurd (differ _ _ refl refl e)
+dump_has (drive f) e = absurd (differ _ _ refl refl e)
+dump_has (dump f) e = (f, refl, refl)
 
 file_found : (m : ArgMatches) (make : Word → CommandLine) (name : Word) (line : CommandLine) (inner : Found) (file : Word)
     → ((l : CommandLine) → (entry_of l).0 ≡ name → HasFile make l)
@@ -135,12 +148,18 @@ pub drive_found : (m : ArgMatches) (line : CommandLine) (inner : Found) (file : 
     → Reads inner (codes "file") file → drive file ≡ line
 drive_found m line inner file = file_found m drive (codes "drive") line inner file drive_has
 
+pub dump_found : (m : ArgMatches) (line : CommandLine) (inner : Found) (file : Word)
+    → subcommand_rows_of m ≡ Some (entry_of line) → subcommand_name_of m ≡ Some (codes "dump")
+    → option_map (λ (p : Text × List Row). p.1) (subcommand_rows_of m) ≡ Some (rows_of inner)
+    → Reads inner (codes "file") file → dump file ≡ line
+dump_found m line inner file = file_found m dump (codes "dump") line inner file dump_has
+
 -- a line has one of the names
 pub no_name : (m : ArgMatches) (line : CommandLine) → subcommand_rows_of m ≡ Some (entry_of line)
     → (subcommand_name_of m ≡ Some (codes "once") → ⊥) → (subcommand_name_of m ≡ Some (codes "format") → ⊥)
     → (subcommand_name_of m ≡ Some (codes "play") → ⊥) → (subcommand_name_of m ≡ Some (codes "inspect") → ⊥)
-    → (subcommand_name_of m ≡ Some (codes "drive") → ⊥) → ⊥
-no_name m line e a b c d f =
+    → (subcommand_name_of m ≡ Some (codes "drive") → ⊥) → (subcommand_name_of m ≡ Some (codes "dump") → ⊥) → ⊥
+no_name m line e a b c d f h =
     let named : subcommand_name_of m ≡ Some (entry_of line).0 =
     sym (names_same (out-ArgMatches m).subcommand) ∙ ap (option_map (λ (p : Text × List Row). p.0)) e in
     go line named
@@ -151,6 +170,7 @@ no_name m line e a b c d f =
     go (play _) n = c n
     go (inspect _ _) n = d n
     go (drive _) n = f n
+    go (dump _) n = h n
 
 -- a line that was read is the line
 pub line_read : (r : Result Line Fault) (line : CommandLine) (expected : Option CommandLine) → expected ≡ Some line

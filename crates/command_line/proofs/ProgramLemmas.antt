@@ -15,7 +15,7 @@ use Rattle.clap.specs.Walk.{walked}
 use Rattle.clap.specs.Simple.{entered, label_of, rows_at, names_of}
 use Rattle.clap.specs.Faults.{entered_fault, turn_fault, check_fault, defaults_fault}
 use Rattle.clap.specs.Faults.{level_fault, settle_fault, step_fault, walk_fault}
-use Rattle.command_line.specs.Lines.{CommandLine, Word, are_plain, one_file, is_plain, line_of, once_of, inspect_of, format, play, drive}
+use Rattle.command_line.specs.Lines.{CommandLine, Word, are_plain, one_file, is_plain, line_of, once_of, inspect_of, format, play, drive, dump}
 use Rattle.command_line.specs.Parser.{entry_of, shards_app}
 use Rattle.command_line.proofs.LineLemmas.{Agrees, agrees_as, file_agrees, file_leaf, once_agrees, once_leaf, refused_first, stopped_walk}
 use Rattle.command_line.proofs.LineLemmas.{word_is_fine, word_is_value}
@@ -75,24 +75,25 @@ enters_with name s rest starts found =
 
 -- ---- a first word that names no command
 
-abbrev pub chosen : Bool → Bool → Bool → Bool → Bool → List Word → Option CommandLine
-chosen a b c d f rest =
+abbrev pub chosen : Bool → Bool → Bool → Bool → Bool → Bool → List Word → Option CommandLine
+chosen a b c d f h rest =
     if a then once_of rest else (if b then one_file format rest else (if c then one_file play rest
-    else (if d then inspect_of rest else (if f then one_file drive rest else None))))
+    else (if d then inspect_of rest else (if f then one_file drive rest
+    else (if h then one_file dump rest else None)))))
 
-abbrev pub met : Bool → Bool → Bool → Bool → Bool → Option Text
-met a b c d f = option_map (λ (s : Text × List Text). s.0) (cond (a || false) (Some (codes "once", [])) (cond (b || false) (Some (codes "format", []))
+abbrev pub met : Bool → Bool → Bool → Bool → Bool → Bool → Option Text
+met a b c d f h = option_map (λ (s : Text × List Text). s.0) (cond (a || false) (Some (codes "once", [])) (cond (b || false) (Some (codes "format", []))
     (cond (c || false) (Some (codes "play", [])) (cond (d || false) (Some (codes "inspect", []))
-    (cond (f || false) (Some (codes "drive", [])) None)))))
+    (cond (f || false) (Some (codes "drive", [])) (cond (h || false) (Some (codes "dump", [])) None))))))
 
 other_agrees : (name : Word) (rest : List Word) → is_plain name ≡ true
     → bytes_eq (codes "once") name ≡ false → bytes_eq (codes "format") name ≡ false → bytes_eq (codes "play") name ≡ false
-    → bytes_eq (codes "inspect") name ≡ false → bytes_eq (codes "drive") name ≡ false
+    → bytes_eq (codes "inspect") name ≡ false → bytes_eq (codes "drive") name ≡ false → bytes_eq (codes "dump") name ≡ false
     → Agrees (line_of (name ∷ rest)) (fault_of shards_app (name ∷ rest)) (subcommand_of shards_app (name ∷ rest))
 unfolding walk_fault walked
-other_agrees name rest e a b c d f =
-    let not_a_line : line_of (name ∷ rest) ≡ None = λ i. chosen (a i) (b i) (c i) (d i) (f i) rest in
-    let no_command : subcommand_met program_names idle name ≡ None = λ i. met (a i) (b i) (c i) (d i) (f i) in
+other_agrees name rest e a b c d f h =
+    let not_a_line : line_of (name ∷ rest) ≡ None = λ i. chosen (a i) (b i) (c i) (d i) (f i) (h i) rest in
+    let no_command : subcommand_met program_names idle name ≡ None = λ i. met (a i) (b i) (c i) (d i) (f i) (h i) in
     let turns : turn_fault program.top program_names (walk_from nothing_held) name ≡ or_else [] (step_fault program.top 1 nothing_held value) =
     ap₂ (λ (k : Kinds) (m : Held × Step). or_else k (step_fault program.top 1 m.0 m.1))
     (word_is_fine program.top program_names name nothing_held e no_command)
@@ -136,6 +137,11 @@ unfolding walked
 drive_line rest e = agrees_as (one_file drive rest) _ _ _ _ (enters (codes "drive") (file_leaf (codes "drive")) rest refl refl refl)
     (enters_with (codes "drive") (file_leaf (codes "drive")) rest refl refl) (file_agrees (codes "drive") drive (λ _. refl) rest e)
 
+dump_line : (rest : List Word) → are_plain rest ≡ true → AgreesAt (codes "dump" ∷ rest)
+unfolding walked
+dump_line rest e = agrees_as (one_file dump rest) _ _ _ _ (enters (codes "dump") (file_leaf (codes "dump")) rest refl refl refl)
+    (enters_with (codes "dump") (file_leaf (codes "dump")) rest refl refl) (file_agrees (codes "dump") dump (λ _. refl) rest e)
+
 -- where the first word is this command's name
 named : (name known : Word) (rest : List Word) → bytes_eq known name ≡ true → AgreesAt (known ∷ rest) → AgreesAt (name ∷ rest)
 named name known rest e h = subst (λ n. AgreesAt (n ∷ rest)) ((bytes_eq-Decides known name).0 e) h
@@ -155,7 +161,10 @@ words_agree (name ∷ rest) e =
             | inl d ↦ named name (codes "inspect") rest d (inspect_line rest plain.1)
             | inr d ↦ elim (bool_cases (bytes_eq (codes "drive") name)) [
               | inl f ↦ named name (codes "drive") rest f (drive_line rest plain.1)
-              | inr f ↦ other_agrees name rest plain.0 a b c d f
+              | inr f ↦ elim (bool_cases (bytes_eq (codes "dump") name)) [
+                | inl h ↦ named name (codes "dump") rest h (dump_line rest plain.1)
+                | inr h ↦ other_agrees name rest plain.0 a b c d f h
+              ]
             ]
           ]
         ]

@@ -4,11 +4,12 @@ use Rattle.units.specs.declared.fault.Fault.{Fault}
 use Rattle.units.specs.declared.fault.Fault.TheVariants.{BadRequest}
 use Rattle.units.specs.declared.fault.Reason.TheVariants as reason
 use Rattle.truetime.specs.Interval.{Interval}
-use Rattle.command_line.specs.Lines.{CommandLine, Word, asks_help, line_of, once, format, play, inspect, drive}
+use Rattle.command_line.specs.Lines.{CommandLine, Word, asks_help, line_of, once, format, play, inspect, drive, dump}
 use Rattle.texts.specs.Numbers.{and_then, interval_of}
 
 -- what words may ask for: the usage; a write of a value to a key at the readings of its commit and of its settling; a new log
--- file; the report of a schedule in a file; the verdict on a file of lines and some logs; a drive by settings in a file
+-- file; the report of a schedule in a file; the verdict on a file of lines and some logs; a drive by settings in a file; what a
+-- log in a file holds
 pub data Asked : Type 0 where
   help : Asked
   once_asked : Word → Word → Interval → Interval → Asked
@@ -16,6 +17,7 @@ pub data Asked : Type 0 where
   play_asked : Word → Asked
   inspect_asked : Word → List Word → Asked
   drive_asked : Word → Asked
+  dump_asked : Word → Asked
 
 -- a key is the bytes of its word
 abbrev pub key_of : Word → Result Word Fault
@@ -38,6 +40,7 @@ command_of_line (format file) = Ok (format_asked file)
 command_of_line (play file) = Ok (play_asked file)
 command_of_line (inspect lines logs) = Ok (inspect_asked lines logs)
 command_of_line (drive file) = Ok (drive_asked file)
+command_of_line (dump file) = Ok (dump_asked file)
 
 -- and what is no line is refused
 abbrev pub command_or_refusal : Option CommandLine → Result Asked Fault

@@ -15,6 +15,7 @@ pub data CommandLine : Type 0 where
   play : Word → CommandLine
   inspect : Word → List Word → CommandLine
   drive : Word → CommandLine
+  dump : Word → CommandLine
 
 -- the word does not begin with `-` (45)
 abbrev pub is_plain : Word → Bool
@@ -65,4 +66,5 @@ line_of (name ∷ rest) =
     else (if bytes_eq (codes "play") name then one_file play rest
     else (if bytes_eq (codes "inspect") name then inspect_of rest
     else (if bytes_eq (codes "drive") name then one_file drive rest
-    else None))))
+    else (if bytes_eq (codes "dump") name then one_file dump rest
+    else None)))))

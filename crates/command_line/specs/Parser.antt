@@ -3,7 +3,7 @@ use Rattle.std.specs.Prelude.{ℕ, List, [], ◌∷◌, Some, None, true, codes,
 use Rattle.clap.specs.Words.{App, Row, Rule, Shape, Text, new_app, new_rule, with_rule, with_subcommand}
 use Rattle.clap.specs.declared.parser.matches.ValueSource.TheVariants.{CommandLine as given}
 use Rattle.clap.specs.declared.builder.value_parser.Reading.TheVariants.{AsWritten}
-use Rattle.command_line.specs.Lines.{CommandLine, Word, once, format, play, inspect, drive}
+use Rattle.command_line.specs.Lines.{CommandLine, Word, once, format, play, inspect, drive, dump}
 
 -- an argument of which 1 to `most` words have to be given
 abbrev pub needed : Text × ℕ → Rule
@@ -31,7 +31,8 @@ inspect_app = command_app (codes "inspect") ((codes "lines", 1) ∷ (codes "logs
 
 -- the commands
 abbrev pub shapes : List Shape
-shapes = once_app.top ∷ (file_app (codes "format")).top ∷ (file_app (codes "play")).top ∷ inspect_app.top ∷ (file_app (codes "drive")).top ∷ []
+shapes = once_app.top ∷ (file_app (codes "format")).top ∷ (file_app (codes "play")).top ∷ inspect_app.top ∷ (file_app (codes "drive")).top
+    ∷ (file_app (codes "dump")).top ∷ []
 
 -- the program: one command is wanted
 abbrev pub bare_app : App
@@ -72,3 +73,4 @@ entry_of (format file) = (codes "format", row (codes "file") file ∷ [])
 entry_of (play file) = (codes "play", row (codes "file") file ∷ [])
 entry_of (inspect lines logs) = (codes "inspect", row (codes "lines") lines ∷ row_with (codes "logs") logs ∷ [])
 entry_of (drive file) = (codes "drive", row (codes "file") file ∷ [])
+entry_of (dump file) = (codes "dump", row (codes "file") file ∷ [])

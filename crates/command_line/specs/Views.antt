@@ -2,8 +2,8 @@
 use Rattle.std.specs.Prelude.{ℕ, List, map}
 use denote.Ref.{Bor}
 use Rattle.clap.specs.Words.{Shape, Text}
-use Rattle.command_line.specs.Commands.{Asked, help, once_asked, format_asked, play_asked, inspect_asked, drive_asked}
-use Rattle.command_line.specs.Lines.{CommandLine, Word, once, format, play, inspect, drive}
+use Rattle.command_line.specs.Commands.{Asked, help, once_asked, format_asked, play_asked, inspect_asked, drive_asked, dump_asked}
+use Rattle.command_line.specs.Lines.{CommandLine, Word, once, format, play, inspect, drive, dump}
 use Rattle.command_line.specs.Parser.{command_app}
 use Rattle.command_line.specs.declared.commands.Command.{Command}
 use Rattle.command_line.specs.declared.commands.Command.TheVariants as command
@@ -25,6 +25,7 @@ line_view (code.Format file) = format file.now
 line_view (code.Play file) = play file.now
 line_view (code.Inspect lines logs) = inspect lines.now (map (λ w. w.now) logs.items)
 line_view (code.Drive file) = drive file.now
+line_view (code.Dump file) = dump file.now
 
 -- what it asks for
 abbrev pub asked_for : Command → Asked
@@ -34,3 +35,4 @@ asked_for (command.Format file) = format_asked file.now
 asked_for (command.Play file) = play_asked file.now
 asked_for (command.Inspect lines logs) = inspect_asked lines.now (map (λ w. w.now) logs.items)
 asked_for (command.Drive file) = drive_asked file.now
+asked_for (command.Dump file) = dump_asked file.now

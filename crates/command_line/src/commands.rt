@@ -31,4 +31,8 @@ pub enum Command<'a> {
     Drive {
         file: &'a str,
     },
+    /// What the log in a file holds is told.
+    Dump {
+        file: &'a str,
+    },
 }

@@ -17,7 +17,7 @@ use units::{Fault, Reason};
 type Form<'a> = (&'a str, &'a [(&'a str, usize)]);
 
 /// The program's commands.
-static COMMANDS: [Form<'static>; 5] = [
+static COMMANDS: [Form<'static>; 6] = [
     (
         "once",
         &[
@@ -33,6 +33,7 @@ static COMMANDS: [Form<'static>; 5] = [
     ("play", &[("file", 1)]),
     ("inspect", &[("lines", 1), ("logs", 16)]),
     ("drive", &[("file", 1)]),
+    ("dump", &[("file", 1)]),
 ];
 
 /// A command, with its words.
@@ -57,6 +58,9 @@ pub enum Line<'a> {
         logs: Vec<&'a str>,
     },
     Drive {
+        file: &'a str,
+    },
+    Dump {
         file: &'a str,
     },
 }
@@ -101,6 +105,11 @@ fn found_line<'a>(alloc: Global, matches: &ArgMatches<'a>) -> Result<Line<'a>, F
     }
     if let Some(given) = matches.subcommand_matches("drive") {
         return Ok(Line::Drive {
+            file: word(given, "file"),
+        });
+    }
+    if let Some(given) = matches.subcommand_matches("dump") {
+        return Ok(Line::Dump {
             file: word(given, "file"),
         });
     }

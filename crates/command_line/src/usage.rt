@@ -42,6 +42,11 @@ drive FILE
     Prints how many transactions were committed, were aborted and are unknown,
     how many looks were answered, and the verdict on the logs.
 
+dump LOG
+    Prints each record of a log, behind the offset of its gate in the file, and
+    last 'closed at' with the offset of the closed gate; or 'torn at', where
+    bytes of a record that was not finished stand there. It writes to no file.
+
 status: 0, or 1 where it was too early or the verdict is no, or 2 at a fault,
 which is one line on standard error. After a write that fails nothing more is
 printed (2).

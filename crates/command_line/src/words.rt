@@ -53,6 +53,7 @@ fn read_command<'a>(alloc: Global, words: &'a [&'a str]) -> Result<Command<'a>, 
         Line::Play { file } => Ok(Command::Play { file }),
         Line::Inspect { lines, logs } => Ok(Command::Inspect { lines, logs }),
         Line::Drive { file } => Ok(Command::Drive { file }),
+        Line::Dump { file } => Ok(Command::Dump { file }),
     }
 }
 

@@ -1,7 +1,7 @@
 //! Commands that ask the system for files.
 use crate::given::{Asked, File};
 
-pub static FILES: [File<'static>; 18] = [
+pub static FILES: [File<'static>; 22] = [
     File {
         path: "empty",
         bytes: b"",
@@ -68,6 +68,29 @@ pub static FILES: [File<'static>; 18] = [
         bytes: b"SPNLOG01\xa5\0\0\0\x09\x02\0\0\0\0\0\0\0\xc8\0",
     },
     File {
+        path: "bare.log",
+        bytes: b"SPNLOG01\0",
+    },
+    // Opened 1, and behind the closed gate what a crash left of Opened 2.
+    File {
+        path: "unfinished.log",
+        bytes: b"SPNLOG01\xa5\0\0\0\x09\x01\0\0\0\0\0\0\0\x01\0\0\0\0\x09\x01\0\0",
+    },
+    // Opened 1, and a gate that a crash filled.
+    File {
+        path: "filled.log",
+        bytes: b"SPNLOG01\xa5\0\0\0\x09\x01\0\0\0\0\0\0\0\x01\x5a",
+    },
+    // Opened 1; Commit 1.2 at 200 by shard 0, with a=1; Abort 1.3; Ceiling 300; Opened 2.
+    File {
+        path: "many.log",
+        bytes: b"SPNLOG01\xa5\0\0\0\x09\x01\0\0\0\0\0\0\0\x01\
+            \xa5\0\0\0%\x04\0\0\0\0\0\0\0\x01\0\0\0\0\0\0\0\x02\0\0\0\0\0\0\0\xc8\0\x01\0\0\0\x01\x01a\x01\0\x011\
+            \xa5\0\0\0\x11\x05\0\0\0\0\0\0\0\x01\0\0\0\0\0\0\0\x03\
+            \xa5\0\0\0\x09\x02\0\0\0\0\0\0\x01,\
+            \xa5\0\0\0\x09\x01\0\0\0\0\0\0\0\x02\0",
+    },
+    File {
         path: "good.settings",
         bytes: b"shards = 2\nsplits = [\"k0005\"]\nstride = 1000\nepsilon = 100\nworkers = 4\ntransactions = 50\nkeys = 10\n",
     },
@@ -85,7 +108,7 @@ pub static FILES: [File<'static>; 18] = [
     },
 ];
 
-pub static ASKED: [Asked; 37] = [
+pub static ASKED: [Asked; 49] = [
     Asked {
         text: "format new.log",
         words: &["format", "new.log"],
@@ -380,6 +403,90 @@ pub static ASKED: [Asked; 37] = [
     Asked {
         text: "drive",
         words: &["drive"],
+        printed: "",
+        refused: "fault: 7 BadRequest(command)\n",
+        status: 2,
+    },
+    Asked {
+        text: "dump done.log",
+        words: &["dump", "done.log"],
+        printed: "8 opened 1\n22 commit 1.2 200 0 - a=1\n64 outcome 1.2 committed 200\nclosed at 95\n",
+        refused: "",
+        status: 0,
+    },
+    Asked {
+        text: "dump many.log",
+        words: &["dump", "many.log"],
+        printed: "8 opened 1\n22 commit 1.2 200 0 - a=1\n64 abort 1.3\n86 ceiling 300\n100 opened 2\nclosed at 114\n",
+        refused: "",
+        status: 0,
+    },
+    Asked {
+        text: "dump promised.log",
+        words: &["dump", "promised.log"],
+        printed: "8 opened 1\n22 prepare 1.2 0 200 - -\nclosed at 57\n",
+        refused: "",
+        status: 0,
+    },
+    Asked {
+        text: "dump bare.log",
+        words: &["dump", "bare.log"],
+        printed: "closed at 8\n",
+        refused: "",
+        status: 0,
+    },
+    Asked {
+        text: "dump unfinished.log",
+        words: &["dump", "unfinished.log"],
+        printed: "8 opened 1\ntorn at 22\n",
+        refused: "",
+        status: 0,
+    },
+    Asked {
+        text: "dump filled.log",
+        words: &["dump", "filled.log"],
+        printed: "8 opened 1\ntorn at 22\n",
+        refused: "",
+        status: 0,
+    },
+    Asked {
+        text: "dump missing",
+        words: &["dump", "missing"],
+        printed: "",
+        refused: "fault: 2 Device\n",
+        status: 2,
+    },
+    Asked {
+        text: "dump cut.log",
+        words: &["dump", "cut.log"],
+        printed: "",
+        refused: "fault: 11 Damaged at 8\n",
+        status: 2,
+    },
+    Asked {
+        text: "dump next_version.log",
+        words: &["dump", "next_version.log"],
+        printed: "",
+        refused: "fault: 12 NotALog\n",
+        status: 2,
+    },
+    Asked {
+        text: "dump empty",
+        words: &["dump", "empty"],
+        printed: "",
+        refused: "fault: 12 NotALog\n",
+        status: 2,
+    },
+    Asked {
+        text: "dump",
+        words: &["dump"],
+        printed: "",
+        refused: "fault: 7 BadRequest(command)\n",
+        status: 2,
+    },
+    Asked {
+        text: "dump opened.log done.log",
+        words: &["dump", "opened.log", "done.log"],
         printed: "",
         refused: "fault: 7 BadRequest(command)\n",
         status: 2,

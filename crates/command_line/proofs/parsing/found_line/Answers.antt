@@ -1,7 +1,7 @@
 -- Each command's words are those that its arguments were given.
 use Rattle.std.proofs.Common.{refl}
 use Rattle.clap.specs.Words.{found_of}
-use Rattle.command_line.proofs.FoundLemmas.{drive_found, format_found, play_found}
+use Rattle.command_line.proofs.FoundLemmas.{drive_found, dump_found, format_found, play_found}
 use Rattle.command_line.proofs.parsing.found_line.Goals as goal
 
 pub returns-in-Some-subcommand_matches-clause-found : goal.returns-in-Some-subcommand_matches-clause-found
@@ -18,3 +18,8 @@ pub returns-in-Some-subcommand_matches-4-clause-found : goal.returns-in-Some-sub
 returns-in-Some-subcommand_matches-4-clause-found c line e =
     drive_found c.args.matches.now line (found_of c.in-Some-subcommand_matches-4.given.now) _ e (c.in-Some-subcommand_matches-4.ensures.found.0 refl)
     c.in-Some-subcommand_matches-4.ensures.rows c.word-in-Some-subcommand_matches-4.ensures
+
+pub returns-in-Some-subcommand_matches-5-clause-found : goal.returns-in-Some-subcommand_matches-5-clause-found
+returns-in-Some-subcommand_matches-5-clause-found c line e =
+    dump_found c.args.matches.now line (found_of c.in-Some-subcommand_matches-5.given.now) _ e (c.in-Some-subcommand_matches-5.ensures.found.0 refl)
+    c.in-Some-subcommand_matches-5.ensures.rows c.word-in-Some-subcommand_matches-5.ensures
