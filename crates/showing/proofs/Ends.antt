@@ -1,6 +1,8 @@
 -- Where a log ends, and what a scan of it says.
-use Rattle.std.proofs.Common.{◌≡◌, ◌∙◌, ◌≤◌, ◌+◌, ℕ, arith, refl, sym, ap, List, [], ◌∷◌, length, IsTrue, Result, Ok, Err}
-use Rattle.std.specs.Prelude.{fold}
+use Rattle.std.proofs.Common.{◌≡◌, ◌∙◌, ◌≤◌, ◌<◌, ◌+◌, ℕ, suc, arith, refl, sym, ap, List, [], ◌∷◌, length, map, drop, slice_index_or, Result, Ok, Err}
+use Rattle.std.specs.Prelude.{fold, IsTrue}
+use Rattle.std.proofs.Math.Seq.{drop-cons}
+use Rattle.std.proofs.lemmas.Bool.{eqb-true}
 use Rattle.record.specs.declared.record.Record.{Record}
 use Rattle.spelling.specs.Grammar.{spelling}
 use Rattle.units.specs.declared.fault.Fault.{Fault}
@@ -8,20 +10,39 @@ use Rattle.gatelog.specs.Frames.{next_gate}
 use Rattle.gatelog.specs.Log.{ends_with, entries_of}
 use Rattle.gatelog.specs.Placed.{Placed}
 use Rattle.showing.specs.Dumps.{dumped, end_behind}
-use Rattle.showing.specs.declared.reading.End.{End}
 
 -- frames lead on
 pub grows : (rs : List Record) (gate : ℕ) → gate ≤ fold next_gate gate rs
 grows [] gate = omega arith
-grows (r ∷ rs) gate = omega (arith, grows rs (next_gate gate r))
+grows (r ∷ rs) gate = let more : next_gate gate r ≤ fold next_gate (next_gate gate r) rs = grows rs (next_gate gate r) in omega (arith, more)
+
+-- the frame of the next entry ends no further than the log
+pub within : (es : List Placed) (i gate end : ℕ) (e : Placed) → i < length es → e ≡ slice_index_or es i e
+    → fold next_gate gate (map (λ e. e.item) (drop i es)) ≡ end → gate + 5 + length (spelling e.item) ≤ end
+within es i gate end e small is same =
+    let turn : drop i es ≡ e ∷ drop (suc i) es = drop-cons es i e small ∙ ap (λ (x : Placed). x ∷ drop (suc i) es) (sym is) in
+    let all : fold next_gate (next_gate gate e.item) (map (λ e. e.item) (drop (suc i) es)) ≡ end =
+    sym (ap (λ (xs : List Placed). fold next_gate gate (map (λ e. e.item) xs)) turn) ∙ same in
+    let more : next_gate gate e.item ≤ fold next_gate (next_gate gate e.item) (map (λ e. e.item) (drop (suc i) es)) =
+    grows (map (λ e. e.item) (drop (suc i) es)) (next_gate gate e.item) in
+    omega (arith, more, all)
 
 -- a scan with these entries and this gate
 pub dumped_as : (image : List ℕ) (found : Result (List Placed × ℕ) Fault) (entries : List Placed) (gate : ℕ)
     → entries_of found ≡ Ok entries → IsTrue (ends_with found gate) → dumped image found ≡ Ok (entries, end_behind gate image)
-dumped_as image (Ok found) entries gate same ends = ?
-dumped_as image (Err fault) entries gate same ends = absurd ends
+dumped_as image (Ok found) entries gate same ends =
+    let at : found.1 ≡ gate = eqb-true found.1 gate ends in
+    let list : found.0 ≡ entries = cc in
+    λ i. Ok (list i, end_behind (at i) image)
+dumped_as image (Err fault) entries gate same ends = absurd cc
 
 -- a scan that finds a fault
 pub dumped_not : (image : List ℕ) (found : Result (List Placed × ℕ) Fault) (fault : Fault) → entries_of found ≡ Err fault → dumped image found ≡ Err fault
-dumped_not image (Ok found) fault same = ?
-dumped_not image (Err other) fault same = ?
+dumped_not image (Ok found) fault same = absurd cc
+dumped_not image (Err other) fault same = let is : other ≡ fault = cc in ap (λ (f : Fault). Err f) is
+
+-- offsets, beside texts by their bytes
+pub offsets_seen : {X : Type 0} (bytes : X → List ℕ) (told : List (ℕ × X))
+    → map (λ (t : ℕ × List ℕ). t.0) (map (λ (t : ℕ × X). (t.0, bytes t.1)) told) ≡ map (λ (t : ℕ × X). t.0) told
+offsets_seen bytes [] = refl
+offsets_seen bytes (t ∷ told) = ap (λ (ns : List ℕ). t.0 ∷ ns) (offsets_seen bytes told)

@@ -3,8 +3,8 @@ ghost use Rattle.std.specs.Prelude.{IfOk, IfErr, List, string_bytes};
 ghost use Rattle.gatelog.specs.Placed.{Placed};
 ghost use Rattle.showing.specs.Dumps.{IsADump, IsNotShown};
 
-use crate::reading::read_dump;
 use crate::lines::dump_text;
+use crate::reading::read_dump;
 use std::alloc::Global;
 use system::Files;
 use units::Fault;
