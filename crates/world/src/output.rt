@@ -3,7 +3,7 @@ ghost use Rattle.std.specs.Prelude.{◌≡◌, ◌||◌, ◌++◌, [], IfErr, On
 ghost use Rattle.message.specs.declared.message.Envelope.{Envelope};
 ghost use Rattle.units.specs.Ids.{Id};
 ghost use Rattle.world.specs.Among.{is_among};
-ghost use Rattle.world.specs.Told.{ack_in, told_in};
+ghost use Rattle.world.specs.Told.{ack_by, ack_in, told_in};
 
 use crate::Reply;
 use bag::Bag;
@@ -179,18 +179,29 @@ fn acknowledged(told: &IndexSet<TxnId>, event: u64, envelope: &Envelope) -> Opti
     ensures { option_to_list result ≡ ack_in told.now.keys event envelope.now }
 {
     match &envelope.message {
-        Message::Done(done) => match done.outcome() {
-            Some(at) => {
-                let txn = done.txn();
-                if told.contains(&txn) {
-                    None
-                } else {
-                    Some(Line::Ack(txn, at, event))
-                }
-            }
-            None => None,
-        },
+        Message::Done(done) => acknowledged_by(told, event, done.txn(), done.outcome()),
         _ => None,
+    }
+}
+
+// The acknowledgement that an end is.
+fn acknowledged_by(
+    told: &IndexSet<TxnId>,
+    event: u64,
+    txn: TxnId,
+    outcome: Option<Stamp>,
+) -> Option<Line>
+    ensures { option_to_list result ≡ ack_by told.now.keys event txn outcome }
+{
+    match outcome {
+        Some(at) => {
+            if told.contains(&txn) {
+                None
+            } else {
+                Some(Line::Ack(txn, at, event))
+            }
+        }
+        None => None,
     }
 }
 
