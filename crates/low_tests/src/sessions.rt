@@ -240,7 +240,8 @@ fn quits(tx: Tx<'_, Closing>, alloc: Global, story: &Story, outcome: Option<Stam
 
 fn takes_its_end<S: Closed>(tx: Tx<'_, S>, outcome: Option<Stamp>) -> bool {
     let txn = id(2);
-    match tx.take(&Done::said(txn, outcome)) {
+    let done = Done::said(txn, outcome);
+    match tx.take(&done) {
         Ok(finished) => finished == finished_at(outcome),
         Err((_, tx)) => {
             tx.spend();
@@ -258,7 +259,8 @@ fn finished_at(outcome: Option<Stamp>) -> Finished {
 
 fn takes_no_other<S: Closed>(tx: Tx<'_, S>, outcome: Option<Stamp>) -> bool {
     let txn = id(3);
-    match tx.take(&Done::said(txn, outcome)) {
+    let done = Done::said(txn, outcome);
+    match tx.take(&done) {
         Ok(_) => false,
         Err((fault, tx)) => takes_its_end(tx, outcome) && fault == Fault::Stranger,
     }
