@@ -1,11 +1,10 @@
 //! Shards on the machine's threads.
-ghost use Rattle.std.specs.Prelude.{◌≡◌, ◌*◌, ◌⊎◌, IfErr, IfOk, IfSome, IsOk, Some, string_bytes};
+ghost use Rattle.std.specs.Prelude.{◌≡◌, ◌*◌, IfErr, IfOk, IfSome, IsOk, Some, string_bytes};
 ghost use Rattle.units.specs.declared.line.Verdict.{Verdict};
 ghost use Rattle.workers.specs.Course.{IsDrivable};
 ghost use Rattle.workers.specs.Summaries.{counts_text, summary_text};
 ghost use Rattle.workers.specs.declared.summary.Counts.{Counts};
-ghost use Rattle.drive.specs.Told.{AreCounts, IsTold, IsUndriven, IsUnjudged};
-ghost use Rattle.host_files.specs.Folders.{IsFolderFault};
+ghost use Rattle.drive.specs.Told.{AreCounts, IsTold, IsUnjudged};
 
 use crate::engine::{self, clock_of, drive_counted};
 use disk::Disk;
@@ -55,7 +54,6 @@ pub fn drive_shards<
         AreCounts (settings.now.workers * settings.now.transactions) (string_bytes text))) }
     ensures unjudged { IfErr result (λ none. IfSome none.text (λ text.
         IsUnjudged none.fault)) }
-    ensures undriven { IfErr result (λ none. IsFolderFault none.fault ⊎ IsUndriven none.fault) }
     ensures limits { IsOk result
         → IsDrivable settings.now.workers settings.now.transactions settings.now.keys }
 {
@@ -79,7 +77,6 @@ pub fn run<
 >(rt: &R, alloc: Global, settings: &Settings, gate: &G) -> Result<String, Fault>
     ensures told { IfOk result (λ text. (verdict : Verdict) × IsTold
         (settings.now.workers * settings.now.transactions) (string_bytes text) verdict) }
-    ensures undriven { IfErr result (λ fault. IsFolderFault fault ⊎ IsUndriven fault) }
     ensures limits { IsOk result
         → IsDrivable settings.now.workers settings.now.transactions settings.now.keys }
 {
@@ -101,7 +98,6 @@ fn drive_watched<
         AreCounts (settings.now.workers * settings.now.transactions) (string_bytes text))) }
     ensures unjudged { IfErr result (λ none. IfSome none.text (λ text.
         IsUnjudged none.fault)) }
-    ensures undriven { IfErr result (λ none. IsFolderFault none.fault ⊎ IsUndriven none.fault) }
     ensures limits { IsOk result
         → IsDrivable settings.now.workers settings.now.transactions settings.now.keys }
 {
@@ -137,7 +133,6 @@ fn drive_over<
         AreCounts (settings.now.workers * settings.now.transactions) (string_bytes text))) }
     ensures unjudged { IfErr result (λ none. IfSome none.text (λ text.
         IsUnjudged none.fault)) }
-    ensures undriven { IfErr result (λ none. IsUndriven none.fault) }
     ensures limits { IsOk result
         → IsDrivable settings.now.workers settings.now.transactions settings.now.keys }
 {
@@ -163,9 +158,7 @@ fn drive_over<
 
 // What is printed of a drive.
 fn text_of(alloc: Global, summary: Summary) -> Result<String, Fault>
-    ensures text { IfOk result
-        (λ text. string_bytes text ≡ summary_text summary.counts summary.verdict) }
-    ensures memory { IfErr result (λ fault. fault ≡ Fault.Memory) }
+    ensures { IfOk result (λ text. string_bytes text ≡ summary_text summary.counts summary.verdict) }
 {
     Ok(format!(in alloc; "{summary}")?)
 }
