@@ -3,4 +3,3 @@ pub mod Reports
 pub mod Staffs
 pub mod Buffered
 pub mod Turns
-pub mod Refusals

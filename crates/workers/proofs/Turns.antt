@@ -2,7 +2,7 @@
 use Rattle.std.proofs.Common.{◌≡◌, ◌<◌, ◌≤◌, ◌+◌, ℕ, zero, suc, Bool, true, false, true≢false, ◌&&◌, List, [], ◌∷◌, ◌++◌, length, map, Option, None, Some, refl}
 use Rattle.std.proofs.Common.{ap, sym, ◌∙◌, subst, arith, add-one, append_assoc, length-append, nat_eq, if◌then◌else◌}
 use Rattle.std.specs.List.{cons_option, filter, filter_map, list_all}
-use Rattle.std.proofs.Common.{Result, Ok, Err, IsOk, OnOk, MatchResult, slice_index_or, slice_set}
+use Rattle.std.proofs.Common.{Result, Ok, Err, IfOk, IsOk, OnOk, slice_index_or, slice_set}
 use Rattle.std.proofs.lemmas.List.Elements.{filter-append}
 use Rattle.std.proofs.lemmas.List.{length-map}
 use Rattle.units.specs.Ids.{Id}
@@ -17,7 +17,6 @@ use Rattle.session.specs.declared.answered.Finished.TheVariants as finished
 use Rattle.workers.specs.declared.reads.Asked.{Asked}
 use Rattle.workers.specs.declared.summary.Counts.{Counts}
 use Rattle.workers.specs.Keys.{keys_once, turn_keys}
-use Rattle.workers.specs.Refusals.{IsCutShort}
 use Rattle.workers.specs.Reports.{IsTally}
 use Rattle.workers.specs.Summaries.{one_if, one_if_committed, tried}
 use Rattle.workers.specs.Turns.{count, is_begin, is_ack, is_read, is_look, asked_keys, is_answered, line_of, read_lines}
@@ -95,9 +94,9 @@ pub reported_turn : (result : Result Ended Fault) (begun : Result Bool Fault) (h
     (asked : List Asked) (old between new : List Line) → txn ≡ was → IsOk begun
     → OnOk begun (between ≡ old ++ Begin was moment ∷ [])
     → ((at : ℕ) → how ≡ finished.Committed at → (list_all is_answered asked ≡ true) × (asked_keys asked ≡ keys))
-    → MatchResult result (λ end. (told : List Line) × IsReported how txn asked end told × (new ≡ between ++ told)) IsCutShort
-    → MatchResult result (λ end. (told : List Line) × IsTransaction keys end told × (new ≡ old ++ told)) IsCutShort
-reported_turn (Err fault) begun how was txn moment keys asked old between new same ok begins all is = is
+    → IfOk result (λ end. (told : List Line) × IsReported how txn asked end told × (new ≡ between ++ told))
+    → IfOk result (λ end. (told : List Line) × IsTransaction keys end told × (new ≡ old ++ told))
+reported_turn (Err fault) begun how was txn moment keys asked old between new same ok begins all is = tt
 reported_turn (Ok end) (Err fault) how was txn moment keys asked old between new same ok begins all is = absurd (true≢false (sym ok))
 reported_turn (Ok end) (Ok b) how was txn moment keys asked old between new same ok begins all is = (
   Begin txn moment ∷ is.0,

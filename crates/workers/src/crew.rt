@@ -1,5 +1,5 @@
 //! The workers of a drive, and what they do together.
-ghost use Rattle.std.specs.Prelude.{◌≡◌, ◌<◌, ◌≤◌, ◌+◌, ◌*◌, IfErr, IfOk, OnOk, length};
+ghost use Rattle.std.specs.Prelude.{◌≡◌, ◌<◌, ◌≤◌, ◌+◌, ◌*◌, IfOk, OnOk, length};
 ghost use Rattle.std.specs.Thread.{IsSync, IsSend};
 ghost use Rattle.workers.specs.Reports.{IsCounted};
 ghost use Rattle.workers.specs.Staffs.{IsStaffOf};
@@ -74,7 +74,6 @@ fn workers<'r, 's, R, C: Copy, W>(
     requires few { length staff.old.inboxes.items ≤ 64 }
     requires staff { IsStaffOf shared.now staff.old }
     ensures all { IfOk result (λ workers. length workers.items ≡ length staff.old.inboxes.items) }
-    ensures memory { IfErr result (λ fault. fault ≡ Fault.Memory) }
 {
     let mut workers = Vec::new(shared.alloc);
     for _worker in 0..staff.inboxes.len() {
@@ -116,8 +115,7 @@ fn work_all<R: Threads + Wait + time::Clock + Sync, C: Clock + Send + Drop, W: W
     course: Course,
     workers: Result<Vec<Worker<R, C, W>>, Fault>,
 ) -> Result<Report, Fault>
-    requires all { IfOk workers (λ workers. length workers.items ≡ course.workers) }
-    requires memory { IfErr workers (λ fault. fault ≡ Fault.Memory) }
+    requires { IfOk workers (λ workers. length workers.items ≡ course.workers) }
     ensures { IsCounted (course.workers * course.transactions) result }
 {
     let reports = thread::map_vec(

@@ -1,8 +1,7 @@
 //! The reads of a transaction, and their answers.
 ghost use Rattle.std.specs.List.{list_all};
-ghost use Rattle.std.specs.Prelude.{◌≡◌, ◌<◌, ◌∷◌, ◌++◌, [], length, IfErr, IfSome, MatchResult, OnOk, Some};
+ghost use Rattle.std.specs.Prelude.{◌≡◌, ◌<◌, ◌∷◌, ◌++◌, [], length, IfSome, OnOk, Some};
 ghost use Rattle.units.specs.declared.line.Line.TheVariants.{Ack};
-ghost use Rattle.workers.specs.Refusals.{IsCutShort};
 ghost use Rattle.workers.specs.Turns.{AreNext, asked_keys, is_answered, read_lines, IsNextOf};
 
 use crate::counting::next_value;
@@ -52,7 +51,6 @@ impl Reads {
         ensures txn { self.new.txn ≡ self.old.txn }
         ensures keys { OnOk result
             (asked_keys self.new.asked.items ≡ asked_keys self.old.asked.items ++ keys.now) }
-        ensures refused { IfErr result IsCutShort }
     {
         for key in keys {
             let Envelope { to, message } = tx.read(*key)?;
@@ -130,7 +128,6 @@ impl Reads {
     ) -> Result<bool, Fault>
         ensures txn { self.new.txn ≡ self.old.txn }
         ensures keys { asked_keys self.new.asked.items ≡ asked_keys self.old.asked.items }
-        ensures memory { IfErr result (λ fault. fault ≡ Fault.Memory) }
     {
         match tx.answered(alloc, answer) {
             Ok(Heard::Value(value)) => {
@@ -170,16 +167,14 @@ impl Reads {
     pub fn write_next(&self, alloc: Global, tx: &mut Tx<'_, Open>) -> Result<(), Fault>
         ensures next { OnOk result (AreNext self.now.asked.items tx.old.client.writes
             tx.new.client.writes) }
-        ensures refused { IfErr result IsCutShort }
     {
         write_each(self.asked.as_slice(), alloc, tx)
     }
 
     /// Adds the lines of a commit, acknowledged at a moment: its acknowledgement, and what each answer showed.
     pub fn report(self, lines: &mut Vec<Line>, at: Stamp, moment: u64) -> Result<(), Fault>
-        ensures { MatchResult result (λ _. lines.new.items ≡ lines.old.items
-            ++ Ack self.txn at moment ∷ read_lines self.txn self.asked.items)
-            (λ fault. fault ≡ Fault.Memory) }
+        ensures { OnOk result (lines.new.items ≡ lines.old.items
+            ++ Ack self.txn at moment ∷ read_lines self.txn self.asked.items) }
     {
         let Reads { txn, asked } = self;
         lines.push(Line::Ack(txn, at, moment))?;
@@ -196,7 +191,6 @@ impl Reads {
 // Buffers what follows each of some answers.
 fn write_each(asked: &[Asked], alloc: Global, tx: &mut Tx<'_, Open>) -> Result<(), Fault>
     ensures next { OnOk result (AreNext asked.now tx.old.client.writes tx.new.client.writes) }
-    ensures refused { IfErr result IsCutShort }
 {
     match asked.split_first() {
         None => Ok(()),
@@ -210,7 +204,6 @@ fn write_each(asked: &[Asked], alloc: Global, tx: &mut Tx<'_, Open>) -> Result<(
 // Buffers what follows an answer, where it was taken.
 fn write_one(one: &Asked, alloc: Global, tx: &mut Tx<'_, Open>) -> Result<(), Fault>
     ensures next { OnOk result (IsNextOf one.now tx.old.client.writes tx.new.client.writes) }
-    ensures refused { IfErr result IsCutShort }
 {
     match &one.answer {
         None => Ok(()),

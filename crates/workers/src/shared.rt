@@ -1,5 +1,5 @@
 //! What the workers of a drive share.
-ghost use Rattle.std.specs.Prelude.{◌≡◌, All, length, IfErr, IfOk};
+ghost use Rattle.std.specs.Prelude.{◌≡◌, All, length, IfOk};
 
 use crate::course::Course;
 use letters::{Inboxes, Network};
@@ -84,7 +84,6 @@ impl Shared {
             × All (λ drawer. drawer.source ≡ made.0.ids) made.2.ids.items) }
         ensures moments { IfOk result (λ made. (length made.2.moments.items ≡ course.workers)
             × All (λ drawer. drawer.source ≡ made.0.moments) made.2.moments.items) }
-        ensures memory { IfErr result (λ fault. fault ≡ Fault.Memory) }
     {
         let workers = course.workers as usize;
         let splits = splits.copy(alloc)?;

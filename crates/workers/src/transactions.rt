@@ -1,10 +1,9 @@
 //! The transaction of a worker's turn: it reads, writes what follows, and hears its end.
 ghost use Rattle.std.specs.List.{list_all};
-ghost use Rattle.std.specs.Prelude.{◌≡◌, ◌∷◌, ◌++◌, [], ℕ, List, true, Ok, Some, IfErr, IsOk, MatchResult, OnOk};
+ghost use Rattle.std.specs.Prelude.{◌≡◌, ◌∷◌, ◌++◌, [], ℕ, List, true, Ok, Some, IfOk, IsOk, OnOk};
 ghost use Rattle.session.specs.declared.answered.Finished.TheVariants.{Committed};
 ghost use Rattle.units.specs.declared.line.Line.{Line};
 ghost use Rattle.units.specs.declared.line.Line.TheVariants.{Begin};
-ghost use Rattle.workers.specs.Refusals.{IsCutShort};
 ghost use Rattle.workers.specs.Turns.{IsReported, IsTransaction, asked_keys, is_answered};
 
 use crate::reads::Reads;
@@ -21,9 +20,8 @@ use units::{Fault, Key, Line};
 impl<'s, R: Wait + time::Clock, C: Clock + Drop, W: Watch> Worker<'_, 's, R, C, W> {
     /// A transaction that reads keys, and writes to each the number that follows. Its lines are put behind those that are there.
     pub fn transact(&mut self, keys: &[Key], lines: &mut Vec<Line>) -> Result<Ended, Fault>
-        ensures { MatchResult result (λ ended. (told : List Line)
-            × IsTransaction keys.now ended told
-            × (lines.new.items ≡ lines.old.items ++ told)) IsCutShort }
+        ensures { IfOk result (λ ended. (told : List Line) × IsTransaction keys.now ended told
+            × (lines.new.items ≡ lines.old.items ++ told)) }
     {
         let moment = self.shared.moments.draw(&mut self.moments)?;
         let mut tx = Tx::begin_drawn(
@@ -64,7 +62,6 @@ impl<'s, R: Wait + time::Clock, C: Clock + Drop, W: Watch> Worker<'_, 's, R, C, 
         ensures answered { result ≡ Ok true
             → (list_all is_answered reads.new.asked.items ≡ true)
             × (asked_keys reads.new.asked.items ≡ keys.now) }
-        ensures refused { IfErr result IsCutShort }
     {
         self.wire.silences = 0;
         lines.push(Line::Begin(reads.txn(), moment))?;
@@ -86,9 +83,9 @@ impl<'s, R: Wait + time::Clock, C: Clock + Drop, W: Watch> Worker<'_, 's, R, C, 
         finished: Finished,
         lines: &mut Vec<Line>,
     ) -> Result<Ended, Fault>
-        ensures { MatchResult result (λ ended. (told : List Line)
+        ensures { IfOk result (λ ended. (told : List Line)
             × IsReported finished reads.txn reads.asked.items ended told
-            × (lines.new.items ≡ lines.old.items ++ told)) IsCutShort }
+            × (lines.new.items ≡ lines.old.items ++ told)) }
     {
         match finished {
             Finished::Committed(at) => {
@@ -109,7 +106,6 @@ impl<'s, R: Wait + time::Clock> Wire<'_, 's, R> {
     fn await_one(&mut self, tx: &mut Tx<'s, Open>, reads: &mut Reads) -> Result<bool, Fault>
         ensures txn { reads.new.txn ≡ reads.old.txn }
         ensures keys { asked_keys reads.new.asked.items ≡ asked_keys reads.old.asked.items }
-        ensures refused { IfErr result IsCutShort }
     {
         match self.hear() {
             Hearing::Heard(message) => {
@@ -138,7 +134,6 @@ impl<'s, R: Wait + time::Clock> Wire<'_, 's, R> {
     ) -> Result<bool, Fault>
         ensures txn { reads.new.txn ≡ reads.old.txn }
         ensures keys { asked_keys reads.new.asked.items ≡ asked_keys reads.old.asked.items }
-        ensures refused { IfErr result IsCutShort }
     {
         let goes_on = reads.take(self.alloc, tx, answer)?;
         if goes_on && self.inbox.is_empty() {
@@ -156,7 +151,6 @@ impl<'s, R: Wait + time::Clock> Wire<'_, 's, R> {
     ) -> Result<Option<Finished>, Fault>
         ensures read { IsOk result → IsOk answered }
         ensures answered { (at : ℕ) → result ≡ Ok (Some (Committed at)) → answered ≡ Ok true }
-        ensures refused { IfErr answered IsCutShort → IfErr result IsCutShort }
     {
         match answered {
             Ok(true) => self.close(tx, reads),
@@ -169,9 +163,7 @@ impl<'s, R: Wait + time::Clock> Wire<'_, 's, R> {
     }
 
     // Closes the transaction. It tells how that ended, where the end comes.
-    fn close(&mut self, tx: Tx<'s, Open>, reads: &Reads) -> Result<Option<Finished>, Fault>
-        ensures { IfErr result IsCutShort }
-    {
+    fn close(&mut self, tx: Tx<'s, Open>, reads: &Reads) -> Result<Option<Finished>, Fault> {
         match tx.close(self.alloc) {
             Ok((tx, outbox)) => {
                 self.send_all(outbox);
@@ -185,9 +177,7 @@ impl<'s, R: Wait + time::Clock> Wire<'_, 's, R> {
     }
 
     // Hears the end of a transaction that is closing.
-    fn end(&mut self, tx: Tx<'s, Closing>, reads: &Reads) -> Result<Option<Finished>, Fault>
-        ensures { IfErr result IsCutShort }
-    {
+    fn end(&mut self, tx: Tx<'s, Closing>, reads: &Reads) -> Result<Option<Finished>, Fault> {
         let done = match self.await_done(&tx, reads) {
             Ok(Some(done)) => done,
             Ok(None) => return self.give_up(tx, None),
@@ -206,9 +196,7 @@ impl<'s, R: Wait + time::Clock> Wire<'_, 's, R> {
     }
 
     // Waits for the end. There is none where it does not come.
-    fn await_done(&mut self, tx: &Tx<'s, Closing>, reads: &Reads) -> Result<Option<Done>, Fault>
-        ensures { IfErr result (λ fault. fault ≡ Fault.Memory) }
-    {
+    fn await_done(&mut self, tx: &Tx<'s, Closing>, reads: &Reads) -> Result<Option<Done>, Fault> {
         for _heard in self.rt.forever() {
             match self.hear() {
                 Hearing::Heard(message) => {
@@ -238,7 +226,7 @@ impl<'s, R: Wait + time::Clock> Wire<'_, 's, R> {
         tx: Tx<'s, S>,
         finished: Option<Finished>,
     ) -> Result<Option<Finished>, Fault>
-        ensures { MatchResult result (λ told. told ≡ finished) (λ fault. fault ≡ Fault.Memory) }
+        ensures { IfOk result (λ told. told ≡ finished) }
     {
         match tx.give_up(self.alloc) {
             Ok(outbox) => {
@@ -266,7 +254,6 @@ fn await_answers<'s, R: Wait + time::Clock>(
     ensures txn { reads.new.txn ≡ reads.old.txn }
     ensures keys { asked_keys reads.new.asked.items ≡ asked_keys reads.old.asked.items }
     ensures answered { result ≡ Ok true → list_all is_answered reads.new.asked.items ≡ true }
-    ensures refused { IfErr result IsCutShort }
 {
     if wire.stop.is_told() {
         return Ok(false);

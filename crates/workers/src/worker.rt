@@ -1,9 +1,8 @@
 //! A worker: turns of a transaction and a look, one after the other.
-ghost use Rattle.std.specs.Prelude.{◌≡◌, ◌<◌, ◌+◌, ◌*◌, ◌^◌, ◌++◌, ℕ, List, Option, length, IfErr, IfOk, IfSome, MatchResult, OnOk};
+ghost use Rattle.std.specs.Prelude.{◌≡◌, ◌<◌, ◌+◌, ◌*◌, ◌^◌, ◌++◌, ℕ, List, Option, length, IfOk, IfSome, OnOk};
 ghost use Rattle.units.specs.Keys.{Bytes};
 ghost use Rattle.units.specs.declared.line.Line.{Line};
 ghost use Rattle.units.specs.declared.line.Line.TheVariants.{Look};
-ghost use Rattle.workers.specs.Refusals.{IsCutShort};
 ghost use Rattle.workers.specs.Reports.{AreCounted, IsCounted};
 ghost use Rattle.workers.specs.Summaries.{tried};
 ghost use Rattle.workers.specs.Turns.{AreTurns, IsLooked, IsTurn};
@@ -67,9 +66,9 @@ impl<R: Wait + time::Clock, C: Clock + Drop, W: Watch> Worker<'_, '_, R, C, W> {
 
     // A transaction, whose end the watch is told, and then a look at its first key. It says whether that was answered.
     fn turn(&mut self, keys: &[Key], lines: &mut Vec<Line>) -> Result<(Ended, bool), Fault>
-        ensures { MatchResult result (λ turned. (told : List Line)
+        ensures { IfOk result (λ turned. (told : List Line)
             × IsTurn keys.now turned.0 turned.1 told
-            × (lines.new.items ≡ lines.old.items ++ told)) IsCutShort }
+            × (lines.new.items ≡ lines.old.items ++ told)) }
     {
         let stopwatch = Stopwatch::start(self.wire.rt);
         let ended = self.transact(keys, lines)?;
@@ -83,8 +82,8 @@ impl<R: Wait + time::Clock, C: Clock + Drop, W: Watch> Worker<'_, '_, R, C, W> {
 
     // Looks at the first of some keys at the latest of a reading. It says whether it was answered.
     fn look_at_first(&mut self, keys: &[Key], lines: &mut Vec<Line>) -> Result<bool, Fault>
-        ensures { MatchResult result (λ looked. (told : List Line) × IsLooked looked keys.now told
-            × (lines.new.items ≡ lines.old.items ++ told)) IsCutShort }
+        ensures { IfOk result (λ looked. (told : List Line) × IsLooked looked keys.now told
+            × (lines.new.items ≡ lines.old.items ++ told)) }
     {
         match keys.split_first() {
             Some((key, _others)) => match self.look(key)? {
@@ -100,8 +99,8 @@ impl<R: Wait + time::Clock, C: Clock + Drop, W: Watch> Worker<'_, '_, R, C, W> {
 
     // The line of a look at a key, at the latest of a reading, where it was answered.
     fn look(&mut self, key: &Key) -> Result<Option<Line>, Fault>
-        ensures { MatchResult result (λ line. IfSome line (λ told. (at : ℕ)
-            × (value : Option Bytes) × (told ≡ Look key.now at value))) IsCutShort }
+        ensures { IfOk result (λ line. IfSome line (λ told. (at : ℕ) × (value : Option Bytes)
+            × (told ≡ Look key.now at value))) }
     {
         let Some(now) = self.clock.now() else {
             return Ok(None);
@@ -145,9 +144,7 @@ impl<R: Wait + time::Clock, C: Clock + Drop, W: Watch> Worker<'_, '_, R, C, W> {
 }
 
 // The value that a look put at the front of the buffer.
-fn value_seen(alloc: Global, seen: Seen, buffer: &[u8]) -> Result<Option<Value>, Fault>
-    ensures { IfErr result IsCutShort }
-{
+fn value_seen(alloc: Global, seen: Seen, buffer: &[u8]) -> Result<Option<Value>, Fault> {
     match seen {
         Seen::Absent => Ok(None),
         Seen::Value(length) => match buffer.get(..length) {
@@ -168,7 +165,6 @@ impl Report {
         ensures looks { self.new.counts.looks ≡ self.old.counts.looks + other.counts.looks }
         ensures lines { OnOk result
             (self.new.lines.items ≡ self.old.lines.items ++ other.lines.items) }
-        ensures memory { IfErr result (λ fault. fault ≡ Fault.Memory) }
     {
         let Report { counts, mut lines } = other;
         self.counts.merge(counts);
