@@ -8,7 +8,7 @@ use session::{Closed, Closing, Finished, Heard, Ongoing, Open, Tx};
 use std::alloc::Global;
 use texts::Text;
 use tickets::{Drawer, Tickets};
-use units::{Epoch, Fault, Key, Run, Splits, Stamp, Value};
+use units::{Epoch, Fault, Key, Run, Splits, Value};
 
 // What transaction 1.2 does while it is open, with keys of one letter.
 enum Does {
@@ -225,11 +225,11 @@ fn gives_up<S: Ongoing>(tx: Tx<'_, S>, alloc: Global, lines: &[&str]) -> bool {
 }
 
 // It says so as it quits and as it asks once more, and takes its end then.
-fn quits(tx: Tx<'_, Closing>, alloc: Global, story: &Story, outcome: Option<Stamp>) -> bool {
+fn quits(tx: Tx<'_, Closing>, alloc: Global, story: &Story, at: u64) -> bool {
     match tx.quit(alloc) {
         Ok((tx, out)) => {
             let said = says(alloc, out, story.farewells) && says_again(&tx, alloc, story.closing);
-            takes_no_other(tx, outcome) && said
+            takes_no_other(tx, at) && said
         }
         Err((_, tx)) => {
             tx.spend();
@@ -238,11 +238,27 @@ fn quits(tx: Tx<'_, Closing>, alloc: Global, story: &Story, outcome: Option<Stam
     }
 }
 
-fn takes_its_end<S: Closed>(tx: Tx<'_, S>, outcome: Option<Stamp>) -> bool {
-    let txn = id(2);
-    let done = Done::said(txn, outcome);
+// The end of a transaction of this number, at a timestamp, or aborted where that is 0.
+fn end_of(number: u16, at: u64) -> Done {
+    if at == 0 {
+        Done::aborted(id(number))
+    } else {
+        Done::said(id(number), Some(stamp(at)))
+    }
+}
+
+fn finished_at(at: u64) -> Finished {
+    if at == 0 {
+        Finished::Aborted
+    } else {
+        Finished::Committed(stamp(at))
+    }
+}
+
+fn takes_its_end<S: Closed>(tx: Tx<'_, S>, at: u64) -> bool {
+    let done = end_of(2, at);
     match tx.take(&done) {
-        Ok(finished) => finished == finished_at(outcome),
+        Ok(finished) => finished == finished_at(at),
         Err((_, tx)) => {
             tx.spend();
             false
@@ -250,19 +266,11 @@ fn takes_its_end<S: Closed>(tx: Tx<'_, S>, outcome: Option<Stamp>) -> bool {
     }
 }
 
-fn finished_at(outcome: Option<Stamp>) -> Finished {
-    match outcome {
-        Some(at) => Finished::Committed(at),
-        None => Finished::Aborted,
-    }
-}
-
-fn takes_no_other<S: Closed>(tx: Tx<'_, S>, outcome: Option<Stamp>) -> bool {
-    let txn = id(3);
-    let done = Done::said(txn, outcome);
+fn takes_no_other<S: Closed>(tx: Tx<'_, S>, at: u64) -> bool {
+    let done = end_of(3, at);
     match tx.take(&done) {
         Ok(_) => false,
-        Err((fault, tx)) => takes_its_end(tx, outcome) && fault == Fault::Stranger,
+        Err((fault, tx)) => takes_its_end(tx, at) && fault == Fault::Stranger,
     }
 }
 
@@ -276,9 +284,9 @@ fn says_again<S: Closed>(tx: &Tx<'_, S>, alloc: Global, lines: &[&str]) -> bool 
 fn goes_on_closed(tx: Tx<'_, Closing>, alloc: Global, story: &Story) -> bool {
     match story.then {
         Then::GivesUp => gives_up(tx, alloc, story.farewells),
-        Then::Hears => takes_no_other(tx, Some(stamp(200))),
-        Then::Quits(None) => quits(tx, alloc, story, None),
-        Then::Quits(Some(at)) => quits(tx, alloc, story, Some(stamp(at))),
+        Then::Hears => takes_no_other(tx, 200),
+        Then::Quits(None) => quits(tx, alloc, story, 0),
+        Then::Quits(Some(at)) => quits(tx, alloc, story, at),
     }
 }
 
