@@ -1,0 +1,81 @@
+//! The accounts and their balances.
+use std::alloc::Global;
+use std::sync::Wait;
+use std::time;
+use store::{Client, Ended, Halt, Transaction, View};
+use units::{Fault, Key, Value};
+
+/// How many accounts there are.
+pub const ACCOUNTS: u32 = 16;
+
+/// What each account begins with.
+pub const START: u64 = 1000;
+
+/// The key of an account.
+pub fn key_of(account: u32) -> Result<Key, Fault> {
+    let tens = b'0' + (account / 10 % 10) as u8;
+    let ones = b'0' + (account % 10) as u8;
+    Key::new(&[b'a', b'c', b'c', b't', b'-', tens, ones])
+}
+
+/// The value of a balance.
+pub fn value_of(alloc: Global, balance: u64) -> Result<Value, Fault> {
+    Value::new(alloc, &balance.to_be_bytes())
+}
+
+/// The balance in a value. What is no balance counts nothing.
+pub fn balance_in(value: &Option<Value>) -> u64 {
+    let Some(value) = value else {
+        return 0;
+    };
+    match <[u8; 8]>::try_from(value.as_bytes()) {
+        Ok(bytes) => u64::from_be_bytes(bytes),
+        Err(_) => 0,
+    }
+}
+
+/// Opens all accounts with what they begin with, where there are none yet.
+pub fn open_accounts<R: Wait + time::Clock>(
+    alloc: Global,
+    client: &mut Client<'_, R>,
+) -> Result<Ended, Fault> {
+    client.transact(100, |tx: &mut Transaction<'_, '_, R>| -> Result<(), Halt> {
+        if tx.get(&key_of(0)?)?.is_some() {
+            return Err(Halt::Abandon);
+        }
+        for account in 0..ACCOUNTS {
+            tx.put(&key_of(account)?, value_of(alloc, START)?)?;
+        }
+        Ok(())
+    })
+}
+
+/// Moves money from one account to another. An account that has too little keeps what it has.
+pub fn transfer<R: Wait + time::Clock>(
+    alloc: Global,
+    client: &mut Client<'_, R>,
+    from: u32,
+    to: u32,
+    amount: u64,
+) -> Result<Ended, Fault> {
+    let from = key_of(from)?;
+    let to = key_of(to)?;
+    client.transact(50, |tx: &mut Transaction<'_, '_, R>| -> Result<(), Halt> {
+        let left = balance_in(&tx.get(&from)?).checked_sub(amount);
+        let more = balance_in(&tx.get(&to)?).checked_add(amount);
+        let (Some(left), Some(more)) = (left, more) else {
+            return Err(Halt::Abandon);
+        };
+        tx.put(&from, value_of(alloc, left)?)?;
+        tx.put(&to, value_of(alloc, more)?)
+    })
+}
+
+/// What all accounts have together in a view.
+pub fn total<R: Wait + time::Clock>(view: &mut View<'_, '_, R>) -> Result<u64, Fault> {
+    let mut total = 0_u64;
+    for account in 0..ACCOUNTS {
+        total = total.saturating_add(balance_in(&view.get(&key_of(account)?)?));
+    }
+    Ok(total)
+}

@@ -1,0 +1,120 @@
+//! A bank over a store: tellers move money between accounts in threads, and an auditor adds up all accounts at one timestamp.
+#![tactic(auto)]
+
+ghost use Rattle.std.specs.Thread.{IsSync, IsSend};
+
+mod accounts;
+mod staff;
+
+use accounts::{ACCOUNTS, key_of, open_accounts};
+use staff::{Did, audit, move_money};
+use std::alloc::Global;
+use std::fs::File;
+use std::io::Write;
+use std::process::ExitCode;
+use std::random::RandomSource;
+use std::sync::Wait;
+use std::thread::Threads;
+use std::{env, rt, thread, time};
+use store::{Client, Options, Store};
+use units::{Fault, Reason, Splits};
+
+/// How many tellers there are, beside one auditor.
+const TELLERS: u64 = 3;
+
+fn main(rt: HostRuntime) -> ExitCode {
+    let done = match words(&rt) {
+        Ok((folder, transfers)) => serve(&rt, rt.alloc(), folder.as_str(), transfers),
+        Err(fault) => Err(fault),
+    };
+    let did = match done {
+        Ok(did) => did,
+        Err(fault) => {
+            let _ = writeln!(rt.stderr(), "bank: {fault}");
+            return ExitCode::from(2);
+        }
+    };
+    let Did {
+        moved,
+        dropped,
+        unknown,
+        audits,
+        wrong,
+    } = did;
+    let _ = writeln!(
+        rt.stderr(),
+        "moved {moved} dropped {dropped} unknown {unknown}"
+    );
+    let printed = println!(rt; "audits {audits} wrong {wrong}");
+    if printed.is_ok() && wrong == 0 {
+        ExitCode::from(0)
+    } else {
+        ExitCode::from(1)
+    }
+}
+
+// `bank FOLDER TRANSFERS`: each teller tries so many transfers, and the auditor adds up as often.
+fn words(rt: &HostRuntime) -> Result<(String, u32), Fault> {
+    let Ok(mut words) = env::args(rt) else {
+        return Err(Fault::BadRequest(Reason::Command));
+    };
+    let (Some(_), Some(folder), Some(count)) = (words.next(), words.next(), words.next()) else {
+        return Err(Fault::BadRequest(Reason::Command));
+    };
+    let Ok(transfers) = count.as_str().parse::<u32>() else {
+        return Err(Fault::BadRequest(Reason::Command));
+    };
+    Ok((folder, transfers))
+}
+
+fn serve<R: rt::Files<File = File> + RandomSource + Threads + Wait + time::Clock + Sync>(
+    rt: &R,
+    alloc: Global,
+    folder: &str,
+    transfers: u32,
+) -> Result<Did, Fault> {
+    let splits = Splits::new(alloc, &[key_of(ACCOUNTS / 2)?])?;
+    let store = Store::open_folder(rt, alloc, folder, Options::new(splits, TELLERS + 1))?;
+    let (did, disks) = store.serve(|clients: Vec<Client<'_, R>>| work(
+        rt, alloc, clients, transfers,
+    ))?;
+    drop(disks);
+    did
+}
+
+// Opens the accounts, and lets the last client audit while the others move money.
+fn work<R: Threads + Wait + time::Clock + Sync>(
+    rt: &R,
+    alloc: Global,
+    mut clients: Vec<Client<'_, R>>,
+    transfers: u32,
+) -> Result<Did, Fault> {
+    let Some(mut first) = clients.pop() else {
+        return Ok(Did::nothing());
+    };
+    drop(open_accounts(alloc, &mut first)?);
+    let mut jobs = Vec::new(alloc);
+    for client in clients {
+        jobs.push((jobs.len() as u64 + 1, client))?;
+    }
+    jobs.push((0, first))?;
+    let done = thread::map_vec(
+        rt,
+        jobs,
+        &|job: (u64, Client<'_, R>)| -> Result<Did, Fault>
+            requires { IsSync R.row }
+        {
+            let (seed, mut client) = job;
+            if seed == 0 {
+                audit(&mut client, transfers)
+            } else {
+                move_money(alloc, &mut client, seed, transfers)
+            }
+        },
+    )?;
+    let mut all = Did::nothing();
+    for did in done {
+        all = all.and(did?);
+    }
+    Ok(all)
+}

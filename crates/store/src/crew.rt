@@ -1,0 +1,78 @@
+//! What clients are made of.
+ghost use Rattle.std.specs.Prelude.{◌≡◌, All, IfOk, IfSome};
+
+use crate::clients::Client;
+use crate::shared::Shared;
+use crate::steady::SteadyClock;
+use client::Wire;
+use crossbeam_channel::Receiver;
+use message::Message;
+use tickets::Drawer;
+use units::Fault;
+use workers::Viewers;
+
+/// What clients are made of, one of each for each client: inboxes by the clients' numbers, drawers, and viewers of each shard.
+#[derive(Drop)]
+pub struct Crew {
+    pub inboxes: Vec<Receiver<Message>>,
+    pub drawers: Vec<Drawer>,
+    pub viewers: Viewers,
+}
+
+impl Crew {
+    // The client of the last number that has none yet.
+    fn next<'s, R>(
+        &mut self,
+        rt: &'s R,
+        shared: &'s Shared,
+        clock: SteadyClock<'s, R>,
+        patience: u32,
+    ) -> Option<Client<'s, R>>
+        requires { All (λ drawer. drawer.source ≡ shared.now.ids) self.old.drawers.items }
+        ensures { All (λ drawer. drawer.source ≡ shared.now.ids) self.new.drawers.items }
+    {
+        let inbox = self.inboxes.pop()?;
+        let number = self.inboxes.len();
+        let drawer = self.drawers.pop()?;
+        let viewers = self.viewers.by_worker.pop()?;
+        let wire = Wire::new(
+            rt,
+            shared.alloc,
+            &shared.network,
+            &shared.stop,
+            inbox,
+            number,
+            patience,
+        );
+        Some(Client {
+            rt,
+            wire,
+            shared,
+            drawer,
+            viewers,
+            clock,
+            patience,
+        })
+    }
+}
+
+/// The clients, as many as there are inboxes.
+pub fn clients_of<'s, R>(
+    rt: &'s R,
+    shared: &'s Shared,
+    crew: Crew,
+    clock: SteadyClock<'s, R>,
+    patience: u32,
+) -> Result<Vec<Client<'s, R>>, Fault>
+    requires { All (λ drawer. drawer.source ≡ shared.now.ids) crew.drawers.items }
+{
+    let mut crew = crew;
+    let mut clients = Vec::new(shared.alloc);
+    for _client in 0..crew.inboxes.len() {
+        if let Some(client) = crew.next(rt, shared, clock, patience) {
+            clients.push(client)?;
+        }
+    }
+    drop(crew);
+    Ok(clients)
+}

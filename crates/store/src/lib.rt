@@ -1,0 +1,19 @@
+//! A store for a service of one process: its shards are served by threads over a disk each, and clients run transactions and look at views.
+#![tactic(auto)]
+
+mod clients;
+mod crew;
+mod options;
+mod serving;
+mod shared;
+mod steady;
+mod store;
+mod transaction;
+mod view;
+
+pub use client::{Ended, Halt};
+pub use clients::Client;
+pub use options::Options;
+pub use store::Store;
+pub use transaction::Transaction;
+pub use view::View;

@@ -1,0 +1,68 @@
+//! How a store is parted and served.
+use settings::Settings;
+use std::alloc::Global;
+use units::{Fault, Reason, Splits, Stride};
+
+/// How a store is parted over shards, and how it is served.
+pub struct Options {
+    /// The keys that part the shards: one shard more than there are.
+    pub splits: Splits,
+    /// How far ahead of its served time each shard logs a ceiling, in microseconds. After a restart nothing commits until the clock has
+    /// passed the last ceiling; a small stride has an active shard log more of them.
+    pub stride: Stride,
+    /// How far the true time may be from the machine's clock on either side: 0 to 1,000,000 microseconds. A commit waits twice as long.
+    pub epsilon: u64,
+    /// How many clients work at the same time: 1 to 64.
+    pub clients: u64,
+    /// How often 20 milliseconds pass in silence before the first attempt of a transaction is given up; each further attempt waits twice
+    /// as often as the one before, and no more than 100 times.
+    pub patience: u32,
+}
+
+impl Drop for Options {
+    fn drop(self) {
+        let Options {
+            splits: _,
+            stride: _,
+            epsilon: _,
+            clients: _,
+            patience: _,
+        } = self;
+    }
+}
+
+// A tenth of a second: some ten ceilings a second of a shard that is looked at.
+const STRIDE: u64 = 100_000;
+
+impl Options {
+    /// So many clients over these shards: a stride of 100,000 microseconds, an epsilon of 1,000, and a patience of 100 milliseconds.
+    pub fn new(splits: Splits, clients: u64) -> Options {
+        let stride = match Stride::new(STRIDE) {
+            Some(stride) => stride,
+            None => unreachable!(),
+        };
+        Options {
+            splits,
+            stride,
+            epsilon: 1_000,
+            clients,
+            patience: 5,
+        }
+    }
+
+    // What its shards and clients are opened by. Options beyond their limits are refused as `settings`.
+    pub(crate) fn settings(&self, alloc: Global) -> Result<Settings, Fault> {
+        if self.epsilon > 1_000_000 || self.clients == 0 || self.clients > 64 {
+            return Err(Fault::BadRequest(Reason::Settings));
+        }
+        Ok(Settings {
+            splits: self.splits.copy(alloc)?,
+            stride: self.stride,
+            epsilon: self.epsilon,
+            workers: self.clients,
+            transactions: 1,
+            keys: 1,
+            dir: None,
+        })
+    }
+}

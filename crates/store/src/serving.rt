@@ -1,0 +1,184 @@
+//! A store is served while its clients work.
+ghost use Rattle.std.specs.Prelude.{◌≡◌, All, IfOk};
+ghost use Rattle.std.specs.Thread.{IsSync, IsSend};
+
+use crate::Options;
+use crate::clients::Client;
+use crate::crew::{Crew, clients_of};
+use crate::shared::{Shared, Stopped};
+use crate::steady::SteadyClock;
+use board::Viewer;
+use client::Stop;
+use crossbeam_channel::Receiver;
+use drive::run_of;
+use letters::{Inboxes, Letter, Mail, Network, Post, Served, Serves, start_in};
+use std::alloc::Global;
+use std::sync::Wait;
+use std::sync::atomic::AtomicU64;
+use std::thread::Threads;
+use std::{thread, time};
+use tickets::Tickets;
+use truetime::Clock;
+use units::{Epoch, Fault};
+use workers::{MachineClock, Viewers};
+
+/// Serves nodes of any kind, each on a thread, while `work` goes on with its clients.
+pub fn serve_nodes<
+    N: Serves + Sync,
+    R: Threads + Wait + time::Clock + Sync,
+    T: Drop,
+    F: for<'s> FnOnce(Vec<Client<'s, R>>) -> T,
+>(
+    rt: &R,
+    alloc: Global,
+    options: &Options,
+    epoch: Epoch,
+    nodes: &[N],
+    viewers: Viewers,
+    work: F,
+) -> Result<T, Fault>
+    requires { F.IsAlwaysCallable work }
+{
+    let made = shared_of(alloc, options, epoch, nodes.len(), viewers);
+    let (shared, to_nodes, crew) = made?;
+    let latest = AtomicU64::new(0);
+    let machine = MachineClock {
+        rt,
+        epsilon: options.epsilon,
+    };
+    let clock = SteadyClock {
+        machine,
+        latest: &latest,
+    };
+    let answer = match served(rt, &shared, nodes, to_nodes, clock) {
+        Ok(served) => work_beside(rt, &shared, served, crew, clock, options.patience, work),
+        Err(fault) => {
+            drop(crew);
+            Err(fault)
+        }
+    };
+    drop(shared);
+    answer
+}
+
+// What clients share, the inboxes of the nodes, and what the clients are made of.
+fn shared_of(
+    alloc: Global,
+    options: &Options,
+    epoch: Epoch,
+    nodes: usize,
+    viewers: Viewers,
+) -> Result<(Shared, Vec<Receiver<Letter>>, Crew), Fault>
+    ensures drawers { IfOk result
+        (λ made. All (λ drawer. drawer.source ≡ made.0.ids) made.2.drawers.items) }
+{
+    let clients = viewers.by_worker.len();
+    let splits = options.splits.copy(alloc)?;
+    let (ids, drawers) = Tickets::new(alloc, clients)?;
+    let (network, inboxes) = Network::new(alloc, nodes, clients)?;
+    let Inboxes {
+        nodes: to_nodes,
+        workers: to_clients,
+    } = inboxes;
+    let shared = Shared {
+        alloc,
+        run: run_of(epoch),
+        splits,
+        network,
+        ids,
+        stop: Stop::new(),
+        stopped: Stopped::none(),
+    };
+    let crew = Crew {
+        inboxes: to_clients,
+        drawers,
+        viewers,
+    };
+    Ok((shared, to_nodes, crew))
+}
+
+// What each node is served with.
+fn served<'r, 's, 'n, N, R: Wait, C: Clock + Copy>(
+    rt: &'r R,
+    shared: &'s Shared,
+    nodes: &'n [N],
+    inboxes: Vec<Receiver<Letter>>,
+    clock: C,
+) -> Result<Vec<Served<'n, N, Mail<'r, 's, R>, C>>, Fault> {
+    let mut all = Vec::new(shared.alloc);
+    for (node, inbox) in nodes.iter().zip(inboxes) {
+        let post = Mail {
+            rt,
+            network: &shared.network,
+        };
+        all.push(Served {
+            node,
+            inbox,
+            post,
+            clock,
+        })?;
+    }
+    Ok(all)
+}
+
+// The nodes on a thread each, beside the work of the clients. Where one has none, no client begins.
+fn work_beside<
+    'a,
+    N: Serves + Sync,
+    R: Threads + Wait + time::Clock + Sync,
+    P: Post + Send + Drop,
+    T: Drop,
+    F: for<'s> FnOnce(Vec<Client<'s, R>>) -> T,
+>(
+    rt: &'a R,
+    shared: &'a Shared,
+    served: Vec<Served<'a, N, P, SteadyClock<'a, R>>>,
+    crew: Crew,
+    clock: SteadyClock<'a, R>,
+    patience: u32,
+    work: F,
+) -> Result<T, Fault>
+    requires work { F.IsAlwaysCallable work }
+    requires drawers { All (λ drawer. drawer.source ≡ shared.now.ids) crew.drawers.items }
+{
+    thread::scope(
+        thread::scope_env(),
+        rt,
+        |scope| -> Result<T, Fault>
+            requires threads { IsSync R.row × IsSync N.row × IsSend P.row }
+            requires work { F.IsAlwaysCallable work }
+            requires drawers { All (λ drawer. drawer.source ≡ shared.now.ids) crew.drawers.items }
+        {
+            let answer = if start_in(scope, rt, served, &shared.stopped) {
+                work_with(rt, shared, crew, clock, patience, work)
+            } else {
+                drop(crew);
+                drop(work);
+                Err(Fault::Memory)
+            };
+            shared.network.close(rt);
+            answer
+        },
+    )
+}
+
+// The work of the clients.
+fn work_with<
+    'a,
+    R: Threads + Wait + time::Clock + Sync,
+    T: Drop,
+    F: for<'s> FnOnce(Vec<Client<'s, R>>) -> T,
+>(
+    rt: &'a R,
+    shared: &'a Shared,
+    crew: Crew,
+    clock: SteadyClock<'a, R>,
+    patience: u32,
+    work: F,
+) -> Result<T, Fault>
+    requires work { F.IsAlwaysCallable work }
+    requires drawers { All (λ drawer. drawer.source ≡ shared.now.ids) crew.drawers.items }
+{
+    let clients = clients_of(rt, shared, crew, clock, patience)?;
+    Ok(work(clients))
+}
