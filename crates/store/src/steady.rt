@@ -9,7 +9,7 @@ use units::Stamp;
 use workers::MachineClock;
 
 /// The machine's clock, but one that does not go back: its copies share the latest microsecond that a reading of one of them reached, and
-/// a reading of an earlier time ends there, as wide as any. It begins at what the logs have reached.
+/// a reading of an earlier time ends there, as wide as any.
 pub struct SteadyClock<'a, R> {
     pub machine: MachineClock<'a, R>,
     pub latest: &'a AtomicU64,
