@@ -53,6 +53,8 @@ build_drives() {
     done
     # shellcheck disable=SC2046
     link drives "$to" $(externs "$to") -L "$to" -A warnings
+    # shellcheck disable=SC2046
+    link holding "$to" $(externs "$to") -L "$to" -A warnings
 }
 
 # The programs over the crates of a tree.
@@ -114,6 +116,7 @@ for place in here $revisions; do
     if [ "$driven" ]; then
         "$made/$place/drives" memory,files 1,2,4 1,4,16,64 1000 100000
         "$made/$place/drives" slow 1,2 1,4,16 100 100000
+        "$made/$place/holding"
     fi
 done
 if [ "$timed" ]; then

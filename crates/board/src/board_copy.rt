@@ -28,7 +28,6 @@ pub struct BoardCopy {
     versions: Versions,
     safe: Stamp,
     prepared_safe: Stamp,
-    alloc: Global,
 }
 
 impl Model for BoardCopy {
@@ -93,7 +92,6 @@ impl BoardCopy {
             versions: Versions::none(alloc),
             safe: Stamp::zero(),
             prepared_safe: Stamp::zero(),
-            alloc,
         }
     }
 
@@ -104,7 +102,7 @@ impl BoardCopy {
     {
         match entry {
             BoardEntry::Installed(install) => {
-                add_version(&mut self.versions, self.alloc, install)?;
+                add_version(&mut self.versions, install)?;
                 self.ahead.add(entry);
             }
             BoardEntry::Safe(at) => {
@@ -167,7 +165,7 @@ impl BoardCopy {
           ahead = self.old.ahead ++ BoardEntry.Installed install.now ∷ [];
         } }
     {
-        let Ok(copy) = copy_install(install, self.alloc) else {
+        let Ok(copy) = copy_install(install) else {
             return false;
         };
         let entry = BoardEntry::Installed(copy);
@@ -237,7 +235,7 @@ impl BoardCopy {
 }
 
 // Adds a copy of a version, which is above its key's others.
-fn add_version(versions: &mut Versions, alloc: Global, install: &Install) -> Result<(), Fault>
+fn add_version(versions: &mut Versions, install: &Install) -> Result<(), Fault>
     ensures added { OnOk result
         (AddsVersion versions.old.installs versions.new.installs install.now) }
     ensures refused { IfErr result
@@ -250,7 +248,7 @@ fn add_version(versions: &mut Versions, alloc: Global, install: &Install) -> Res
     if !versions.takes(&install.key, install.at) {
         return Err(Fault::Memory);
     }
-    let Ok(copy) = copy_install(install, alloc) else {
+    let Ok(copy) = copy_install(install) else {
         return Err(Fault::Memory);
     };
     let Install { key, at, value } = copy;

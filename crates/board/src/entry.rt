@@ -1,7 +1,6 @@
 //! What is put on a board.
 ghost use Rattle.std.specs.Prelude.{◌≡◌, IfOk, IfErr};
 
-use std::alloc::Global;
 use units::{Fault, Install, Stamp};
 
 /// An entry of a board: a version, or a timestamp up to which looks are answered from then on.
@@ -11,14 +10,14 @@ pub enum BoardEntry {
     Safe(Stamp),
 }
 
-/// An equal version with memory of its own.
-pub fn copy_install(install: &Install, alloc: Global) -> Result<Install, Fault>
+/// An equal version, which shares its value.
+pub fn copy_install(install: &Install) -> Result<Install, Fault>
     ensures same { IfOk result (λ copy. copy ≡ install.now) }
     ensures memory { IfErr result (λ fault. fault ≡ Fault.Memory) }
 {
     let value = match &install.value {
         None => None,
-        Some(value) => Some(value.copy(alloc)?),
+        Some(value) => Some(value.copy()?),
     };
     Ok(Install {
         key: install.key,

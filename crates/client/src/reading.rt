@@ -28,7 +28,7 @@ impl<'s, R: Wait + time::Clock> Wire<'_, 's, R> {
     {
         ask(tx, key)?;
         self.await_answers(tx)?;
-        Ok(value_of(self.alloc, tx, key)?)
+        Ok(value_of(tx, key)?)
     }
 
     /// The values of some keys, which are asked for together.
@@ -127,7 +127,7 @@ impl<'s, R: Wait + time::Clock> Wire<'_, 's, R> {
         ensures txn { tx.new.client.txn ≡ tx.old.client.txn }
         ensures read { HasRead tx.old.splits tx.old.client tx.new.client }
     {
-        match tx.answered(self.alloc, answer) {
+        match tx.answered(answer) {
             Ok(Heard::Value(value)) => drop(value),
             Ok(Heard::Again) | Err(Fault::Stranger) => {}
             Ok(Heard::Doomed) => return Err(Halt::Again),
@@ -258,14 +258,14 @@ fn answer_for<'a>(taken: &'a [Answered], key: &Key) -> Option<&'a Answered>
 }
 
 // The value of a key that was written or answered. One that was not is `awaited`.
-fn value_of(alloc: Global, tx: &Tx<'_, Open>, key: &Key) -> Result<Option<Value>, Fault>
+fn value_of(tx: &Tx<'_, Open>, key: &Key) -> Result<Option<Value>, Fault>
     ensures { IfOk result (λ value. seen tx.now.client key.now ≡ Some value) }
 {
     if let Some(write) = write_of(tx.writes(), key) {
-        return Ok(copy_value(alloc, &write.value)?);
+        return Ok(copy_value(&write.value)?);
     }
     if let Some(answered) = answer_for(tx.taken(), key) {
-        return Ok(copy_value(alloc, &answered.value)?);
+        return Ok(copy_value(&answered.value)?);
     }
     Err(Fault::BadRequest(Reason::Awaited))
 }
@@ -277,7 +277,7 @@ fn values_of(alloc: Global, tx: &Tx<'_, Open>, keys: &[Key]) -> Result<Vec<Optio
 {
     let mut values = Vec::new(alloc);
     for key in keys {
-        values.push(value_of(alloc, tx, key)?)?;
+        values.push(value_of(tx, key)?)?;
     }
     Ok(values)
 }

@@ -268,7 +268,7 @@ fn hand_one<R: Wait + Drop>(
     ensures count { OnOk result (handed.new ≡ handed.old + 1) }
     ensures memory { IfErr result (λ fault. fault ≡ Fault.Memory) }
 {
-    let install = copy_install(&installs[*handed], alloc)?;
+    let install = copy_install(&installs[*handed])?;
     publisher.install(install)?;
     *handed += 1;
     Ok(())

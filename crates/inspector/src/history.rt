@@ -98,8 +98,8 @@ fn whole(
     ensures memory { IfErr result (λ fault. fault ≡ Fault.Memory) }
 {
     let mut writes = Vec::new(alloc);
-    add_copies(alloc, &mut writes, commit.writes.as_slice())?;
-    add_promised(alloc, &mut writes, run, shard)?;
+    add_copies(&mut writes, commit.writes.as_slice())?;
+    add_promised(&mut writes, run, shard)?;
     Ok(Transaction {
         txn: commit.txn,
         at: commit.at,
@@ -108,12 +108,7 @@ fn whole(
 }
 
 // Puts in what others than a given shard promised to write.
-fn add_promised(
-    alloc: Global,
-    writes: &mut Vec<Write>,
-    run: &[Entry<'_>],
-    shard: usize,
-) -> Result<(), Fault>
+fn add_promised(writes: &mut Vec<Write>, run: &[Entry<'_>], shard: usize) -> Result<(), Fault>
     ensures writes { OnOk result
         (writes.new.items ≡ writes.old.items ++ flat_map (λ p. p.writes)
         (promised_in shard run.now)) }
@@ -122,7 +117,7 @@ fn add_promised(
     for entry in run {
         if entry.shard != shard {
             if let Record::Prepare(prepared) = entry.item {
-                add_copies(alloc, writes, prepared.writes.as_slice())?;
+                add_copies(writes, prepared.writes.as_slice())?;
             }
         }
     }
@@ -130,12 +125,12 @@ fn add_promised(
 }
 
 // Puts in equal writes.
-fn add_copies(alloc: Global, writes: &mut Vec<Write>, more: &[Write]) -> Result<(), Fault>
+fn add_copies(writes: &mut Vec<Write>, more: &[Write]) -> Result<(), Fault>
     ensures writes { OnOk result (writes.new.items ≡ writes.old.items ++ more.now) }
     ensures memory { IfErr result (λ fault. fault ≡ Fault.Memory) }
 {
     for write in more {
-        writes.push(write.copy(alloc)?)?;
+        writes.push(write.copy()?)?;
     }
     Ok(())
 }

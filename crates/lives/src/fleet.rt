@@ -96,7 +96,7 @@ impl Shards<'_> {
         let is_here = self.splits.shard_of(key).number() == shard.number();
         match self.shards.get(shard.number() as usize) {
             Some(one) => match one.look(alloc, view, is_here, key, at) {
-                Ok(reply) => output.note_look(alloc, *key, at, reply),
+                Ok(reply) => output.note_look(*key, at, reply),
                 Err(fault) => Err(fault),
             },
             None => Ok(Reply::Refused(Fault::Stranger)),

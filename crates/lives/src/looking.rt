@@ -28,7 +28,7 @@ pub fn look_at_core(
             Err(_) => Err(Fault::Memory),
         },
         // There is no longer value, but that no contract of a core says.
-        Err(Fault::Room) => match value_at(alloc, core.installs(), key, at) {
+        Err(Fault::Room) => match value_at(core.installs(), key, at) {
             Ok(value) => Ok(Reply::Shows(value)),
             Err(fault) => Err(fault),
         },

@@ -123,7 +123,7 @@ impl RunShard {
             → Acts setup bag.now s call doing.now self.new result }
     {
         match self.life.carry(alloc, &self.setup, bag, call, doing) {
-            Ok(out) => match self.note(alloc, doing) {
+            Ok(out) => match self.note(doing) {
                 Ok(()) => Ok(out),
                 Err(fault) => {
                     drop(out);
@@ -135,7 +135,7 @@ impl RunShard {
     }
 
     // Keeps what its core shows more than before, and the view that the doing makes.
-    fn note(&mut self, alloc: Global, doing: &Doing) -> Result<(), Fault>
+    fn note(&mut self, doing: &Doing) -> Result<(), Fault>
         ensures noted { OnOk result (NotesOfLife doing.now self.old self.new self.old.life) }
         ensures memory { IfErr result (λ fault. fault ≡ Fault.Memory) }
     {
@@ -147,7 +147,7 @@ impl RunShard {
         let known = self.installs.len().saturating_sub(from);
         let more = behind(shown, known);
         let rises = self.rises && are_above(more, self.high);
-        push_copies(&mut self.installs, alloc, more)?;
+        push_copies(&mut self.installs, more)?;
         self.from = from;
         self.rises = rises;
         if makes_view(doing) {
@@ -232,7 +232,7 @@ impl RunShard {
                 return look_at_core(alloc, core, key, at);
             }
         }
-        view.look(alloc, &self.installs, is_here, key, at)
+        view.look(&self.installs, is_here, key, at)
     }
 
     /// Its disk as it is.
@@ -300,13 +300,13 @@ fn copy_records(records: &mut Vec<Record>, alloc: Global, entries: &[Entry]) -> 
 }
 
 // Copies of versions behind others.
-fn push_copies(installs: &mut Vec<Install>, alloc: Global, more: &[Install]) -> Result<(), Fault>
+fn push_copies(installs: &mut Vec<Install>, more: &[Install]) -> Result<(), Fault>
     ensures all { OnOk result (installs.new.items ≡ installs.old.items ++ more.now) }
     ensures memory { IfErr result (λ fault. fault ≡ Fault.Memory) }
 {
     for install in more {
         installs.reserve(1)?;
-        let value = copy_value(alloc, &install.value)?;
+        let value = copy_value(&install.value)?;
         installs.push_reserved(Install {
             key: install.key,
             at: install.at,

@@ -10,7 +10,6 @@ ghost use Rattle.lives.specs.Shows.{view_now};
 
 use shard::Core;
 use simdisk::SimDisk;
-use std::alloc::Global;
 use units::{Fault, Install, Key, Stamp, Value, copy_value};
 use world::Reply;
 
@@ -38,7 +37,6 @@ impl View {
     /// A look at it, by all versions of the shard, where the key belongs to the shard or not.
     pub fn look(
         self,
-        alloc: Global,
         installs: &[Install],
         is_here: bool,
         key: &Key,
@@ -57,7 +55,7 @@ impl View {
         }
         let installs = behind(installs, self.from);
         let count = self.count.min(installs.len());
-        match value_at(alloc, &installs[..count], key, at) {
+        match value_at(&installs[..count], key, at) {
             Ok(value) => Ok(Reply::Shows(value)),
             Err(fault) => Err(fault),
         }
@@ -152,17 +150,12 @@ fn newer<'a>(
 
 /// The value of a key at a time.
 #[tactic(auto, using(crate::proofs::Newest::value_of))]
-pub fn value_at(
-    alloc: Global,
-    installs: &[Install],
-    key: &Key,
-    at: Stamp,
-) -> Result<Option<Value>, Fault>
+pub fn value_at(installs: &[Install], key: &Key, at: Stamp) -> Result<Option<Value>, Fault>
     ensures value { IfOk result (λ value. value ≡ at_time installs.now key.now at) }
     ensures memory { IfErr result (λ fault. fault ≡ Fault.Memory) }
 {
     match newest_at(installs, key, at) {
         None => Ok(None),
-        Some(install) => copy_value(alloc, &install.value),
+        Some(install) => copy_value(&install.value),
     }
 }

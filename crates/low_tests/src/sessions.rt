@@ -169,7 +169,7 @@ fn buffers(
 }
 
 fn hears(tx: &mut Tx<'_, Open>, alloc: Global, answer: ReadAnswer, gets: &str) -> bool {
-    let heard = tx.answered(alloc, &answer);
+    let heard = tx.answered(&answer);
     drop(answer);
     match heard {
         Ok(Heard::Value(value)) => {

@@ -293,13 +293,13 @@ impl State {
     }
 
     /// The answer to a read: the latest value, with the epoch.
-    pub fn answer(&self, alloc: Global, txn: TxnId, key: &Key) -> Result<Envelope, Fault>
+    pub fn answer(&self, txn: TxnId, key: &Key) -> Result<Envelope, Fault>
         ensures answer { IfOk result
             (λ envelope. envelope ≡ answers (start_of self.now) txn key.now) }
         ensures memory { IfErr result (λ fault. fault ≡ Fault.Memory) }
     {
         let value = match self.latest(key) {
-            Some(value) => Some(value.copy(alloc)?),
+            Some(value) => Some(value.copy()?),
             None => None,
         };
         Ok(answer_to(

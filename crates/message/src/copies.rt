@@ -6,21 +6,21 @@ use std::alloc::Global;
 use units::{Fault, copy_value};
 
 impl Answer {
-    /// An equal one with memory of its own.
-    pub fn copy(&self, alloc: Global) -> Result<Answer, Fault>
+    /// An equal one, which shares its value.
+    pub fn copy(&self) -> Result<Answer, Fault>
         ensures same { IfOk result (λ copied. copied ≡ self.now) }
         ensures memory { IfErr result (λ fault. fault ≡ Fault.Memory) }
     {
         match self {
-            Answer::Holds(value) => Ok(Answer::Holds(copy_value(alloc, value)?)),
+            Answer::Holds(value) => Ok(Answer::Holds(copy_value(value)?)),
             Answer::Refused => Ok(Answer::Refused),
         }
     }
 }
 
 impl ReadAnswer {
-    /// An equal one with memory of its own.
-    pub fn copy(&self, alloc: Global) -> Result<ReadAnswer, Fault>
+    /// An equal one, which shares its value.
+    pub fn copy(&self) -> Result<ReadAnswer, Fault>
         ensures same { IfOk result (λ copied. copied ≡ self.now) }
         ensures memory { IfErr result (λ fault. fault ≡ Fault.Memory) }
     {
@@ -29,7 +29,7 @@ impl ReadAnswer {
             txn: self.txn,
             key: self.key,
             epoch: self.epoch,
-            answer: self.answer.copy(alloc)?,
+            answer: self.answer.copy()?,
         })
     }
 }
@@ -58,7 +58,7 @@ impl Message {
             Message::Vote(vote) => Ok(Message::Vote(*vote)),
             Message::Outcome(told) => Ok(Message::Outcome(*told)),
             Message::Ask(ask) => Ok(Message::Ask(*ask)),
-            Message::ReadAnswer(answer) => Ok(Message::ReadAnswer(answer.copy(alloc)?)),
+            Message::ReadAnswer(answer) => Ok(Message::ReadAnswer(answer.copy()?)),
             Message::Done(done) => Ok(Message::Done(*done)),
         }
     }

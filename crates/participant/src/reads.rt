@@ -89,7 +89,7 @@ fn answer_held(state: &State, alloc: Global, txn: TxnId, key: &Key) -> Result<Pl
     ensures fit { IfOk result (IsFit state.now) }
     ensures memory { IfErr result (λ fault. fault ≡ Fault.Memory) }
 {
-    let Ok(answer) = state.answer(alloc, txn, key) else {
+    let Ok(answer) = state.answer(txn, key) else {
         return Err(Fault::Memory);
     };
     state.reply(alloc, answer)
@@ -172,7 +172,7 @@ fn grant(
     ensures fit { IfOk result (IsFit state.now) }
     ensures memory { IfErr result (λ fault. fault ≡ Fault.Memory) }
 {
-    let Ok(answer) = state.answer(alloc, txn, key) else {
+    let Ok(answer) = state.answer(txn, key) else {
         return Err(Fault::Memory);
     };
     let request = Request {

@@ -164,7 +164,7 @@ impl Request<'_> {
         ensures memory { IfErr result (λ fault. fault ≡ Fault.Memory) }
     {
         let mut part = Vec::new(alloc);
-        match push_writes_of(&mut part, alloc, self.splits, self.writes, shard) {
+        match push_writes_of(&mut part, self.splits, self.writes, shard) {
             Ok(()) => match Writes::from_vec(part) {
                 Ok(writes) => Ok(writes),
                 Err(_) => unreachable!(),
@@ -254,7 +254,6 @@ fn push_keys_read_at(keys: &mut Vec<Key>, taken: &[Answered], shard: ShardNo) ->
 // Adds copies of the writes of a shard to none.
 fn push_writes_of(
     part: &mut Vec<Write>,
-    alloc: Global,
     splits: &Splits,
     writes: &[Write],
     shard: ShardNo,
@@ -266,7 +265,7 @@ fn push_writes_of(
 {
     for write in writes {
         if splits.shard_of(&write.key) == shard {
-            part.push(write.copy(alloc)?)?;
+            part.push(write.copy()?)?;
         }
     }
     Ok(())

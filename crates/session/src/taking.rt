@@ -8,14 +8,12 @@ ghost use Rattle.message.specs.declared.message.Answer.{Answer};
 use crate::lists::drop_key;
 use crate::{Answered, Heard, Open, Tx};
 use message::ReadAnswer;
-use std::alloc::Global;
 use units::{Fault, Key, Value, copy_value};
 
 impl Tx<'_, Open> {
     /// Takes the value of an answer that is awaited, of the epoch of the shard's other answers.
     pub(crate) fn take_value(
         &mut self,
-        alloc: Global,
         answer: &ReadAnswer,
         value: &Option<Value>,
     ) -> Result<Heard, Fault>
@@ -30,8 +28,8 @@ impl Tx<'_, Open> {
             (λ fault. (self.new.client ≡ self.old.client) × (fault ≡ Fault.Memory)) }
     {
         self.taken.reserve(1)?;
-        let shown = copy_value(alloc, value)?;
-        let kept = copy_value(alloc, value)?;
+        let shown = copy_value(value)?;
+        let kept = copy_value(value)?;
         self.taken.push_reserved(Answered {
             key: answer.key,
             shard: answer.from,

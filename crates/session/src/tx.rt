@@ -180,7 +180,7 @@ impl<'s> Tx<'s, Open> {
     }
 
     /// Takes an answer, where it is awaited. An answer to another transaction is a `Stranger`.
-    pub fn answered(&mut self, alloc: Global, answer: &ReadAnswer) -> Result<Heard, Fault>
+    pub fn answered(&mut self, answer: &ReadAnswer) -> Result<Heard, Fault>
         ensures splits { self.new.splits ≡ self.old.splits }
         ensures step { MatchResult result
             (λ heard. (same_id self.old.client.txn answer.now.txn ≡ true)
@@ -205,7 +205,7 @@ impl<'s> Tx<'s, Open> {
             }
             Answer::Holds(value) => {
                 if self.agrees(answer) {
-                    self.take_value(alloc, answer, value)
+                    self.take_value(answer, value)
                 } else {
                     self.doom_by(answer.key);
                     Ok(Heard::Doomed)

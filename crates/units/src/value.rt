@@ -4,10 +4,11 @@ ghost use Rattle.std.specs.Prelude.{◌≡◌, ◌≤◌, ◌<◌, ◌⊎◌, le
 use crate::{Fault, Reason};
 use std::alloc::Global;
 use std::marker::Model;
+use std::sync::ArcSlice;
 
-/// A value of at most 4,096 bytes.
+/// A value of at most 4,096 bytes. Copies share its bytes, and count who shares them.
 pub struct Value {
-    bytes: Vec<u8>,
+    bytes: ArcSlice<u8>,
 }
 
 impl Drop for Value {
@@ -18,12 +19,13 @@ impl Drop for Value {
 
 impl Model for Value {
     ghost use Rattle.std.specs.Prelude.{ℕ, List, ◌≤◌, length};
+    ghost use Rattle.std.specs.Arc.{arc_slice_items};
 
     ghost Value = { List ℕ };
 
-    ghost view = { λ v. v.bytes.items };
+    ghost view = { λ v. arc_slice_items v.bytes };
 
-    ghost invariant = { λ v. length v.bytes.items ≤ 4096 };
+    ghost invariant = { λ v. length (arc_slice_items v.bytes) ≤ 4096 };
 }
 
 impl Value {
@@ -36,7 +38,7 @@ impl Value {
         if bytes.len() > 4096 {
             return Err(Fault::BadRequest(Reason::Value));
         }
-        let bytes = bytes.to_vec(alloc)?;
+        let bytes = ArcSlice::from_slice(alloc, bytes)?;
         Ok(Value { bytes })
     }
 
@@ -48,23 +50,23 @@ impl Value {
         self.bytes.as_slice()
     }
 
-    /// An equal value with memory of its own.
-    pub fn copy(&self, alloc: Global) -> Result<Value, Fault>
+    /// An equal value, which shares its bytes. `Memory` where their owners can't be counted any more.
+    pub fn copy(&self) -> Result<Value, Fault>
         ensures same { IfOk result (λ value. value ≡ self.now) }
         ensures memory { IfErr result (λ fault. fault ≡ Fault.Memory) }
     {
-        let bytes = self.bytes.to_vec(alloc)?;
+        let bytes = self.bytes.clone()?;
         Ok(Value { bytes })
     }
 }
 
-/// An equal value with memory of its own, where there is one.
-pub fn copy_value(alloc: Global, value: &Option<Value>) -> Result<Option<Value>, Fault>
+/// An equal value, where there is one.
+pub fn copy_value(value: &Option<Value>) -> Result<Option<Value>, Fault>
     ensures same { IfOk result (λ copy. copy ≡ value.now) }
     ensures memory { IfErr result (λ fault. fault ≡ Fault.Memory) }
 {
     match value {
         None => Ok(None),
-        Some(value) => Ok(Some(value.copy(alloc)?)),
+        Some(value) => Ok(Some(value.copy()?)),
     }
 }

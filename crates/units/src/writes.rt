@@ -15,14 +15,14 @@ pub struct Write {
 }
 
 impl Write {
-    /// An equal write with memory of its own.
-    pub fn copy(&self, alloc: Global) -> Result<Write, Fault>
+    /// An equal write, which shares its value.
+    pub fn copy(&self) -> Result<Write, Fault>
         ensures same { IfOk result (λ write. write ≡ self.now) }
         ensures memory { IfErr result (λ fault. fault ≡ Fault.Memory) }
     {
         Ok(Write {
             key: self.key,
-            value: copy_value(alloc, &self.value)?,
+            value: copy_value(&self.value)?,
         })
     }
 }
@@ -83,14 +83,14 @@ impl Writes {
         Ok(Writes { writes })
     }
 
-    /// Equal writes with memory of their own.
+    /// Equal writes, in a list of their own.
     pub fn copy(&self, alloc: Global) -> Result<Writes, Fault>
         ensures same { IfOk result (λ writes. writes ≡ self.now) }
         ensures memory { IfErr result (λ fault. fault ≡ Fault.Memory) }
     {
         let mut writes = Vec::with_capacity(alloc, self.writes.len())?;
         for write in &self.writes {
-            writes.push_reserved(write.copy(alloc)?);
+            writes.push_reserved(write.copy()?);
         }
         Ok(Writes { writes })
     }

@@ -120,16 +120,11 @@ impl Reads {
     }
 
     /// Takes an answer, which may be to an earlier transaction. It says whether the transaction may go on.
-    pub fn take(
-        &mut self,
-        alloc: Global,
-        tx: &mut Tx<'_, Open>,
-        answer: &ReadAnswer,
-    ) -> Result<bool, Fault>
+    pub fn take(&mut self, tx: &mut Tx<'_, Open>, answer: &ReadAnswer) -> Result<bool, Fault>
         ensures txn { self.new.txn ≡ self.old.txn }
         ensures keys { asked_keys self.new.asked.items ≡ asked_keys self.old.asked.items }
     {
-        match tx.answered(alloc, answer) {
+        match tx.answered(answer) {
             Ok(Heard::Value(value)) => {
                 self.keep(&answer.key, value);
                 Ok(true)

@@ -135,7 +135,7 @@ impl<'s, R: Wait + time::Clock> Wire<'_, 's, R> {
         ensures txn { reads.new.txn ≡ reads.old.txn }
         ensures keys { asked_keys reads.new.asked.items ≡ asked_keys reads.old.asked.items }
     {
-        let goes_on = reads.take(self.alloc, tx, answer)?;
+        let goes_on = reads.take(tx, answer)?;
         if goes_on && self.inbox.is_empty() {
             reads.send_to(self.rt, self.network, answer.from);
         }

@@ -77,14 +77,14 @@ impl<'s> Begun<'s> {
     }
 
     /// An open session hears an answer. A value that it takes is a line.
-    pub fn hear(&mut self, alloc: Global, answer: &ReadAnswer) -> Result<Option<Line>, Fault>
+    pub fn hear(&mut self, answer: &ReadAnswer) -> Result<Option<Line>, Fault>
         requires { same_id self.old.txn answer.now.txn ≡ true }
         ensures { (splits : List Bytes) (c : Client) → IsBegun splits self.old c
             → Hears splits answer.now self.new c result }
     {
         let txn = self.txn;
         match &mut self.held {
-            Held::Open(tx) => take_answer(alloc, tx, txn, answer),
+            Held::Open(tx) => take_answer(tx, txn, answer),
             _ => Err(Fault::Stranger),
         }
     }
@@ -158,7 +158,7 @@ fn buffer(
     ensures step { Steps (buffers (record { key = key; value = value.now }) tx.old.client)
         tx.new.client tx.old.client result }
 {
-    match copy_value(alloc, value) {
+    match copy_value(value) {
         Ok(value) => match tx.buffer(key, value) {
             Ok(()) => Ok(Outbox::none(alloc)),
             Err(fault) => Err(fault),
@@ -169,7 +169,6 @@ fn buffer(
 
 // An answer is taken, and what it shows is a line.
 fn take_answer(
-    alloc: Global,
     tx: &mut Tx<'_, Open>,
     txn: TxnId,
     answer: &ReadAnswer,
@@ -185,7 +184,7 @@ fn take_answer(
     ensures memory { IfErr result (λ fault. fault ≡ Fault.Memory) }
 {
     tx.awaits_only_new();
-    match tx.answered(alloc, answer) {
+    match tx.answered(answer) {
         Ok(Heard::Value(value)) => Ok(Some(Line::Read(txn, answer.key, value))),
         Ok(Heard::Again) => Ok(None),
         Ok(Heard::Doomed) => Ok(None),

@@ -123,7 +123,7 @@ impl<'s> Sessions<'s> {
     }
 
     // An answer comes to a session. A value that it takes is a line.
-    fn hear(&mut self, alloc: Global, answer: &ReadAnswer) -> Result<Option<Line>, Fault>
+    fn hear(&mut self, answer: &ReadAnswer) -> Result<Option<Line>, Fault>
         ensures { (splits : List Bytes) (cs : List Client) → Hosts splits self.old cs
             → HearsIn splits answer.now self.new cs
             (first (λ c. same_id c.txn answer.now.txn) cs) result }
@@ -132,7 +132,7 @@ impl<'s> Sessions<'s> {
         if at >= self.begun.len() {
             return Err(Fault::Stranger);
         }
-        self.begun[at].hear(alloc, answer)
+        self.begun[at].hear(answer)
     }
 
     /// A message comes to the session that it names. A value that the session takes is a line.
@@ -141,7 +141,7 @@ impl<'s> Sessions<'s> {
             → TakesMessage w message.now self.new result }
     {
         match message {
-            Message::ReadAnswer(answer) => self.hear(alloc, answer),
+            Message::ReadAnswer(answer) => self.hear(answer),
             Message::Done(done) => {
                 let end = Step::Leave(Leave::Hear(done.outcome()));
                 match self.step(alloc, done.txn(), &end) {

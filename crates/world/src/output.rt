@@ -70,19 +70,13 @@ impl RunOutput {
     }
 
     /// An answered look is a line.
-    pub fn note_look(
-        &mut self,
-        alloc: Global,
-        key: Key,
-        at: Stamp,
-        reply: Reply,
-    ) -> Result<Reply, Fault>
+    pub fn note_look(&mut self, key: Key, at: Stamp, reply: Reply) -> Result<Reply, Fault>
         ensures { (w : World) → IsOutput self.old w → Notes w key at reply self.new result }
     {
         let Reply::Shows(value) = &reply else {
             return Ok(reply);
         };
-        match self.note_shown(alloc, key, at, value) {
+        match self.note_shown(key, at, value) {
             Ok(()) => Ok(reply),
             Err(fault) => {
                 drop(reply);
@@ -113,18 +107,12 @@ impl RunOutput {
     }
 
     // A look that showed a value is a line.
-    fn note_shown(
-        &mut self,
-        alloc: Global,
-        key: Key,
-        at: Stamp,
-        value: &Option<Value>,
-    ) -> Result<(), Fault>
+    fn note_shown(&mut self, key: Key, at: Stamp, value: &Option<Value>) -> Result<(), Fault>
         ensures noted { (w : World) → IsOutput self.old w
             → OnOk result (IsOutput self.new (note (Line.Look key at value.now) w)) }
         ensures memory { IfErr result (λ fault. fault ≡ Fault.Memory) }
     {
-        let value = copy_value(alloc, value)?;
+        let value = copy_value(value)?;
         self.lines.push(Line::Look(key, at, value))?;
         Ok(())
     }
