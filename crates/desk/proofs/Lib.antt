@@ -1,3 +1,4 @@
 pub mod Follow
 pub mod InStep
 pub mod Kept
+pub mod Viewers
