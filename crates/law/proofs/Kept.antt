@@ -31,6 +31,7 @@ use Rattle.law.specs.Among.{IsAmong}
 use Rattle.world.specs.Headline.{IsUnsure}
 use Rattle.world.specs.World.{World, ShardNow, View, State, Runs, IsStopped, IsDown, Unsure, setup_of, view_of}
 use Rattle.world.proofs.Openings.{opening_taken, opening_follows}
+use Rattle.protocol.proofs.RowChanges.{by_id-claims}
 use Rattle.law.proofs.Orderly.{IsOrderly, orderly, same_claim, one_decision, one_promise, decided_not_promised}
 use Rattle.law.proofs.Picked.{gather_among, map_among}
 use Rattle.law.proofs.Quiet.{HasEnd, IsQuiet, IsAbove, quiet_stays, answer_stays}
@@ -73,17 +74,16 @@ module _ (n : ℕ) (v : View) where
     pub accepted : taken setup log ≡ Accepted
     pub shown : setup.shard ≡ n → IsShown log v
 
-  pub rises : (setup : Setup) (f : Facts) (m : Memory) (now : Interval) (i : Input) (p : Plan) →
-      plan_input setup (start_of_step most_rows setup f m) now i ≡ Ok p → v.safe ≤ m.last → (v.safe ≤ p.last) × LoggedAbove v.safe p.logged
-  unfolding Rises
-  rises setup f m now i p e low = subst (λ q. Rises v.safe q) e (rising v.safe (start_of_step most_rows setup f m) low setup now i)
+  pub rises : (setup : Setup) (f : Facts) (m : Memory) (now : Interval) (i : Input) (p : Plan) → IsWell setup f m →
+      plan_input setup (start_of_step most_rows setup f m) now i ≡ Ok p → v.safe ≤ m.last → Rises v.safe p
+  rises setup f m now i p well e low = rising most_rows v.safe setup f m now i p (by_id-claims m.rows well.sound.table.order) e low
 
   pub serves_keeps : (setup : Setup) (f : Facts) (m : Memory) (now : Interval) (i : Input) (p : Plan) → IsInLimit i → Serves setup f m →
       plan_input setup (start_of_step most_rows setup f m) now i ≡ Ok p → Serves setup (facts_after f p.logged) (carried p m)
   unfolding carried
   serves_keeps setup f m now i p limit s e = record {
     well = keeps setup f m now i p limit s.well e;
-    served = λ here. (rises setup f m now i p e (s.served here)).0;
+    served = λ here. (rises setup f m now i p s.well e (s.served here)).0;
   }
 
   pub serves_opens : (setup : Setup) (f : Facts) (m : Memory) → Serves setup f m → Serves setup (learn f (Record.Opened (f.epoch + 1))) (rebuilt f)
@@ -104,7 +104,7 @@ module _ (n : ℕ) (v : View) where
       record {
         accepted = more;
         shown = λ here. shown_stays setup.shard log r v (accepted_follows setup (log ++ r ∷ []) more)
-            (subst (LoggedAbove v.safe) logged (rises setup (facts_of log) m now i p e (serves.served here)).1) (shows.shown here);
+            (subst (LoggedAbove v.safe) logged (rises setup (facts_of log) m now i p serves.well e (serves.served here)).1) (shows.shown here);
       }
 
   pub shows_opens : (setup : Setup) (log : List Record) → Shows setup log → Shows setup (log ++ Record.Opened ((facts_of log).epoch + 1) ∷ [])

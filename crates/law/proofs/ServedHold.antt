@@ -88,7 +88,7 @@ module _ (n : ℕ) (v : View) (base : List Record) where
         shows = shows;
         grown = λ here. grown_more base log r v.safe (stays.grown here)
             (comes_above setup.shard log r v.safe follows_it (stays.shows.shown here).quiet
-            (subst (LoggedAbove v.safe) logged (rises n v setup (facts_of log) m now i p e (serves.served here)).1))
+            (subst (LoggedAbove v.safe) logged (rises n v setup (facts_of log) m now i p serves.well e (serves.served here)).1))
             (floor here follows_it);
       }
     where

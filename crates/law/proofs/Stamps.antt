@@ -183,7 +183,7 @@ claim_above (Outcome x y) t at ks ws low c h = absurd c
 pub stamped_logs : (setup : Setup) (log : List Record) (m : Memory) (now : Interval) (i : Input) (p : Plan) (r : Record) → IsInLimit i →
     Stamped setup log → Stamps setup (facts_of log) m →
     plan_input setup (start_of_step most_rows setup (facts_of log) m) now i ≡ Ok p → p.logged ≡ Some r → Stamped setup (log ++ r ∷ [])
-unfolding facts_of Rises
+unfolding facts_of
 stamped_logs setup log m now i p r limit good s e logged = record {
   accepted = logs setup log m now i p r limit good.accepted s.well e logged;
   stamped = λ front q back t at ks ws is claims. elim (last_split log r front q back is) [
@@ -193,8 +193,8 @@ stamped_logs setup log m now i p r limit good s e logged = record {
 }
   where
     above : IsAbove m.last r
-    above = subst (LoggedAbove m.last) logged (subst (λ z. Rises m.last z) e (rising m.last (start_of_step most_rows setup (facts_of log) m)
-        (omega arith) setup now i)).1
+    above = subst (LoggedAbove m.last) logged
+        (rising most_rows m.last setup (facts_of log) m now i p (by_id-claims m.rows s.well.sound.table.order) e (omega arith)).1
 
     here : (q : Record) (t : Id) (at : ℕ) (ks : List Bytes) (ws : List Write) → IsAbove m.last q → Claims q t at ks ws → IsAboveAll log at
     here q t at ks ws high claims =
