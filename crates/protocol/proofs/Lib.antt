@@ -3,6 +3,7 @@ pub mod Agreement
 pub mod AnswerShapes
 mod BookSample
 pub mod Choices
+mod Contents
 pub mod ClaimsBeside
 pub mod FitsBeside
 pub mod Follows

@@ -81,7 +81,7 @@ learned : (setup : Setup) (log : List Record) (r : Record) → followed setup.sh
 learned setup log r before more fits up along =
     let known : follows_facts setup.shard (facts_of log) r ≡ true = sym (follows_as_known setup.shard log r before) ∙ more in
     subst Along (sym (learn_agrees setup.shard log r more)) (record {
-      entries = entries_after (facts_of log) (Some r) (λ t. ascend_in (facts_of log).entries t along.entries) setup up along.entries;
+      entries = entries_after (facts_of log) (Some r) (λ t. ascend_in (facts_of log).entries t along.entries) up along.entries;
       installs = ap (rises_by_key []) (grows (facts_of log) (Some r)) ∙ installs_rise (facts_of log).installs (added (facts_of log) (Some r))
           along.installs (added_rises setup.shard log r known fits along.entries);
     })
