@@ -5,7 +5,7 @@ use Rattle.std.proofs.Common.{None, Result, Ok, Err, IfOk, IfErr, refl, sym, ap,
 use Rattle.std.specs.Option.{MatchOption, is_some}
 use Rattle.std.proofs.lemmas.Bool.{false≢true}
 use Rattle.std.proofs.lemmas.List.{at_drop_more}
-use Rattle.units.specs.Lists.{head, first}
+use Rattle.units.specs.Lists.{head, first, when}
 use Rattle.units.specs.Ids.{Id, same_id, has_id}
 use Rattle.units.specs.ById.{IsById}
 use Rattle.units.specs.Locks.{Claim, is_free, exclusive}
@@ -13,13 +13,17 @@ use Rattle.units.specs.declared.lock.Lock.{Lock}
 use Rattle.units.specs.declared.writes.Write.{Write}
 use Rattle.units.specs.declared.lock.Mode.TheVariants.{Exclusive}
 use Rattle.units.specs.declared.fault.Fault.{Fault}
-use Rattle.record.specs.Records.{Status}
+use Rattle.record.specs.Records.{Status, HasAborted, HasSettled, HasClosed}
 use Rattle.record.specs.Facts.{recorded}
 use Rattle.protocol.specs.Rows.{Row, Standing, HasRow, standing, standing_by, claims, find_row}
 use Rattle.protocol.specs.Plan.{Before, Plan, Planned, stands, opens, is_crowded, in_way}
 use Rattle.protocol.proofs.RowTable.{claims-by_id}
 use Rattle.rows.proofs.Steps.{claims-without_rows}
-use Rattle.memory.specs.Kept.{Kept, start_of, StandsAs, IsPlanned, IsRefusal, standing_of}
+use Rattle.rows.specs.CodeRows.{is_collecting, is_reading, may_abort, may_close}
+use Rattle.memory.specs.Carry.{may_drop, may_end}
+use Rattle.memory.specs.Standings.{standing_of, row_by, Allows}
+use Rattle.memory.specs.declared.standing.Standing.{Standing as CodeStanding}
+use Rattle.memory.specs.Kept.{Kept, start_of, StandsAs, IsPlanned, IsRefusal, standing_of as past_standing}
 use Rattle.memory.specs.Plans.{plan_of}
 use Rattle.memory.specs.declared.plan.Plan.{Plan as CodePlan}
 use Rattle.memory.specs.declared.state.PastStanding.{PastStanding}
@@ -39,7 +43,38 @@ stands-past b t status ended e recorded_so ended_so =
     ∙ ap (λ s. standing_by None s (has_id b.memory.ended t)) recorded_so
     ∙ ap (standing_by None status) ended_so
 
-is_past : (standing : Standing) (past : PastStanding) → StandsAs standing past → standing ≡ standing_of past
+-- a transaction that has no row
+pub no_row : (t : Id) (status : Status) (ended : Bool) → row_by t (standing_by None status ended) ≡ None
+no_row t HasAborted ended = refl
+no_row t (HasSettled at parts) ended = refl
+no_row t (HasClosed coordinator outcome) ended = refl
+no_row t _ true = refl
+no_row t _ false = refl
+
+-- what a standing allows
+ends_by : (rows : List Row) (t : Id) (o : Option Row) → find_row rows t ≡ o
+    → may_end rows t ≡ elim o as (λ _. Bool) [ None ↦ true | Some r ↦ is_reading r.phase ]
+ends_by rows t o e = ap (λ (o : Option Row). elim o as (λ _. Bool) [ None ↦ true | Some r ↦ is_reading r.phase ]) e
+
+drops_by : (rows : List Row) (t : Id) (o : Option Row) → find_row rows t ≡ o
+    → may_drop rows t ≡ elim o as (λ _. Bool) [ None ↦ true | Some r ↦ may_abort r.phase ]
+drops_by rows t o e = ap (λ (o : Option Row). elim o as (λ _. Bool) [ None ↦ true | Some r ↦ may_abort r.phase ]) e
+
+pub allows : (rows : List Row) (t : Id) (held : List Lock) (s : CodeStanding) → find_row rows t ≡ row_by t (standing_of held s) → Allows rows t s
+allows rows t held CodeStanding.Unknown e = (ends_by rows t _ e, drops_by rows t _ e)
+allows rows t held CodeStanding.Ended e = (ends_by rows t _ e, drops_by rows t _ e)
+allows rows t held CodeStanding.Idle e = (ends_by rows t _ e, drops_by rows t _ e)
+allows rows t held (CodeStanding.WaitsRead k) e = (ends_by rows t _ e, drops_by rows t _ e)
+allows rows t held (CodeStanding.WaitsPrepare p) e = (ends_by rows t _ e, drops_by rows t _ e)
+allows rows t held (CodeStanding.WaitsCommit c) e = (ends_by rows t _ e, drops_by rows t _ e)
+allows rows t held (CodeStanding.Collecting s) e = (ap (when (λ r. is_collecting r.phase)) e, drops_by rows t _ e)
+allows rows t held (CodeStanding.Prepared s) e = ap (when (λ r. may_close r.phase)) e
+allows rows t held (CodeStanding.Decided s) e = ap (when (λ r. may_close r.phase)) e
+allows rows t held CodeStanding.Aborted e = (ends_by rows t _ e, drops_by rows t _ e)
+allows rows t held (CodeStanding.Settled c) e = (ends_by rows t _ e, drops_by rows t _ e)
+allows rows t held (CodeStanding.Closed outcome) e = (ends_by rows t _ e, drops_by rows t _ e)
+
+is_past : (standing : Standing) (past : PastStanding) → StandsAs standing past → standing ≡ past_standing past
 is_past standing PastStanding.Unknown e = e
 is_past standing PastStanding.Ended e = e
 is_past standing PastStanding.Aborted e = e
@@ -66,6 +101,11 @@ pub planned-err : (k : Kept) (planned : Planned) (result : Result CodePlan Fault
     → IsPlanned k planned result
 planned-err k planned result fault is made = subst (λ (r : Result CodePlan Fault). IsPlanned k planned r) (sym made) (refused-by planned fault is)
 
+-- by how it stands
+pub planned-as : (k : Kept) (t : Id) (plan : Standing → Planned) (standing : Standing) (result : Result CodePlan Fault)
+    → stands (start_of k) t ≡ standing → IsPlanned k (plan standing) result → IsPlanned k (plan (stands (start_of k) t)) result
+planned-as k t plan standing result e made = subst (λ s. IsPlanned k (plan s) result) (sym e) made
+
 -- by the row
 pub planned-row : (k : Kept) (t : Id) (plan : Standing → Planned) (r : Row) (result : Result CodePlan Fault) → find_row k.memory.rows t ≡ Some r
     → IsPlanned k (plan (HasRow r.held r.phase)) result → IsPlanned k (plan (stands (start_of k) t)) result
@@ -74,7 +114,7 @@ planned-row k t plan r result e made = subst (λ s. IsPlanned k (plan s) result)
 -- by what is told of one that has no row
 pub planned-past : (k : Kept) (t : Id) (plan : Standing → Planned) (past : PastStanding) (result : Result CodePlan Fault)
     → StandsAs (stands (start_of k) t) past
-    → IsPlanned k (plan (standing_of past)) result → IsPlanned k (plan (stands (start_of k) t)) result
+    → IsPlanned k (plan (past_standing past)) result → IsPlanned k (plan (stands (start_of k) t)) result
 planned-past k t plan past result e made = subst (λ s. IsPlanned k (plan s) result) (sym (is_past (stands (start_of k) t) past e)) made
 
 -- ---- whether there is room

@@ -1,20 +1,54 @@
 -- What planners are asked and answer, by the memory of a shard.
-use Rattle.std.specs.Prelude.{◌≡◌, Bool, List, [], ◌∷◌, Some, Result, Ok, IfOk}
+use Rattle.std.specs.Prelude.{◌≡◌, Bool, true, List, [], ◌∷◌, Option, Some, None, Result, Ok, IfOk}
 use Rattle.units.specs.Ids.{Id}
 use Rattle.units.specs.Locks.{exclusive}
 use Rattle.units.specs.declared.fault.Fault.{Fault}
+use Rattle.units.specs.declared.lock.Lock.{Lock}
 use Rattle.units.specs.declared.writes.Write.{Write}
 use Rattle.message.specs.declared.message.Envelope.{Envelope}
-use Rattle.protocol.specs.Rows.{Phase, Standing, HasRow, find_row, held_in}
+use Rattle.protocol.specs.Rows.{Phase, Row, Standing, HasRow, IsUnknown, WasEnded, WasAborted, WasSettled, WasClosed, find_row, held_in}
+use Rattle.protocol.specs.Rows.{Idle, WaitsRead, WaitsPrepare, WaitsCommit, Collecting, IsPrepared, IsDecided}
 use Rattle.protocol.specs.Cells.{plan_give_up}
 use Rattle.protocol.specs.Plan as protocol
+use Rattle.rows.specs.CodeRows.{is_collecting, may_close}
+use Rattle.rows.specs.RowTable.{has_phase}
+use Rattle.memory.specs.Carry.{may_drop, may_end}
 use Rattle.memory.specs.Kept.{Kept, start_of, IsPlanned}
-use Rattle.memory.specs.Plans.{plan_of}
+use Rattle.memory.specs.Plans.{collecting, plan_of}
 use Rattle.memory.specs.declared.plan.Plan.{Plan}
+use Rattle.memory.specs.declared.standing.Standing.{Standing as CodeStanding}
 
 -- how a transaction stands
 abbrev pub standing_in : Kept → Id → Standing
 standing_in k t = protocol.stands (start_of k) t
+
+-- how a transaction stands by what the code tells of it, where it holds these locks
+abbrev pub standing_of : List Lock → CodeStanding → Standing
+standing_of held CodeStanding.Unknown = IsUnknown
+standing_of held CodeStanding.Ended = WasEnded
+standing_of held CodeStanding.Idle = HasRow held Idle
+standing_of held (CodeStanding.WaitsRead k) = HasRow held (WaitsRead k.now)
+standing_of held (CodeStanding.WaitsPrepare p) = HasRow held (WaitsPrepare p.now.coordinator p.now.reads p.now.writes)
+standing_of held (CodeStanding.WaitsCommit c) = HasRow held (WaitsCommit c.now.latest c.now.parts c.now.reads c.now.writes)
+standing_of held (CodeStanding.Collecting s) = HasRow held (collecting s.now.request s.now.votes)
+standing_of held (CodeStanding.Prepared s) = HasRow held (IsPrepared s.now.coordinator s.now.at)
+standing_of held (CodeStanding.Decided s) = HasRow held (IsDecided s.now.at s.now.parts)
+standing_of held CodeStanding.Aborted = WasAborted
+standing_of held (CodeStanding.Settled c) = WasSettled c.at c.parts
+standing_of held (CodeStanding.Closed outcome) = WasClosed outcome
+
+-- the row of a transaction, by how it stands
+abbrev pub row_by : Id → Standing → Option Row
+row_by t (HasRow held phase) = Some (record { txn = t; held = held; phase = phase })
+row_by t _ = None
+
+-- what the standing of a transaction allows: whoever reads or has no row may be ended and aborted, whoever collects votes may
+-- be aborted, and a promise or a decision may be closed
+abbrev pub Allows : List Row → Id → CodeStanding → Type 0
+Allows rows t (CodeStanding.Collecting s) = (has_phase is_collecting rows t ≡ true) × (may_drop rows t ≡ true)
+Allows rows t (CodeStanding.Prepared s) = has_phase may_close rows t ≡ true
+Allows rows t (CodeStanding.Decided s) = has_phase may_close rows t ≡ true
+Allows rows t _ = (may_end rows t ≡ true) × (may_drop rows t ≡ true)
 
 -- how it stands where its row is in a phase
 abbrev pub standing_by_row : Kept → Id → Phase → Standing

@@ -8,6 +8,7 @@ mod laws;
 mod making;
 pub mod plan;
 mod planning;
+pub mod standing;
 pub mod state;
 
 pub use carry::{Ready, ready_plans_can_be_carried};
@@ -15,4 +16,5 @@ pub use envelopes::{answer_to, ask_to, done_to, outcome_to, vote_to};
 pub use laws::holds_follow_rows;
 pub use plan::{Change, Plan, Request};
 pub use planning::reads_stand;
+pub use standing::Standing;
 pub use state::{PastCommit, PastStanding, State};

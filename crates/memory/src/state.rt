@@ -15,10 +15,12 @@ ghost use Rattle.rows.specs.RowTable.{needs_in};
 ghost use Rattle.memory.specs.Carry.{Asks, MayTurn, may_ask, may_drop, may_end};
 ghost use Rattle.memory.specs.Kept.{start_of, StandsAs};
 ghost use Rattle.protocol.specs.Sound.{writes_standing};
-ghost use Rattle.memory.specs.Standings.{standing_in, HasRowIn};
+ghost use Rattle.memory.specs.Standings.{standing_in, standing_of, row_by, Allows, HasRowIn};
 
+use crate::standing::{Standing, by_records, by_row};
 use facts::Status;
 use ledger::{Ended, Ledger};
+use locks::exclusive;
 use message::Done;
 use record::Record;
 use rows::{Row, Rows};
@@ -73,8 +75,8 @@ pub enum PastStanding {
 /// again.
 #[derive(Clone, Copy)]
 pub struct PastCommit {
-    at: Stamp,
-    parts: Parts,
+    pub(crate) at: Stamp,
+    pub(crate) parts: Parts,
 }
 
 impl Model for PastCommit {
@@ -209,6 +211,20 @@ impl State {
         self.rows.find(txn)
     }
 
+    /// How a transaction stands.
+    pub fn standing(&self, txn: TxnId) -> Standing<'_>
+        ensures standing { standing_in self.now txn ≡
+            standing_of (held_in self.now.memory.rows txn) result }
+        ensures row { find_row self.now.memory.rows txn ≡
+            row_by txn (standing_of (held_in self.now.memory.rows txn) result) }
+        ensures allows { Allows self.now.memory.rows txn result }
+    {
+        match self.row(txn) {
+            Some(row) => by_row(row),
+            None => by_records(self.ledger.status(txn), self.ended.has(txn)),
+        }
+    }
+
     /// How a transaction stands that has no row.
     pub fn past(&self, txn: TxnId) -> PastStanding
         requires { find_row self.now.memory.rows txn ≡ None }
@@ -257,6 +273,33 @@ impl State {
             return Ok(Ids::from_vec(Vec::new(alloc)));
         }
         self.in_way(alloc, txn, needs)
+    }
+
+    /// Whom a request of exclusive locks of what is written ends, where it may be known that it ends nobody (`is_undisputed`); and
+    /// the locks.
+    pub fn asks(
+        &self,
+        alloc: Global,
+        txn: TxnId,
+        writes: &Writes,
+        undisputed: bool,
+    ) -> Result<(Ids, Vec<Lock>), Fault>
+        requires { undisputed ≡ true → in_way (start_of self.now) txn (exclusive writes.now) ≡ [] }
+        ensures ids { IfOk result
+            (λ asked. asked.0 ≡ in_way (start_of self.now) txn (exclusive writes.now)) }
+        ensures locks { IfOk result (λ asked. asked.1.items ≡ exclusive writes.now) }
+        ensures memory { IfErr result (λ fault. fault ≡ Fault.Memory) }
+    {
+        let Ok(needs) = exclusive(alloc, writes) else {
+            return Err(Fault::Memory);
+        };
+        match self.in_way_unless(alloc, txn, &needs, undisputed) {
+            Ok(wounded) => Ok((wounded, needs)),
+            Err(fault) => {
+                drop(needs);
+                Err(fault)
+            }
+        }
     }
 
     /// The request is granted once those that it ends are gone.

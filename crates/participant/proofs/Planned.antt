@@ -25,29 +25,6 @@ use Rattle.memory.specs.declared.state.PastStanding.{PastStanding}
 use Rattle.memory.proofs.States.{stands-past}
 use Rattle.participant.specs.Asks.{read_asks, promised_by}
 
--- a row that reads, by whether it waits
-pub read_of_row : (b : Before) (t : Id) (k : Bytes) (held : List Lock) (wait : Option Wait)
-    → plan_read b t k (HasRow held (phase_of_wait wait)) ≡ plan_read_row b t k held (is_some wait)
-unfolding plan_read
-read_of_row b t k held None = refl
-read_of_row b t k held (Some (Wait.Read j)) = refl
-read_of_row b t k held (Some (Wait.Prepare p)) = refl
-read_of_row b t k held (Some (Wait.Commit c)) = refl
-
--- a transaction that has no row is not asked about
-pub nudge_none : (b : Before) (t : Id) → find_row b.memory.rows t ≡ None → plan_nudge b t (stands b t) ≡ Err Stranger
-unfolding plan_nudge
-nudge_none b t none =
-    ap (plan_nudge b t) (stands-past b t (recorded b.facts t) (has_id b.memory.ended t) none refl refl)
-    ∙ by_status (recorded b.facts t) (has_id b.memory.ended t)
-  where
-    by_status : (status : Status) (ended : Bool) → plan_nudge b t (standing_by None status ended) ≡ Err Stranger
-    by_status HasAborted ended = refl
-    by_status (HasSettled at parts) ended = refl
-    by_status (HasClosed c o) ended = refl
-    by_status _ true = refl
-    by_status _ false = refl
-
 -- ---- reads
 
 pub read_held : (b : Before) (t : Id) (k : Bytes) (held : List Lock) (waits : Bool) → holds held k ≡ true
@@ -119,16 +96,6 @@ pub fresh_gone : (b : Before) (earliest : ℕ) (m : Prepare) (held : List Lock) 
     → plan_prepare_fresh b earliest m held ≡ Ok (ends b m.txn (refuses b m.txn m.coordinator ∷ []))
 unfolding plan_prepare_fresh
 fresh_gone b earliest m held e = ap (λ a. cond a (plan_prepare_now b earliest m) (Ok (ends b m.txn (refuses b m.txn m.coordinator ∷ [])))) e
-
--- a transaction that is not known holds nothing
-pub prepare_unknown : (k : Kept) (earliest : ℕ) (m : Prepare) (past : PastStanding) (result : Result Plan Fault)
-    → find_row k.memory.rows m.txn ≡ None → past ≡ PastStanding.Unknown
-    → IsPlanned k (plan_prepare_fresh (start_of k) earliest m (held_in k.memory.rows m.txn)) result
-    → IsPlanned k (plan_prepare (start_of k) earliest m (standing_of past)) result
-unfolding plan_prepare
-prepare_unknown k earliest m past result none unknown made =
-    subst (λ p. IsPlanned k (plan_prepare (start_of k) earliest m (standing_of p)) result) (sym unknown)
-    (subst (λ h. IsPlanned k (plan_prepare_fresh (start_of k) earliest m h) result) (ap held_by none) made)
 
 -- where the locks are granted
 opened : (b : Before) (earliest : ℕ) (m : Prepare) → opens b m.txn (exclusive m.writes) ≡ true

@@ -1,15 +1,13 @@
 -- What a participant plans for each message, by how its transaction stands.
-use Rattle.std.specs.Prelude.{◌≡◌, ℕ, List, [], Result}
+use Rattle.std.specs.Prelude.{ℕ, List, [], Result}
 use Rattle.units.specs.Ids.{Id}
 use Rattle.units.specs.Keys.{Bytes}
-use Rattle.units.specs.Locks.{exclusive}
 use Rattle.units.specs.declared.fault.Fault.{Fault}
 use Rattle.message.specs.declared.message.Outcome.{Outcome}
 use Rattle.message.specs.declared.message.Prepare.{Prepare}
 use Rattle.message.specs.declared.message.Read.{Read}
 use Rattle.rows.specs.declared.wait.PrepareRequest.{PrepareRequest}
 use Rattle.protocol.specs.Rows.{Standing}
-use Rattle.protocol.specs.Plan.{in_way}
 use Rattle.protocol.specs.Cells.{plan_nudge, plan_outcome, plan_prepare, plan_prepare_now, plan_promise, plan_read}
 use Rattle.memory.specs.Kept.{Kept, start_of, IsPlanned}
 use Rattle.memory.specs.Standings.{MakesPlan}
@@ -43,8 +41,3 @@ MakesGrantedRead k ended t key result = MakesPlan k (granted_read (start_of k) e
 -- the promise of a request, once its locks are granted
 abbrev pub MakesPromise : Kept → List Id → Id → ℕ → PrepareRequest → Result Plan Fault → Type 0
 MakesPromise k ended t at r result = MakesPlan k (promised_by (start_of k) ended t at r.coordinator r.reads r.writes) result
-
--- whoever is in the way is ended, and the promise made
-abbrev pub MakesPromiseAnew : Kept → ℕ → Prepare → Result Plan Fault → Type 0
-MakesPromiseAnew k at m result =
-    MakesPlan k (promised_by (start_of k) (in_way (start_of k) m.txn (exclusive m.writes)) m.txn at m.coordinator m.reads.keys m.writes) result

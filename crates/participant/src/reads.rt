@@ -4,65 +4,36 @@ ghost use Rattle.message.specs.declared.message.Answer.TheVariants.{Refused};
 ghost use Rattle.protocol.specs.Rows.{WaitsRead, held_in};
 ghost use Rattle.protocol.specs.Outputs.{answer_to};
 ghost use Rattle.protocol.specs.Cells.{plan_read_row, plan_read_now, plan_go_on, answers, to_read};
-ghost use Rattle.rows.specs.CodeRows.{phase_of};
-ghost use Rattle.memory.specs.Carry.{Asks, IsFit, MayTurn, may_ask, may_end};
-ghost use Rattle.memory.specs.Kept.{start_of, standing_of, IsPlanned};
+ghost use Rattle.memory.specs.Carry.{Asks, IsFit, may_ask, may_end};
+ghost use Rattle.memory.specs.Kept.{start_of, IsPlanned};
 ghost use Rattle.participant.specs.Asks.{read_asks};
-ghost use Rattle.memory.specs.Standings.{standing_in, standing_by_row, MakesPlan, MakesReply};
+ghost use Rattle.memory.specs.Standings.{standing_in, MakesPlan, MakesReply};
 ghost use Rattle.participant.specs.ByMessage.{PlansRead, MakesGrantedRead};
 
-use memory::{Change, PastStanding, Plan, Request, State, answer_to};
+use memory::{Change, Plan, Request, Standing, State, answer_to};
 use message::{Answer, Read};
-use rows::{Row, Wait};
+use rows::Wait;
 use std::alloc::Global;
 use units::{Fault, Ids, Key, Lock, Mode, TxnId};
 
 /// A read: a key that is held is answered at once; else a shared lock is asked for, and the answer comes once it is held.
+#[tactic(auto, unfolding(protocol::specs::Cells::plan_read))]
 pub fn on_read(state: &State, alloc: Global, read: &Read) -> Result<Plan, Fault>
     ensures planned { PlansRead state.now read.now (standing_in state.now read.now.txn) result }
     ensures fit { IfOk result (IsFit state.now) }
 {
-    match state.row(read.txn) {
-        Some(row) => read_with_row(state, alloc, read, row),
-        None => read_without_row(state, alloc, read, state.past(read.txn)),
-    }
-}
-
-// A read of a transaction that has a row.
-#[tactic(auto, unfolding(protocol::specs::Cells::plan_read))]
-fn read_with_row(state: &State, alloc: Global, read: &Read, row: &Row) -> Result<Plan, Fault>
-    requires turn { MayTurn state.now.memory.rows read.now.txn row.now }
-    ensures planned { PlansRead state.now read.now
-        (standing_by_row state.now read.now.txn (phase_of row.now)) result }
-    ensures fit { IfOk result (IsFit state.now) }
-{
-    match row {
-        Row::Reading(reading) => {
-            let waits = reading.wait().is_some();
-            read_row(state, alloc, read.txn, &read.key, waits)
+    match state.standing(read.txn) {
+        Standing::Unknown => read_now(state, alloc, read.txn, &read.key),
+        Standing::Idle => read_row(state, alloc, read.txn, &read.key, false),
+        Standing::WaitsRead(_) | Standing::WaitsPrepare(_) | Standing::WaitsCommit(_) => {
+            read_row(state, alloc, read.txn, &read.key, true)
         }
-        Row::Collecting(_) | Row::Prepared(_) | Row::Decided(_) => Ok(state.idles(alloc)),
-    }
-}
-
-// A read of a transaction that has no row.
-#[tactic(auto, unfolding(protocol::specs::Cells::plan_read))]
-fn read_without_row(
-    state: &State,
-    alloc: Global,
-    read: &Read,
-    past: PastStanding,
-) -> Result<Plan, Fault>
-    requires { may_end state.now.memory.rows read.now.txn ≡ true }
-    ensures planned { PlansRead state.now read.now (standing_of past) result }
-    ensures fit { IfOk result (IsFit state.now) }
-{
-    match past {
-        PastStanding::Unknown => read_now(state, alloc, read.txn, &read.key),
-        PastStanding::Ended
-        | PastStanding::Aborted
-        | PastStanding::Settled(_)
-        | PastStanding::Closed { .. } => { refuse(state, alloc, read.txn, &read.key) }
+        Standing::Collecting(_) | Standing::Prepared(_) | Standing::Decided(_) => {
+            Ok(state.idles(alloc))
+        }
+        Standing::Ended | Standing::Aborted | Standing::Settled(_) | Standing::Closed { .. } => {
+            refuse(state, alloc, read.txn, &read.key)
+        }
     }
 }
 
@@ -139,16 +110,6 @@ pub fn resume_read(state: &State, alloc: Global, txn: TxnId, key: &Key) -> Resul
         → IsPlanned state.now (plan_go_on (start_of state.now) earliest txn (WaitsRead key.now))
         result }
     ensures fit { IfOk result (IsFit state.now) }
-{
-    grant_alone(state, alloc, txn, key)
-}
-
-// The lock is granted with nobody ended, and the read answered.
-fn grant_alone(state: &State, alloc: Global, txn: TxnId, key: &Key) -> Result<Plan, Fault>
-    requires { Asks state.now.memory.rows txn [] (to_read key.now) true }
-    ensures plan { MakesGrantedRead state.now [] txn key.now result }
-    ensures fit { IfOk result (IsFit state.now) }
-    ensures memory { IfErr result (λ fault. fault ≡ Fault.Memory) }
 {
     let Ok(needs) = shared(alloc, key) else {
         return Err(Fault::Memory);
