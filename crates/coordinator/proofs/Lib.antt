@@ -1,4 +1,3 @@
 pub mod Counting
 pub mod Granting
 pub mod Others
-pub mod Planned

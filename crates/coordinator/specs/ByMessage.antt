@@ -1,7 +1,6 @@
 -- What a coordinator plans for each message, by how its transaction stands.
 use Rattle.std.specs.Prelude.{ℕ, List, [], ◌∷◌, None, Some, Option, Result}
 use Rattle.units.specs.Ids.{Id}
-use Rattle.units.specs.Locks.{exclusive}
 use Rattle.units.specs.declared.fault.Fault.{Fault}
 use Rattle.units.specs.declared.lock.Lock.{Lock}
 use Rattle.record.specs.declared.record.Record.{Record}
@@ -13,14 +12,14 @@ use Rattle.rows.specs.declared.votes.Voted.{Voted as CastVote}
 use Rattle.rows.specs.declared.wait.CommitRequest.{CommitRequest}
 use Rattle.protocol.specs.Rows.{Standing, find_row, with_vote}
 use Rattle.protocol.specs.Outputs.{done_to}
-use Rattle.protocol.specs.Plan.{Before, Planned, drops, in_way, puts}
+use Rattle.protocol.specs.Plan.{Before, Planned, drops, puts}
 use Rattle.protocol.specs.Cells.{commit_stamp, of_part, other_parts, plan_ask, plan_commit, plan_commit_granted, plan_commit_now, plan_count}
 use Rattle.protocol.specs.Cells.{plan_settle, plan_vote, tells}
 use Rattle.memory.specs.Kept.{Kept, start_of, IsPlanned}
 use Rattle.memory.specs.Plans.{counted}
 use Rattle.memory.specs.Standings.{MakesPlan}
 use Rattle.memory.specs.declared.plan.Plan.{Plan}
-use Rattle.coordinator.specs.Granted.{collects, decides}
+use Rattle.coordinator.specs.Granted.{collects, decides, granted_by}
 
 abbrev pub PlansCommit : Kept → ℕ → Commit → Standing → Result Plan Fault → Type 0
 PlansCommit k latest m standing result = IsPlanned k (plan_commit (start_of k) latest m standing) result
@@ -74,12 +73,6 @@ MakesDecision k ended t needs at r result = MakesPlan k (decides (start_of k) en
 abbrev pub MakesCollecting : Kept → List Id → Id → CommitRequest → Result Plan Fault → Type 0
 MakesCollecting k ended t r result = MakesPlan k (collects (start_of k) ended t r.latest r.parts r.reads r.writes) result
 
--- whoever is in the way is ended, and the decision made
-abbrev pub MakesDecisionAnew : Kept → ℕ → Commit → Result Plan Fault → Type 0
-MakesDecisionAnew k at m result =
-    MakesPlan k (decides (start_of k) (in_way (start_of k) m.txn (exclusive m.writes)) m.txn (exclusive m.writes) at m.parts m.reads.keys m.writes) result
-
--- whoever is in the way is ended, and votes are collected
-abbrev pub MakesCollectingAnew : Kept → ℕ → Commit → Result Plan Fault → Type 0
-MakesCollectingAnew k latest m result =
-    MakesPlan k (collects (start_of k) (in_way (start_of k) m.txn (exclusive m.writes)) m.txn latest m.parts m.reads.keys m.writes) result
+-- what a request whose locks are granted leads to
+abbrev pub MakesGranted : Kept → List Id → Id → Option ℕ → CommitRequest → Result Plan Fault → Type 0
+MakesGranted k ended t at r result = MakesPlan k (granted_by (start_of k) ended t at r) result

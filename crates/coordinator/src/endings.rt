@@ -1,19 +1,20 @@
 //! How a transaction that this shard decides ends: given up, asked for, or settled.
-ghost use Rattle.std.specs.Prelude.{◌≡◌, true, [], ◌∷◌, Some, None, Ok, IfOk, IfErr};
+ghost use Rattle.std.specs.Prelude.{◌≡◌, true, IfOk, IfErr};
 ghost use Rattle.protocol.specs.Outputs.{outcome_to};
 ghost use Rattle.protocol.specs.Cells.{plan_abort_for};
 ghost use Rattle.rows.specs.CodeRows.{may_close, phase_of};
 ghost use Rattle.rows.specs.RowTable.{has_phase};
-ghost use Rattle.memory.specs.Carry.{IsFit, MayTurn, may_drop};
-ghost use Rattle.memory.specs.Kept.{start_of, standing_of};
-ghost use Rattle.memory.specs.Standings.{standing_in, standing_by_row, HasRowIn, MakesPlan, MakesReply, PlansGiveUp};
+ghost use Rattle.rows.specs.declared.row.Row.{Row};
+ghost use Rattle.memory.specs.Carry.{IsFit, may_drop};
+ghost use Rattle.memory.specs.Kept.{start_of};
+ghost use Rattle.memory.specs.Standings.{standing_in, HasRowIn, MakesPlan, MakesReply, PlansGiveUp};
 ghost use Rattle.coordinator.specs.ByMessage.{PlansAsk, PlansSettle, MakesSettled};
 
 use crate::parts::is_of_part;
-use memory::{PastStanding, Plan, State, done_to, outcome_to};
+use memory::{Plan, Standing, State, done_to, outcome_to};
 use message::{Ask, Done, Envelope, GiveUp, Outcome};
 use record::Record;
-use rows::{Row, RowCollecting, Wait};
+use rows::RowCollecting;
 use std::alloc::Global;
 use truetime::Reading;
 use units::{Fault, Parts, Stamp, TxnId};
@@ -31,78 +32,32 @@ pub fn give_up(
         result }
     ensures fit { IfOk result (IsFit state.now) }
 {
-    abort_given(state, alloc, given, collecting)
-}
-
-// A transaction that is given up while it collects votes is aborted.
-#[tactic(auto, unfolding(protocol::specs::Cells::plan_give_up))]
-fn abort_given(
-    state: &State,
-    alloc: Global,
-    given: &GiveUp,
-    collecting: &RowCollecting,
-) -> Result<Plan, Fault>
-    requires { may_drop state.now.memory.rows given.now.txn ≡ true }
-    ensures planned { PlansGiveUp state.now given.now.txn
-        (standing_by_row state.now given.now.txn (phase_of (Row.Collecting collecting.now)))
-        result }
-    ensures fit { IfOk result (IsFit state.now) }
-{
     state.aborts(alloc, given.txn, collecting.request().parts)
 }
 
 /// The question how a transaction ended. One that is not known, or only reads, is aborted before it is answered.
+#[tactic(auto, unfolding(protocol::specs::Cells::plan_ask))]
 pub fn on_ask(state: &State, alloc: Global, ask: &Ask) -> Result<Plan, Fault>
     ensures planned { PlansAsk state.now ask.now (standing_in state.now ask.now.txn) result }
     ensures fit { IfOk result (IsFit state.now) }
 {
-    match state.row(ask.txn) {
-        Some(row) => ask_with_row(state, alloc, ask, row),
-        None => ask_without_row(state, alloc, ask, state.past(ask.txn)),
-    }
-}
-
-// A question about a transaction that has a row: where it reads, by what it waits with.
-#[tactic(auto, unfolding(protocol::specs::Cells::plan_ask))]
-fn ask_with_row(state: &State, alloc: Global, ask: &Ask, row: &Row) -> Result<Plan, Fault>
-    requires { MayTurn state.now.memory.rows ask.now.txn row.now }
-    ensures planned { PlansAsk state.now ask.now
-        (standing_by_row state.now ask.now.txn (phase_of row.now)) result }
-    ensures fit { IfOk result (IsFit state.now) }
-{
-    match row {
-        Row::Reading(reading) => match reading.wait() {
-            Some(Wait::Prepare(_)) => Err(Fault::Stranger),
-            Some(Wait::Commit(_)) => Ok(state.idles(alloc)),
-            Some(Wait::Read(_)) | None => abort_for(state, alloc, ask),
-        },
-        Row::Collecting(_) | Row::Decided(_) => Ok(state.idles(alloc)),
-        Row::Prepared(_) => Err(Fault::Stranger),
-    }
-}
-
-// A question about a transaction that has no row.
-#[tactic(auto, unfolding(protocol::specs::Cells::plan_ask))]
-fn ask_without_row(
-    state: &State,
-    alloc: Global,
-    ask: &Ask,
-    past: PastStanding,
-) -> Result<Plan, Fault>
-    requires { may_drop state.now.memory.rows ask.now.txn ≡ true }
-    ensures planned { PlansAsk state.now ask.now (standing_of past) result }
-    ensures fit { IfOk result (IsFit state.now) }
-{
-    match past {
-        PastStanding::Unknown | PastStanding::Ended => abort_for(state, alloc, ask),
-        PastStanding::Aborted => answer(state, alloc, ask, None),
-        PastStanding::Settled(settled) => {
+    match state.standing(ask.txn) {
+        Standing::Unknown | Standing::Ended | Standing::Idle | Standing::WaitsRead(_) => {
+            abort_for(state, alloc, ask)
+        }
+        Standing::Aborted => answer(state, alloc, ask, None),
+        Standing::Settled(settled) => {
             if !is_of_part(state, settled.parts(), ask.from) {
                 return Err(Fault::Stranger);
             }
             answer(state, alloc, ask, Some(settled.at()))
         }
-        PastStanding::Closed { .. } => Err(Fault::Stranger),
+        Standing::WaitsCommit(_) | Standing::Collecting(_) | Standing::Decided(_) => {
+            Ok(state.idles(alloc))
+        }
+        Standing::WaitsPrepare(_) | Standing::Prepared(_) | Standing::Closed { .. } => {
+            Err(Fault::Stranger)
+        }
     }
 }
 
@@ -144,41 +99,32 @@ fn abort_for(state: &State, alloc: Global, ask: &Ask) -> Result<Plan, Fault>
     Ok(state.drops(alloc, ask.txn, abort, state.last(), out))
 }
 
-/// A decided transaction is settled, once its timestamp has surely passed: its session and the other parts are told.
+/// A decided transaction is settled, once its timestamp has surely passed: its session and the other parts are told. Nobody is
+/// told of a commit before (commit wait): the end is made of the word that it has passed.
+#[tactic(auto, unfolding(protocol::specs::Cells::plan_settle))]
 pub fn settle(state: &State, alloc: Global, now: &Reading, txn: TxnId) -> Result<Plan, Fault>
     ensures planned { PlansSettle state.now now.now.earliest txn (standing_in state.now txn)
         result }
     ensures fit { IfOk result (IsFit state.now) }
 {
-    match state.row(txn) {
-        Some(row) => settle_with_row(state, alloc, now, txn, row),
-        None => Err(Fault::Stranger),
-    }
-}
-
-// A settling of a transaction that has a row. Nobody is told of a commit before its timestamp has passed (commit wait): the
-// end is made of the word that it has.
-#[tactic(auto, unfolding(protocol::specs::Cells::plan_settle))]
-fn settle_with_row(
-    state: &State,
-    alloc: Global,
-    now: &Reading,
-    txn: TxnId,
-    row: &Row,
-) -> Result<Plan, Fault>
-    requires { MayTurn state.now.memory.rows txn row.now }
-    ensures planned { PlansSettle state.now now.now.earliest txn
-        (standing_by_row state.now txn (phase_of row.now)) result }
-    ensures fit { IfOk result (IsFit state.now) }
-{
-    match row {
-        Row::Decided(decided) => {
+    match state.standing(txn) {
+        Standing::Decided(decided) => {
             let Ok(waited) = pass(decided.at(), now) else {
                 return Err(Fault::Early);
             };
             settle_at(state, alloc, txn, waited, decided.parts())
         }
-        Row::Reading(_) | Row::Collecting(_) | Row::Prepared(_) => Err(Fault::Stranger),
+        Standing::Unknown
+        | Standing::Ended
+        | Standing::Idle
+        | Standing::WaitsRead(_)
+        | Standing::WaitsPrepare(_)
+        | Standing::WaitsCommit(_)
+        | Standing::Collecting(_)
+        | Standing::Prepared(_)
+        | Standing::Aborted
+        | Standing::Settled(_)
+        | Standing::Closed { .. } => Err(Fault::Stranger),
     }
 }
 

@@ -7,73 +7,46 @@ ghost use Rattle.protocol.specs.Rows.{with_vote};
 ghost use Rattle.protocol.specs.Cells.{all_voted, commit_stamp, other_parts, plan_tell};
 ghost use Rattle.rows.specs.CodeRows.{is_collecting, phase_of};
 ghost use Rattle.rows.specs.RowTable.{has_phase};
+ghost use Rattle.rows.specs.declared.row.Row.{Row};
 ghost use Rattle.rows.specs.States.{voted_of};
-ghost use Rattle.memory.specs.Carry.{IsFit, MayTurn, may_drop};
-ghost use Rattle.memory.specs.Kept.{start_of, standing_of, IsPlanned};
+ghost use Rattle.memory.specs.Carry.{IsFit, may_drop};
+ghost use Rattle.memory.specs.Kept.{start_of, IsPlanned};
 ghost use Rattle.coordinator.specs.Granted.{more_votes};
-ghost use Rattle.memory.specs.Standings.{standing_in, standing_by_row, HasRowIn, MakesPlan};
+ghost use Rattle.memory.specs.Standings.{standing_in, HasRowIn, MakesPlan};
 ghost use Rattle.coordinator.specs.ByMessage.{MakesVoteKept, stamp_with_vote, PlansVote, vote_counted, PlansPartVote, MakesDecision};
 
 use crate::commits::{commit_time, decision_of};
 use crate::parts::is_of_part;
-use memory::{Change, PastStanding, Plan, Request, State, outcome_to};
+use memory::{Change, Plan, Request, Standing, State, outcome_to};
 use message::{Outcome, Vote};
-use rows::{CommitRequest, Row, RowCollecting, Voted, Wait};
+use rows::{CommitRequest, RowCollecting, Voted};
 use std::alloc::Global;
 use units::{Fault, Ids, ShardNo, Stamp, TxnId};
 
 /// A vote: a yes is kept, and the last one decides; a no aborts. Who votes for a transaction that ended here is told how.
+#[tactic(auto, unfolding(protocol::specs::Cells::plan_vote))]
 pub fn on_vote(state: &State, alloc: Global, vote: &Vote) -> Result<Plan, Fault>
     ensures planned { PlansVote state.now vote.now (standing_in state.now vote.now.txn) result }
     ensures fit { IfOk result (IsFit state.now) }
 {
-    match state.row(vote.txn) {
-        Some(row) => vote_with_row(state, alloc, vote, row),
-        None => vote_without_row(state, alloc, vote, state.past(vote.txn)),
-    }
-}
-
-// A vote for a transaction that has a row: where it reads, by what it waits with.
-#[tactic(auto, unfolding(protocol::specs::Cells::plan_vote))]
-fn vote_with_row(state: &State, alloc: Global, vote: &Vote, row: &Row) -> Result<Plan, Fault>
-    requires row { HasRowIn state.now vote.now.txn (phase_of row.now) }
-    requires turn { MayTurn state.now.memory.rows vote.now.txn row.now }
-    ensures planned { PlansVote state.now vote.now
-        (standing_by_row state.now vote.now.txn (phase_of row.now)) result }
-    ensures fit { IfOk result (IsFit state.now) }
-{
-    match row {
-        Row::Reading(reading) => match reading.wait() {
-            Some(Wait::Prepare(_)) => Err(Fault::Stranger),
-            Some(Wait::Read(_)) | Some(Wait::Commit(_)) | None => Ok(state.idles(alloc)),
-        },
-        Row::Collecting(collecting) => vote_collected(state, alloc, vote, collecting),
-        Row::Prepared(_) => Err(Fault::Stranger),
-        Row::Decided(_) => Ok(state.idles(alloc)),
-    }
-}
-
-// A vote for a transaction that has no row.
-#[tactic(auto, unfolding(protocol::specs::Cells::plan_vote))]
-fn vote_without_row(
-    state: &State,
-    alloc: Global,
-    vote: &Vote,
-    past: PastStanding,
-) -> Result<Plan, Fault>
-    ensures planned { PlansVote state.now vote.now (standing_of past) result }
-    ensures fit { IfOk result (IsFit state.now) }
-{
-    match past {
-        PastStanding::Unknown | PastStanding::Ended => Ok(state.idles(alloc)),
-        PastStanding::Aborted => tell(state, alloc, vote, None),
-        PastStanding::Settled(settled) => {
+    match state.standing(vote.txn) {
+        Standing::Collecting(collecting) => vote_collected(state, alloc, vote, collecting),
+        Standing::Aborted => tell(state, alloc, vote, None),
+        Standing::Settled(settled) => {
             if !is_of_part(state, settled.parts(), vote.from) {
                 return Err(Fault::Stranger);
             }
             tell(state, alloc, vote, Some(settled.at()))
         }
-        PastStanding::Closed { .. } => Err(Fault::Stranger),
+        Standing::Unknown
+        | Standing::Ended
+        | Standing::Decided(_)
+        | Standing::Idle
+        | Standing::WaitsRead(_)
+        | Standing::WaitsCommit(_) => Ok(state.idles(alloc)),
+        Standing::WaitsPrepare(_) | Standing::Prepared(_) | Standing::Closed { .. } => {
+            Err(Fault::Stranger)
+        }
     }
 }
 
