@@ -1,3 +1,4 @@
 mod Closings
+pub mod Refusals
 mod Seen
-mod Steps
+pub mod Steps

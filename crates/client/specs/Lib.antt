@@ -1,3 +1,4 @@
 pub mod Ends
 pub mod Readings
+pub mod Refusals
 pub mod Traffic

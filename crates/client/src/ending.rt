@@ -4,6 +4,7 @@ ghost use Rattle.message.specs.Ends.{End};
 ghost use Rattle.message.specs.declared.message.Envelope.{Envelope};
 ghost use Rattle.session.specs.Sessions.{closing_messages};
 ghost use Rattle.client.specs.Ends.{IsAskedOnce, IsAwaited, IsEnded, IsGivenUp, IsPressed, IsRefused, IsTold, left, times};
+ghost use Rattle.client.specs.Refusals.{IsStepFault, IsStepHalt};
 ghost use Rattle.client.specs.declared.ended.Ended.TheVariants.{Committed};
 
 use crate::ended::end_of;
@@ -28,6 +29,7 @@ impl<'s, R: Wait + time::Clock> Wire<'_, 's, R> {
             (λ fault. IsRefused tx.entry.splits tx.entry.client fault sent))
             (λ halt. IsGivenUp tx.entry.client.txn sent
             × ((result ≡ left halt) ⊎ (result ≡ Err Fault.Memory))) }
+        ensures refused { IfErr ran IsStepHalt → IfErr result IsStepFault }
     {
         match ran {
             Ok(()) => self.close(tx),

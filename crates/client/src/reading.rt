@@ -1,10 +1,11 @@
 //! A transaction reads, at its client.
-ghost use Rattle.std.specs.Prelude.{◌≡◌, ◌++◌, true, List, Some, None, map, IfOk, IfNone, IfSome};
+ghost use Rattle.std.specs.Prelude.{◌≡◌, ◌++◌, true, List, Some, None, map, IfErr, IfOk, IfNone, IfSome};
 ghost use Rattle.units.specs.Keys.{same_key};
 ghost use Rattle.units.specs.Lists.{first};
 ghost use Rattle.message.specs.Ends.{End};
 ghost use Rattle.message.specs.declared.message.Envelope.{Envelope};
 ghost use Rattle.client.specs.Readings.{AreReads, HasRead, SeenStays, is_read, seen};
+ghost use Rattle.client.specs.Refusals.{IsStepFault, IsStepHalt};
 
 use crate::hearing::Hearing;
 use crate::{Halt, Wire};
@@ -17,6 +18,7 @@ use units::{Fault, Key, Reason, ShardNo, Value, Write, copy_value};
 
 impl<'s, R: Wait + time::Clock> Wire<'_, 's, R> {
     /// The value of a key: what the transaction has written to it, or else what its shard answers, which is the same each time.
+    #[tactic(auto, using(crate::proofs::Refusals::halts_for))]
     pub fn get(&mut self, tx: &mut Tx<'s, Open>, key: &Key) -> Result<Option<Value>, Halt>
         ensures sent { (sent : List Envelope) × (self.new.sent ≡ self.old.sent ++ sent)
             × AreReads tx.old.client.txn sent }
@@ -24,6 +26,7 @@ impl<'s, R: Wait + time::Clock> Wire<'_, 's, R> {
         ensures splits { tx.new.splits ≡ tx.old.splits }
         ensures txn { tx.new.client.txn ≡ tx.old.client.txn }
         ensures read { HasRead tx.old.splits tx.old.client tx.new.client }
+        ensures refused { IfErr result IsStepHalt }
         ensures value { IfOk result (λ value. seen tx.new.client key.now ≡ Some value) }
     {
         ask(tx, key)?;
@@ -32,6 +35,7 @@ impl<'s, R: Wait + time::Clock> Wire<'_, 's, R> {
     }
 
     /// The values of some keys, which are asked for together.
+    #[tactic(auto, using(crate::proofs::Refusals::halts_for))]
     pub fn get_all(
         &mut self,
         tx: &mut Tx<'s, Open>,
@@ -43,6 +47,7 @@ impl<'s, R: Wait + time::Clock> Wire<'_, 's, R> {
         ensures splits { tx.new.splits ≡ tx.old.splits }
         ensures txn { tx.new.client.txn ≡ tx.old.client.txn }
         ensures read { HasRead tx.old.splits tx.old.client tx.new.client }
+        ensures refused { IfErr result IsStepHalt }
         ensures values { IfOk result
             (λ values. map Some values.items ≡ map (seen tx.new.client) keys.now) }
     {
@@ -58,6 +63,7 @@ impl<'s, R: Wait + time::Clock> Wire<'_, 's, R> {
         ensures splits { tx.new.splits ≡ tx.old.splits }
         ensures txn { tx.new.client.txn ≡ tx.old.client.txn }
         ensures read { HasRead tx.old.splits tx.old.client tx.new.client }
+        ensures refused { IfErr result IsStepHalt }
     {
         for key in keys {
             ask(tx, key)?;
@@ -73,6 +79,7 @@ impl<'s, R: Wait + time::Clock> Wire<'_, 's, R> {
         ensures splits { tx.new.splits ≡ tx.old.splits }
         ensures txn { tx.new.client.txn ≡ tx.old.client.txn }
         ensures read { HasRead tx.old.splits tx.old.client tx.new.client }
+        ensures refused { IfErr result IsStepHalt }
     {
         if tx.awaited().is_empty() {
             return Ok(());
@@ -98,6 +105,7 @@ impl<'s, R: Wait + time::Clock> Wire<'_, 's, R> {
         ensures splits { tx.new.splits ≡ tx.old.splits }
         ensures txn { tx.new.client.txn ≡ tx.old.client.txn }
         ensures read { HasRead tx.old.splits tx.old.client tx.new.client }
+        ensures refused { IfErr result IsStepHalt }
     {
         match self.hear() {
             Hearing::Heard(message) => {
@@ -126,6 +134,7 @@ impl<'s, R: Wait + time::Clock> Wire<'_, 's, R> {
         ensures splits { tx.new.splits ≡ tx.old.splits }
         ensures txn { tx.new.client.txn ≡ tx.old.client.txn }
         ensures read { HasRead tx.old.splits tx.old.client tx.new.client }
+        ensures refused { IfErr result IsStepHalt }
     {
         match tx.answered(answer) {
             Ok(Heard::Value(value)) => drop(value),
@@ -192,10 +201,12 @@ fn read_of(tx: &Tx<'_, Open>, key: &Key) -> Envelope
 }
 
 // Asks for a key, unless that was done, or the transaction has written it. Nothing is sent.
+#[tactic(auto, using(crate::proofs::Refusals::reads_halted))]
 fn ask(tx: &mut Tx<'_, Open>, key: &Key) -> Result<(), Halt>
     ensures splits { tx.new.splits ≡ tx.old.splits }
     ensures txn { tx.new.client.txn ≡ tx.old.client.txn }
     ensures read { HasRead tx.old.splits tx.old.client tx.new.client }
+    ensures refused { IfErr result IsStepHalt }
 {
     if is_known(tx, key) {
         return Ok(());
@@ -259,7 +270,8 @@ fn answer_for<'a>(taken: &'a [Answered], key: &Key) -> Option<&'a Answered>
 
 // The value of a key that was written or answered. One that was not is `awaited`.
 fn value_of(tx: &Tx<'_, Open>, key: &Key) -> Result<Option<Value>, Fault>
-    ensures { IfOk result (λ value. seen tx.now.client key.now ≡ Some value) }
+    ensures value { IfOk result (λ value. seen tx.now.client key.now ≡ Some value) }
+    ensures refused { IfErr result IsStepFault }
 {
     if let Some(write) = write_of(tx.writes(), key) {
         return Ok(copy_value(&write.value)?);
@@ -272,8 +284,9 @@ fn value_of(tx: &Tx<'_, Open>, key: &Key) -> Result<Option<Value>, Fault>
 
 // The values of some keys.
 fn values_of(alloc: Global, tx: &Tx<'_, Open>, keys: &[Key]) -> Result<Vec<Option<Value>>, Fault>
-    ensures { IfOk result
+    ensures values { IfOk result
         (λ values. map Some values.items ≡ map (seen tx.now.client) keys.now) }
+    ensures refused { IfErr result IsStepFault }
 {
     let mut values = Vec::new(alloc);
     for key in keys {
