@@ -3,3 +3,4 @@ pub mod Reports
 pub mod Staffs
 pub mod Buffered
 pub mod Turns
+pub mod Refusals

@@ -1,26 +1,31 @@
 -- The lines of turns, and how many there are.
-use Rattle.std.proofs.Common.{◌≡◌, ◌<◌, ◌≤◌, ◌+◌, ℕ, zero, suc, Bool, true, false, true≢false, ◌&&◌, List, [], ◌∷◌, ◌++◌, length, map, Option, None, Some, refl}
-use Rattle.std.proofs.Common.{ap, sym, ◌∙◌, subst, arith, add-one, append_assoc, length-append, nat_eq, if◌then◌else◌}
-use Rattle.std.specs.List.{cons_option, filter, filter_map, list_all}
-use Rattle.std.proofs.Common.{Result, Ok, Err, IfOk, IsOk, OnOk, slice_index_or, slice_set}
+use Rattle.std.proofs.Common.{◌≡◌, ◌<◌, ◌≤◌, ◌+◌, ℕ, suc, Bool, true, false, true≢false, List, [], ◌∷◌, ◌++◌, length, map, Option, None, Some, refl}
+use Rattle.std.proofs.Common.{ap, sym, ◌∙◌, subst, arith, add-one, append_assoc, length-append, if◌then◌else◌}
+use Rattle.std.specs.List.{filter}
+use Rattle.std.proofs.Common.{Result, Ok, Err, IsOk, MatchResult, OnOk}
 use Rattle.std.proofs.lemmas.List.Elements.{filter-append}
 use Rattle.std.proofs.lemmas.List.{length-map}
 use Rattle.units.specs.Ids.{Id}
 use Rattle.units.specs.Keys.{Bytes}
 use Rattle.units.specs.declared.fault.Fault.{Fault}
 use Rattle.units.specs.declared.line.Line.{Line}
-use Rattle.units.specs.declared.line.Line.TheVariants.{Begin, Ack, Read, Look}
+use Rattle.units.specs.declared.line.Line.TheVariants.{Begin, Ack, Read}
 use Rattle.progress.specs.declared.turn.Ended.{Ended}
 use Rattle.progress.specs.declared.turn.Ended.TheVariants as ended
 use Rattle.session.specs.declared.answered.Finished.{Finished}
 use Rattle.session.specs.declared.answered.Finished.TheVariants as finished
+use Rattle.client.specs.Ends.{finish_of}
+use Rattle.client.specs.declared.ended.Ended.{Ended as Finish}
+use Rattle.client.specs.declared.ended.Ended.TheVariants as finish
+use Rattle.client.specs.declared.ended.Halt.{Halt}
 use Rattle.workers.specs.declared.reads.Asked.{Asked}
 use Rattle.workers.specs.declared.summary.Counts.{Counts}
-use Rattle.workers.specs.Keys.{keys_once, turn_keys}
+use Rattle.workers.specs.Keys.{turn_keys}
+use Rattle.workers.specs.Refusals.{IsCutShort}
 use Rattle.workers.specs.Reports.{IsTally}
 use Rattle.workers.specs.Summaries.{one_if, one_if_committed, tried}
-use Rattle.workers.specs.Turns.{count, is_begin, is_ack, is_read, is_look, asked_keys, is_answered, line_of, read_lines}
-use Rattle.workers.specs.Turns.{IsAcknowledged, IsEnd, IsReported, IsTransaction, IsLook, IsLooked, IsTurn, AreTurns}
+use Rattle.workers.specs.Turns.{count, is_begin, is_ack, is_read, is_look, asked_keys, read_lines}
+use Rattle.workers.specs.Turns.{IsEnd, IsReported, IsTransaction, IsLooked, IsTurn, AreTurns}
 
 pub count-append : (kind : Line → Bool) (xs ys : List Line) → count kind (xs ++ ys) ≡ count kind xs + count kind ys
 count-append kind xs ys = ap length (filter-append kind xs ys) ∙ length-append (filter kind xs) (filter kind ys)
@@ -45,60 +50,62 @@ all_reads : (txn : Id) (answers : List (Bytes × Option Bytes)) → count is_rea
 all_reads txn [] = refl
 all_reads txn (a ∷ rest) = ap suc (all_reads txn rest)
 
-one_more : (txn : Id) (o : Option Line) (l : Line) (others : List Asked) → o ≡ Some l
-    → cons_option o (read_lines txn others) ≡ l ∷ read_lines txn others
-one_more txn o l others e = ap (λ (p : Option Line). cons_option p (read_lines txn others)) e
+-- the answers as keys with their values
+abbrev shown : List Asked → List (Bytes × Option Bytes)
+shown asked = map (λ a. (a.key, a.value)) asked
 
--- the lines of the answers, where all were taken
-answers_of : (txn : Id) (asked : List Asked) → list_all is_answered asked ≡ true
-    → (answers : List (Bytes × Option Bytes)) × (map (λ a. a.0) answers ≡ asked_keys asked) × (read_lines txn asked ≡ reads_of txn answers)
-answers_of txn [] all = ([], refl, refl)
-answers_of txn (a ∷ rest) all = one (answers_of txn rest) a.answer refl
-  where
-    one : (list_all is_answered rest ≡ true
-        → (answers : List (Bytes × Option Bytes)) × (map (λ b. b.0) answers ≡ asked_keys rest) × (read_lines txn rest ≡ reads_of txn answers))
-        → (o : Option (Option Bytes)) → a.answer ≡ o
-        → (answers : List (Bytes × Option Bytes)) × (map (λ b. b.0) answers ≡ a.key ∷ asked_keys rest)
-        × (read_lines txn (a ∷ rest) ≡ reads_of txn answers)
-    one more None none =
-        let no : is_answered a ≡ false = ap (λ (o : Option (Option Bytes)). elim o [ None ↦ false | Some value ↦ true ]) none in
-        absurd (true≢false (sym all ∙ ap (λ b. b && list_all is_answered rest) no))
-    one more (Some value) some =
-        let yes : is_answered a ≡ true = ap (λ (o : Option (Option Bytes)). elim o [ None ↦ false | Some x ↦ true ]) some in
-        let found = more (sym (ap (λ b. b && list_all is_answered rest) yes) ∙ all) in
-        let line : line_of txn a ≡ Some (Read txn a.key value) =
-        ap (λ (o : Option (Option Bytes)). elim o [ None ↦ None | Some x ↦ Some (Read txn a.key x) ]) some in (
-          (a.key, value) ∷ found.0,
-          ap (λ (ks : List Bytes). a.key ∷ ks) found.1,
-          one_more txn (line_of txn a) (Read txn a.key value) rest line ∙ ap (λ (ls : List Line). Read txn a.key value ∷ ls) found.2,
-        )
+keys_shown : (asked : List Asked) → map (λ a. a.0) (shown asked) ≡ asked_keys asked
+keys_shown [] = refl
+keys_shown (a ∷ rest) = ap (λ (ks : List Bytes). a.key ∷ ks) (keys_shown rest)
+
+lines_shown : (txn : Id) (asked : List Asked) → read_lines txn asked ≡ reads_of txn (shown asked)
+lines_shown txn [] = refl
+lines_shown txn (a ∷ rest) = ap (λ (ls : List Line). Read txn a.key a.value ∷ ls) (lines_shown txn rest)
 
 -- the lines of an end, as they were reported of a transaction that commits only with all its answers
 pub reported_end : (how : Finished) (txn : Id) (keys : List Bytes) (asked : List Asked) (end : Ended) (told : List Line)
     → IsReported how txn asked end told
-    → ((at : ℕ) → how ≡ finished.Committed at → (list_all is_answered asked ≡ true) × (asked_keys asked ≡ keys)) → IsEnd end txn keys told
+    → ((at : ℕ) → how ≡ finished.Committed at → asked_keys asked ≡ keys) → IsEnd end txn keys told
 reported_end (finished.Committed at) txn keys asked end told is all =
-    let whole = all at refl in
-    let found = answers_of txn asked whole.0 in
     subst (λ (e : Ended). IsEnd e txn keys told) (sym is.0) (record {
       at = at;
       moment = is.1.0;
-      answers = found.0;
-      same = found.1 ∙ whole.1;
-      whole = is.1.1 ∙ ap (λ (ls : List Line). Ack txn at is.1.0 ∷ ls) found.2;
+      answers = shown asked;
+      same = keys_shown asked ∙ all at refl;
+      whole = is.1.1 ∙ ap (λ (ls : List Line). Ack txn at is.1.0 ∷ ls) (lines_shown txn asked);
     })
 reported_end finished.Aborted txn keys asked end told is all = subst (λ (e : Ended). IsEnd e txn keys told) (sym is.0) is.1
 
+pub on_ok : {X : Type 0} (r : Result X Halt) (P : Type 0) → OnOk r P → IsOk r → P
+on_ok (Ok x) P is ok = is
+on_ok (Err halt) P is ok = absurd (true≢false (sym ok))
+
+-- an end that finished as committed
+pub committed_at : (e : Finish) (at : ℕ) → finish_of e ≡ Some (finished.Committed at) → e ≡ finish.Committed at
+committed_at (finish.Committed s) at is = ap (λ (o : Option Finished). finish.Committed (stamp_of o)) is
+  where
+    stamp_of : Option Finished → ℕ
+    stamp_of (Some (finished.Committed t)) = t
+    stamp_of _ = 0
+committed_at finish.Aborted at is = absurd (true≢false (ap is_aborted is))
+  where
+    is_aborted : Option Finished → Bool
+    is_aborted (Some finished.Aborted) = true
+    is_aborted _ = false
+committed_at (finish.Unknown t) at is = absurd (true≢false (ap is_none is))
+  where
+    is_none : Option Finished → Bool
+    is_none None = true
+    is_none _ = false
+
 -- a transaction's lines, where its begin was reported, and then its end
-pub reported_turn : (result : Result Ended Fault) (begun : Result Bool Fault) (how : Finished) (was txn : Id) (moment : ℕ) (keys : List Bytes)
-    (asked : List Asked) (old between new : List Line) → txn ≡ was → IsOk begun
-    → OnOk begun (between ≡ old ++ Begin was moment ∷ [])
-    → ((at : ℕ) → how ≡ finished.Committed at → (list_all is_answered asked ≡ true) × (asked_keys asked ≡ keys))
-    → IfOk result (λ end. (told : List Line) × IsReported how txn asked end told × (new ≡ between ++ told))
-    → IfOk result (λ end. (told : List Line) × IsTransaction keys end told × (new ≡ old ++ told))
-reported_turn (Err fault) begun how was txn moment keys asked old between new same ok begins all is = tt
-reported_turn (Ok end) (Err fault) how was txn moment keys asked old between new same ok begins all is = absurd (true≢false (sym ok))
-reported_turn (Ok end) (Ok b) how was txn moment keys asked old between new same ok begins all is = (
+pub reported_turn : (result : Result Ended Fault) (how : Finished) (was txn : Id) (moment : ℕ) (keys : List Bytes)
+    (asked : List Asked) (old between new : List Line) → txn ≡ was → between ≡ old ++ Begin was moment ∷ []
+    → ((at : ℕ) → how ≡ finished.Committed at → asked_keys asked ≡ keys)
+    → MatchResult result (λ end. (told : List Line) × IsReported how txn asked end told × (new ≡ between ++ told)) IsCutShort
+    → MatchResult result (λ end. (told : List Line) × IsTransaction keys end told × (new ≡ old ++ told)) IsCutShort
+reported_turn (Err fault) how was txn moment keys asked old between new same begins all is = is
+reported_turn (Ok end) how was txn moment keys asked old between new same begins all is = (
   Begin txn moment ∷ is.0,
   record { txn = txn; moment = moment; behind = is.0; whole = refl; ends = reported_end how txn keys asked end is.0 is.1 all },
   is.2 ∙ (ap (λ (ls : List Line). ls ++ is.0) (begins ∙ ap (λ (t : Id). old ++ Begin t moment ∷ []) (sym same))
@@ -207,29 +214,7 @@ pub next_turns : (keys worker turn : ℕ) (before own lines : List Line) (end : 
 next_turns keys worker turn before own lines end answered turns one whole =
     subst (λ (n : ℕ). AreTurns keys worker n lines) (sym (add-one turn)) (before, own, end, answered, whole, turns, one)
 
--- one more line, where the next answer was taken
-pub next_read : (txn : Id) (asked : List Asked) (a : Asked) (value : Option Bytes) → a.answer ≡ Some value
-    → read_lines txn (asked ++ a ∷ []) ≡ read_lines txn asked ++ Read txn a.key value ∷ []
-next_read txn [] a value some =
-    ap (λ (o : Option (Option Bytes)). cons_option (elim o [ None ↦ None | Some x ↦ Some (Read txn a.key x) ]) []) some
-next_read txn (b ∷ rest) a value some =
-    elim (line_of txn b) as (λ o. cons_option o (read_lines txn (rest ++ a ∷ [])) ≡ cons_option o (read_lines txn rest) ++ Read txn a.key value ∷ []) [
-      | None ↦ next_read txn rest a value some
-      | Some l ↦ ap (λ (ls : List Line). l ∷ ls) (next_read txn rest a value some)
-    ]
-
--- and none, where it was not
-pub no_read : (txn : Id) (asked : List Asked) (a : Asked) → a.answer ≡ None → read_lines txn (asked ++ a ∷ []) ≡ read_lines txn asked
-no_read txn [] a none = ap (λ (o : Option (Option Bytes)). cons_option (elim o [ None ↦ None | Some x ↦ Some (Read txn a.key x) ]) []) none
-no_read txn (b ∷ rest) a none =
-    elim (line_of txn b) as (λ o. cons_option o (read_lines txn (rest ++ a ∷ [])) ≡ cons_option o (read_lines txn rest)) [
-      | None ↦ no_read txn rest a none
-      | Some l ↦ ap (λ (ls : List Line). l ∷ ls) (no_read txn rest a none)
-    ]
-
--- where an answer is put in, the keys stay
-pub keys_stay : (asked : List Asked) (i : ℕ) (old new : Asked) → i < length asked → old ≡ slice_index_or asked i old → new.key ≡ old.key
-    → asked_keys (slice_set asked i new) ≡ asked_keys asked
-keys_stay [] i old new here at same = refl
-keys_stay (b ∷ rest) zero old new here at same = ap (λ (k : Bytes). k ∷ asked_keys rest) (same ∙ ap (λ (a : Asked). a.key) at)
-keys_stay (b ∷ rest) (suc i) old new here at same = ap (λ (ks : List Bytes). b.key ∷ ks) (keys_stay rest i old new (omega (arith, here)) at same)
+-- one more line, of the next answer
+pub next_read : (txn : Id) (asked : List Asked) (a : Asked) → read_lines txn (asked ++ a ∷ []) ≡ read_lines txn asked ++ Read txn a.key a.value ∷ []
+next_read txn [] a = refl
+next_read txn (b ∷ rest) a = ap (λ (ls : List Line). Read txn b.key b.value ∷ ls) (next_read txn rest a)

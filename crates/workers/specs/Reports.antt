@@ -1,9 +1,10 @@
 -- What workers report.
-use Rattle.std.specs.Prelude.{◌≡◌, ◌≤◌, ◌<◌, ℕ, List, length, slice_index_or, Result, IfOk}
+use Rattle.std.specs.Prelude.{◌≡◌, ◌≤◌, ◌<◌, ℕ, List, length, slice_index_or, Result, MatchResult}
 use Rattle.units.specs.declared.fault.Fault.{Fault}
 use Rattle.units.specs.declared.line.Line.{Line}
 use Rattle.workers.specs.declared.summary.Counts.{Counts}
 use Rattle.workers.specs.declared.worker.Report.{Report}
+use Rattle.workers.specs.Refusals.{IsCutShort}
 use Rattle.workers.specs.Summaries.{tried}
 use Rattle.workers.specs.Turns.{count, is_begin, is_ack, is_read, is_look}
 
@@ -18,7 +19,7 @@ pub record IsTally (turns : ℕ) (counts : Counts) (lines : List Line) : Type 0 
   pub look_lines : count is_look lines ≡ counts.looks
 
 abbrev pub IsCounted : ℕ → Result Report Fault → Type 0
-IsCounted turns result = IfOk result (λ report. IsTally turns report.counts report.lines.items)
+IsCounted turns result = MatchResult result (λ report. IsTally turns report.counts report.lines.items) IsCutShort
 
 -- so many by each
 abbrev pub AreCounted : ℕ → List (Result Report Fault) → Type 0

@@ -1,5 +1,5 @@
 -- The lines that a worker's turns leave, and what it buffers.
-use Rattle.std.specs.Prelude.{◌≡◌, ◌<◌, ◌≤◌, ℕ, zero, suc, ◌+◌, ◌-◌, ◌^◌, Bool, true, false, List, [], ◌∷◌, ◌++◌, length, map, filter, filter_map, Option, None, Some}
+use Rattle.std.specs.Prelude.{◌≡◌, ◌<◌, ℕ, zero, suc, ◌+◌, ◌-◌, ◌^◌, Bool, true, false, List, [], ◌∷◌, ◌++◌, length, map, filter, Option, None, Some}
 use Rattle.std.specs.Fmt.{decimal}
 use Rattle.units.specs.Ids.{Id}
 use Rattle.units.specs.Keys.{Bytes}
@@ -38,16 +38,9 @@ count kind lines = length (filter kind lines)
 abbrev pub asked_keys : List Asked → List Bytes
 asked_keys asked = map (λ a. a.key) asked
 
--- its answer was taken
-abbrev pub is_answered : Asked → Bool
-is_answered a = elim a.answer [ None ↦ false | Some value ↦ true ]
-
--- the line of an answer, where it was taken
-abbrev pub line_of : Id → Asked → Option Line
-line_of txn a = elim a.answer [ None ↦ None | Some value ↦ Some (Read txn a.key value) ]
-
+-- the lines of the answers
 abbrev pub read_lines : Id → List Asked → List Line
-read_lines txn asked = filter_map (line_of txn) asked
+read_lines txn asked = map (λ a. Read txn a.key a.value) asked
 
 -- what is written follows what was read: one more than the number, where no value counts 0
 pub record IsNext (read : Option Bytes) (next : Bytes) : Type 0 where
@@ -56,10 +49,7 @@ pub record IsNext (read : Option Bytes) (next : Bytes) : Type 0 where
 
 -- some writes, behind the buffering of what follows an answer
 abbrev pub IsNextOf : Asked → List Write → List Write → Type 0
-IsNextOf a old new = elim a.answer [
-  | None ↦ new ≡ old
-  | Some read ↦ (next : Bytes) × IsNext read next × (new ≡ with_write old (record { key = a.key; value = Some next }))
-]
+IsNextOf a old new = (next : Bytes) × IsNext a.value next × (new ≡ with_write old (record { key = a.key; value = Some next }))
 
 -- the same behind some answers, one after the other
 abbrev pub AreNext : List Asked → List Write → List Write → Type 0

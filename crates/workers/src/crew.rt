@@ -1,5 +1,5 @@
 //! The workers of a drive, and what they do together.
-ghost use Rattle.std.specs.Prelude.{◌≡◌, ◌<◌, ◌≤◌, ◌+◌, ◌*◌, IfOk, OnOk, length};
+ghost use Rattle.std.specs.Prelude.{◌≡◌, ◌<◌, ◌≤◌, ◌+◌, ◌*◌, IfErr, IfOk, OnOk, length};
 ghost use Rattle.std.specs.Thread.{IsSync, IsSend};
 ghost use Rattle.workers.specs.Reports.{IsCounted};
 ghost use Rattle.workers.specs.Staffs.{IsStaffOf};
@@ -7,8 +7,8 @@ ghost use Rattle.workers.specs.Staffs.{IsStaffOf};
 use crate::course::Course;
 use crate::shared::{Drawers, Shared};
 use crate::viewers::Viewers;
-use crate::wire::Wire;
 use crate::worker::{Report, Worker, merged};
+use client::Wire;
 use crossbeam_channel::Receiver;
 use message::Message;
 use progress::Watch;
@@ -18,6 +18,9 @@ use std::thread::Threads;
 use std::{thread, time};
 use truetime::Clock;
 use units::Fault;
+
+// So often a worker waits 20 milliseconds in silence before it gives a transaction up: two seconds.
+const PATIENCE: u32 = 100;
 
 /// What the workers are made of, one of each for each worker: inboxes by the workers' numbers, drawers, and viewers of each shard.
 #[derive(Drop)]
@@ -42,18 +45,22 @@ impl Staff {
         ensures staff { IsStaffOf shared.now self.new }
         ensures fewer { length self.new.inboxes.items + 1 ≡ length self.old.inboxes.items }
     {
-        let wire = Wire {
+        let inbox = self.inboxes.pop().unwrap();
+        let number = self.inboxes.len();
+        let wire = Wire::new(
             rt,
-            alloc: shared.alloc,
-            network: &shared.network,
-            stop: &shared.stop,
-            inbox: self.inboxes.pop().unwrap(),
-            silences: 0,
-        };
+            shared.alloc,
+            &shared.network,
+            &shared.stop,
+            inbox,
+            number,
+            PATIENCE,
+        );
         Worker {
+            rt,
             wire,
             shared,
-            number: self.inboxes.len(),
+            number,
             ids: self.drawers.ids.pop().unwrap(),
             moments: self.drawers.moments.pop().unwrap(),
             viewers: self.viewers.by_worker.pop().unwrap(),
@@ -74,6 +81,7 @@ fn workers<'r, 's, R, C: Copy, W>(
     requires few { length staff.old.inboxes.items ≤ 64 }
     requires staff { IsStaffOf shared.now staff.old }
     ensures all { IfOk result (λ workers. length workers.items ≡ length staff.old.inboxes.items) }
+    ensures memory { IfErr result (λ fault. fault ≡ Fault.Memory) }
 {
     let mut workers = Vec::new(shared.alloc);
     for _worker in 0..staff.inboxes.len() {
@@ -115,7 +123,8 @@ fn work_all<R: Threads + Wait + time::Clock + Sync, C: Clock + Send + Drop, W: W
     course: Course,
     workers: Result<Vec<Worker<R, C, W>>, Fault>,
 ) -> Result<Report, Fault>
-    requires { IfOk workers (λ workers. length workers.items ≡ course.workers) }
+    requires all { IfOk workers (λ workers. length workers.items ≡ course.workers) }
+    requires memory { IfErr workers (λ fault. fault ≡ Fault.Memory) }
     ensures { IsCounted (course.workers * course.transactions) result }
 {
     let reports = thread::map_vec(

@@ -11,13 +11,12 @@ mod shared;
 mod summary;
 mod transactions;
 mod viewers;
-mod wire;
 mod worker;
 
 pub use course::Course;
 pub use crew::{Staff, work_and_close};
 pub use machine_clock::MachineClock;
-pub use shared::{Drawers, Shared, Stop};
+pub use shared::{Drawers, Shared};
 pub use summary::{Counts, Summary};
 pub use viewers::Viewers;
 pub use worker::Report;

@@ -1,10 +1,10 @@
 //! What the workers of a drive share.
-ghost use Rattle.std.specs.Prelude.{◌≡◌, All, length, IfOk};
+ghost use Rattle.std.specs.Prelude.{◌≡◌, All, length, IfErr, IfOk};
 
 use crate::course::Course;
+use client::Stop;
 use letters::{Inboxes, Network};
 use std::alloc::Global;
-use std::sync::atomic::{AtomicU64, Ordering};
 use tickets::{Drawer, Tickets};
 use units::{Fault, Run, Splits};
 
@@ -18,30 +18,6 @@ pub struct Shared {
     pub ids: Tickets,
     pub moments: Tickets,
     pub stop: Stop,
-}
-
-/// The word that the workers are to end: what they still have to do is given up as it begins.
-#[derive(Drop)]
-pub struct Stop {
-    told: AtomicU64,
-}
-
-impl Stop {
-    fn new() -> Stop {
-        Stop {
-            told: AtomicU64::new(0),
-        }
-    }
-
-    /// From now on each worker waits for nothing any more, gives up each transaction as it begins, and does not look.
-    pub fn tell(&self) {
-        self.told.store(1, Ordering::SeqCst);
-    }
-
-    /// Whether that was told.
-    pub fn is_told(&self) -> bool {
-        self.told.load(Ordering::SeqCst) != 0
-    }
 }
 
 impl Drop for Shared {
@@ -84,6 +60,7 @@ impl Shared {
             × All (λ drawer. drawer.source ≡ made.0.ids) made.2.ids.items) }
         ensures moments { IfOk result (λ made. (length made.2.moments.items ≡ course.workers)
             × All (λ drawer. drawer.source ≡ made.0.moments) made.2.moments.items) }
+        ensures memory { IfErr result (λ fault. fault ≡ Fault.Memory) }
     {
         let workers = course.workers as usize;
         let splits = splits.copy(alloc)?;

@@ -1,5 +1,5 @@
 //! The viewers of the workers.
-ghost use Rattle.std.specs.Prelude.{◌≡◌, length, IfOk};
+ghost use Rattle.std.specs.Prelude.{◌≡◌, length, IfErr, IfOk};
 
 use board::Viewer;
 use std::alloc::Global;
@@ -19,7 +19,8 @@ impl Drop for Viewers {
 impl Viewers {
     /// No viewer yet of so many workers.
     pub fn none(alloc: Global, workers: usize) -> Result<Viewers, Fault>
-        ensures { IfOk result (λ viewers. length viewers.by_worker.items ≡ workers) }
+        ensures viewers { IfOk result (λ viewers. length viewers.by_worker.items ≡ workers) }
+        ensures memory { IfErr result (λ fault. fault ≡ Fault.Memory) }
     {
         let mut by_worker = Vec::new(alloc);
         for _worker in 0..workers {
@@ -30,7 +31,8 @@ impl Viewers {
 
     /// One viewer of the next shard to each worker.
     pub fn deal(&mut self, viewers: Vec<Viewer>) -> Result<(), Fault>
-        ensures { length self.new.by_worker.items ≡ length self.old.by_worker.items }
+        ensures workers { length self.new.by_worker.items ≡ length self.old.by_worker.items }
+        ensures memory { IfErr result (λ fault. fault ≡ Fault.Memory) }
     {
         let mut viewers = viewers;
         for own in self.by_worker.iter_mut() {

@@ -1,17 +1,18 @@
 //! A worker: turns of a transaction and a look, one after the other.
-ghost use Rattle.std.specs.Prelude.{◌≡◌, ◌<◌, ◌+◌, ◌*◌, ◌^◌, ◌++◌, ℕ, List, Option, length, IfOk, IfSome, OnOk};
+ghost use Rattle.std.specs.Prelude.{◌≡◌, ◌<◌, ◌≤◌, ◌+◌, ◌*◌, ◌^◌, ◌++◌, ℕ, List, Option, length, IfErr, IfOk, IfSome, MatchResult, OnOk};
 ghost use Rattle.units.specs.Keys.{Bytes};
 ghost use Rattle.units.specs.declared.line.Line.{Line};
 ghost use Rattle.units.specs.declared.line.Line.TheVariants.{Look};
+ghost use Rattle.workers.specs.Refusals.{IsCutShort};
 ghost use Rattle.workers.specs.Reports.{AreCounted, IsCounted};
 ghost use Rattle.workers.specs.Summaries.{tried};
 ghost use Rattle.workers.specs.Turns.{AreTurns, IsLooked, IsTurn};
 
 use crate::course::Course;
-use crate::shared::{Shared, Stop};
+use crate::shared::Shared;
 use crate::summary::Counts;
-use crate::wire::Wire;
 use board::{Snapshot, Viewer};
+use client::Wire;
 use progress::{Ended, Stopwatch, Turn, Watch};
 use std::alloc::Global;
 use std::sync::Wait;
@@ -21,9 +22,10 @@ use tickets::Drawer;
 use truetime::Clock;
 use units::{Fault, Key, Line, Seen, Stamp, Value};
 
-/// A worker, with its wire, and a viewer of each shard, by the shard's number. The watch is told by the clock of the wire's `rt`.
+/// A worker, with its wire, and a viewer of each shard, by the shard's number. The watch is told by the clock of `rt`.
 #[derive(Drop)]
 pub struct Worker<'r, 's, R, C, W> {
+    pub rt: &'r R,
     pub wire: Wire<'r, 's, R>,
     pub shared: &'s Shared,
     pub number: usize,
@@ -66,15 +68,15 @@ impl<R: Wait + time::Clock, C: Clock + Drop, W: Watch> Worker<'_, '_, R, C, W> {
 
     // A transaction, whose end the watch is told, and then a look at its first key. It says whether that was answered.
     fn turn(&mut self, keys: &[Key], lines: &mut Vec<Line>) -> Result<(Ended, bool), Fault>
-        ensures { IfOk result (λ turned. (told : List Line)
+        ensures { MatchResult result (λ turned. (told : List Line)
             × IsTurn keys.now turned.0 turned.1 told
-            × (lines.new.items ≡ lines.old.items ++ told)) }
+            × (lines.new.items ≡ lines.old.items ++ told)) IsCutShort }
     {
-        let stopwatch = Stopwatch::start(self.wire.rt);
+        let stopwatch = Stopwatch::start(self.rt);
         let ended = self.transact(keys, lines)?;
         self.watch.turned(Turn {
             ended,
-            micros: stopwatch.micros(self.wire.rt),
+            micros: stopwatch.micros(self.rt),
         });
         let looked = self.look_at_first(keys, lines)?;
         Ok((ended, looked))
@@ -82,8 +84,8 @@ impl<R: Wait + time::Clock, C: Clock + Drop, W: Watch> Worker<'_, '_, R, C, W> {
 
     // Looks at the first of some keys at the latest of a reading. It says whether it was answered.
     fn look_at_first(&mut self, keys: &[Key], lines: &mut Vec<Line>) -> Result<bool, Fault>
-        ensures { IfOk result (λ looked. (told : List Line) × IsLooked looked keys.now told
-            × (lines.new.items ≡ lines.old.items ++ told)) }
+        ensures { MatchResult result (λ looked. (told : List Line) × IsLooked looked keys.now told
+            × (lines.new.items ≡ lines.old.items ++ told)) (λ fault. fault ≡ Fault.Memory) }
     {
         match keys.split_first() {
             Some((key, _others)) => match self.look(key)? {
@@ -99,8 +101,9 @@ impl<R: Wait + time::Clock, C: Clock + Drop, W: Watch> Worker<'_, '_, R, C, W> {
 
     // The line of a look at a key, at the latest of a reading, where it was answered.
     fn look(&mut self, key: &Key) -> Result<Option<Line>, Fault>
-        ensures { IfOk result (λ line. IfSome line (λ told. (at : ℕ) × (value : Option Bytes)
-            × (told ≡ Look key.now at value))) }
+        ensures { MatchResult result (λ line. IfSome line (λ told. (at : ℕ)
+            × (value : Option Bytes) × (told ≡ Look key.now at value)))
+            (λ fault. fault ≡ Fault.Memory) }
     {
         let Some(now) = self.clock.now() else {
             return Ok(None);
@@ -126,7 +129,7 @@ impl<R: Wait + time::Clock, C: Clock + Drop, W: Watch> Worker<'_, '_, R, C, W> {
     ) -> Option<Seen> {
         let shard = self.shared.splits.shard_of(key);
         for _try in 0..100 {
-            if self.wire.stop.is_told() {
+            if self.shared.stop.is_told() {
                 return None;
             }
             if let Some(viewer) = self.viewers.get_mut(usize::from(shard.number())) {
@@ -137,14 +140,17 @@ impl<R: Wait + time::Clock, C: Clock + Drop, W: Watch> Worker<'_, '_, R, C, W> {
             let longest = Duration::from_millis(1);
             self.shared
                 .network
-                .await_served(self.wire.rt, shard, at, longest);
+                .await_served(self.rt, shard, at, longest);
         }
         None
     }
 }
 
 // The value that a look put at the front of the buffer.
-fn value_seen(alloc: Global, seen: Seen, buffer: &[u8]) -> Result<Option<Value>, Fault> {
+fn value_seen(alloc: Global, seen: Seen, buffer: &[u8]) -> Result<Option<Value>, Fault>
+    requires { length buffer.now ≤ 4096 }
+    ensures { IfErr result (λ fault. fault ≡ Fault.Memory) }
+{
     match seen {
         Seen::Absent => Ok(None),
         Seen::Value(length) => match buffer.get(..length) {
@@ -165,6 +171,7 @@ impl Report {
         ensures looks { self.new.counts.looks ≡ self.old.counts.looks + other.counts.looks }
         ensures lines { OnOk result
             (self.new.lines.items ≡ self.old.lines.items ++ other.lines.items) }
+        ensures memory { IfErr result (λ fault. fault ≡ Fault.Memory) }
     {
         let Report { counts, mut lines } = other;
         self.counts.merge(counts);

@@ -1,7 +1,7 @@
-use Rattle.std.proofs.Common.{◌≡◌, ◌≤◌, ℕ, ◌+◌, ◌*◌, ◌++◌, ◌∷◌, [], ◌∙◌, sym, ap, subst, length, arith}
+use Rattle.std.proofs.Common.{rules, ◌≡◌, ◌≤◌, ℕ, ◌+◌, ◌*◌, ◌++◌, ◌∷◌, [], ◌∙◌, sym, ap, subst, length, arith}
 use Rattle.std.proofs.lemmas.List.{append_assoc, length-append}
 use Rattle.workers.specs.Reports.{IsCounted, IsTally}
-use Rattle.workers.proofs.Reports.{next_counted, next_product, product_fits}
+use Rattle.workers.proofs.Reports.{cut_short, next_counted, next_product, product_fits}
 use Rattle.workers.proofs.Turns.{both_tallied}
 use Rattle.workers.proofs.worker.merged.Goals as goal
 
@@ -36,3 +36,13 @@ loop-report-preserved c =
           c.loop-report.all.lines.items c.in_ok-report.field-0.lines.items c.merge.new.self.lines.items c.loop-report.invariant.tally counted
           c.in_ok-merge.ensures.lines c.merge.ensures.tried c.merge.ensures.committed c.merge.ensures.looks);
     }
+
+pub returns-in_err-report : goal.returns-in_err-report
+returns-in_err-report c =
+    let seen = c.loop-report.yielded in
+    let rest = c.next.new.self.rest.items in
+    let whole : seen ++ c.in-Some.report ∷ rest ≡ c.args.reports.items =
+    ap (λ r. seen ++ r) (sym c.in-Some.ensures.steps.0) ∙ c.loop-report.invariant.whole in
+    cut_short (c.args.course.workers * c.args.course.transactions) c.from_residual.result c.in_err-report.field-0.0 (search rules)
+    (subst (IsCounted c.args.course.transactions) c.in_err-report.was
+    (next_counted c.args.course.transactions seen c.in-Some.report rest c.args.reports.items whole c.requires.counted))

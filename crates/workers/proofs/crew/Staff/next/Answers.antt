@@ -12,12 +12,12 @@ returns-clause-staff g c =
     let inboxes = old.inboxes.items in
     let rest = c.pop.new.self.items in
     record {
-      ids = as_many inboxes rest c.pop.result c.unwrap.result old.drawers.ids.items c.pop-2.new.self.items c.pop-2.result c.unwrap-2.result
-          staff.ids c.pop.ensures.items c.unwrap.ensures c.pop-2.ensures.items c.unwrap-2.ensures;
+      ids = as_many inboxes rest c.pop.result c.unwrap-inbox.result old.drawers.ids.items c.pop-2.new.self.items c.pop-2.result c.unwrap.result
+          staff.ids c.pop.ensures.items c.unwrap-inbox.ensures c.pop-2.ensures.items c.unwrap.ensures;
       ids_drawn = (All-pop (λ (d : Drawer). d.source ≡ shared.ids) _ _ _ c.pop-2.ensures.items staff.ids_drawn).0;
-      moments = as_many inboxes rest c.pop.result c.unwrap.result old.drawers.moments.items c.pop-3.new.self.items c.pop-3.result c.unwrap-3.result
-          staff.moments c.pop.ensures.items c.unwrap.ensures c.pop-3.ensures.items c.unwrap-3.ensures;
+      moments = as_many inboxes rest c.pop.result c.unwrap-inbox.result old.drawers.moments.items c.pop-3.new.self.items c.pop-3.result c.unwrap-2.result
+          staff.moments c.pop.ensures.items c.unwrap-inbox.ensures c.pop-3.ensures.items c.unwrap-2.ensures;
       moments_drawn = (All-pop (λ (d : Drawer). d.source ≡ shared.moments) _ _ _ c.pop-3.ensures.items staff.moments_drawn).0;
-      viewers = as_many inboxes rest c.pop.result c.unwrap.result old.viewers.by_worker.items c.pop-4.new.self.items c.pop-4.result c.unwrap-4.result
-          staff.viewers c.pop.ensures.items c.unwrap.ensures c.pop-4.ensures.items c.unwrap-4.ensures;
+      viewers = as_many inboxes rest c.pop.result c.unwrap-inbox.result old.viewers.by_worker.items c.pop-4.new.self.items c.pop-4.result c.unwrap-3.result
+          staff.viewers c.pop.ensures.items c.unwrap-inbox.ensures c.pop-4.ensures.items c.unwrap-3.ensures;
     }

@@ -1,12 +1,17 @@
-use Rattle.std.proofs.Common.{Ok, Some, is_ok, ap, ◌∙◌}
-use Rattle.workers.proofs.Turns.{reported_turn}
+use Rattle.std.proofs.Common.{◌++◌, ◌∷◌, [], List, Ok, Some, ap, sym, ◌∙◌}
+use Rattle.units.specs.declared.line.Line.{Line}
+use Rattle.units.specs.declared.line.Line.TheVariants.{Begin}
+use Rattle.workers.proofs.Turns.{committed_at, on_ok, reported_turn}
 use Rattle.workers.proofs.worker.Worker.transact.Goals as goal
 
-pub returns-in-Ok-Some : goal.returns-in-Ok-Some
-returns-in-Ok-Some g c =
-    let told = c.in-Ok-Some.is ∙ ap Ok c.in-Ok-Some.field-0-is in
-    reported_turn c.report.result c.read-answered.result c.in-Ok-Some.finished c.none-reads.result.txn c.read-answered.new.reads.txn
-    c.in_ok-moment.moment c.args.keys.now c.read-answered.new.reads.asked.items c.args.lines.now.items c.read-answered.new.lines.items
-    c.report.new.lines.items c.read-answered.ensures.txn (c.finish.ensures.read (ap is_ok c.in-Ok-Some.is)) c.read-answered.ensures.begun
-    (λ at how. c.read-answered.ensures.answered (c.finish.ensures.answered at (told ∙ ap (λ f. Ok (Some f)) how)))
+pub returns-in-Some : goal.returns-in-Some
+returns-in-Some g c =
+    let txn = c.txn-txn.result in
+    let moment = c.in_ok-moment.moment in
+    reported_turn c.report.result c.in-Some.finished txn c.read-ran.new.reads.txn moment c.args.keys.now c.read-ran.new.reads.asked.items
+    c.args.lines.now.items c.push_reserved.new.self.items c.report.new.lines.items
+    (c.read-ran.ensures.txn ∙ c.none-reads.ensures.0)
+    (c.push_reserved.ensures.items ∙ ap (λ (ls : List Line). ls ++ Begin txn moment ∷ []) c.in_ok-reserve.ensures.items)
+    (λ at how. on_ok c.read-ran.result _ c.read-ran.ensures.keys (c.finish.ensures.committed at
+    (c.in-Ok.is ∙ ap Ok (committed_at c.in-Ok.ended at (sym c.finished.ensures ∙ (c.in-Some.is ∙ ap Some how))))))
     c.report.ensures

@@ -1,5 +1,4 @@
-use Rattle.std.proofs.Common.{◌≡◌, ◌<◌, length, ap, sym, ◌∙◌, subst}
-use Rattle.units.specs.Keys.{Bytes}
+use Rattle.std.proofs.Common.{◌∙◌}
 use Rattle.workers.specs.Keys.{turn_keys}
 use Rattle.workers.specs.Turns.{IsTurn}
 use Rattle.workers.proofs.Turns.{next_tally, next_turns, some_keys}

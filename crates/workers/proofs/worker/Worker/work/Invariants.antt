@@ -1,4 +1,3 @@
-use Rattle.std.proofs.Common.{◌≡◌}
 use Rattle.workers.specs.Reports.{IsTally}
 use Rattle.workers.specs.Turns.{AreTurns}
 use Rattle.workers.proofs.worker.Worker.work.Given as goal

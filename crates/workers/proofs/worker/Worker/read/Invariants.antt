@@ -1,0 +1,9 @@
+use Rattle.std.proofs.Common.{◌≡◌, take}
+use Rattle.workers.specs.Turns.{asked_keys}
+use Rattle.workers.proofs.worker.Worker.read.Given as goal
+
+abbrev pub invariant-loop-key : goal.invariant-loop-key
+invariant-loop-key g l = record {
+  txn : l.reads.txn ≡ l.fn.reads.txn;
+  keys : asked_keys l.reads.asked.items ≡ take l.key-index l.keys;
+}
