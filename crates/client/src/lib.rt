@@ -7,8 +7,10 @@ mod hearing;
 mod reading;
 mod stop;
 mod wire;
+mod wires;
 
 pub use ended::{Ended, Halt};
 pub use reading::seen_stays;
 pub use stop::Stop;
 pub use wire::Wire;
+pub use wires::Wires;
