@@ -1,4 +1,6 @@
 //! The accounts and their balances.
+ghost use Rattle.std.specs.Prelude.{◌≡◌, ◌⊎◌, ◌≤◌, ◌<◌, ◌+◌, ◌-◌, ◌^◌, IfNone, IfSome};
+
 use std::alloc::Global;
 use std::sync::Wait;
 use std::time;
@@ -39,7 +41,7 @@ pub fn open_accounts<R: Wait + time::Clock>(
     alloc: Global,
     client: &mut Client<'_, R>,
 ) -> Result<Ended, Fault> {
-    client.transact(100, |tx: &mut Transaction<'_, '_, R>| -> Result<(), Halt> {
+    client.transact(100, |tx: &mut Transaction<'_, R>| -> Result<(), Halt> {
         if tx.get(&key_of(0)?)?.is_some() {
             return Err(Halt::Abandon);
         }
@@ -48,6 +50,20 @@ pub fn open_accounts<R: Wait + time::Clock>(
         }
         Ok(())
     })
+}
+
+/// What two accounts have once an amount went from the first to the second: as much together as before. There is nothing where the first has
+/// too little, or the second would have too much.
+pub fn moved(has: u64, gets: u64, amount: u64) -> Option<(u64, u64)>
+    ensures moved { IfSome result (λ left. (amount ≤ has) × (left.0 ≡ has - amount)
+        × (left.1 ≡ gets + amount)) }
+    ensures even { IfSome result (λ left. left.0 + left.1 ≡ has + gets) }
+    ensures none { IfNone result ((has < amount) ⊎ (2 ^ 64 ≤ gets + amount)) }
+{
+    if amount > has || amount > u64::MAX - gets {
+        return None;
+    }
+    Some((has - amount, gets + amount))
 }
 
 /// Moves money from one account to another. An account that has too little keeps what it has.
@@ -60,10 +76,9 @@ pub fn transfer<R: Wait + time::Clock>(
 ) -> Result<Ended, Fault> {
     let from = key_of(from)?;
     let to = key_of(to)?;
-    client.transact(50, |tx: &mut Transaction<'_, '_, R>| -> Result<(), Halt> {
-        let left = balance_in(&tx.get(&from)?).checked_sub(amount);
-        let more = balance_in(&tx.get(&to)?).checked_add(amount);
-        let (Some(left), Some(more)) = (left, more) else {
+    client.transact(50, |tx: &mut Transaction<'_, R>| -> Result<(), Halt> {
+        let (has, gets) = (balance_in(&tx.get(&from)?), balance_in(&tx.get(&to)?));
+        let Some((left, more)) = moved(has, gets, amount) else {
             return Err(Halt::Abandon);
         };
         tx.put(&from, value_of(alloc, left)?)?;

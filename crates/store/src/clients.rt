@@ -1,29 +1,52 @@
 //! A client: it runs transactions, one at a time, and opens views.
-ghost use Rattle.std.specs.Prelude.{◌≡◌};
+ghost use Rattle.std.specs.Prelude.{◌≡◌, ℕ, List, [], ◌∷◌, ◌++◌, MatchResult};
+ghost use Rattle.message.specs.Ends.{End};
+ghost use Rattle.message.specs.declared.message.Envelope.{Envelope};
+ghost use Rattle.store.specs.Attempts.{Attempt, CannotBegin, ComesTo, Ends, HasTried, IsAtWork, beginning, drew, kept, runs_again};
 
 use crate::shared::Shared;
 use crate::steady::SteadyClock;
 use crate::{Ended, Halt, Transaction, View};
 use board::{Snapshot, Viewer};
-use client::Wire;
-use session::{Open, Tx};
+use client::{Wire, Wires};
+use crossbeam_channel::Receiver;
+use message::Message;
+use std::marker::Model;
 use std::sync::Wait;
 use std::time;
 use tickets::Drawer;
 use truetime::Clock;
 use units::{Fault, ShardNo};
 
-/// A client of a store. It is one thread's at a time.
+/// A client of a store. It is one thread's at a time. Contracts see the run of its ids, the splits of its store, what it has drawn, and what
+/// was put out and heard of each of its attempts.
 #[derive(Drop)]
 pub struct Client<'s, R> {
     pub(crate) rt: &'s R,
-    pub(crate) wire: Wire<'s, 's, R>,
     pub(crate) shared: &'s Shared,
+    pub(crate) inbox: Receiver<Message>,
+    pub(crate) number: usize,
     pub(crate) drawer: Drawer,
+    pub(crate) past: Wires<'s, 's, R>,
     pub(crate) viewers: Vec<Viewer>,
     pub(crate) clock: SteadyClock<'s, R>,
     pub(crate) patience: u32,
-    ghost drawn: { drawer.source ≡ shared.now.ids },
+}
+
+impl<'s, R> Model for Client<'s, R> {
+    ghost use Rattle.std.specs.Prelude.{◌≡◌};
+    ghost use Rattle.store.specs.Attempts.{Worker};
+
+    ghost Value = { Worker };
+
+    ghost view = { λ c. record {
+      run = c.shared.now.run;
+      splits = c.shared.now.splits;
+      drawing = c.drawer;
+      traffics = c.past;
+    } };
+
+    ghost invariant = { λ c. c.drawer.source ≡ c.shared.now.ids };
 }
 
 // A client waits no more than two seconds.
@@ -32,27 +55,31 @@ const LONGEST: u32 = 100;
 impl<'s, R: Wait + time::Clock> Client<'s, R> {
     /// Runs the code of a transaction and commits it. After each abort the code is run again, as a new transaction, so often in all as
     /// `tries` says. Where the code asks for `Halt::Abandon` it is aborted at once, and a refusal that the code hands on is answered.
-    pub fn transact<F: FnMut(&mut Transaction<'_, 's, R>) -> Result<(), Halt>>(
+    ///
+    /// Each attempt is a session of its own, which is closed only where its code gave `Ok`, and the answer is that of the last. Code that
+    /// puts the transaction of another client in the place of its own is refused as a `Stranger`, and what it left is given up.
+    pub fn transact<F: FnMut(&mut Transaction<'s, R>) -> Result<(), Halt>>(
         &mut self,
         tries: u32,
-        code: F,
+        mut code: F,
     ) -> Result<Ended, Fault>
         requires { F.IsAlwaysCallable code }
+        ensures { (made : List Attempt)
+            × ((last : F) × HasTried F.FnMut self.old code made self.new last)
+            × ComesTo tries self.new made result }
     {
-        let mut code = code;
         let mut patience = self.patience;
         for _try in 0..tries {
-            self.wire.be_patient(patience);
-            let mut tx = self.begin()?;
-            let mut transaction = Transaction {
-                wire: &mut self.wire,
-                tx: &mut tx,
+            let mut transaction = match self.begin(patience) {
+                Ok(transaction) => transaction,
+                Err(fault) => return Err(fault),
             };
+            let own = transaction.id();
             let ran = code(&mut transaction);
-            drop(transaction);
-            match self.finish(tx, ran)? {
-                Attempt::Over(ended) => return Ok(ended),
-                Attempt::Again => {}
+            let ran = kept(own.is(transaction.id()), ran);
+            let ended = self.finish(transaction, ran);
+            if !runs_again(&ran, &ended) {
+                return ended;
             }
             patience = patience.saturating_mul(2).min(LONGEST);
         }
@@ -60,24 +87,50 @@ impl<'s, R: Wait + time::Clock> Client<'s, R> {
     }
 
     // A new transaction.
-    fn begin(&mut self) -> Result<Tx<'s, Open>, Fault> {
+    fn begin(&mut self, patience: u32) -> Result<Transaction<'s, R>, Fault>
+        ensures { MatchResult result
+            (λ t. (n : ℕ)
+            × (t ≡ beginning self.old.splits (record { run = self.old.run; number = n }))
+            × (self.new ≡ drew self.old n))
+            (λ fault. (self.new ≡ self.old) × CannotBegin self.old fault) }
+    {
         let shared = self.shared;
-        self.wire
-            .begin(shared.run, &shared.splits, &shared.ids, &mut self.drawer)
+        let mut wire = Wire::new(
+            self.rt,
+            shared.alloc,
+            &shared.network,
+            &shared.stop,
+            self.inbox.clone()?,
+            self.number,
+            patience,
+        );
+        let tx = wire.begin(shared.run, &shared.splits, &shared.ids, &mut self.drawer)?;
+        Ok(Transaction { wire, tx })
     }
 
-    // Ends a transaction whose code has run. One that was aborted, though its code did not ask for that, may run again.
-    fn finish(&mut self, tx: Tx<'s, Open>, ran: Result<(), Halt>) -> Result<Attempt, Fault> {
-        let is_abandoned = ran == Err(Halt::Abandon);
-        let ended = self.wire.finish(tx, ran)?;
-        Ok(match ended {
-            Ended::Aborted if !is_abandoned => Attempt::Again,
-            _ => Attempt::Over(ended),
-        })
+    // Ends a transaction whose code has run.
+    fn finish(
+        &mut self,
+        transaction: Transaction<'s, R>,
+        ran: Result<(), Halt>,
+    ) -> Result<Ended, Fault>
+        ensures work { IsAtWork transaction.entry }
+        ensures ended { (sent : List Envelope) × (heard : List End)
+            × (self.new ≡ record self.old { traffics = self.old.traffics ++ (record {
+            sent = transaction.entry.traffic.sent ++ sent;
+            heard = transaction.entry.traffic.heard ++ heard;
+            }) ∷ [] })
+            × Ends transaction.entry.session ran sent heard result }
+    {
+        let Transaction { mut wire, tx } = transaction;
+        let ended = wire.finish(tx, ran);
+        self.past.add(wire);
+        ended
     }
 
     /// A view of the whole store at the present. There is none where the clock gives no reading.
-    pub fn view(&mut self) -> Option<View<'_, 's, R>> {
+    pub fn view(&mut self) -> Option<View<'_, 's, R>>
+    {
         let now = self.clock.now()?;
         Some(View {
             rt: self.rt,
@@ -94,8 +147,24 @@ impl<'s, R: Wait + time::Clock> Client<'s, R> {
     }
 }
 
-// What comes of one attempt.
-enum Attempt {
-    Over(Ended),
-    Again,
+// What the code of a transaction comes to, by whether what it left is its own.
+fn kept(own: bool, ran: Result<(), Halt>) -> Result<(), Halt>
+    ensures { result ≡ kept own ran }
+{
+    if own {
+        ran
+    } else {
+        Err(Halt::Refused(Fault::Stranger))
+    }
+}
+
+// Whether the code runs again behind an attempt: one that was aborted, unless it asked for that.
+fn runs_again(ran: &Result<(), Halt>, ended: &Result<Ended, Fault>) -> bool
+    ensures { result ≡ runs_again ran.now ended.now }
+{
+    match (ran, ended) {
+        (Err(Halt::Abandon), _) => false,
+        (_, Ok(Ended::Aborted)) => true,
+        _ => false,
+    }
 }

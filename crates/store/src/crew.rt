@@ -4,7 +4,7 @@ ghost use Rattle.std.specs.Prelude.{◌≡◌, All, IfOk, IfSome};
 use crate::clients::Client;
 use crate::shared::Shared;
 use crate::steady::SteadyClock;
-use client::Wire;
+use client::Wires;
 use crossbeam_channel::Receiver;
 use message::Message;
 use tickets::Drawer;
@@ -35,20 +35,13 @@ impl Crew {
         let number = self.inboxes.len();
         let drawer = self.drawers.pop()?;
         let viewers = self.viewers.by_worker.pop()?;
-        let wire = Wire::new(
-            rt,
-            shared.alloc,
-            &shared.network,
-            &shared.stop,
-            inbox,
-            number,
-            patience,
-        );
         Some(Client {
             rt,
-            wire,
             shared,
+            inbox,
+            number,
             drawer,
+            past: Wires::none(),
             viewers,
             clock,
             patience,

@@ -1,11 +1,16 @@
 //! A view of the whole store at one timestamp.
+ghost use Rattle.std.specs.Prelude.{◌≡◌, Some, slice_get, IfOk};
+ghost use Rattle.units.specs.Keys.{shard_of};
+ghost use Rattle.board.specs.Views.{Viewing};
+ghost use Rattle.store.specs.Views.{IsShown, seen_in};
+
 use crate::shared::Shared;
 use board::{Snapshot, Viewer};
 use std::alloc::Global;
 use std::sync::Wait;
 use std::time;
 use std::time::Duration;
-use units::{Fault, Key, Seen, ShardNo, Stamp, Value};
+use units::{Fault, Key, Seen, Stamp, Value};
 
 /// What stands at a timestamp: all that was acknowledged before the view was opened, and nothing in part. It takes no locks.
 #[derive(Drop)]
@@ -15,42 +20,32 @@ pub struct View<'c, 's, R> {
     pub(crate) viewers: &'c mut Vec<Viewer>,
     pub(crate) snapshot: Snapshot,
     pub(crate) at: Stamp,
+    ghost one: { snapshot ≡ at },
 }
 
 impl<R: Wait + time::Clock> View<'_, '_, R> {
     /// Its timestamp, in microseconds.
-    pub fn at(&self) -> Stamp {
+    pub fn at(&self) -> Stamp
+        ensures { result ≡ self.now.at }
+    {
         self.at
     }
 
-    /// The value of a key. It waits until the key's shard serves the timestamp, some seconds at most, and is then refused as `NotYet`.
-    pub fn get(&mut self, key: &Key) -> Result<Option<Value>, Fault> {
+    /// The value of a key. It waits until the key's shard serves the timestamp, some seconds at most, and is then refused as `NotYet`. The
+    /// value is right for good: nothing that is committed later stands at or below the timestamp there.
+    pub fn get(&mut self, key: &Key) -> Result<Option<Value>, Fault>
+        ensures at { self.new.at ≡ self.old.at }
+        ensures splits { self.new.shared.now.splits ≡ self.old.shared.now.splits }
+        ensures shown { IfOk result (λ value. (viewer : Viewing)
+            × (slice_get self.old.viewers.now.items
+            (shard_of self.old.shared.now.splits key.now) ≡ Some viewer)
+            × IsShown viewer key.now self.old.at value) }
+    {
         let shard = self.shared.splits.shard_of(key);
-        let mut buffer = [0; 4096];
-        for _try in 0..TRIES {
-            match self.look(shard, key, &mut buffer) {
-                Ok(seen) => return value_seen(self.shared.alloc, seen, &buffer),
-                Err(Fault::NotYet) => self.pause(shard),
-                Err(fault) => return Err(fault),
-            }
-        }
-        Err(Fault::NotYet)
-    }
-
-    // Looks once.
-    fn look(&mut self, shard: ShardNo, key: &Key, buffer: &mut [u8]) -> Result<Seen, Fault> {
         match self.viewers.get_mut(usize::from(shard.number())) {
-            Some(viewer) => self.snapshot.look(viewer, key, buffer),
+            Some(viewer) => shown(self.rt, self.shared, viewer, self.snapshot, self.at, key),
             None => Err(Fault::Stranger),
         }
-    }
-
-    // Waits until the shard tells that it serves the timestamp, a millisecond at most.
-    fn pause(&self, shard: ShardNo) {
-        let longest = Duration::from_millis(PAUSE);
-        self.shared
-            .network
-            .await_served(self.rt, shard, self.at, longest);
     }
 }
 
@@ -59,8 +54,34 @@ const TRIES: u32 = 3_000;
 
 const PAUSE: u64 = 1;
 
+// What a viewer tells of a key at a timestamp, once its shard serves that.
+fn shown<R: Wait + time::Clock>(
+    rt: &R,
+    shared: &Shared,
+    viewer: &mut Viewer,
+    snapshot: Snapshot,
+    at: Stamp,
+    key: &Key,
+) -> Result<Option<Value>, Fault>
+    ensures { IfOk result (IsShown viewer.old key.now snapshot) }
+{
+    let shard = shared.splits.shard_of(key);
+    let longest = Duration::from_millis(PAUSE);
+    let mut buffer = [0; 4096];
+    for _try in 0..TRIES {
+        match snapshot.look(viewer, key, &mut buffer) {
+            Ok(seen) => return value_seen(shared.alloc, seen, &buffer),
+            Err(Fault::NotYet) => shared.network.await_served(rt, shard, at, longest),
+            Err(fault) => return Err(fault),
+        }
+    }
+    Err(Fault::NotYet)
+}
+
 // The value that a look put at the front of the buffer.
-fn value_seen(alloc: Global, seen: Seen, buffer: &[u8]) -> Result<Option<Value>, Fault> {
+fn value_seen(alloc: Global, seen: Seen, buffer: &[u8]) -> Result<Option<Value>, Fault>
+    ensures { IfOk result (λ value. value ≡ seen_in seen buffer.now) }
+{
     match seen {
         Seen::Absent => Ok(None),
         Seen::Value(length) => match buffer.get(..length) {

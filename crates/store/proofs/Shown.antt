@@ -1,0 +1,106 @@
+-- What a look that is answered shows.
+use Rattle.std.proofs.Common.{◌≡◌, ℕ, Bool, true, false, true≢false, nat_lt, List, [], ◌++◌, length, take, drop, Option, Some, None, Result, Ok, Err, refl, ap, sym, ◌∙◌, subst, append_assoc, append-nil}
+use Rattle.std.specs.Prelude.{if◌then◌else◌, IfOk}
+use mathlib.Core.List.{IsPrefix}
+use Rattle.std.proofs.lemmas.List.{take_at}
+use Rattle.units.specs.Keys.{Bytes}
+use Rattle.units.specs.Looks.{buffer_filled, look_answer_with, look_buffer_with, value_seen}
+use Rattle.units.specs.declared.fault.Fault.{Fault}
+use Rattle.units.specs.declared.fault.Fault.TheVariants.{NotYet, Room, Stopped, Stranger}
+use Rattle.units.specs.declared.line.Seen.{Seen}
+use Rattle.units.specs.declared.line.Seen.TheVariants.{Absent, Value}
+use Rattle.board.specs.Board.{safe_on, shown_at}
+use Rattle.board.specs.Look.{is_at_home}
+use Rattle.board.specs.Views.{LookedBy, Viewing}
+use Rattle.board.specs.declared.entry.BoardEntry.{BoardEntry}
+use Rattle.board.specs.declared.home.Home.{Home}
+use Rattle.store.specs.Views.{IsShown, seen_in}
+
+prefix_self : {A : Type 0} (xs : List A) → IsPrefix xs xs
+prefix_self xs = ([], append-nil xs)
+
+prefix_trans : {A : Type 0} (xs ys zs : List A) → IsPrefix xs ys → IsPrefix ys zs → IsPrefix xs zs
+prefix_trans xs ys zs p q = (p.0 ++ q.0, sym (append_assoc xs p.0 q.0) ∙ (ap (λ w. w ++ q.0) p.1 ∙ q.1))
+
+abbrev is_ok : {A B : Type 0} → Result A B → Bool
+is_ok (Ok x) = true
+is_ok (Err e) = false
+
+-- what an answer of a look tells: the key is at home, the timestamp is served, and the value is in the buffer
+record Tells (here late : Bool) (value : Option Bytes) (seen : Seen) (new : List ℕ) : Type 0 where
+  here_is : here ≡ true
+  in_time : late ≡ false
+  same : value ≡ seen_in seen new
+
+abbrev got : Result Seen Fault → Seen → Seen
+got (Ok s) t = s
+got (Err e) t = t
+
+by_value : (value : Option Bytes) (seen : Seen) (buffer new : List ℕ) → Ok seen ≡ value_seen value (length buffer)
+    → new ≡ buffer_filled value buffer → value ≡ seen_in seen new
+by_value None seen buffer new is filled = sym (ap (λ s. seen_in s new) (ap (λ r. got r seen) is))
+by_value (Some value) seen buffer new is filled = by_room (nat_lt (length buffer) (length value)) is filled
+  where
+    by_room : (b : Bool) → Ok seen ≡ (if b then Err Room else Ok (Value (length value)))
+        → new ≡ (if b then buffer else value ++ drop (length value) buffer) → Some value ≡ seen_in seen new
+    by_room true is filled = absurd (true≢false (ap is_ok is))
+    by_room false is filled =
+        sym (ap (λ s. seen_in s new) (ap (λ r. got r seen) is)
+        ∙ (ap (λ (l : List ℕ). Some (take (length value) l)) filled ∙ ap Some (take_at value (drop (length value) buffer) (length value) refl)))
+
+tells : (here late : Bool) (value : Option Bytes) (seen : Seen) (buffer new : List ℕ)
+    → Ok seen ≡ (if here then (if late then Err NotYet else value_seen value (length buffer)) else Err Stranger)
+    → new ≡ (if here then (if late then buffer else buffer_filled value buffer) else buffer) → Tells here late value seen new
+tells true true value seen buffer new is filled = absurd (true≢false (ap is_ok is))
+tells true false value seen buffer new is filled = record { here_is = refl; in_time = refl; same = by_value value seen buffer new is filled }
+tells false late value seen buffer new is filled = absurd (true≢false (ap is_ok is))
+
+-- a viewer that has come to know more since
+pub record IsLater (old now : Viewing) : Type 0 where
+  pub home : now.home ≡ old.home
+  pub told : now.told ≡ old.told
+  pub seen : IsPrefix old.seen now.seen
+
+pub not_later : (viewer : Viewing) → IsLater viewer viewer
+not_later viewer = record { home = refl; told = refl; seen = prefix_self viewer.seen }
+
+pub not_refused : {A B : Type 0} (x : A) (e : B) → Ok x ≡ Err e → ⊥
+not_refused x e is = true≢false (ap is_ok is)
+
+abbrev is_late : {A : Type 0} → Result A Fault → Bool
+is_late (Err NotYet) = true
+is_late _ = false
+
+pub not_stopped : {A : Type 0} (r : Result A Fault) → r ≡ Err NotYet → r ≡ Err Stopped → ⊥
+not_stopped r late stopped = true≢false (sym (ap is_late late) ∙ ap is_late stopped)
+
+-- what the viewer shows by an answered look
+pub shown_by : (old now after : Viewing) (key : Bytes) (at : ℕ) (buffer new : List ℕ) (seen : Seen) (value : Option Bytes)
+    → IsLater old now → LookedBy now key at buffer (Ok seen) after new → value ≡ seen_in seen new → IsShown old key at value
+shown_by old now after key at buffer new seen value later looked is =
+    let told =
+    tells (is_at_home now.home key) (nat_lt (safe_on after.seen) at) (shown_at after.seen key at) seen buffer new looked.answered looked.filled in
+    record {
+      list = after.seen;
+      later = prefix_trans old.seen now.seen after.seen later.seen looked.later;
+      told = subst (λ (l : List BoardEntry). IsPrefix l after.seen) later.told looked.told;
+      lawful = looked.lawful;
+      home = subst (λ (h : Home). is_at_home h key ≡ true) later.home told.here_is;
+      served = told.in_time;
+      shows = told.same ∙ sym is;
+      stays = looked.stays refl;
+    }
+
+-- a viewer after a look that told nothing
+pub later_on : (old now after : Viewing) (key : Bytes) (at : ℕ) (buffer new : List ℕ) (result : Result Seen Fault)
+    → IsLater old now → (after.home ≡ now.home) → (after.told ≡ now.told) → LookedBy now key at buffer result after new → IsLater old after
+later_on old now after key at buffer new result later home told looked = record {
+  home = home ∙ later.home;
+  told = told ∙ later.told;
+  seen = prefix_trans old.seen now.seen after.seen later.seen looked.later;
+}
+
+pub if_shown : (old now after : Viewing) (key : Bytes) (at : ℕ) (buffer new : List ℕ) (seen : Seen) (r : Result (Option Bytes) Fault)
+    → IsLater old now → LookedBy now key at buffer (Ok seen) after new → IfOk r (λ value. value ≡ seen_in seen new) → IfOk r (IsShown old key at)
+if_shown old now after key at buffer new seen (Ok value) later looked is = shown_by old now after key at buffer new seen value later looked is
+if_shown old now after key at buffer new seen (Err e) later looked is = tt

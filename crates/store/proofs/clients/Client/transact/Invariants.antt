@@ -1,0 +1,10 @@
+use Rattle.std.proofs.Common.{◌≡◌, List, length}
+use denote.Param.Always.{always_mut}
+use Rattle.store.specs.Attempts.{AreAborted, Attempt, HasTried}
+use Rattle.store.proofs.clients.Client.transact.Given as goal
+
+abbrev pub invariant-loop-try : goal.invariant-loop-try
+invariant-loop-try g l = record {
+  callable : always_mut g.F.FnMut l.code;
+  tried : (made : List Attempt) × HasTried g.F.FnMut l.fn.self l.fn.code made l.self l.code × (length made ≡ l._try) × AreAborted made;
+}
