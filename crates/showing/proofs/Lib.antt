@@ -1,1 +1,4 @@
+mod Accepting
 mod Ends
+mod Telling
+mod Values

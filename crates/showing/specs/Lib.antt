@@ -1,1 +1,3 @@
 pub mod Dumps
+pub mod Histories
+pub mod HistoryTexts

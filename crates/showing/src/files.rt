@@ -1,13 +1,17 @@
-//! Texts of logs in files.
+//! Texts of logs.
 ghost use Rattle.std.specs.Prelude.{IfOk, IfErr, List, string_bytes};
 ghost use Rattle.gatelog.specs.Placed.{Placed};
 ghost use Rattle.showing.specs.Dumps.{IsADump, IsNotShown};
+ghost use Rattle.showing.specs.HistoryTexts.{IsAHistory, IsAValue, IsNotTold};
 
+use crate::history_lines::{history_text, value_line};
 use crate::lines::dump_text;
 use crate::reading::read_dump;
+use crate::shard_log::{read_history, read_value};
+use disk::Disk;
 use std::alloc::Global;
 use system::Files;
-use units::Fault;
+use units::{Fault, Key, Setup, Stamp};
 
 /// What the log in a file holds, as text. The file is opened to be read alone.
 pub fn dump_file<F: Files>(alloc: Global, files: &F, path: &str) -> Result<String, Fault>
@@ -16,4 +20,33 @@ pub fn dump_file<F: Files>(alloc: Global, files: &F, path: &str) -> Result<Strin
 {
     let dump = read_dump(alloc, files.open(alloc, path)?)?;
     dump_text(alloc, &dump.entries, dump.end)
+}
+
+/// What the log of a shard says of a key, as text.
+pub fn history_told<D: Disk + Drop>(
+    alloc: Global,
+    disk: D,
+    setup: &Setup,
+    key: &Key,
+) -> Result<String, Fault>
+    ensures text { IfOk result (λ text. IsAHistory (string_bytes text)) }
+    ensures refused { IfErr result IsNotTold }
+{
+    let told = read_history(alloc, disk, setup, key)?;
+    history_text(alloc, &told)
+}
+
+/// The value of a key by the log of a shard, as a line.
+pub fn value_told<D: Disk + Drop>(
+    alloc: Global,
+    disk: D,
+    setup: &Setup,
+    key: &Key,
+    at: Option<Stamp>,
+) -> Result<String, Fault>
+    ensures text { IfOk result (λ text. IsAValue (string_bytes text)) }
+    ensures refused { IfErr result IsNotTold }
+{
+    let value = read_value(alloc, disk, setup, key, at)?;
+    value_line(alloc, &value)
 }

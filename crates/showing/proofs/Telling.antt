@@ -1,0 +1,47 @@
+-- What some writes make of a key, one write more at a time, and what a log says of its transactions.
+use Rattle.std.proofs.Common.{◌≡◌, ◌∙◌, ◌++◌, ◌∷◌, ◌+◌, ◌<◌, [], ℕ, suc, arith, Some, List, length, map, sym, ap, take, slice_index_or, append_assoc, flat_map, IsTrue}
+use Rattle.std.specs.Prelude.{filter}
+use Rattle.std.proofs.lemmas.List.{map-append}
+use Rattle.std.proofs.lemmas.List.Elements.{filter-append}
+use Rattle.std.proofs.Math.Seq.{take-suc}
+use Rattle.units.specs.Ids.{Id}
+use Rattle.units.specs.Keys.{Bytes, same_key}
+use Rattle.units.specs.declared.writes.Write.{Write}
+use Rattle.showing.specs.declared.told.Standing.{Standing}
+use Rattle.showing.specs.declared.told.Told.{Told}
+use Rattle.record.specs.Accepted.{followed}
+use Rattle.record.specs.Facts.{Facts, facts_of, recorded}
+use Rattle.record.specs.declared.record.Record.{Record}
+use Rattle.facts.specs.Laws.{SaysOfRecords}
+use Rattle.facts.specs.Readers.{outcome_in}
+use Rattle.showing.specs.Histories.{end_in, history, told_as, told_by}
+
+told_append : (k : Bytes) (t : Id) (s : Standing) (xs ys : List Write)
+    → told_as k t (xs ++ ys) (Some s) ≡ told_as k t xs (Some s) ++ told_as k t ys (Some s)
+told_append k t s xs ys =
+    let make : Write → Told = λ w. record { txn = t; standing = s; value = w.value } in
+    ap (map make) (filter-append (λ w. same_key w.key k) xs ys)
+    ∙ map-append make (filter (λ w. same_key w.key k) xs) (filter (λ w. same_key w.key k) ys)
+
+-- one write more
+pub told_more : (k : Bytes) (t : Id) (s : Standing) (ws : List Write) (i : ℕ) (w : Write) → i < length ws → w ≡ slice_index_or ws i w
+    → told_as k t (take (i + 1) ws) (Some s) ≡ told_as k t (take i ws) (Some s) ++ told_as k t (w ∷ []) (Some s)
+told_more k t s ws i w small is =
+    let next : i + 1 ≡ suc i = omega arith in
+    ap (λ n. told_as k t (take n ws) (Some s)) next
+    ∙ ap (λ (xs : List Write). told_as k t xs (Some s)) (take-suc ws i w small)
+    ∙ ap (λ (x : Write). told_as k t (take i ws ++ x ∷ []) (Some s)) (sym is)
+    ∙ told_append k t s (take i ws) (w ∷ [])
+
+-- what stands behind what was told before, with one write more
+pub told_behind : (start before now step old new : List Told) → new ≡ old ++ step → old ≡ start ++ before → now ≡ before ++ step → new ≡ start ++ now
+told_behind start before now step old new added so_far more =
+    added ∙ ap (λ (xs : List Told). xs ++ step) so_far ∙ append_assoc start before step ∙ ap (λ (xs : List Told). start ++ xs) (sym more)
+
+-- what is told by the ends that facts know is told by those of the records
+pub told_of_records : SaysOfRecords → (shard : ℕ) (records : List Record) (facts : Facts) (k : Bytes) → facts ≡ facts_of records
+    → IsTrue (followed shard records) → flat_map (told_by (λ t. outcome_in (recorded facts t)) k) records ≡ history records k
+told_of_records says shard records facts k known follows =
+    let same : (t : Id) → outcome_in (recorded facts t) ≡ end_in records t =
+    λ t. ap (λ (f : Facts). outcome_in (recorded f t)) known ∙ (says shard records follows t).outcome in
+    λ i. flat_map (told_by (λ t. same t i) k) records

@@ -1,0 +1,85 @@
+-- What the log of a shard says of a key.
+use Rattle.std.specs.Prelude.{ℕ, Bool, true, false, List, [], Option, Some, None, Result, Ok, Err, map, filter, flat_map, option_map}
+use Rattle.units.specs.Ids.{Id}
+use Rattle.units.specs.Keys.{Bytes, same_key}
+use Rattle.units.specs.Versions.{at_time, latest}
+use Rattle.units.specs.declared.fault.Fault.{Fault}
+use Rattle.units.specs.declared.fault.Fault.TheVariants.{Damaged, NotALog, Stranger}
+use Rattle.units.specs.declared.setup.Setup.{Setup}
+use Rattle.units.specs.declared.writes.Install.{Install}
+use Rattle.units.specs.declared.writes.Write.{Write}
+use Rattle.record.specs.Accepted.{taken}
+use Rattle.record.specs.Installs.{installs_of}
+use Rattle.record.specs.Records.{ended_of}
+use Rattle.record.specs.declared.record.Record.{Record}
+use Rattle.record.specs.declared.record.Record.TheVariants.{Opened, Ceiling, Prepare, Commit, Abort, Outcome}
+use Rattle.gatelog.specs.Log.{log}
+use Rattle.gatelog.specs.Placed.{Placed}
+use Rattle.recovery.specs.Recovered.{fault_in, items}
+use Rattle.texts.specs.Numbers.{and_then}
+use Rattle.showing.specs.declared.told.Standing.{Standing}
+use Rattle.showing.specs.declared.told.Standing.TheVariants.{Installed, Decided, Promised}
+use Rattle.showing.specs.declared.told.Told.{Told}
+
+-- how a transaction ended by a log: not yet, or at a timestamp, or aborted
+abbrev pub end_in : List Record → Id → Option (Option ℕ)
+end_in records t = option_map (λ e. e.outcome) (ended_of records t)
+
+-- how what a promise or a decision writes stands behind such an end: nowhere where that is aborted
+abbrev pub standing_by : Standing → Option (Option ℕ) → Option Standing
+standing_by before None = Some before
+standing_by before (Some None) = None
+standing_by before (Some (Some at)) = Some (Installed at)
+
+-- what some writes of a transaction make of a key
+abbrev pub told_as : Bytes → Id → List Write → Option Standing → List Told
+told_as k t writes None = []
+told_as k t writes (Some standing) =
+    map (λ w. record { txn = t; standing = standing; value = w.value }) (filter (λ w. same_key w.key k) writes)
+
+-- what a record says of a key, by the ends of transactions
+abbrev pub told_by : (Id → Option (Option ℕ)) → Bytes → Record → List Told
+told_by ends k (Opened epoch) = []
+told_by ends k (Ceiling at) = []
+told_by ends k (Prepare p) = told_as k p.txn p.writes (standing_by (Promised p.at) (ends p.txn))
+told_by ends k (Commit c) = told_as k c.txn c.writes (standing_by (Decided c.at) (ends c.txn))
+told_by ends k (Abort t) = []
+told_by ends k (Outcome t outcome) = []
+
+-- what a log says of a key: each write that was promised or decided and not aborted, in order, with how it stands
+abbrev pub history : List Record → Bytes → List Told
+history records k = flat_map (told_by (end_in records) k) records
+
+-- the value of a key by some versions: at a timestamp, or by the latest of them
+abbrev pub value_with : List Install → Bytes → Option ℕ → Option Bytes
+value_with installs k None = latest installs k
+value_with installs k (Some at) = at_time installs k at
+
+-- the value of a key by the versions of a log
+abbrev pub value_by : List Record → Bytes → Option ℕ → Option Bytes
+value_by records k at = value_with (installs_of records) k at
+
+-- some entries as a shard takes them for its log, or why it does not
+abbrev pub unless_refused : List Record → Option Fault → Result (List Record) Fault
+unless_refused records None = Ok records
+unless_refused records (Some fault) = Err fault
+
+abbrev pub taken_entries : Setup → List Placed → Result (List Record) Fault
+taken_entries setup entries = unless_refused (items entries) (fault_in (taken setup (items entries)) entries)
+
+-- the records of a file that its shard takes for its log
+abbrev pub log_in : Setup → List ℕ → Result (List Record) Fault
+log_in setup image = and_then (log image) (taken_entries setup)
+
+abbrev pub history_in : Setup → Bytes → List ℕ → Result (List Told) Fault
+history_in setup k image = and_then (log_in setup image) (λ records. Ok (history records k))
+
+abbrev pub value_in : Setup → Bytes → Option ℕ → List ℕ → Result (Option Bytes) Fault
+value_in setup k at image = and_then (log_in setup image) (λ records. Ok (value_by records k at))
+
+-- why a file does not hold the log of its shard, whatever it is
+abbrev pub is_no_shard_log : Fault → Bool
+is_no_shard_log NotALog = true
+is_no_shard_log (Damaged offset) = true
+is_no_shard_log Stranger = true
+is_no_shard_log _ = false

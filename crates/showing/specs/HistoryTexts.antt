@@ -1,0 +1,61 @@
+-- How a history and a value are printed.
+use Rattle.std.specs.Prelude.{◌≡◌, ◌⊎◌, ◌&&◌, ◌==◌, ◌/◌, ◌%◌, ℕ, Bool, not, IsTrue, List, [], ◌∷◌, ◌++◌, Option, Some, None, codes, flat_map, nat_le, if◌then◌else◌}
+use Rattle.std.specs.Char.{digit_char}
+use Rattle.std.specs.Fmt.{decimal}
+use Rattle.units.specs.Keys.{Bytes}
+use Rattle.units.specs.Texts.{txn_text}
+use Rattle.units.specs.declared.fault.Fault.{Fault}
+use Rattle.units.specs.declared.fault.Fault.TheVariants.{BadRequest, Device, Memory}
+use Rattle.units.specs.declared.fault.Reason.TheVariants as reason
+use Rattle.showing.specs.Histories.{is_no_shard_log}
+use Rattle.showing.specs.declared.told.Standing.{Standing}
+use Rattle.showing.specs.declared.told.Standing.TheVariants.{Installed, Decided, Promised}
+use Rattle.showing.specs.declared.told.Told.{Told}
+
+-- the byte stands for itself: it is printable ASCII, and no backslash (92)
+abbrev pub is_plain : ℕ → Bool
+is_plain byte = nat_le 32 byte && nat_le byte 126 && not (byte == 92)
+
+-- a byte of a value: itself, or two hexadecimal digits behind `\x`
+abbrev pub byte_text : ℕ → List ℕ
+byte_text byte =
+    if is_plain byte then byte ∷ [] else 92 ∷ 120 ∷ digit_char (byte / 16) ∷ digit_char (byte % 16) ∷ []
+
+-- a value, or what stands for none
+abbrev pub value_text : Option Bytes → List ℕ
+value_text (Some bytes) = codes "=" ++ flat_map byte_text bytes
+value_text None = codes "none"
+
+-- the timestamp
+abbrev pub stamp_of : Standing → ℕ
+stamp_of (Installed at) = at
+stamp_of (Decided at) = at
+stamp_of (Promised at) = at
+
+-- what stands behind a write that is no version
+abbrev pub mark_of : Standing → List ℕ
+mark_of (Installed at) = []
+mark_of (Decided at) = codes " decided"
+mark_of (Promised at) = codes " in doubt"
+
+-- a write of a key, as a line
+abbrev pub told_line : Told → List ℕ
+told_line told =
+    decimal (stamp_of told.standing)
+    ++ (codes " " ++ (txn_text told.txn ++ (codes " " ++ (value_text told.value ++ (mark_of told.standing ++ codes "\n")))))
+
+-- a line for each write of a key
+abbrev pub history_text : List Told → List ℕ
+history_text told = flat_map told_line told
+
+-- it is the text of some history
+abbrev pub IsAHistory : List ℕ → Type 0
+IsAHistory text = (told : List Told) × (text ≡ history_text told)
+
+-- it is a value, or what stands for none, on a line
+abbrev pub IsAValue : List ℕ → Type 0
+IsAValue text = (value : Option Bytes) × (text ≡ value_text value ++ codes "\n")
+
+-- why nothing is told of a key: memory is wanting, the system refuses a file, the folder has no manifest, or its log is not taken
+abbrev pub IsNotTold : Fault → Type 0
+IsNotTold fault = (fault ≡ Memory) ⊎ ((fault ≡ Device) ⊎ ((fault ≡ BadRequest reason.Settings) ⊎ IsTrue (is_no_shard_log fault)))

@@ -1,0 +1,112 @@
+//! The log of a shard, as an opening takes it.
+ghost use Rattle.std.specs.Prelude.{◌≡◌, ◌⊎◌, ◌<◌, Ok, Err, IfOk, IfErr, IsTrue};
+ghost use Rattle.disk.specs.File.{surface};
+ghost use Rattle.record.specs.Accepted.{Accepted, taken};
+ghost use Rattle.recovery.specs.Recovered.{IsRebuilt, items};
+ghost use Rattle.showing.specs.Histories.{history_in, is_no_shard_log, log_in, value_in, value_with};
+
+use crate::learning::learn_all;
+use crate::told::{Told, history};
+use disk::Disk;
+use gatelog::{Entry, GateLog};
+use memory::State;
+use recovery::rebuild;
+use std::alloc::Global;
+use units::{Fault, Key, Setup, Stamp, Value};
+
+/// What the log of a shard says of a key: each write that was promised or decided and not aborted, in its order, with how it
+/// stands. A log that an opening of the shard refuses is refused for the same. Nothing is written.
+pub fn read_history<D: Disk + Drop>(
+    alloc: Global,
+    disk: D,
+    setup: &Setup,
+    key: &Key,
+) -> Result<Vec<Told>, Fault>
+    ensures told { D.keeps_model → IfOk result (λ told.
+        history_in setup.now key.now (surface (D.file disk)).seen ≡ Ok told.items) }
+    ensures refused { IfErr result (λ fault. (fault ≡ Fault.Memory)
+        ⊎ (((fault ≡ Fault.Device) × ((back : D) × (D.failures disk < D.failures back)))
+        ⊎ (IsTrue (is_no_shard_log fault) × (D.keeps_model →
+        history_in setup.now key.now (surface (D.file disk)).seen ≡ Err fault)))) }
+{
+    let (entries, state) = read_log(alloc, disk, setup)?;
+    stop(state);
+    let facts = learn_all(alloc, setup, &entries)?;
+    history(alloc, key, &entries, &facts)
+}
+
+/// The value of a key by the log of a shard, at a timestamp or by the latest version: none where there is none or it was erased.
+/// What has no outcome in the log is no version. It is refused as `read_history` is. Nothing is written.
+pub fn read_value<D: Disk + Drop>(
+    alloc: Global,
+    disk: D,
+    setup: &Setup,
+    key: &Key,
+    at: Option<Stamp>,
+) -> Result<Option<Value>, Fault>
+    ensures value { D.keeps_model → IfOk result (λ value.
+        value_in setup.now key.now at (surface (D.file disk)).seen ≡ Ok value) }
+    ensures refused { IfErr result (λ fault. (fault ≡ Fault.Memory)
+        ⊎ (((fault ≡ Fault.Device) × ((back : D) × (D.failures disk < D.failures back)))
+        ⊎ (IsTrue (is_no_shard_log fault) × (D.keeps_model →
+        value_in setup.now key.now at (surface (D.file disk)).seen ≡ Err fault)))) }
+{
+    let (entries, state) = read_log(alloc, disk, setup)?;
+    drop(entries);
+    let Some(state) = state else {
+        return Ok(None);
+    };
+    let value = value_of(&state, key, at);
+    state.stop();
+    value
+}
+
+// The value of a key in memory, with bytes of its own.
+fn value_of(state: &State, key: &Key, at: Option<Stamp>) -> Result<Option<Value>, Fault>
+    ensures value { IfOk result
+        (λ value. value ≡ value_with state.now.facts.installs key.now at) }
+    ensures memory { IfErr result (λ fault. fault ≡ Fault.Memory) }
+{
+    let value = match at {
+        Some(at) => state.value_at(key, at),
+        None => state.latest(key),
+    };
+    match value {
+        Some(value) => Ok(Some(value.copy()?)),
+        None => Ok(None),
+    }
+}
+
+// The entries of the log that a disk holds, and what an opening of the shard makes of them: nothing where there is none.
+fn read_log<D: Disk + Drop>(
+    alloc: Global,
+    disk: D,
+    setup: &Setup,
+) -> Result<(Vec<Entry>, Option<State>), Fault>
+    ensures taken { IfOk result (λ read. taken setup.now (items read.0.items) ≡ Accepted) }
+    ensures rebuilt { IfOk result (λ read. IsRebuilt setup.now (items read.0.items) read.1) }
+    ensures log { D.keeps_model → IfOk result (λ read.
+        log_in setup.now (surface (D.file disk)).seen ≡ Ok (items read.0.items)) }
+    ensures refused { IfErr result (λ fault. (fault ≡ Fault.Memory)
+        ⊎ (((fault ≡ Fault.Device) × ((back : D) × (D.failures disk < D.failures back)))
+        ⊎ (IsTrue (is_no_shard_log fault) × (D.keeps_model →
+        log_in setup.now (surface (D.file disk)).seen ≡ Err fault)))) }
+{
+    match GateLog::open(alloc, disk) {
+        Ok((gate_log, entries)) => {
+            drop(gate_log.into_disk());
+            let state = rebuild(alloc, &entries, setup)?;
+            Ok((entries, state))
+        }
+        Err((fault, disk)) => {
+            drop(disk);
+            Err(fault)
+        }
+    }
+}
+
+fn stop(state: Option<State>) {
+    if let Some(state) = state {
+        state.stop();
+    }
+}

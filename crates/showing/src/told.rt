@@ -1,0 +1,142 @@
+//! What the log of a shard says of a key.
+ghost use Rattle.std.specs.Prelude.{◌≡◌, ◌++◌, ◌∷◌, [], Some, IfOk, IfErr, OnOk, IsTrue};
+ghost use Rattle.record.specs.Accepted.{followed};
+ghost use Rattle.record.specs.Facts.{facts_of, recorded};
+ghost use Rattle.facts.specs.Readers.{outcome_in};
+ghost use Rattle.recovery.specs.Recovered.{items};
+ghost use Rattle.showing.specs.Histories.{history, standing_by, told_as, told_by};
+
+use facts::{Facts, says_of_records};
+use gatelog::Entry;
+use record::Record;
+use std::alloc::Global;
+use units::{Fault, Key, Stamp, TxnId, Value, Write, Writes, copy_value};
+
+/// How a write of a transaction stands in a log.
+#[derive(Clone, Copy)]
+pub enum Standing {
+    /// It is a version, from this timestamp on.
+    Installed(Stamp),
+    /// Its transaction commits at this timestamp, which is decided, and has no outcome yet.
+    Decided(Stamp),
+    /// It is promised from this timestamp on, and the log does not tell how its transaction ends.
+    Promised(Stamp),
+}
+
+/// What a transaction makes of a key: a value, or `None` for an erasure.
+#[derive(Drop)]
+pub struct Told {
+    pub txn: TxnId,
+    pub standing: Standing,
+    pub value: Option<Value>,
+}
+
+/// Each write of a key that a log promises or decides, in its order, unless it was aborted.
+pub fn history(
+    alloc: Global,
+    key: &Key,
+    entries: &[Entry],
+    facts: &Facts,
+) -> Result<Vec<Told>, Fault>
+    requires known { facts.now.facts ≡ facts_of (items entries.now) }
+    requires followed { IsTrue (followed facts.now.shard (items entries.now)) }
+    ensures told { IfOk result (λ told. told.items ≡ history (items entries.now) key.now) }
+    ensures memory { IfErr result (λ fault. fault ≡ Fault.Memory) }
+{
+    says_of_records();
+    let mut told = Vec::new(alloc);
+    for entry in entries {
+        tell(&mut told, facts, entry.item(), key)?;
+    }
+    Ok(told)
+}
+
+// Tells of one record.
+fn tell(told: &mut Vec<Told>, facts: &Facts, item: &Record, key: &Key) -> Result<(), Fault>
+    ensures told { OnOk result (told.new.items ≡ told.old.items
+        ++ told_by (λ t. outcome_in (recorded facts.now.facts t)) key.now item.now) }
+    ensures memory { IfErr result (λ fault. fault ≡ Fault.Memory) }
+{
+    match item {
+        Record::Prepare(p) => {
+            let standing = standing_by(Standing::Promised(p.at), facts.outcome(p.txn));
+            tell_writes(told, p.txn, standing, &p.writes, key)
+        }
+        Record::Commit(c) => {
+            let standing = standing_by(Standing::Decided(c.at), facts.outcome(c.txn));
+            tell_writes(told, c.txn, standing, &c.writes, key)
+        }
+        Record::Opened { .. } | Record::Ceiling { .. } => Ok(()),
+        Record::Abort { .. } | Record::Outcome { .. } => Ok(()),
+    }
+}
+
+// How what was promised or decided stands behind an outcome, if it has one.
+fn standing_by(before: Standing, outcome: Option<Option<Stamp>>) -> Option<Standing>
+    ensures { result ≡ standing_by before outcome }
+{
+    match outcome {
+        None => Some(before),
+        Some(None) => None,
+        Some(Some(at)) => Some(Standing::Installed(at)),
+    }
+}
+
+// Tells of the writes of the key, where they stand anyhow.
+fn tell_writes(
+    told: &mut Vec<Told>,
+    txn: TxnId,
+    standing: Option<Standing>,
+    writes: &Writes,
+    key: &Key,
+) -> Result<(), Fault>
+    ensures told { OnOk result
+        (told.new.items ≡ told.old.items ++ told_as key.now txn writes.now standing) }
+    ensures memory { IfErr result (λ fault. fault ≡ Fault.Memory) }
+{
+    match standing {
+        Some(standing) => tell_standing(told, txn, &standing, writes, key),
+        None => Ok(()),
+    }
+}
+
+fn tell_standing(
+    told: &mut Vec<Told>,
+    txn: TxnId,
+    standing: &Standing,
+    writes: &Writes,
+    key: &Key,
+) -> Result<(), Fault>
+    ensures told { OnOk result
+        (told.new.items ≡ told.old.items ++ told_as key.now txn writes.now (Some standing.now)) }
+    ensures memory { IfErr result (λ fault. fault ≡ Fault.Memory) }
+{
+    for write in writes.as_slice() {
+        tell_write(told, txn, standing, write, key)?;
+    }
+    Ok(())
+}
+
+// Tells of a write, where it is of the key.
+fn tell_write(
+    told: &mut Vec<Told>,
+    txn: TxnId,
+    standing: &Standing,
+    write: &Write,
+    key: &Key,
+) -> Result<(), Fault>
+    ensures told { OnOk result (told.new.items ≡ told.old.items
+        ++ told_as key.now txn (write.now ∷ []) (Some standing.now)) }
+    ensures memory { IfErr result (λ fault. fault ≡ Fault.Memory) }
+{
+    if !write.key.is(key) {
+        return Ok(());
+    }
+    let value = copy_value(&write.value)?;
+    told.push(Told {
+        txn,
+        standing: *standing,
+        value,
+    })?;
+    Ok(())
+}
