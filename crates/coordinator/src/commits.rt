@@ -82,14 +82,14 @@ fn commit_in_time(
     };
     let undisputed = state.is_undisputed(commit.txn, &commit.writes);
     if undisputed || state.opens_writes(commit.txn, &commit.writes) {
-        go_on(state, alloc, now, commit, undisputed)
+        grant_now(state, alloc, now, commit, undisputed)
     } else {
         wait(state, alloc, now, commit)
     }
 }
 
 // The locks are granted, where there is a timestamp and room for the row.
-fn go_on(
+fn grant_now(
     state: &State,
     alloc: Global,
     now: &Reading,

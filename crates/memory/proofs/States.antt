@@ -23,10 +23,9 @@ use Rattle.rows.specs.CodeRows.{is_collecting, is_reading, may_abort, may_close}
 use Rattle.memory.specs.Carry.{may_drop, may_end}
 use Rattle.memory.specs.Standings.{standing_of, row_by, Allows}
 use Rattle.memory.specs.declared.standing.Standing.{Standing as CodeStanding}
-use Rattle.memory.specs.Kept.{Kept, start_of, StandsAs, IsPlanned, IsRefusal, standing_of as past_standing}
+use Rattle.memory.specs.Kept.{Kept, start_of, IsPlanned, IsRefusal}
 use Rattle.memory.specs.Plans.{plan_of}
 use Rattle.memory.specs.declared.plan.Plan.{Plan as CodePlan}
-use Rattle.memory.specs.declared.state.PastStanding.{PastStanding}
 use Rattle.locks.proofs.OpensEach.{opens_in, opens-none, opens-more}
 
 -- ---- how a transaction stands
@@ -74,13 +73,6 @@ allows rows t held CodeStanding.Aborted e = (ends_by rows t _ e, drops_by rows t
 allows rows t held (CodeStanding.Settled c) e = (ends_by rows t _ e, drops_by rows t _ e)
 allows rows t held (CodeStanding.Closed outcome) e = (ends_by rows t _ e, drops_by rows t _ e)
 
-is_past : (standing : Standing) (past : PastStanding) → StandsAs standing past → standing ≡ past_standing past
-is_past standing PastStanding.Unknown e = e
-is_past standing PastStanding.Ended e = e
-is_past standing PastStanding.Aborted e = e
-is_past standing (PastStanding.Settled c) e = e
-is_past standing (PastStanding.Closed outcome) e = e
-
 -- ---- plans by how a transaction stands
 
 -- a plan that may be refused for want of memory alone
@@ -97,25 +89,10 @@ planned-by k planned p result is made memory = subst (λ q. IsPlanned k q result
 pub refused-by : (planned : Planned) (fault : Fault) → planned ≡ Err fault → IsRefusal planned fault
 refused-by planned fault is = subst (λ q. IsRefusal q fault) (sym is) refl
 
-pub planned-err : (k : Kept) (planned : Planned) (result : Result CodePlan Fault) (fault : Fault) → planned ≡ Err fault → result ≡ Err fault
-    → IsPlanned k planned result
-planned-err k planned result fault is made = subst (λ (r : Result CodePlan Fault). IsPlanned k planned r) (sym made) (refused-by planned fault is)
-
--- by how it stands
-pub planned-as : (k : Kept) (t : Id) (plan : Standing → Planned) (standing : Standing) (result : Result CodePlan Fault)
-    → stands (start_of k) t ≡ standing → IsPlanned k (plan standing) result → IsPlanned k (plan (stands (start_of k) t)) result
-planned-as k t plan standing result e made = subst (λ s. IsPlanned k (plan s) result) (sym e) made
-
 -- by the row
 pub planned-row : (k : Kept) (t : Id) (plan : Standing → Planned) (r : Row) (result : Result CodePlan Fault) → find_row k.memory.rows t ≡ Some r
     → IsPlanned k (plan (HasRow r.held r.phase)) result → IsPlanned k (plan (stands (start_of k) t)) result
 planned-row k t plan r result e made = subst (λ s. IsPlanned k (plan s) result) (sym (stands-row (start_of k) t r e)) made
-
--- by what is told of one that has no row
-pub planned-past : (k : Kept) (t : Id) (plan : Standing → Planned) (past : PastStanding) (result : Result CodePlan Fault)
-    → StandsAs (stands (start_of k) t) past
-    → IsPlanned k (plan (past_standing past)) result → IsPlanned k (plan (stands (start_of k) t)) result
-planned-past k t plan past result e made = subst (λ s. IsPlanned k (plan s) result) (sym (is_past (stands (start_of k) t) past e)) made
 
 -- ---- whether there is room
 

@@ -12,7 +12,6 @@ use Rattle.protocol.specs.Rows.{Row, Memory, Idle, claims, find_row, needs_of, h
 use Rattle.protocol.specs.Plan.{carried}
 use Rattle.rows.specs.CodeRows.{is_reading, is_collecting, is_idle, may_decide, may_abort, may_close, phase_of_wait}
 use Rattle.rows.specs.RowTable.{RowTable, put_row, has_phase, room}
-use Rattle.rows.specs.declared.row.Row.{Row as CodeRow}
 use Rattle.memory.specs.Kept.{Kept}
 use Rattle.ledger.specs.Ledger.{CanInstall}
 use Rattle.memory.specs.Plans.{plan_of}
@@ -91,13 +90,6 @@ FitsRows rows ended needs logged (Change.Decides t) = (ended ≡ []) × IsDecisi
 -- a plan that may be carried out: its change may be made of the rows, and the greatest timestamp does not fall
 abbrev pub IsFit : Kept → Plan → Type 0
 IsFit k p = FitsRows k.memory.rows p.wounded p.needs.items p.logged p.change × (k.memory.last ≤ p.last)
-
--- what may be done with the row that is found of a transaction
-abbrev pub MayTurn : List Row → Id → CodeRow → Type 0
-MayTurn rows t (CodeRow.Reading s) = (may_end rows t ≡ true) × (may_drop rows t ≡ true)
-MayTurn rows t (CodeRow.Collecting s) = (has_phase is_collecting rows t ≡ true) × (may_drop rows t ≡ true)
-MayTurn rows t (CodeRow.Prepared s) = has_phase may_close rows t ≡ true
-MayTurn rows t (CodeRow.Decided s) = has_phase may_close rows t ≡ true
 
 -- who asks for locks by a change
 abbrev pub asker : Change → Option Id

@@ -5,11 +5,10 @@ use Rattle.units.specs.declared.fault.Fault.{Fault}
 use Rattle.units.specs.declared.setup.Setup.{Setup}
 use Rattle.record.specs.Facts.{Facts}
 use Rattle.locks.specs.Table.{Token}
-use Rattle.protocol.specs.Rows.{Memory, Standing, IsUnknown, WasEnded, WasAborted, WasSettled, WasClosed}
+use Rattle.protocol.specs.Rows.{Memory}
 use Rattle.protocol.specs.Plan as protocol
 use Rattle.memory.specs.Plans.{plan_of}
 use Rattle.memory.specs.declared.plan.Plan.{Plan}
-use Rattle.memory.specs.declared.state.PastStanding.{PastStanding}
 
 -- what a shard was told, the facts of its log and the rest; and for what it has memory: to learn so many records, to end so
 -- many transactions, and to grant each transaction what its token has room for
@@ -25,14 +24,6 @@ pub record Kept : Type 0 where
 abbrev pub start_of : Kept → protocol.Before
 start_of k = protocol.start_of_step most_rows k.setup k.facts k.memory
 
--- how a transaction stands that has no row
-abbrev pub StandsAs : Standing → PastStanding → Type 0
-StandsAs standing PastStanding.Unknown = standing ≡ IsUnknown
-StandsAs standing PastStanding.Ended = standing ≡ WasEnded
-StandsAs standing PastStanding.Aborted = standing ≡ WasAborted
-StandsAs standing (PastStanding.Settled c) = standing ≡ WasSettled c.at c.parts
-StandsAs standing (PastStanding.Closed outcome) = standing ≡ WasClosed outcome
-
 -- the plan's own refusal; or, where there is a plan, want of memory
 abbrev pub IsRefusal : protocol.Planned → Fault → Type 0
 IsRefusal (Err why) fault = fault ≡ why
@@ -42,11 +33,3 @@ IsRefusal (Ok p) fault = fault ≡ Fault.Memory
 abbrev pub IsPlanned : Kept → protocol.Planned → Result Plan Fault → Type 0
 IsPlanned k planned result =
     MatchResult result (λ plan. planned ≡ Ok (plan_of k.memory.rows plan)) (IsRefusal planned)
-
--- how a transaction stands, by what is told of one that has no row
-abbrev pub standing_of : PastStanding → Standing
-standing_of PastStanding.Unknown = IsUnknown
-standing_of PastStanding.Ended = WasEnded
-standing_of PastStanding.Aborted = WasAborted
-standing_of (PastStanding.Settled c) = WasSettled c.at c.parts
-standing_of (PastStanding.Closed outcome) = WasClosed outcome

@@ -5,4 +5,3 @@ pub mod Served
 pub mod ServedLaws
 pub mod Settled
 pub mod Standings
-pub mod Votes

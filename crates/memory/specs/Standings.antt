@@ -50,10 +50,6 @@ Allows rows t (CodeStanding.Prepared s) = has_phase may_close rows t ≡ true
 Allows rows t (CodeStanding.Decided s) = has_phase may_close rows t ≡ true
 Allows rows t _ = (may_end rows t ≡ true) × (may_drop rows t ≡ true)
 
--- how it stands where its row is in a phase
-abbrev pub standing_by_row : Kept → Id → Phase → Standing
-standing_by_row k t phase = HasRow (held_in k.memory.rows t) phase
-
 -- its row is in a phase
 abbrev pub HasRowIn : Kept → Id → Phase → Type 0
 HasRowIn k t phase = find_row k.memory.rows t ≡ Some (record { txn = t; held = held_in k.memory.rows t; phase = phase })

@@ -16,5 +16,5 @@ pub use envelopes::{answer_to, ask_to, done_to, outcome_to, vote_to};
 pub use laws::holds_follow_rows;
 pub use plan::{Change, Plan, Request};
 pub use planning::reads_stand;
-pub use standing::Standing;
-pub use state::{PastCommit, PastStanding, State};
+pub use standing::{PastCommit, Standing};
+pub use state::State;

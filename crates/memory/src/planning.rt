@@ -1,7 +1,5 @@
 //! The plans of which every step is one.
-ghost use Rattle.std.specs.Option.{option_copied};
-ghost use Rattle.std.specs.Prelude.{◌≡◌, ◌≤◌, ◌++◌, ◌∷◌, [], true, Some, None, Ok, IfOk, IfErr, OnOk, map, option_to_list, ℕ};
-ghost use Rattle.units.specs.Ids.{Id};
+ghost use Rattle.std.specs.Prelude.{◌≡◌, ◌≤◌, ◌++◌, ◌∷◌, [], true, Some, None, Ok, IfOk, IfErr, OnOk, map, option_to_list};
 ghost use Rattle.protocol.specs.Rows.{find_row, held_in};
 ghost use Rattle.protocol.specs.Outputs.{outcome_to, refused_vote};
 ghost use Rattle.protocol.specs.Plan.{Keeps, replies, ends, drops, votes_of};
@@ -9,17 +7,16 @@ ghost use Rattle.protocol.specs.Cells.{other_parts, answers, tells, plan_abort, 
 ghost use Rattle.memory.specs.Carry.{FitsRows, IsFit, IsServing, MayDrop, may_drop, may_end};
 ghost use Rattle.memory.specs.Kept.{start_of};
 ghost use Rattle.memory.specs.Plans.{change_of, plan_of, refusal};
-ghost use Rattle.memory.specs.Votes.{refused_by};
 ghost use Rattle.memory.specs.Standings.{MakesPlan, MakesReply};
 
 use crate::envelopes::{answer_to, done_to, outcome_to, vote_to};
 use crate::plan::{Change, Plan, Request};
+use crate::standing::Standing;
 use crate::state::State;
 use message::{Answer, Done, Envelope, Outbox, Outcome, Reads};
 use record::Record;
-use rows::{Row, Wait};
 use std::alloc::Global;
-use units::{Fault, Ids, Key, Lock, Mode, Parts, ShardNo, Stamp, TxnId, Writes};
+use units::{Fault, Ids, Key, Parts, ShardNo, Stamp, TxnId};
 
 /// The shards of a transaction other than one.
 pub fn other_parts(alloc: Global, shard: ShardNo, parts: Parts) -> Result<Vec<ShardNo>, Fault>
@@ -94,26 +91,6 @@ impl State {
             last: self.last(),
             outbox: Outbox::from_vec(out),
         }
-    }
-
-    /// A transaction that reads, or is not known, is ended; a prepare that it waits with is refused.
-    pub fn ends_reading(
-        &self,
-        alloc: Global,
-        txn: TxnId,
-        wait: Option<&Wait>,
-    ) -> Result<Plan, Fault>
-        requires { may_end self.now.memory.rows txn ≡ true }
-        ensures plan { MakesPlan self.now
-            (ends (start_of self.now) txn
-            (refused_by self.now.setup.shard txn (option_copied wait.entry))) result }
-        ensures fit { IfOk result (IsFit self.now) }
-        ensures memory { IfErr result (λ fault. fault ≡ Fault.Memory) }
-    {
-        let Ok(out) = refused_by(alloc, self.setup().shard, txn, wait) else {
-            return Err(Fault::Memory);
-        };
-        Ok(self.ends(alloc, txn, out))
     }
 
     /// The row goes by a record.
@@ -286,9 +263,19 @@ impl State {
         ensures { refused_vote self.now.setup.shard (find_row self.now.memory.rows txn) ≡
             refusal self.now.setup.shard txn result }
     {
-        match self.row(txn) {
-            Some(Row::Reading(reading)) => coordinator_in(reading.wait()),
-            _ => None,
+        match self.standing(txn) {
+            Standing::WaitsPrepare(request) => Some(request.coordinator),
+            Standing::Unknown
+            | Standing::Ended
+            | Standing::Idle
+            | Standing::WaitsRead(_)
+            | Standing::WaitsCommit(_)
+            | Standing::Collecting(_)
+            | Standing::Prepared(_)
+            | Standing::Decided(_)
+            | Standing::Aborted
+            | Standing::Settled(_)
+            | Standing::Closed { .. } => None,
         }
     }
 
@@ -309,34 +296,6 @@ impl State {
             self.epoch(),
             Answer::Holds(value),
         ))
-    }
-}
-
-// The coordinator of the prepare that is waited with: it is told a refused vote.
-fn coordinator_in(wait: Option<&Wait>) -> Option<ShardNo>
-    ensures { (from : ℕ) (txn : Id) →
-        refused_by from txn (option_copied wait.entry) ≡ refusal from txn result }
-{
-    match wait {
-        Some(Wait::Prepare(request)) => Some(request.coordinator),
-        _ => None,
-    }
-}
-
-// The vote of a transaction that is ended while it waits with a prepare: it is refused.
-fn refused_by(
-    alloc: Global,
-    from: ShardNo,
-    txn: TxnId,
-    wait: Option<&Wait>,
-) -> Result<Vec<Envelope>, Fault>
-    ensures votes { IfOk result
-        (λ out. out.items ≡ refused_by from txn (option_copied wait.entry)) }
-    ensures memory { IfErr result (λ fault. fault ≡ Fault.Memory) }
-{
-    match coordinator_in(wait) {
-        Some(coordinator) => one(alloc, vote_to(from, coordinator, txn, None)),
-        None => Ok(Vec::new(alloc)),
     }
 }
 

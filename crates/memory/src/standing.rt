@@ -1,16 +1,17 @@
 //! How a transaction stands at a shard.
 ghost use Rattle.std.specs.Option.{option_copied};
-ghost use Rattle.std.specs.Prelude.{◌≡◌, List, None};
+ghost use Rattle.std.specs.Prelude.{◌≡◌, List, Some, None};
 ghost use Rattle.units.specs.declared.lock.Lock.{Lock};
 ghost use Rattle.facts.specs.Shown.{meant};
 ghost use Rattle.protocol.specs.Rows.{HasRow, standing_by};
 ghost use Rattle.rows.specs.CodeRows.{phase_of, phase_of_wait};
 ghost use Rattle.memory.specs.Standings.{standing_of};
 
-use crate::state::PastCommit;
 use facts::Status;
+use message::Done;
 use rows::{CommitRequest, PrepareRequest, Row, RowCollecting, RowDecided, RowPrepared, Wait};
-use units::{Key, Stamp};
+use std::marker::Model;
+use units::{Key, Parts, Stamp, TxnId};
 
 /// How a transaction stands: by its row, and where that reads by what it waits with; else by its records; else by whether it was
 /// ended. Its variants are the standings by which the definitions tell each step.
@@ -28,6 +29,47 @@ pub enum Standing<'a> {
     Aborted,
     Settled(PastCommit),
     Closed { outcome: Option<Stamp> },
+}
+
+/// A commit that the log tells: its transaction is settled. Only `State::standing` makes it, so who holds one may tell of that commit
+/// again.
+#[derive(Clone, Copy)]
+pub struct PastCommit {
+    at: Stamp,
+    parts: Parts,
+}
+
+impl Model for PastCommit {
+    ghost use Rattle.memory.specs.Settled.{SettledCommit};
+
+    ghost Value = { SettledCommit };
+
+    ghost view = { λ c. record { at = c.at; parts = c.parts } };
+
+    ghost inverse = { λ c. record { at = c.at; parts = c.parts } };
+}
+
+impl PastCommit {
+    /// Its timestamp.
+    pub fn at(&self) -> Stamp
+        ensures { result ≡ self.now.at }
+    {
+        self.at
+    }
+
+    /// The shards that took part.
+    pub fn parts(&self) -> Parts
+        ensures { result ≡ self.now.parts }
+    {
+        self.parts
+    }
+
+    /// The end of the transaction, which its session may be told again.
+    pub fn done(&self, txn: TxnId) -> Done
+        ensures { result ≡ record { txn = txn; outcome = Some self.now.at } }
+    {
+        Done::said(txn, Some(self.at))
+    }
 }
 
 // How a transaction stands that has a row.

@@ -6,22 +6,19 @@ ghost use Rattle.units.specs.LockLaws.{IsLawfulTable};
 ghost use Rattle.units.specs.Locks.{exclusive, holds, ready};
 ghost use Rattle.units.specs.Versions.{latest, at_time, above_versions};
 ghost use Rattle.facts.specs.Rules.{follows_facts};
-ghost use Rattle.facts.specs.Shown.{meant};
 ghost use Rattle.record.specs.Facts.{recorded};
-ghost use Rattle.protocol.specs.Rows.{safe, claims, find_row, standing_by, held_in};
+ghost use Rattle.protocol.specs.Rows.{safe, claims, find_row, held_in};
 ghost use Rattle.protocol.specs.Plan.{in_way, opens, is_crowded};
 ghost use Rattle.rows.specs.CodeRows.{phase_of};
 ghost use Rattle.rows.specs.RowTable.{needs_in};
-ghost use Rattle.memory.specs.Carry.{Asks, MayTurn, may_ask, may_drop, may_end};
-ghost use Rattle.memory.specs.Kept.{start_of, StandsAs};
+ghost use Rattle.memory.specs.Carry.{Asks, may_ask, may_end};
+ghost use Rattle.memory.specs.Kept.{start_of};
 ghost use Rattle.protocol.specs.Sound.{writes_standing};
 ghost use Rattle.memory.specs.Standings.{standing_in, standing_of, row_by, Allows, HasRowIn};
 
 use crate::standing::{Standing, by_records, by_row};
-use facts::Status;
 use ledger::{Ended, Ledger};
 use locks::exclusive;
-use message::Done;
 use record::Record;
 use rows::{Row, Rows};
 use safetime::SafeTime;
@@ -59,57 +56,6 @@ impl Model for State {
 
     ghost invariant = { λ s. (0 < s.ledger.facts.epoch) × (s.ledger.shard ≡ s.setup.shard)
         × IsHolding s.times.holds s.rows.rows };
-}
-
-/// How a transaction stands that has no row.
-#[derive(Clone, Copy)]
-pub enum PastStanding {
-    Unknown,
-    Ended,
-    Aborted,
-    Settled(PastCommit),
-    Closed { outcome: Option<Stamp> },
-}
-
-/// A commit that the log tells: its transaction is settled. Only `State::past` makes it, so who holds one may tell of that commit
-/// again.
-#[derive(Clone, Copy)]
-pub struct PastCommit {
-    pub(crate) at: Stamp,
-    pub(crate) parts: Parts,
-}
-
-impl Model for PastCommit {
-    ghost use Rattle.memory.specs.Settled.{SettledCommit};
-
-    ghost Value = { SettledCommit };
-
-    ghost view = { λ c. record { at = c.at; parts = c.parts } };
-
-    ghost inverse = { λ c. record { at = c.at; parts = c.parts } };
-}
-
-impl PastCommit {
-    /// Its timestamp.
-    pub fn at(&self) -> Stamp
-        ensures { result ≡ self.now.at }
-    {
-        self.at
-    }
-
-    /// The shards that took part.
-    pub fn parts(&self) -> Parts
-        ensures { result ≡ self.now.parts }
-    {
-        self.parts
-    }
-
-    /// The end of the transaction, which its session may be told again.
-    pub fn done(&self, txn: TxnId) -> Done
-        ensures { result ≡ record { txn = txn; outcome = Some self.now.at } }
-    {
-        Done::said(txn, Some(self.at))
-    }
 }
 
 impl State {
@@ -204,9 +150,8 @@ impl State {
 
     /// The row of a transaction.
     pub fn row(&self, txn: TxnId) -> Option<&Row>
-        ensures row { MatchOption result (find_row self.now.memory.rows txn ≡ None)
+        ensures { MatchOption result (find_row self.now.memory.rows txn ≡ None)
             (λ row. HasRowIn self.now txn (phase_of row.now)) }
-        ensures turn { IfSome result (λ row. MayTurn self.now.memory.rows txn row.now) }
     {
         self.rows.find(txn)
     }
@@ -223,16 +168,6 @@ impl State {
             Some(row) => by_row(row),
             None => by_records(self.ledger.status(txn), self.ended.has(txn)),
         }
-    }
-
-    /// How a transaction stands that has no row.
-    pub fn past(&self, txn: TxnId) -> PastStanding
-        requires { find_row self.now.memory.rows txn ≡ None }
-        ensures past { StandsAs (standing_in self.now txn) result }
-        ensures ends { may_end self.now.memory.rows txn ≡ true }
-        ensures drops { may_drop self.now.memory.rows txn ≡ true }
-    {
-        past_by(self.ledger.status(txn), self.ended.has(txn))
     }
 
     /// The transaction holds the key.
@@ -257,24 +192,6 @@ impl State {
         self.rows.wounded(alloc, txn, needs)
     }
 
-    /// Whom a request of these locks ends, where it may be known that it ends nobody (`is_undisputed`).
-    pub fn in_way_unless(
-        &self,
-        alloc: Global,
-        txn: TxnId,
-        needs: &[Lock],
-        undisputed: bool,
-    ) -> Result<Ids, Fault>
-        requires { undisputed ≡ true → in_way (start_of self.now) txn needs.now ≡ [] }
-        ensures ids { IfOk result (λ ids. ids ≡ in_way (start_of self.now) txn needs.now) }
-        ensures memory { IfErr result (λ fault. fault ≡ Fault.Memory) }
-    {
-        if undisputed {
-            return Ok(Ids::from_vec(Vec::new(alloc)));
-        }
-        self.in_way(alloc, txn, needs)
-    }
-
     /// Whom a request of exclusive locks of what is written ends, where it may be known that it ends nobody (`is_undisputed`); and
     /// the locks.
     pub fn asks(
@@ -293,7 +210,10 @@ impl State {
         let Ok(needs) = exclusive(alloc, writes) else {
             return Err(Fault::Memory);
         };
-        match self.in_way_unless(alloc, txn, &needs, undisputed) {
+        if undisputed {
+            return Ok((Ids::from_vec(Vec::new(alloc)), needs));
+        }
+        match self.in_way(alloc, txn, &needs) {
             Ok(wounded) => Ok((wounded, needs)),
             Err(fault) => {
                 drop(needs);
@@ -351,31 +271,5 @@ impl State {
     {
         self.rows.laws();
         self.rows.ready()
-    }
-}
-
-// How a transaction stands that has no row, by its recorded status and by whether it was ended.
-fn past_by(status: Option<&Status>, ended: bool) -> PastStanding
-    ensures { StandsAs (standing_by None (meant (option_copied status.entry)) ended) result }
-{
-    match status {
-        Some(Status::Aborted) => PastStanding::Aborted,
-        Some(Status::Settled { at, parts }) => PastStanding::Settled(PastCommit {
-            at: *at,
-            parts: *parts,
-        }),
-        Some(
-            Status::Closed {
-                coordinator: _,
-                outcome,
-            },
-        ) => PastStanding::Closed { outcome: *outcome },
-        Some(Status::Prepared(_)) | Some(Status::Decided(_)) | None => {
-            if ended {
-                PastStanding::Ended
-            } else {
-                PastStanding::Unknown
-            }
-        }
     }
 }

@@ -1,28 +1,18 @@
 -- The plans of a participant by the tests that the code makes.
-use Rattle.std.proofs.Common.{◌≡◌, ℕ, ◌+◌, ◌<◌, ◌≤◌, ◌^◌, nat_le, max, cond, Bool, true, false, List, [], ◌∷◌, Option, Some, None, Ok, Err, Result}
-use Rattle.std.proofs.Common.{refl, sym, ap, subst, ◌∙◌, arith}
+use Rattle.std.proofs.Common.{◌≡◌, ℕ, ◌+◌, ◌<◌, ◌≤◌, ◌^◌, nat_le, max, cond, Bool, true, false, List, [], ◌∷◌, None, Ok, Err}
+use Rattle.std.proofs.Common.{refl, sym, ap, ◌∙◌, arith}
 use Rattle.std.proofs.lemmas.Bool.Decides.{nat_tests}
-use Rattle.std.specs.Option.{is_some}
-use Rattle.units.specs.Ids.{Id, has_id}
+use Rattle.units.specs.Ids.{Id}
 use Rattle.units.specs.Keys.{Bytes}
 use Rattle.units.specs.Locks.{holds, exclusive}
-use Rattle.units.specs.declared.fault.Fault.{Fault}
-use Rattle.units.specs.declared.fault.Fault.TheVariants.{Stranger, RowsFull, TimeSpent}
+use Rattle.units.specs.declared.fault.Fault.TheVariants.{RowsFull, TimeSpent}
 use Rattle.units.specs.declared.lock.Lock.{Lock}
 use Rattle.units.specs.declared.writes.Write.{Write}
-use Rattle.record.specs.Records.{Status, HasAborted, HasSettled, HasClosed}
-use Rattle.record.specs.Facts.{recorded}
 use Rattle.message.specs.declared.message.Prepare.{Prepare}
-use Rattle.protocol.specs.Rows.{HasRow, Idle, WaitsRead, WaitsPrepare, find_row, standing_by, held_by, held_in}
-use Rattle.protocol.specs.Plan.{time_limit, Before, Planned, stands, opens, in_way, is_crowded, replies, idles, ends, puts, roomed}
-use Rattle.protocol.specs.Cells.{still_stand, answers, refuses, to_read, plan_go_on, plan_nudge, plan_read, plan_read_row, plan_read_now}
-use Rattle.protocol.specs.Cells.{plan_prepare, plan_prepare_fresh, plan_prepare_now, plan_promise}
-use Rattle.rows.specs.CodeRows.{phase_of_wait}
-use Rattle.rows.specs.declared.wait.Wait.{Wait}
-use Rattle.memory.specs.Kept.{Kept, start_of, standing_of, IsPlanned}
-use Rattle.memory.specs.declared.plan.Plan.{Plan}
-use Rattle.memory.specs.declared.state.PastStanding.{PastStanding}
-use Rattle.memory.proofs.States.{stands-past}
+use Rattle.protocol.specs.Rows.{Idle, WaitsRead, WaitsPrepare}
+use Rattle.protocol.specs.Plan.{time_limit, Before, Planned, opens, in_way, is_crowded, replies, idles, ends, puts, roomed}
+use Rattle.protocol.specs.Cells.{still_stand, answers, refuses, to_read, plan_go_on, plan_read_row, plan_read_now}
+use Rattle.protocol.specs.Cells.{plan_prepare_fresh, plan_prepare_now, plan_promise}
 use Rattle.participant.specs.Asks.{read_asks, promised_by}
 
 -- ---- reads

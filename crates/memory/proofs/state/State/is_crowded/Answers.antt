@@ -7,7 +7,7 @@ use Rattle.memory.proofs.state.State.is_crowded.Goals as goal
 
 pub returns-then-is_full-clause-crowded : goal.returns-then-is_full-clause-crowded
 returns-then-is_full-clause-crowded c =
-    crowded-search (start_of c.args.self.now) c.args.txn c.row.result c.is_none.result _ c.row.ensures.row c.is_none.ensures
+    crowded-search (start_of c.args.self.now) c.args.txn c.row.result c.is_none.result _ c.row.ensures c.is_none.ensures
     (c.if-is_full.ensures ∙ ap (λ (k : Kept). nat_le most_rows (length k.memory.rows)) c.self.view_is)
 
 pub returns-then-is_full-clause-asks : goal.returns-then-is_full-clause-asks

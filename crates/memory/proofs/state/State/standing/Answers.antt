@@ -10,12 +10,12 @@ use Rattle.memory.proofs.state.State.standing.Goals as goal
 pub returns-in-Some-clause-standing : goal.returns-in-Some-clause-standing
 returns-in-Some-clause-standing c =
     let k = c.args.self.now in
-    stands-row (start_of k) c.args.txn _ c.in-Some.ensures.row ∙ sym (c.by_row.ensures (held_in k.memory.rows c.args.txn))
+    stands-row (start_of k) c.args.txn _ c.in-Some.ensures ∙ sym (c.by_row.ensures (held_in k.memory.rows c.args.txn))
 
 pub returns-in-Some-clause-row : goal.returns-in-Some-clause-row
 returns-in-Some-clause-row c =
     let t = c.args.txn in
-    c.in-Some.ensures.row ∙ ap (row_by t) (sym (c.by_row.ensures (held_in c.args.self.now.memory.rows t)))
+    c.in-Some.ensures ∙ ap (row_by t) (sym (c.by_row.ensures (held_in c.args.self.now.memory.rows t)))
 
 pub returns-in-Some-clause-allows : goal.returns-in-Some-clause-allows
 returns-in-Some-clause-allows c =
@@ -24,7 +24,7 @@ returns-in-Some-clause-allows c =
 pub returns-in-None-clause-standing : goal.returns-in-None-clause-standing
 returns-in-None-clause-standing c =
     let t = c.args.txn in
-    stands-past (start_of c.args.self.now) t _ c.has.result c.in-None.ensures.row
+    stands-past (start_of c.args.self.now) t _ c.has.result c.in-None.ensures
     (ap (λ (k : Kept). recorded k.facts t) (sym c.self.view_is) ∙ sym c.status.ensures)
     (ap (λ (k : Kept). has_id k.memory.ended t) (sym c.self.view_is) ∙ sym c.has.ensures)
     ∙ sym (c.by_records.ensures (held_in c.args.self.now.memory.rows t))
@@ -32,7 +32,7 @@ returns-in-None-clause-standing c =
 pub returns-in-None-clause-row : goal.returns-in-None-clause-row
 returns-in-None-clause-row c =
     let t = c.args.txn in
-    c.in-None.ensures.row ∙ sym (no_row t _ c.has.result)
+    c.in-None.ensures ∙ sym (no_row t _ c.has.result)
     ∙ ap (row_by t) (sym (c.by_records.ensures (held_in c.args.self.now.memory.rows t)))
 
 pub returns-in-None-clause-allows : goal.returns-in-None-clause-allows

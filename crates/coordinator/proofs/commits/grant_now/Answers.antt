@@ -8,7 +8,7 @@ use Rattle.memory.proofs.States.{planned-by, refused-by}
 use Rattle.coordinator.specs.ByMessage.{MakesGranted}
 use Rattle.coordinator.specs.Granted.{IsDecidedAt, IsTooLate}
 use Rattle.coordinator.proofs.Granting.{now_late, now_crowded, now_granted}
-use Rattle.coordinator.proofs.commits.go_on.Goals as goal
+use Rattle.coordinator.proofs.commits.grant_now.Goals as goal
 
 pub returns-in_default-clause-planned : goal.returns-in_default-clause-planned
 returns-in_default-clause-planned c =
