@@ -1,5 +1,5 @@
 -- What a transaction does while its code runs, and what attempts come to.
-use Rattle.std.proofs.Common.{◌≡◌, ◌⊎◌, inl, inr, ℕ, Bool, true, false, true≢false, cond, not, ◌&&◌, nat_le, List, [], ◌∷◌, ◌++◌, length, Result, Ok, Err, refl, ap, sym, ◌∙◌, subst, append_assoc, append-nil, length-append, arith, ◌+◌, ◌<◌, ◌≤◌}
+use Rattle.std.proofs.Common.{◌≡◌, ◌⊎◌, inl, inr, ℕ, Bool, true, false, true≢false, cond, not, ◌&&◌, nat_le, List, [], ◌∷◌, ◌++◌, length, Result, Err, refl, ap, sym, ◌∙◌, subst, length-append, arith, ◌+◌, ◌<◌, ◌≤◌}
 use Rattle.std.specs.List.{FoldsTo, list_all}
 use Rattle.std.specs.Fn.{Mut, CalledAtMut}
 use Rattle.std.specs.Borrow.{MutBor}
@@ -72,18 +72,18 @@ read_on old new is splits txn read sent =
     (subst (λ (l : List Envelope). AreReads old.session.client.txn l) (sym sent.1)
     (all_both (is_read old.session.client.txn) old.traffic.sent sent.0 is.reads sent.2))
 
-written_txn : (w : Write) (c d : Client) → buffers w c ≡ Goes d [] → d.txn ≡ c.txn
+-- a write that is made leaves the session with it
+pub wrote : (w : Write) (c d : Client) → buffers w c ≡ Goes d [] → d ≡ record c { writes = with_write c.writes w }
 unfolding buffers
-written_txn w c d e =
-    ap (λ (x : Client). x.txn)
-    (made ((nat_le 128 (length c.writes) && not (writes_key c.writes w.key), Many) ∷ (is_doomed c, Doomed) ∷ [])
-    (record c { writes = with_write c.writes w }) d [] [] e)
+wrote w c d e =
+    made ((nat_le 128 (length c.writes) && not (writes_key c.writes w.key), Many) ∷ (is_doomed c, Doomed) ∷ [])
+    (record c { writes = with_write c.writes w }) d [] [] e
 
 -- a transaction that has written
 pub wrote_on : (old new : Doing) (w : Write) → IsAtWork old → new.session.splits ≡ old.session.splits
     → buffers w old.session.client ≡ Goes new.session.client [] → new.traffic ≡ old.traffic → IsAtWork new
-wrote_on old new w is splits wrote traffic =
-    at_work old new (Writes w) is splits (written_txn w old.session.client new.session.client wrote) wrote
+wrote_on old new w is splits step traffic =
+    at_work old new (Writes w) is splits (ap (λ (x : Client). x.txn) (wrote w old.session.client new.session.client step)) step
     (subst (λ (t : Traffic). AreReads old.session.client.txn t.sent) (sym traffic) is.reads)
 
 -- a new transaction

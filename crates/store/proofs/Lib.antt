@@ -1,2 +1,3 @@
 mod Attempts
 mod Shown
+mod Written

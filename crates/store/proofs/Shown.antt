@@ -4,11 +4,11 @@ use Rattle.std.specs.Prelude.{if◌then◌else◌, IfOk}
 use mathlib.Core.List.{IsPrefix}
 use Rattle.std.proofs.lemmas.List.{take_at}
 use Rattle.units.specs.Keys.{Bytes}
-use Rattle.units.specs.Looks.{buffer_filled, look_answer_with, look_buffer_with, value_seen}
+use Rattle.units.specs.Looks.{buffer_filled, value_seen}
 use Rattle.units.specs.declared.fault.Fault.{Fault}
 use Rattle.units.specs.declared.fault.Fault.TheVariants.{NotYet, Room, Stopped, Stranger}
 use Rattle.units.specs.declared.line.Seen.{Seen}
-use Rattle.units.specs.declared.line.Seen.TheVariants.{Absent, Value}
+use Rattle.units.specs.declared.line.Seen.TheVariants.{Value}
 use Rattle.board.specs.Board.{safe_on, shown_at}
 use Rattle.board.specs.Look.{is_at_home}
 use Rattle.board.specs.Views.{LookedBy, Viewing}

@@ -113,6 +113,10 @@ pub record Worker : Type 0 where
   pub drawing : Drawing
   pub traffics : List Traffic
 
+-- a client of a run over these splits that has made no attempt
+abbrev pub IsFresh : ℕ → List Bytes → Worker → Type 0
+IsFresh run splits w = (w.run ≡ run) × (w.splits ≡ splits) × (w.traffics ≡ [])
+
 -- the client has drawn one number more
 abbrev pub drew : Worker → ℕ → Worker
 drew w number = record w { drawing = record w.drawing { drawn = w.drawing.drawn ++ number ∷ [] } }

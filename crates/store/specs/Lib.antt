@@ -1,2 +1,3 @@
 pub mod Attempts
 pub mod Views
+pub mod Writing

@@ -116,10 +116,12 @@ impl<'s, R: Wait + time::Clock> Client<'s, R> {
     ) -> Result<Ended, Fault>
         ensures work { IsAtWork transaction.entry }
         ensures ended { (sent : List Envelope) × (heard : List End)
-            × (self.new ≡ record self.old { traffics = self.old.traffics ++ (record {
-            sent = transaction.entry.traffic.sent ++ sent;
-            heard = transaction.entry.traffic.heard ++ heard;
-            }) ∷ [] })
+            × (self.new ≡ record self.old {
+              traffics = self.old.traffics ++ (record {
+                sent = transaction.entry.traffic.sent ++ sent;
+                heard = transaction.entry.traffic.heard ++ heard;
+              }) ∷ [];
+            })
             × Ends transaction.entry.session ran sent heard result }
     {
         let Transaction { mut wire, tx } = transaction;
@@ -129,8 +131,7 @@ impl<'s, R: Wait + time::Clock> Client<'s, R> {
     }
 
     /// A view of the whole store at the present. There is none where the clock gives no reading.
-    pub fn view(&mut self) -> Option<View<'_, 's, R>>
-    {
+    pub fn view(&mut self) -> Option<View<'_, 's, R>> {
         let now = self.clock.now()?;
         Some(View {
             rt: self.rt,

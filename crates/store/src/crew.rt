@@ -1,5 +1,6 @@
 //! What clients are made of.
 ghost use Rattle.std.specs.Prelude.{◌≡◌, All, IfOk, IfSome};
+ghost use Rattle.store.specs.Attempts.{IsFresh};
 
 use crate::clients::Client;
 use crate::shared::Shared;
@@ -29,7 +30,10 @@ impl Crew {
         patience: u32,
     ) -> Option<Client<'s, R>>
         requires { All (λ drawer. drawer.source ≡ shared.now.ids) self.old.drawers.items }
-        ensures { All (λ drawer. drawer.source ≡ shared.now.ids) self.new.drawers.items }
+        ensures drawers { All (λ drawer. drawer.source ≡ shared.now.ids) self.new.drawers.items }
+        ensures client { IfSome result
+            (λ client. IsFresh shared.now.run shared.now.splits client
+            × (client.drawing.source ≡ shared.now.ids)) }
     {
         let inbox = self.inboxes.pop()?;
         let number = self.inboxes.len();
@@ -49,7 +53,8 @@ impl Crew {
     }
 }
 
-/// The clients, as many as there are inboxes.
+/// The clients, as many as there are inboxes. Each is of the run and the splits that they share, draws from their one
+/// source, and has made no attempt.
 pub fn clients_of<'s, R>(
     rt: &'s R,
     shared: &'s Shared,
@@ -58,13 +63,17 @@ pub fn clients_of<'s, R>(
     patience: u32,
 ) -> Result<Vec<Client<'s, R>>, Fault>
     requires { All (λ drawer. drawer.source ≡ shared.now.ids) crew.drawers.items }
+    ensures { IfOk result (λ clients. All (λ client.
+        IsFresh shared.now.run shared.now.splits client
+        × (client.drawing.source ≡ shared.now.ids)) clients.items) }
 {
     let mut crew = crew;
     let mut clients = Vec::new(shared.alloc);
     for _client in 0..crew.inboxes.len() {
-        if let Some(client) = crew.next(rt, shared, clock, patience) {
-            clients.push(client)?;
-        }
+        let Some(client) = crew.next(rt, shared, clock, patience) else {
+            break;
+        };
+        clients.push(client)?;
     }
     drop(crew);
     Ok(clients)

@@ -15,5 +15,5 @@ pub use client::{Ended, Halt};
 pub use clients::Client;
 pub use options::Options;
 pub use store::Store;
-pub use transaction::Transaction;
+pub use transaction::{Transaction, own_writes_are_seen};
 pub use view::View;

@@ -5,6 +5,7 @@ ghost use Rattle.session.specs.Sessions.{Goes, buffers};
 ghost use Rattle.session.specs.Shown.{IsDenied};
 ghost use Rattle.client.specs.Ends.{halt_for};
 ghost use Rattle.client.specs.Readings.{HasRead, seen};
+ghost use Rattle.store.specs.Writing.{WritesAreSeen};
 
 use client::{Halt, Wire};
 use session::{Open, Tx};
@@ -88,3 +89,8 @@ impl<R: Wait + time::Clock> Transaction<'_, R> {
         Ok(())
     }
 }
+
+/// What a transaction has put is what it sees there from then on, and what it sees of other keys stays.
+pub fn own_writes_are_seen()
+    ensures { WritesAreSeen }
+{}

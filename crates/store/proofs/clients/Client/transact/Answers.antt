@@ -1,4 +1,4 @@
-use Rattle.std.proofs.Common.{◌≡◌, ◌<◌, ◌≤◌, [], ◌∷◌, ◌++◌, length, inl, inr, refl, sym, ◌∙◌, rules}
+use Rattle.std.proofs.Common.{◌<◌, [], ◌∷◌, ◌++◌, inr, refl, sym, ◌∙◌, rules}
 use denote.Param.Always.{mut_next}
 use Rattle.store.specs.Attempts.{runs_again}
 use Rattle.store.proofs.Attempts.{aborted_on, attempted, one_longer, one_more, tried_on}

@@ -1,4 +1,4 @@
-use Rattle.std.proofs.Common.{Some, None, refl}
+use Rattle.std.proofs.Common.{None, refl}
 use Rattle.store.proofs.Attempts.{wrote_on}
 use Rattle.store.proofs.transaction.Transaction.erase.Goals as goal
 
