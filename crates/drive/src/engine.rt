@@ -1,8 +1,9 @@
 //! Drives nodes with workers, all on threads.
-ghost use Rattle.std.specs.Prelude.{◌≡◌, ◌≢◌, ◌+◌, ◌*◌, ◌≤◌, IfErr, IfOk, IfSome, IsOk, Err, Some, length};
+ghost use Rattle.std.specs.Prelude.{◌≡◌, ◌≢◌, ◌+◌, ◌*◌, ◌≤◌, ◌⊎◌, IfErr, IfOk, IfSome, IsOk, Err, Some, length};
 ghost use Rattle.std.specs.Thread.{IsSync, IsSend};
 ghost use Rattle.disk.specs.File.{surface};
-ghost use Rattle.drive.specs.Told.{IsUnjudged, refused_for};
+ghost use Rattle.drive.specs.Told.{IsUndriven, IsUnjudged, refused_for};
+ghost use Rattle.workers.specs.Refusals.{IsCutShort};
 ghost use Rattle.workers.specs.Course.{IsDrivable};
 ghost use Rattle.workers.specs.Reports.{IsCounted, IsTally};
 ghost use Rattle.workers.specs.Staffs.{IsStaffOf};
@@ -91,6 +92,7 @@ pub fn drive<
         → result ≡ Err (Fault.BadRequest Reason.Settings) }
     ensures many { length disks.items ≢ length settings.now.splits + 1
         → result ≡ Err (Fault.BadRequest Reason.Settings) }
+    ensures undriven { IfErr result IsUndriven }
 {
     let clock = clock_of(rt, settings);
     drive_by(rt, alloc, settings, disks, clock, gate, watch)
@@ -140,6 +142,7 @@ pub fn drive_by<
         → result ≡ Err (Fault.BadRequest Reason.Settings) }
     ensures many { length disks.items ≢ length settings.now.splits + 1
         → result ≡ Err (Fault.BadRequest Reason.Settings) }
+    ensures undriven { IfErr result IsUndriven }
 {
     match drive_counted(rt, alloc, settings, disks, clock, gate, watch) {
         Ok(driven) => Ok(driven),
@@ -186,6 +189,7 @@ pub fn drive_counted<
         → result ≡ Err (refused_for (Fault.BadRequest Reason.Settings)) }
     ensures many { length disks.items ≢ length settings.now.splits + 1
         → result ≡ Err (refused_for (Fault.BadRequest Reason.Settings)) }
+    ensures undriven { IfErr result (λ none. IsUndriven none.fault) }
 {
     let course = Course::of(settings)?;
     let opened = open_shards(rt, alloc, settings, disks, course.workers as usize)?;
@@ -225,6 +229,7 @@ fn drive_nodes<
     ensures counted { IfErr result (λ none. IfSome none.counts (λ counts.
         (tried counts ≡ course.workers * course.transactions)
         × (counts.looks ≤ tried counts))) }
+    ensures undriven { IfErr result (λ none. IsCutShort none.fault ⊎ IsUnjudged none.fault) }
     ensures unjudged { IfErr result (λ none. IfSome none.counts (λ counts.
         IsUnjudged none.fault)) }
 {
@@ -364,7 +369,9 @@ fn served<'r, 's, 'n, N, R: Wait, C: Clock + Copy>(
     nodes: &'n [N],
     inboxes: Vec<Receiver<Letter>>,
     clock: C,
-) -> Result<Vec<Served<'n, N, Mail<'r, 's, R>, C>>, Fault> {
+) -> Result<Vec<Served<'n, N, Mail<'r, 's, R>, C>>, Fault>
+    ensures { IfErr result (λ fault. fault ≡ Fault.Memory) }
+{
     let mut all = Vec::new(shared.alloc);
     for (node, inbox) in nodes.iter().zip(inboxes) {
         let post = Mail {

@@ -1,6 +1,7 @@
 //! The nodes of a drive.
-ghost use Rattle.std.specs.Prelude.{◌≡◌, ◌≢◌, ◌⊎◌, ◌≤◌, ◌+◌, ◌<◌, ℕ, length, slice_index_or, Err, IfErr, IfOk, IsOk, OnOk};
+ghost use Rattle.std.specs.Prelude.{◌≡◌, ◌≢◌, ◌⊎◌, ◌≤◌, ◌+◌, ◌<◌, ℕ, length, slice_index_or, All, Err, IfErr, IfOk, IsOk, OnOk};
 ghost use Rattle.drive.specs.Setups.{IsSetupOf};
+ghost use Rattle.drive.specs.Told.{IsUnmade, IsUnopened};
 
 use board::Viewer;
 use disk::Disk;
@@ -40,10 +41,12 @@ impl<N: Drop> Opened<N> {
             ≡ length self.old.viewers.by_worker.items }
         ensures nodes { OnOk result
             (length self.new.nodes.items ≡ length self.old.nodes.items + 1) }
+        ensures unopened { IfErr result IsUnopened }
     {
         self.epoch = later(self.epoch, epoch);
         self.nodes.push(node)?;
-        self.viewers.deal(viewers)
+        self.viewers.deal(viewers)?;
+        Ok(())
     }
 }
 
@@ -62,6 +65,7 @@ pub fn open_shards<'r, R: Threads + Wait + Sync, D: Disk + Drop + Send>(
     ensures shards { IsOk result → length disks.items ≡ length settings.now.splits + 1 }
     ensures refused { length disks.items ≢ length settings.now.splits + 1
         → result ≡ Err (Fault.BadRequest Reason.Settings) }
+    ensures unmade { 0 < workers → workers ≤ 64 → IfErr result IsUnmade }
 {
     if disks.len() != settings.splits.as_slice().len() + 1 {
         drop(disks);
@@ -94,6 +98,7 @@ fn told<D: Drop>(
     ensures disks { IfOk result (λ told. length told.items ≡ length disks.items) }
     ensures setups { IfOk result (λ told. (number : ℕ) (d : _) → number < length told.items
         → IsSetupOf settings.now number (slice_index_or told.items number d).1) }
+    ensures unmade { IfErr result IsUnmade }
 {
     let mut told = Vec::new(alloc);
     for disk in disks {
@@ -105,6 +110,7 @@ fn told<D: Drop>(
 
 // The nodes over what the openings of some disks came to, in their order. The first that is refused counts; the cores that are left
 // are stopped then.
+#[tactic(auto, using(crate::proofs::Refusals::of_first, crate::proofs::Refusals::of_rest))]
 fn nodes_over<D: Disk + Drop, H: Wait + Copy>(
     rt: H,
     alloc: Global,
@@ -114,6 +120,9 @@ fn nodes_over<D: Disk + Drop, H: Wait + Copy>(
     ensures viewers { IfOk result (λ opened. length opened.viewers.by_worker.items
         ≡ length viewers.by_worker.items) }
     ensures nodes { IfOk result (λ opened. length opened.nodes.items ≡ length cores.items) }
+    ensures unopened { All (λ core. IfErr core (λ refused. IsUnopened refused.0)) cores.items
+        → 0 < length viewers.by_worker.items → length viewers.by_worker.items ≤ 64
+        → IfErr result IsUnopened }
 {
     let mut cores = cores;
     let mut opened = Opened {
@@ -133,6 +142,7 @@ fn nodes_over<D: Disk + Drop, H: Wait + Copy>(
 }
 
 // The next node, over what the opening of its disk came to.
+#[tactic(auto, using(crate::proofs::Refusals::no_desk))]
 fn add_node<D: Disk + Drop, H: Wait + Copy>(
     opened: &mut Opened<Node<D, H>>,
     rt: H,
@@ -143,6 +153,9 @@ fn add_node<D: Disk + Drop, H: Wait + Copy>(
         ≡ length opened.old.viewers.by_worker.items }
     ensures nodes { OnOk result
         (length opened.new.nodes.items ≡ length opened.old.nodes.items + 1) }
+    ensures unopened { IfErr core (λ refused. IsUnopened refused.0)
+        → 0 < length opened.old.viewers.by_worker.items
+        → length opened.old.viewers.by_worker.items ≤ 64 → IfErr result IsUnopened }
 {
     let core = match core {
         Ok(core) => core,
@@ -179,6 +192,7 @@ fn setup_of(alloc: Global, settings: &Settings, number: usize) -> Result<Setup, 
     ensures setup { IfOk result (IsSetupOf settings.now number) }
     ensures refused { IfErr result (λ fault. (fault ≡ Fault.Memory)
         ⊎ ((fault ≡ Fault.BadRequest Reason.Settings) × (16 ≤ number))) }
+    ensures unmade { IfErr result IsUnmade }
 {
     if number >= 16 {
         return Err(Fault::BadRequest(Reason::Settings));

@@ -4,7 +4,7 @@ ghost use Rattle.units.specs.declared.line.Verdict.{Verdict};
 ghost use Rattle.workers.specs.Course.{IsDrivable};
 ghost use Rattle.workers.specs.Summaries.{counts_text, summary_text};
 ghost use Rattle.workers.specs.declared.summary.Counts.{Counts};
-ghost use Rattle.drive.specs.Told.{AreCounts, IsTold, IsUnjudged};
+ghost use Rattle.drive.specs.Told.{AreCounts, HasNoVerdict, IsTold, IsUndriven, IsUnjudged};
 
 use crate::engine::{self, clock_of, drive_counted};
 use disk::Disk;
@@ -54,6 +54,7 @@ pub fn drive_shards<
         AreCounts (settings.now.workers * settings.now.transactions) (string_bytes text))) }
     ensures unjudged { IfErr result (λ none. IfSome none.text (λ text.
         IsUnjudged none.fault)) }
+    ensures refused { IfErr result (λ none. HasNoVerdict none.fault) }
     ensures limits { IsOk result
         → IsDrivable settings.now.workers settings.now.transactions settings.now.keys }
 {
@@ -77,6 +78,7 @@ pub fn run<
 >(rt: &R, alloc: Global, settings: &Settings, gate: &G) -> Result<String, Fault>
     ensures told { IfOk result (λ text. (verdict : Verdict) × IsTold
         (settings.now.workers * settings.now.transactions) (string_bytes text) verdict) }
+    ensures refused { IfErr result HasNoVerdict }
     ensures limits { IsOk result
         → IsDrivable settings.now.workers settings.now.transactions settings.now.keys }
 {
@@ -98,6 +100,7 @@ fn drive_watched<
         AreCounts (settings.now.workers * settings.now.transactions) (string_bytes text))) }
     ensures unjudged { IfErr result (λ none. IfSome none.text (λ text.
         IsUnjudged none.fault)) }
+    ensures refused { IfErr result (λ none. HasNoVerdict none.fault) }
     ensures limits { IsOk result
         → IsDrivable settings.now.workers settings.now.transactions settings.now.keys }
 {
@@ -133,6 +136,7 @@ fn drive_over<
         AreCounts (settings.now.workers * settings.now.transactions) (string_bytes text))) }
     ensures unjudged { IfErr result (λ none. IfSome none.text (λ text.
         IsUnjudged none.fault)) }
+    ensures undriven { IfErr result (λ none. IsUndriven none.fault) }
     ensures limits { IsOk result
         → IsDrivable settings.now.workers settings.now.transactions settings.now.keys }
 {
@@ -158,7 +162,9 @@ fn drive_over<
 
 // What is printed of a drive.
 fn text_of(alloc: Global, summary: Summary) -> Result<String, Fault>
-    ensures { IfOk result (λ text. string_bytes text ≡ summary_text summary.counts summary.verdict) }
+    ensures text { IfOk result
+        (λ text. string_bytes text ≡ summary_text summary.counts summary.verdict) }
+    ensures memory { IfErr result (λ fault. fault ≡ Fault.Memory) }
 {
     Ok(format!(in alloc; "{summary}")?)
 }

@@ -1,8 +1,8 @@
 //! What a drive is told of its nodes.
+use client::Stop;
 use letters::Gate;
 use progress::Watch;
 use units::ShardNo;
-use workers::Stop;
 
 /// A gate that letters go through; and where a node has stopped, the watch and the workers are told.
 #[derive(Drop)]

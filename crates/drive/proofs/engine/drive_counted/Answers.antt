@@ -1,5 +1,5 @@
 use denote.Param.Send.{sendable}
-use Rattle.std.proofs.Common.{rules, ℕ, ◌≡◌, ◌≤◌, ◌*◌, Option, refl, subst, ◌∙◌}
+use Rattle.std.proofs.Common.{rules, inr, ℕ, ◌≡◌, ◌≤◌, ◌*◌, Option, refl, subst, ◌∙◌}
 use Rattle.std.specs.Prelude.{IfSome}
 use Rattle.node.proofs.node.Node.TheSendSync as crossing
 use Rattle.workers.specs.Reports.{IsTally}
@@ -44,3 +44,6 @@ returns-clause-counted g c =
 
 pub returns-clause-shards : goal.returns-clause-shards
 returns-clause-shards g c = λ done. c.in_ok-opened.ensures.shards refl
+
+pub returns-clause-undriven : goal.returns-clause-undriven
+returns-clause-undriven g c = on_err _ _ c.drive_nodes.result (λ none why. inr why) c.drive_nodes.ensures.undriven

@@ -1,4 +1,4 @@
-use Rattle.std.proofs.Common.{ℕ, ◌≡◌, ◌≤◌, ◌*◌, List, Option, ap, sym, subst, ◌∙◌}
+use Rattle.std.proofs.Common.{inr, ℕ, ◌≡◌, ◌≤◌, ◌*◌, List, Option, ap, sym, subst, ◌∙◌}
 use Rattle.std.specs.Prelude.{IfSome}
 use Rattle.units.specs.declared.line.Line.{Line}
 use Rattle.workers.specs.Reports.{IsTally}
@@ -35,3 +35,6 @@ returns-in-Ok-clause-counted g c =
     on_err _ _ c.outcome.result
     (λ none is. subst (λ (o : Option Counts). IfSome o (λ counts. (tried counts ≡ tries) × (counts.looks ≤ tried counts))) (sym is) (all, few))
     c.outcome.ensures.counted
+
+pub returns-in-Ok-clause-undriven : goal.returns-in-Ok-clause-undriven
+returns-in-Ok-clause-undriven g c = on_err _ _ c.outcome.result (λ none why. inr why) c.outcome.ensures.unjudged

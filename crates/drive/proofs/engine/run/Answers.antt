@@ -1,4 +1,4 @@
-use Rattle.std.proofs.Common.{rules, ◌≡◌, ◌*◌, Result, Err, sym, subst}
+use Rattle.std.proofs.Common.{rules, inl, inr, ◌≡◌, ◌*◌, Result, Err, sym, subst}
 use Rattle.units.specs.declared.fault.Fault.{Fault}
 use Rattle.workers.specs.declared.worker.Report.{Report}
 use Rattle.workers.specs.Reports.{IsCounted}
@@ -12,5 +12,5 @@ returns g c =
     = λ report same is. subst counted (sym same) is in
     elim c.match-served.branch [
       | in-Ok-served w ↦ back w.run_all-report.result (search rules) w.run_all-report.ensures
-      | in-Err-served w ↦ back (Err w.in-Err-served.fault) (search rules) tt
+      | in-Err-served w ↦ back (Err w.in-Err-served.fault) (search rules) (inr (inl w.in-Err-served.ensures))
     ]
