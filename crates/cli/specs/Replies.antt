@@ -2,13 +2,14 @@
 use Rattle.std.specs.Prelude.{◌≡◌, ◌++◌, ℕ, List, [], Some, None, Result, Ok, Err, codes}
 use Rattle.units.specs.declared.fault.Fault.{Fault}
 use Rattle.units.specs.declared.line.Verdict.{Verdict}
-use Rattle.command_line.specs.Commands.{Asked, command_of, help, once_asked, format_asked, play_asked, inspect_asked, drive_asked, dump_asked}
+use Rattle.command_line.specs.Commands.{Asked, command_of, help, once_asked, format_asked, play_asked, inspect_asked, drive_asked, dump_asked, history_asked, get_asked}
 use Rattle.command_line.specs.Lines.{Word}
 use Rattle.command_line.specs.declared.usage.TheConstants.{USAGE}
 use Rattle.once.specs.Replies.{once_reply}
 use Rattle.output.specs.Replies.{Expected}
 use Rattle.output.specs.Verdicts.{exit_status, text_of}
 use Rattle.showing.specs.Dumps.{IsADump}
+use Rattle.showing.specs.HistoryTexts.{IsAHistory, IsAValue}
 
 -- what a command prints, where its words tell it; the rest is told by files
 abbrev pub reply_of : Asked → Expected
@@ -19,6 +20,8 @@ reply_of (play_asked file) = None
 reply_of (inspect_asked lines logs) = None
 reply_of (drive_asked file) = None
 reply_of (dump_asked file) = None
+reply_of (history_asked dir key) = None
+reply_of (get_asked dir key at) = None
 
 -- and what is no command is refused
 abbrev pub reply_or_refusal : Result Asked Fault → Expected
@@ -30,7 +33,7 @@ abbrev pub reply_to : List Word → Expected
 reply_to words = reply_or_refusal (command_of words)
 
 -- what a command has printed that was carried out, whatever files hold: nothing, a verdict that goes with its status, or the
--- lines of a dump
+-- lines of a dump, of a history or of a value
 abbrev pub Tells : Asked → ℕ → List ℕ → Type 0
 Tells help status text = Unit {0}
 Tells (once_asked key value first second) status text = Unit {0}
@@ -40,6 +43,8 @@ Tells (inspect_asked lines logs) status text =
     (verdict : Verdict) × (status ≡ exit_status verdict) × (text ≡ text_of verdict ++ codes "\n")
 Tells (drive_asked file) status text = Unit {0}
 Tells (dump_asked file) status text = (status ≡ 0) × IsADump text
+Tells (history_asked dir key) status text = (status ≡ 0) × IsAHistory text
+Tells (get_asked dir key at) status text = (status ≡ 0) × IsAValue text
 
 -- what the command that some words ask for has printed
 abbrev pub TellsTo : Result Asked Fault → ℕ → List ℕ → Type 0

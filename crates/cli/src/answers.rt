@@ -23,6 +23,7 @@ use crate::dump::dump;
 use crate::format::format;
 use crate::help::help;
 use crate::inspect::inspect;
+use crate::key_commands::{get, history};
 use crate::play::play;
 use command_line::{Command, command};
 use drive::NoVerdict;
@@ -189,5 +190,7 @@ fn run<F: Files, D: Fn(Global, &Settings) -> Result<Driven, NoVerdict>, O: Write
         }
         Command::Drive { file } => (run_drive(alloc, file, system, out), disk),
         Command::Dump { file } => (dump(alloc, file, &system.files, out), disk),
+        Command::History { dir, key } => (history(alloc, dir, &key, &system.files, out), disk),
+        Command::Get { dir, key, at } => (get(alloc, dir, &key, at, &system.files, out), disk),
     }
 }

@@ -8,8 +8,10 @@ mod format;
 mod help;
 mod host;
 mod inspect;
+mod key_commands;
 mod play;
 mod settings_text;
+mod store_folder;
 
 pub use answers::answer;
 pub use command_line::{Command, command};

@@ -13,7 +13,7 @@ use Rattle.clap.specs.declared.parser.matches.SubCommand.{SubCommand}
 use Rattle.units.specs.declared.fault.Fault.{Fault}
 use Rattle.units.specs.declared.fault.Fault.TheVariants.{BadRequest, Memory}
 use Rattle.units.specs.declared.fault.Reason.TheVariants.{Command as command_reason}
-use Rattle.command_line.specs.Lines.{CommandLine, Word, once, format, play, inspect, drive, dump}
+use Rattle.command_line.specs.Lines.{CommandLine, Word, once, format, play, inspect, drive, dump, history, get}
 use Rattle.command_line.specs.Parser.{entry_of, row}
 use Rattle.command_line.specs.Views.{line_view}
 use Rattle.command_line.specs.declared.parsing.Line.{Line}
@@ -66,6 +66,9 @@ once_found (play f) inner key value e1 l1 e2 l2 name rows rk rv ra rb rc rd = ab
 once_found (inspect ls fs) inner key value e1 l1 e2 l2 name rows rk rv ra rb rc rd = absurd (differ _ _ refl refl name)
 once_found (drive f) inner key value e1 l1 e2 l2 name rows rk rv ra rb rc rd = absurd (differ _ _ refl refl name)
 once_found (dump f) inner key value e1 l1 e2 l2 name rows rk rv ra rb rc rd = absurd (differ _ _ refl refl name)
+once_found (history d k) inner key value e1 l1 e2 l2 name rows rk rv ra rb rc rd = absurd (differ _ _ refl refl name)
+once_found (get d k None) inner key value e1 l1 e2 l2 name rows rk rv ra rb rc rd = absurd (differ _ _ refl refl name)
+once_found (get d k (Some at)) inner key value e1 l1 e2 l2 name rows rk rv ra rb rc rd = absurd (differ _ _ refl refl name)
 
 -- the words are those that the argument was given
 abbrev pub ReadsAll : Found → Word → List Word → Type 0
@@ -83,6 +86,54 @@ inspect_found (inspect ls fs) inner lines logs name rows rl rs =
     λ i. inspect (el i) (es i)
 inspect_found (drive f) inner lines logs name rows rl rs = absurd (differ _ _ refl refl name)
 inspect_found (dump f) inner lines logs name rows rl rs = absurd (differ _ _ refl refl name)
+inspect_found (history d k) inner lines logs name rows rl rs = absurd (differ _ _ refl refl name)
+inspect_found (get d k None) inner lines logs name rows rl rs = absurd (differ _ _ refl refl name)
+inspect_found (get d k (Some at)) inner lines logs name rows rl rs = absurd (differ _ _ refl refl name)
+
+pub history_found : (line : CommandLine) (inner : Found) (dir key : Word)
+    → (entry_of line).0 ≡ codes "history" → rows_of inner ≡ (entry_of line).1
+    → Reads inner (codes "dir") dir → Reads inner (codes "key") key → history dir key ≡ line
+history_found (once k v a b c d) inner dir key name rows rd rk = absurd (differ _ _ refl refl name)
+history_found (format f) inner dir key name rows rd rk = absurd (differ _ _ refl refl name)
+history_found (play f) inner dir key name rows rd rk = absurd (differ _ _ refl refl name)
+history_found (inspect ls fs) inner dir key name rows rd rk = absurd (differ _ _ refl refl name)
+history_found (drive f) inner dir key name rows rd rk = absurd (differ _ _ refl refl name)
+history_found (dump f) inner dir key name rows rd rk = absurd (differ _ _ refl refl name)
+history_found (history d w) inner dir key name rows rd rk =
+    let ed = reads_row inner _ (codes "dir") dir d rows rd refl in
+    let ek = reads_row inner _ (codes "key") key w rows rk refl in
+    λ i. history (ed i) (ek i)
+history_found (get d w None) inner dir key name rows rd rk = absurd (differ _ _ refl refl name)
+history_found (get d w (Some at)) inner dir key name rows rd rk = absurd (differ _ _ refl refl name)
+
+-- what the argument was given, or nothing
+abbrev pub MayRead : Found → Word → Option Word → Type 0
+MayRead inner id word = word ≡ first_value inner id
+
+may_row : (inner : Found) (rows : List Row) (id : Word) (word given : Option Word) → rows_of inner ≡ rows → MayRead inner id word
+    → first_of id rows ≡ given → word ≡ given
+may_row inner rows id word given e reads first = reads ∙ first_value-rows inner id ∙ ap (first_of id) e ∙ first
+
+pub get_found : (line : CommandLine) (inner : Found) (dir key : Word) (at : Option Word)
+    → (entry_of line).0 ≡ codes "get" → rows_of inner ≡ (entry_of line).1
+    → Reads inner (codes "dir") dir → Reads inner (codes "key") key → MayRead inner (codes "at") at → get dir key at ≡ line
+get_found (once k v a b c d) inner dir key at name rows rd rk ra = absurd (differ _ _ refl refl name)
+get_found (format f) inner dir key at name rows rd rk ra = absurd (differ _ _ refl refl name)
+get_found (play f) inner dir key at name rows rd rk ra = absurd (differ _ _ refl refl name)
+get_found (inspect ls fs) inner dir key at name rows rd rk ra = absurd (differ _ _ refl refl name)
+get_found (drive f) inner dir key at name rows rd rk ra = absurd (differ _ _ refl refl name)
+get_found (dump f) inner dir key at name rows rd rk ra = absurd (differ _ _ refl refl name)
+get_found (history d w) inner dir key at name rows rd rk ra = absurd (differ _ _ refl refl name)
+get_found (get d w None) inner dir key at name rows rd rk ra =
+    let ed = reads_row inner _ (codes "dir") dir d rows rd refl in
+    let ek = reads_row inner _ (codes "key") key w rows rk refl in
+    let ea = may_row inner _ (codes "at") at None rows ra refl in
+    λ i. get (ed i) (ek i) (ea i)
+get_found (get d w (Some t)) inner dir key at name rows rd rk ra =
+    let ed = reads_row inner _ (codes "dir") dir d rows rd refl in
+    let ek = reads_row inner _ (codes "key") key w rows rk refl in
+    let ea = may_row inner _ (codes "at") at (Some t) rows ra refl in
+    λ i. get (ed i) (ek i) (ea i)
 
 -- a line with this name has one file
 abbrev pub HasFile : (Word → CommandLine) → CommandLine → Type 0
@@ -95,6 +146,9 @@ format_has (play f) e = absurd (differ _ _ refl refl e)
 format_has (inspect ls fs) e = absurd (differ _ _ refl refl e)
 format_has (drive f) e = absurd (differ _ _ refl refl e)
 format_has (dump f) e = absurd (differ _ _ refl refl e)
+format_has (history d k) e = absurd (differ _ _ refl refl e)
+format_has (get d k None) e = absurd (differ _ _ refl refl e)
+format_has (get d k (Some a)) e = absurd (differ _ _ refl refl e)
 
 play_has : (line : CommandLine) → (entry_of line).0 ≡ codes "play" → HasFile play line
 play_has (once k v a b c d) e = absurd (differ _ _ refl refl e)
@@ -103,6 +157,9 @@ play_has (play f) e = (f, refl, refl)
 play_has (inspect ls fs) e = absurd (differ _ _ refl refl e)
 play_has (drive f) e = absurd (differ _ _ refl refl e)
 play_has (dump f) e = absurd (differ _ _ refl refl e)
+play_has (history d k) e = absurd (differ _ _ refl refl e)
+play_has (get d k None) e = absurd (differ _ _ refl refl e)
+play_has (get d k (Some a)) e = absurd (differ _ _ refl refl e)
 
 drive_has : (line : CommandLine) → (entry_of line).0 ≡ codes "drive" → HasFile drive line
 drive_has (once k v a b c d) e = absurd (differ _ _ refl refl e)
@@ -111,6 +168,9 @@ drive_has (play f) e = absurd (differ _ _ refl refl e)
 drive_has (inspect ls fs) e = absurd (differ _ _ refl refl e)
 drive_has (drive f) e = (f, refl, refl)
 drive_has (dump f) e = absurd (differ _ _ refl refl e)
+drive_has (history d k) e = absurd (differ _ _ refl refl e)
+drive_has (get d k None) e = absurd (differ _ _ refl refl e)
+drive_has (get d k (Some a)) e = absurd (differ _ _ refl refl e)
 
 dump_has : (line : CommandLine) → (entry_of line).0 ≡ codes "dump" → HasFile dump line
 dump_has (once k v a b c d) e = absurd (differ _ _ refl refl e)
@@ -119,6 +179,9 @@ dump_has (play f) e = absurd (differ _ _ refl refl e)
 dump_has (inspect ls fs) e = absurd (differ _ _ refl refl e)
 dump_has (drive f) e = absurd (differ _ _ refl refl e)
 dump_has (dump f) e = (f, refl, refl)
+dump_has (history d k) e = absurd (differ _ _ refl refl e)
+dump_has (get d k None) e = absurd (differ _ _ refl refl e)
+dump_has (get d k (Some a)) e = absurd (differ _ _ refl refl e)
 
 file_found : (m : ArgMatches) (make : Word → CommandLine) (name : Word) (line : CommandLine) (inner : Found) (file : Word)
     → ((l : CommandLine) → (entry_of l).0 ≡ name → HasFile make l)
@@ -158,8 +221,9 @@ dump_found m line inner file = file_found m dump (codes "dump") line inner file 
 pub no_name : (m : ArgMatches) (line : CommandLine) → subcommand_rows_of m ≡ Some (entry_of line)
     → (subcommand_name_of m ≡ Some (codes "once") → ⊥) → (subcommand_name_of m ≡ Some (codes "format") → ⊥)
     → (subcommand_name_of m ≡ Some (codes "play") → ⊥) → (subcommand_name_of m ≡ Some (codes "inspect") → ⊥)
-    → (subcommand_name_of m ≡ Some (codes "drive") → ⊥) → (subcommand_name_of m ≡ Some (codes "dump") → ⊥) → ⊥
-no_name m line e a b c d f h =
+    → (subcommand_name_of m ≡ Some (codes "drive") → ⊥) → (subcommand_name_of m ≡ Some (codes "dump") → ⊥)
+    → (subcommand_name_of m ≡ Some (codes "history") → ⊥) → (subcommand_name_of m ≡ Some (codes "get") → ⊥) → ⊥
+no_name m line e a b c d f h p q =
     let named : subcommand_name_of m ≡ Some (entry_of line).0 =
     sym (names_same (out-ArgMatches m).subcommand) ∙ ap (option_map (λ (p : Text × List Row). p.0)) e in
     go line named
@@ -171,6 +235,9 @@ no_name m line e a b c d f h =
     go (inspect _ _) n = d n
     go (drive _) n = f n
     go (dump _) n = h n
+    go (history _ _) n = p n
+    go (get _ _ None) n = q n
+    go (get _ _ (Some _)) n = q n
 
 -- a line that was read is the line
 pub line_read : (r : Result Line Fault) (line : CommandLine) (expected : Option CommandLine) → expected ≡ Some line

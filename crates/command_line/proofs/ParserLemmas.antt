@@ -1,6 +1,6 @@
 -- What the parser is made of, as its commands and arguments are added.
 use Rattle.std.proofs.Common.{◌≡◌, ◌∙◌, ℕ, ◌+◌, ◌<◌, arith, true, false, sym, ap, ap₂, Bor, List, [], ◌∷◌, length, map, suc, take, slice_index_or}
-use Rattle.std.specs.Prelude.{fold, max, IsSomeAnd, Option, Some, None}
+use Rattle.std.specs.Prelude.{fold, max, nat_lt, IsSomeAnd, Option, Some, None}
 use Rattle.std.specs.List.{list_all}
 use Rattle.std.proofs.lemmas.List.{map-append}
 use Rattle.std.proofs.lemmas.List.Sums.{fold-append}
@@ -31,16 +31,16 @@ one_more name words i d small =
     ∙ fold-append (λ app word. with_rule app (needed word)) (new_app name) (map seen (take i words)) (seen (slice_index_or words i d) ∷ [])
 
 -- an argument with its settings
-pub argument : (made must new : Arg) (id : Text) (most least greatest : ℕ) → rule_of made ≡ new_rule id → must ≡ record made { required = true }
+pub argument : (made must new : Arg) (id : Text) (most least greatest : ℕ) → rule_of made ≡ new_rule id → must ≡ record made { required = nat_lt 0 most }
     → new ≡ record must { num_vals = new.num_vals }
     → IsSomeAnd new.num_vals (λ r. r ≡ record { start_inclusive = least; end_inclusive = max greatest least }) → least ≡ 1 → greatest ≡ most
     → rule_of new ≡ needed (id, most)
 argument made must new id most least greatest is required ranged range one several =
     ap rule_of ranged
     ∙ ap (λ (a : Arg). record (rule_of a) { range = new.num_vals }) required
-    ∙ ap (λ (r : Rule). record r { required = true; range = new.num_vals }) is
-    ∙ ap (λ (o : Option ValueRange). record (new_rule id) { required = true; range = o }) (given new.num_vals range)
-    ∙ ap₂ (λ (l g : ℕ). record (new_rule id) { required = true; range = Some (record { start_inclusive = l; end_inclusive = max g l }) }) one several
+    ∙ ap (λ (r : Rule). record r { required = nat_lt 0 most; range = new.num_vals }) is
+    ∙ ap (λ (o : Option ValueRange). record (new_rule id) { required = nat_lt 0 most; range = o }) (given new.num_vals range)
+    ∙ ap₂ (λ (l g : ℕ). record (new_rule id) { required = nat_lt 0 most; range = Some (record { start_inclusive = l; end_inclusive = max g l }) }) one several
   where
     given : (o : Option ValueRange) {v : ValueRange} → IsSomeAnd o (λ r. r ≡ v) → o ≡ Some v
     given None none = absurd none

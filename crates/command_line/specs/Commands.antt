@@ -1,15 +1,15 @@
 -- The commands that the words of a command line ask for.
-use Rattle.std.specs.Prelude.{◌&&◌, List, Option, Some, None, Result, Ok, Err, length, if◌then◌else◌, nat_le}
+use Rattle.std.specs.Prelude.{◌&&◌, ℕ, List, Option, Some, None, Result, Ok, Err, length, if◌then◌else◌, nat_le}
 use Rattle.units.specs.declared.fault.Fault.{Fault}
 use Rattle.units.specs.declared.fault.Fault.TheVariants.{BadRequest}
 use Rattle.units.specs.declared.fault.Reason.TheVariants as reason
 use Rattle.truetime.specs.Interval.{Interval}
-use Rattle.command_line.specs.Lines.{CommandLine, Word, asks_help, line_of, once, format, play, inspect, drive, dump}
-use Rattle.texts.specs.Numbers.{and_then, interval_of}
+use Rattle.command_line.specs.Lines.{CommandLine, Word, asks_help, line_of, once, format, play, inspect, drive, dump, history, get}
+use Rattle.texts.specs.Numbers.{and_then, interval_of, stamp_of}
 
 -- what words may ask for: the usage; a write of a value to a key at the readings of its commit and of its settling; a new log
 -- file; the report of a schedule in a file; the verdict on a file of lines and some logs; a drive by settings in a file; what a
--- log in a file holds
+-- log in a file holds; what the log of a store in a folder says of a key; the value of a key there, at a timestamp or the latest
 pub data Asked : Type 0 where
   help : Asked
   once_asked : Word → Word → Interval → Interval → Asked
@@ -18,6 +18,8 @@ pub data Asked : Type 0 where
   inspect_asked : Word → List Word → Asked
   drive_asked : Word → Asked
   dump_asked : Word → Asked
+  history_asked : Word → Word → Asked
+  get_asked : Word → Word → Option ℕ → Asked
 
 -- a key is the bytes of its word
 abbrev pub key_of : Word → Result Word Fault
@@ -33,6 +35,19 @@ once_of_words key value e1 l1 e2 l2 =
     and_then (key_of key) (λ k. and_then (value_of value) (λ v. and_then (interval_of e1 l1) (λ first. and_then (interval_of e2 l2) (λ second.
     Ok (once_asked k v first second)))))
 
+-- a timestamp, where there is a word for it
+abbrev pub at_of : Option Word → Result (Option ℕ) Fault
+at_of None = Ok None
+at_of (Some word) = and_then (stamp_of word) (λ at. Ok (Some at))
+
+-- the words of `history`: a folder and a key
+abbrev pub history_of_words : Word → Word → Result Asked Fault
+history_of_words dir key = and_then (key_of key) (λ k. Ok (history_asked dir k))
+
+-- the words of `get`: a folder, a key and a timestamp
+abbrev pub get_of_words : Word → Word → Option Word → Result Asked Fault
+get_of_words dir key at = and_then (key_of key) (λ k. and_then (at_of at) (λ s. Ok (get_asked dir k s)))
+
 -- the command of a line
 abbrev pub command_of_line : CommandLine → Result Asked Fault
 command_of_line (once key value e1 l1 e2 l2) = once_of_words key value e1 l1 e2 l2
@@ -41,6 +56,8 @@ command_of_line (play file) = Ok (play_asked file)
 command_of_line (inspect lines logs) = Ok (inspect_asked lines logs)
 command_of_line (drive file) = Ok (drive_asked file)
 command_of_line (dump file) = Ok (dump_asked file)
+command_of_line (history dir key) = history_of_words dir key
+command_of_line (get dir key at) = get_of_words dir key at
 
 -- and what is no line is refused
 abbrev pub command_or_refusal : Option CommandLine → Result Asked Fault

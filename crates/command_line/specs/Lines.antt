@@ -16,6 +16,8 @@ pub data CommandLine : Type 0 where
   inspect : Word → List Word → CommandLine
   drive : Word → CommandLine
   dump : Word → CommandLine
+  history : Word → Word → CommandLine
+  get : Word → Word → Option Word → CommandLine
 
 -- the word does not begin with `-` (45)
 abbrev pub is_plain : Word → Bool
@@ -57,6 +59,17 @@ abbrev pub inspect_of : List Word → Option CommandLine
 inspect_of (lines ∷ log ∷ logs) = if nat_lt 16 (length (log ∷ logs)) then None else Some (inspect lines (log ∷ logs))
 inspect_of _ = None
 
+-- DIR KEY
+abbrev pub history_of : List Word → Option CommandLine
+history_of (dir ∷ key ∷ []) = Some (history dir key)
+history_of _ = None
+
+-- DIR KEY, and AT or nothing
+abbrev pub get_of : List Word → Option CommandLine
+get_of (dir ∷ key ∷ []) = Some (get dir key None)
+get_of (dir ∷ key ∷ at ∷ []) = Some (get dir key (Some at))
+get_of _ = None
+
 -- the command line that the words are
 abbrev pub line_of : List Word → Option CommandLine
 line_of [] = None
@@ -67,4 +80,6 @@ line_of (name ∷ rest) =
     else (if bytes_eq (codes "inspect") name then inspect_of rest
     else (if bytes_eq (codes "drive") name then one_file drive rest
     else (if bytes_eq (codes "dump") name then one_file dump rest
-    else None)))))
+    else (if bytes_eq (codes "history") name then history_of rest
+    else (if bytes_eq (codes "get") name then get_of rest
+    else None)))))))

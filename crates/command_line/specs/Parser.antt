@@ -1,14 +1,14 @@
 -- What the parser of command lines is made of, and what it finds in a line.
-use Rattle.std.specs.Prelude.{ℕ, List, [], ◌∷◌, Some, None, true, codes, fold, max}
+use Rattle.std.specs.Prelude.{ℕ, List, [], ◌∷◌, Some, None, true, codes, fold, max, nat_lt}
 use Rattle.clap.specs.Words.{App, Row, Rule, Shape, Text, new_app, new_rule, with_rule, with_subcommand}
 use Rattle.clap.specs.declared.parser.matches.ValueSource.TheVariants.{CommandLine as given}
 use Rattle.clap.specs.declared.builder.value_parser.Reading.TheVariants.{AsWritten}
-use Rattle.command_line.specs.Lines.{CommandLine, Word, once, format, play, inspect, drive, dump}
+use Rattle.command_line.specs.Lines.{CommandLine, Word, once, format, play, inspect, drive, dump, history, get}
 
--- an argument of which 1 to `most` words have to be given
+-- an argument of which 1 to `most` words have to be given, or one that may be left out where that is 0
 abbrev pub needed : Text × ℕ → Rule
 needed word = record (new_rule word.0) {
-  required = true;
+  required = nat_lt 0 word.1;
   range = Some (record { start_inclusive = 1; end_inclusive = max word.1 1 });
 }
 
@@ -29,10 +29,18 @@ file_app name = command_app name ((codes "file", 1) ∷ [])
 abbrev pub inspect_app : App
 inspect_app = command_app (codes "inspect") ((codes "lines", 1) ∷ (codes "logs", 16) ∷ [])
 
+-- DIR KEY
+abbrev pub history_app : App
+history_app = command_app (codes "history") ((codes "dir", 1) ∷ (codes "key", 1) ∷ [])
+
+-- DIR KEY, and AT or nothing
+abbrev pub get_app : App
+get_app = command_app (codes "get") ((codes "dir", 1) ∷ (codes "key", 1) ∷ (codes "at", 0) ∷ [])
+
 -- the commands
 abbrev pub shapes : List Shape
 shapes = once_app.top ∷ (file_app (codes "format")).top ∷ (file_app (codes "play")).top ∷ inspect_app.top ∷ (file_app (codes "drive")).top
-    ∷ (file_app (codes "dump")).top ∷ []
+    ∷ (file_app (codes "dump")).top ∷ history_app.top ∷ get_app.top ∷ []
 
 -- the program: one command is wanted
 abbrev pub bare_app : App
@@ -74,3 +82,6 @@ entry_of (play file) = (codes "play", row (codes "file") file ∷ [])
 entry_of (inspect lines logs) = (codes "inspect", row (codes "lines") lines ∷ row_with (codes "logs") logs ∷ [])
 entry_of (drive file) = (codes "drive", row (codes "file") file ∷ [])
 entry_of (dump file) = (codes "dump", row (codes "file") file ∷ [])
+entry_of (history dir key) = (codes "history", row (codes "dir") dir ∷ row (codes "key") key ∷ [])
+entry_of (get dir key None) = (codes "get", row (codes "dir") dir ∷ row (codes "key") key ∷ [])
+entry_of (get dir key (Some at)) = (codes "get", row (codes "dir") dir ∷ row (codes "key") key ∷ row (codes "at") at ∷ [])

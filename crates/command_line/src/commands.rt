@@ -1,6 +1,6 @@
 //! What a command line asks for.
 use truetime::Reading;
-use units::{Key, Value};
+use units::{Key, Stamp, Value};
 
 /// A command.
 #[derive(Drop)]
@@ -34,5 +34,16 @@ pub enum Command<'a> {
     /// What the log in a file holds is told.
     Dump {
         file: &'a str,
+    },
+    /// What the log of the store in a folder says of a key is told.
+    History {
+        dir: &'a str,
+        key: Key,
+    },
+    /// The value of a key in the store in a folder is told, at a timestamp or by the latest version.
+    Get {
+        dir: &'a str,
+        key: Key,
+        at: Option<Stamp>,
     },
 }

@@ -13,11 +13,11 @@ use std::alloc::{AllocError, Global};
 use units::{Fault, Reason};
 
 /// A command as the parser is told it: its name, and its arguments, each with how many words it
-/// takes at most.
+/// takes at most. One that takes 0 is one word that may be left out.
 type Form<'a> = (&'a str, &'a [(&'a str, usize)]);
 
 /// The program's commands.
-static COMMANDS: [Form<'static>; 6] = [
+static COMMANDS: [Form<'static>; 8] = [
     (
         "once",
         &[
@@ -34,6 +34,8 @@ static COMMANDS: [Form<'static>; 6] = [
     ("inspect", &[("lines", 1), ("logs", 16)]),
     ("drive", &[("file", 1)]),
     ("dump", &[("file", 1)]),
+    ("history", &[("dir", 1), ("key", 1)]),
+    ("get", &[("dir", 1), ("key", 1), ("at", 0)]),
 ];
 
 /// A command, with its words.
@@ -62,6 +64,15 @@ pub enum Line<'a> {
     },
     Dump {
         file: &'a str,
+    },
+    History {
+        dir: &'a str,
+        key: &'a str,
+    },
+    Get {
+        dir: &'a str,
+        key: &'a str,
+        at: Option<&'a str>,
     },
 }
 
@@ -113,6 +124,12 @@ fn found_line<'a>(alloc: Global, matches: &ArgMatches<'a>) -> Result<Line<'a>, F
             file: word(given, "file"),
         });
     }
+    if let Some(given) = matches.subcommand_matches("history") {
+        return Ok(history_line(given));
+    }
+    if let Some(given) = matches.subcommand_matches("get") {
+        return Ok(get_line(given));
+    }
     Err(Fault::BadRequest(Reason::Command))
 }
 
@@ -128,6 +145,29 @@ fn once_line<'a>(given: &ArgMatches<'a>) -> Line<'a>
         first_latest: word(given, "l1"),
         second_earliest: word(given, "e2"),
         second_latest: word(given, "l2"),
+    }
+}
+
+// The words of `history`.
+fn history_line<'a>(given: &ArgMatches<'a>) -> Line<'a>
+    ensures { (line : CommandLine) → (entry_of line).0 ≡ codes "history"
+        → rows_of (found_of given.now) ≡ (entry_of line).1 → line_view result ≡ line }
+{
+    Line::History {
+        dir: word(given, "dir"),
+        key: word(given, "key"),
+    }
+}
+
+// The words of `get`.
+fn get_line<'a>(given: &ArgMatches<'a>) -> Line<'a>
+    ensures { (line : CommandLine) → (entry_of line).0 ≡ codes "get"
+        → rows_of (found_of given.now) ≡ (entry_of line).1 → line_view result ≡ line }
+{
+    Line::Get {
+        dir: word(given, "dir"),
+        key: word(given, "key"),
+        at: given.get_str("at"),
     }
 }
 
@@ -193,7 +233,7 @@ fn add_commands<'a>(
     Ok(())
 }
 
-// Adds a command to others. Each of its arguments takes a word at least, and so many at most.
+// Adds a command to others. Each of its arguments takes a word at least, and so many at most; one that takes 0 may be left out.
 fn add_command<'a>(
     alloc: Global,
     commands: &mut Vec<Command<'a>>,
@@ -205,7 +245,7 @@ fn add_command<'a>(
 {
     let mut command = Command::new(alloc, name);
     for (id, most) in words {
-        command = command.arg(Arg::new(alloc, *id).required(true).num_args(1..=*most))?;
+        command = command.arg(Arg::new(alloc, *id).required(*most > 0).num_args(1..=*most))?;
     }
     commands.push(command)?;
     Ok(())

@@ -47,6 +47,16 @@ dump LOG
     last 'closed at' with the offset of the closed gate; or 'torn at', where
     bytes of a record that was not finished stand there. It writes to no file.
 
+history DIR KEY
+    Prints each version of KEY in the store whose logs are in DIR: its timestamp,
+    its transaction, and '=' with its value, or 'none' where it was erased. A
+    write behind which 'decided' or 'in doubt' stands is no version: its
+    transaction has no outcome in the log. It writes to no file.
+
+get DIR KEY [AT]
+    Prints the value of KEY at the timestamp AT, or by the latest version, as
+    '=' and the value, or 'none'. It writes to no file.
+
 status: 0, or 1 where it was too early or the verdict is no, or 2 at a fault,
 which is one line on standard error. After a write that fails nothing more is
 printed (2).

@@ -1,17 +1,17 @@
 //! Commands, with their words read.
-ghost use Rattle.std.specs.Prelude.{◌≡◌, ◌⊎◌, Ok, Err, MatchResult, map, true};
+ghost use Rattle.std.specs.Prelude.{◌≡◌, ◌⊎◌, Ok, Err, MatchResult, map, option_map, true};
 ghost use Rattle.units.specs.declared.fault.Fault.TheVariants.{Memory};
 ghost use Rattle.command_line.specs.Lines.{are_covered, are_plain, asks_help, line_of};
 ghost use Rattle.command_line.specs.declared.commands.Command.TheVariants.{Help};
-ghost use Rattle.command_line.specs.Commands.{command_of, command_or_refusal, key_of, once_of_words, value_of};
+ghost use Rattle.command_line.specs.Commands.{at_of, command_of, command_or_refusal, get_of_words, history_of_words, key_of, once_of_words, value_of};
 ghost use Rattle.command_line.specs.Views.{asked_for};
 
 use crate::Command;
 use crate::parsing::{Line, read_line};
 use crate::usage::asks_help;
 use std::alloc::Global;
-use texts::reading;
-use units::{Fault, Key, Value};
+use texts::{reading, stamp};
+use units::{Fault, Key, Stamp, Value};
 
 /// The command that the words ask for: help, where they do, and else the first bad word counts. A
 /// key, a value or a timestamp out of its limits is refused by its name, and all else that is no
@@ -54,6 +54,8 @@ fn read_command<'a>(alloc: Global, words: &'a [&'a str]) -> Result<Command<'a>, 
         Line::Inspect { lines, logs } => Ok(Command::Inspect { lines, logs }),
         Line::Drive { file } => Ok(Command::Drive { file }),
         Line::Dump { file } => Ok(Command::Dump { file }),
+        Line::History { dir, key } => read_history(dir, key),
+        Line::Get { dir, key, at } => read_get(dir, key, at),
     }
 }
 
@@ -81,6 +83,40 @@ fn read_once<'a>(
         first,
         second,
     })
+}
+
+// The words of `history`.
+fn read_history<'a>(dir: &'a str, key: &str) -> Result<Command<'a>, Fault>
+    ensures { MatchResult result
+        (λ c. history_of_words dir.entry.now key.now ≡ Ok (asked_for c))
+        (λ f. history_of_words dir.entry.now key.now ≡ Err f) }
+{
+    let key = read_key(key)?;
+    Ok(Command::History { dir, key })
+}
+
+// The words of `get`.
+fn read_get<'a>(dir: &'a str, key: &str, at: Option<&str>) -> Result<Command<'a>, Fault>
+    ensures { MatchResult result
+        (λ c. get_of_words dir.entry.now key.now (option_map (λ w. w.now) at.entry)
+        ≡ Ok (asked_for c))
+        (λ f. get_of_words dir.entry.now key.now (option_map (λ w. w.now) at.entry) ≡ Err f) }
+{
+    let key = read_key(key)?;
+    let at = read_at(at)?;
+    Ok(Command::Get { dir, key, at })
+}
+
+// A timestamp, where there is a word for it.
+fn read_at(word: Option<&str>) -> Result<Option<Stamp>, Fault>
+    ensures { MatchResult result
+        (λ at. at_of (option_map (λ w. w.now) word.entry) ≡ Ok at)
+        (λ f. at_of (option_map (λ w. w.now) word.entry) ≡ Err f) }
+{
+    match word {
+        Some(word) => Ok(Some(stamp(word)?)),
+        None => Ok(None),
+    }
 }
 
 fn read_key(word: &str) -> Result<Key, Fault>

@@ -1,6 +1,7 @@
 //! What the program prints.
 use crate::asked::{ASKED, FILES};
 use crate::given::{AMPLE, Asked, Writes, comes_to};
+use crate::of_keys;
 use cli::{Command, command};
 use std::alloc::Global;
 use units::{Fault, Reason};
@@ -185,6 +186,11 @@ pub fn wrong_answer(alloc: Global) -> &'static str {
     }
     for row in &ASKED {
         if !comes_to(alloc, &FILES, row, AMPLE) {
+            return row.text;
+        }
+    }
+    for row in &of_keys::ASKED {
+        if !comes_to(alloc, &of_keys::FILES, row, AMPLE) {
             return row.text;
         }
     }

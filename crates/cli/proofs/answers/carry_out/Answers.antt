@@ -3,7 +3,7 @@ use Rattle.std.specs.Prelude.{IfErr}
 use Rattle.std.proofs.lemmas.Result.{IfOk-weaker}
 use Rattle.units.specs.declared.fault.Fault.{Fault}
 use Rattle.units.specs.declared.fault.Fault.TheVariants.{Memory}
-use Rattle.command_line.specs.Commands.{Asked, command_of, help, once_asked, format_asked, play_asked, inspect_asked, drive_asked, dump_asked}
+use Rattle.command_line.specs.Commands.{Asked, command_of, help, once_asked, format_asked, play_asked, inspect_asked, drive_asked, dump_asked, history_asked, get_asked}
 use Rattle.command_line.specs.Lines.{Word, asks_help}
 use Rattle.command_line.specs.Views.{asked_for}
 use Rattle.cli.specs.Faults.{FailsAs, MayRefuse, MayRefuseTo}
@@ -33,6 +33,8 @@ any_asked (play_asked file) = inl (inl refl)
 any_asked (inspect_asked lines logs) = inl (inl refl)
 any_asked (drive_asked file) = tt
 any_asked (dump_asked file) = inl refl
+any_asked (history_asked dir key) = inl refl
+any_asked (get_asked dir key at) = inl refl
 
 any : (asked : Result Asked Fault) → MayRefuseTo asked Memory
 any (Ok asked) = any_asked asked
