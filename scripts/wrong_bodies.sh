@@ -1,8 +1,9 @@
 #!/bin/sh
 # Tries the wrong bodies of wrong-bodies/CRATE/*.edit, on a copy of the repository in which they stand in the place of the gate's: the
 # prover must refuse each of them. To be run when a crate's contracts change. With names of crates, as `scripts/wrong_bodies.sh units memory`,
-# only theirs are tried; as many checks at a time as there are processors, or JOBS. What the gate or an earlier run passed on this machine
-# is not proved again, where the kit keeps that; so behind a gate all of them take 15 to 20 minutes on four processors.
+# only theirs are tried; as many checks at a time as there are processors, or JOBS, where the kit's gate takes names. Libraries that a check of
+# this clone has kept, or the gate on this machine, where the kit keeps that, are not proved again; so all of them take 15 to 20 minutes on four
+# processors.
 set -eu
 root=$(dirname "$(dirname "$(readlink -f "$0")")")
 export RT_JOBS="${JOBS:-$(nproc)}"
@@ -13,6 +14,13 @@ if [ $# -eq 0 ]; then
     set -- $(cd "$root/wrong-bodies" && ls)
 fi
 (cd "$root" && tar -cf - --exclude='crates/*/out' --exclude='crates/*/must-fail' crates crates.txt HANDLES) | tar -xf - -C "$copy"
+# What this clone's own checks kept of libraries goes along: the kit goes by the sums of their sources, and proves anew what has changed.
+for kept in "$root"/crates/*/out/rlib; do
+    [ -d "$kept" ] || continue
+    to=$copy/crates/$(basename "$(dirname "$(dirname "$kept")")")/out
+    mkdir -p "$to"
+    cp -al "$kept" "$to" 2>/dev/null || cp -a "$kept" "$to"
+done
 for name; do
     if ! ls "$root/wrong-bodies/$name"/*.edit >/dev/null 2>&1; then
         echo "wrong bodies: there are none of a crate '$name'" >&2
