@@ -18,30 +18,30 @@ use Rattle.protocol.specs.Cells.{plan_settle, plan_vote, tells}
 use Rattle.memory.specs.Kept.{Kept, start_of, IsPlanned}
 use Rattle.memory.specs.Plans.{counted}
 use Rattle.memory.specs.Standings.{MakesPlan}
-use Rattle.memory.specs.declared.plan.Plan.{Plan}
+use Rattle.memory.specs.declared.plan.Step.{Step}
 use Rattle.coordinator.specs.Granted.{collects, decides, granted_by}
 
-abbrev pub PlansCommit : Kept → ℕ → Commit → Standing → Result Plan Fault → Type 0
+abbrev pub PlansCommit : Kept → ℕ → Commit → Standing → Result Step Fault → Type 0
 PlansCommit k latest m standing result = IsPlanned k (plan_commit (start_of k) latest m standing) result
 
 -- the reads still stand
-abbrev pub PlansCommitNow : Kept → ℕ → Commit → Result Plan Fault → Type 0
+abbrev pub PlansCommitNow : Kept → ℕ → Commit → Result Step Fault → Type 0
 PlansCommitNow k latest m result = IsPlanned k (plan_commit_now (start_of k) latest m) result
 
-abbrev pub PlansAsk : Kept → Ask → Standing → Result Plan Fault → Type 0
+abbrev pub PlansAsk : Kept → Ask → Standing → Result Step Fault → Type 0
 PlansAsk k m standing result = IsPlanned k (plan_ask (start_of k) m.from m.txn standing) result
 
-abbrev pub PlansSettle : Kept → ℕ → Id → Standing → Result Plan Fault → Type 0
+abbrev pub PlansSettle : Kept → ℕ → Id → Standing → Result Step Fault → Type 0
 PlansSettle k earliest t standing result = IsPlanned k (plan_settle (start_of k) earliest t standing) result
 
 -- a decided transaction is settled: its session and the other parts are told
-abbrev pub MakesSettled : Kept → Id → ℕ → List ℕ → Result Plan Fault → Type 0
+abbrev pub MakesSettled : Kept → Id → ℕ → List ℕ → Result Step Fault → Type 0
 MakesSettled k t at ps result =
     MakesPlan k
     (drops t (Record.Outcome t (Some at)) k.memory.last (done_to t (Some at) ∷ tells (start_of k) t (Some at) (other_parts k.setup.shard ps)))
     result
 
-abbrev pub PlansVote : Kept → Vote → Standing → Result Plan Fault → Type 0
+abbrev pub PlansVote : Kept → Vote → Standing → Result Step Fault → Type 0
 PlansVote k m standing result = IsPlanned k (plan_vote (start_of k) m.from m.txn m.vote standing) result
 
 -- a vote for a transaction that collects votes
@@ -49,7 +49,7 @@ abbrev pub vote_counted : Before → ℕ → Id → Option ℕ → CollectingSta
 vote_counted b n t vote s = plan_count b n t vote s.request.latest s.request.parts s.request.reads s.request.writes s.votes
 
 -- such a vote, which counts where it is of a part
-abbrev pub PlansPartVote : Kept → Vote → CollectingState → Result Plan Fault → Type 0
+abbrev pub PlansPartVote : Kept → Vote → CollectingState → Result Step Fault → Type 0
 PlansPartVote k m s result = IsPlanned k (of_part (start_of k) m.from s.request.parts (vote_counted (start_of k) m.from m.txn m.vote s)) result
 
 -- the timestamp of a decision, once one more vote is counted
@@ -57,22 +57,22 @@ abbrev pub stamp_with_vote : Kept → CollectingState → CastVote → ℕ
 stamp_with_vote k s v = commit_stamp k.memory.last s.request.latest (with_vote v.shard v.at s.votes)
 
 -- one more vote is kept
-abbrev pub MakesVoteKept : Kept → Id → CastVote → Result Plan Fault → Type 0
+abbrev pub MakesVoteKept : Kept → Id → CastVote → Result Step Fault → Type 0
 MakesVoteKept k t v result = MakesPlan k (puts (start_of k) [] t [] (counted v.shard v.at (find_row k.memory.rows t)) None k.memory.last []) result
 
 -- a request whose locks are granted
-abbrev pub PlansGranted : Kept → Id → CommitRequest → Result Plan Fault → Type 0
+abbrev pub PlansGranted : Kept → Id → CommitRequest → Result Step Fault → Type 0
 PlansGranted k t r result =
     IsPlanned k (plan_commit_granted (start_of k) [] t r.latest r.parts r.reads r.writes (other_parts k.setup.shard r.parts)) result
 
 -- the decision of a request, at a timestamp
-abbrev pub MakesDecision : Kept → List Id → Id → List Lock → ℕ → CommitRequest → Result Plan Fault → Type 0
+abbrev pub MakesDecision : Kept → List Id → Id → List Lock → ℕ → CommitRequest → Result Step Fault → Type 0
 MakesDecision k ended t needs at r result = MakesPlan k (decides (start_of k) ended t needs at r.parts r.reads r.writes) result
 
 -- the votes of a request are collected
-abbrev pub MakesCollecting : Kept → List Id → Id → CommitRequest → Result Plan Fault → Type 0
+abbrev pub MakesCollecting : Kept → List Id → Id → CommitRequest → Result Step Fault → Type 0
 MakesCollecting k ended t r result = MakesPlan k (collects (start_of k) ended t r.latest r.parts r.reads r.writes) result
 
 -- what a request whose locks are granted leads to
-abbrev pub MakesGranted : Kept → List Id → Id → Option ℕ → CommitRequest → Result Plan Fault → Type 0
+abbrev pub MakesGranted : Kept → List Id → Id → Option ℕ → CommitRequest → Result Step Fault → Type 0
 MakesGranted k ended t at r result = MakesPlan k (granted_by (start_of k) ended t at r) result

@@ -11,7 +11,7 @@ ghost use Rattle.memory.specs.Standings.{standing_in, opens_writes, EndsNobody, 
 ghost use Rattle.coordinator.specs.Granted.{request_of, waits_commit, IsDecidedAt, IsTooLate};
 ghost use Rattle.coordinator.specs.ByMessage.{PlansCommit, PlansCommitNow, PlansGranted, MakesCollecting, MakesDecision, MakesGranted};
 
-use memory::{Change, Plan, Request, Standing, State, done_to, reads_stand};
+use memory::{Change, Request, Standing, State, Step, done_to, reads_stand};
 use message::{Commit, Done};
 use record::{Committed, Record};
 use rows::{CommitRequest, Gathering, Wait};
@@ -27,7 +27,7 @@ pub fn on_commit(
     alloc: Global,
     now: &Reading,
     commit: &Commit,
-) -> Result<Plan, Fault>
+) -> Result<Step, Fault>
     ensures planned { PlansCommit state.now now.now.latest commit.now
         (standing_in state.now commit.now.txn) result }
     ensures fit { IfOk result (IsFit state.now) }
@@ -49,7 +49,7 @@ pub fn on_commit(
 }
 
 // Where the reads do not stand any more, it is aborted.
-fn commit_fresh(state: &State, alloc: Global, now: &Reading, commit: &Commit) -> Result<Plan, Fault>
+fn commit_fresh(state: &State, alloc: Global, now: &Reading, commit: &Commit) -> Result<Step, Fault>
     requires ends { may_end state.now.memory.rows commit.now.txn ≡ true }
     requires drops { may_drop state.now.memory.rows commit.now.txn ≡ true }
     ensures planned { IsPlanned state.now
@@ -70,7 +70,7 @@ fn commit_in_time(
     alloc: Global,
     now: &Reading,
     commit: &Commit,
-) -> Result<Plan, Fault>
+) -> Result<Step, Fault>
     requires ends { may_end state.now.memory.rows commit.now.txn ≡ true }
     ensures planned { IsPlanned state.now
         (timed (now.now.latest + 1)
@@ -95,7 +95,7 @@ fn grant_now(
     now: &Reading,
     commit: &Commit,
     undisputed: bool,
-) -> Result<Plan, Fault>
+) -> Result<Step, Fault>
     requires nobody { undisputed ≡ true → EndsNobody state.now commit.now.txn commit.now.writes }
     requires opens { opens_writes state.now commit.now.txn commit.now.writes ≡ true }
     requires ends { may_end state.now.memory.rows commit.now.txn ≡ true }
@@ -115,7 +115,7 @@ fn grant_now(
 }
 
 // The transaction waits with its commit, where there is room for the row. Whoever is in its way and may be ended is ended.
-fn wait(state: &State, alloc: Global, now: &Reading, commit: &Commit) -> Result<Plan, Fault>
+fn wait(state: &State, alloc: Global, now: &Reading, commit: &Commit) -> Result<Step, Fault>
     requires shut { opens_writes state.now commit.now.txn commit.now.writes ≡ false }
     requires ends { may_end state.now.memory.rows commit.now.txn ≡ true }
     ensures planned { PlansCommitNow state.now now.now.latest commit.now result }
@@ -145,7 +145,7 @@ pub fn resume_commit(
     alloc: Global,
     txn: TxnId,
     request: &CommitRequest,
-) -> Result<Plan, Fault>
+) -> Result<Step, Fault>
     requires { Asks state.now.memory.rows txn [] (exclusive request.now.writes) true }
     ensures planned { PlansGranted state.now txn request.now result }
     ensures fit { IfOk result (IsFit state.now) }
@@ -183,7 +183,7 @@ fn granted(
     at: Option<Stamp>,
     request: CommitRequest,
     undisputed: bool,
-) -> Result<Plan, Fault>
+) -> Result<Step, Fault>
     requires nobody { undisputed ≡ true → EndsNobody state.now txn request.writes }
     requires asks { Asks state.now.memory.rows txn
         (in_way (start_of state.now) txn (exclusive request.writes)) (exclusive request.writes) true }
@@ -221,7 +221,7 @@ fn decide(
     txn: TxnId,
     at: Stamp,
     request: CommitRequest,
-) -> Result<Plan, Fault>
+) -> Result<Step, Fault>
     requires { Asks state.now.memory.rows txn wounded needs.items true }
     ensures plan { MakesDecision state.now wounded txn needs.items at request result }
     ensures fit { IfOk result (IsFit state.now) }
@@ -258,7 +258,7 @@ fn collect(
     needs: Vec<Lock>,
     txn: TxnId,
     request: CommitRequest,
-) -> Result<Plan, Fault>
+) -> Result<Step, Fault>
     requires locks { needs.items ≡ exclusive request.writes }
     requires asks { Asks state.now.memory.rows txn wounded needs.items true }
     ensures plan { MakesCollecting state.now wounded txn request result }
@@ -282,7 +282,7 @@ fn wait_with(
     alloc: Global,
     txn: TxnId,
     request: CommitRequest,
-) -> Result<Plan, Fault>
+) -> Result<Step, Fault>
     requires shut { opens_writes state.now txn request.writes ≡ false }
     requires asks { may_ask state.now.memory.rows txn ≡ true }
     ensures plan { MakesPlan state.now (waits_commit (start_of state.now) txn request) result }

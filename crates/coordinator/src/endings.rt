@@ -11,7 +11,7 @@ ghost use Rattle.memory.specs.Standings.{standing_in, HasRowIn, MakesPlan, Makes
 ghost use Rattle.coordinator.specs.ByMessage.{PlansAsk, PlansSettle, MakesSettled};
 
 use crate::parts::is_of_part;
-use memory::{Plan, Standing, State, done_to, outcome_to};
+use memory::{Standing, State, Step, done_to, outcome_to};
 use message::{Ask, Done, Envelope, GiveUp, Outcome};
 use record::Record;
 use rows::RowCollecting;
@@ -26,7 +26,7 @@ pub fn give_up(
     alloc: Global,
     given: &GiveUp,
     collecting: &RowCollecting,
-) -> Result<Plan, Fault>
+) -> Result<Step, Fault>
     requires { HasRowIn state.now given.now.txn (phase_of (Row.Collecting collecting.now)) }
     ensures planned { PlansGiveUp state.now given.now.txn (standing_in state.now given.now.txn)
         result }
@@ -37,7 +37,7 @@ pub fn give_up(
 
 /// The question how a transaction ended. One that is not known, or only reads, is aborted before it is answered.
 #[tactic(auto, unfolding(protocol::specs::Cells::plan_ask))]
-pub fn on_ask(state: &State, alloc: Global, ask: &Ask) -> Result<Plan, Fault>
+pub fn on_ask(state: &State, alloc: Global, ask: &Ask) -> Result<Step, Fault>
     ensures planned { PlansAsk state.now ask.now (standing_in state.now ask.now.txn) result }
     ensures fit { IfOk result (IsFit state.now) }
 {
@@ -74,7 +74,7 @@ fn told(state: &State, ask: &Ask, outcome: Option<Stamp>) -> Envelope
 }
 
 // The shard that asked is told the outcome.
-fn answer(state: &State, alloc: Global, ask: &Ask, outcome: Option<Stamp>) -> Result<Plan, Fault>
+fn answer(state: &State, alloc: Global, ask: &Ask, outcome: Option<Stamp>) -> Result<Step, Fault>
     ensures plan { MakesReply state.now
         (outcome_to state.now.setup.shard ask.now.txn outcome ask.now.from) result }
     ensures fit { IfOk result (IsFit state.now) }
@@ -84,7 +84,7 @@ fn answer(state: &State, alloc: Global, ask: &Ask, outcome: Option<Stamp>) -> Re
 }
 
 // The transaction is aborted, and the shard that asked is told.
-fn abort_for(state: &State, alloc: Global, ask: &Ask) -> Result<Plan, Fault>
+fn abort_for(state: &State, alloc: Global, ask: &Ask) -> Result<Step, Fault>
     requires { may_drop state.now.memory.rows ask.now.txn ≡ true }
     ensures plan { MakesPlan state.now
         (plan_abort_for (start_of state.now) ask.now.from ask.now.txn) result }
@@ -102,7 +102,7 @@ fn abort_for(state: &State, alloc: Global, ask: &Ask) -> Result<Plan, Fault>
 /// A decided transaction is settled, once its timestamp has surely passed: its session and the other parts are told. Nobody is
 /// told of a commit before (commit wait): the end is made of the word that it has passed.
 #[tactic(auto, unfolding(protocol::specs::Cells::plan_settle))]
-pub fn settle(state: &State, alloc: Global, now: &Reading, txn: TxnId) -> Result<Plan, Fault>
+pub fn settle(state: &State, alloc: Global, now: &Reading, txn: TxnId) -> Result<Step, Fault>
     ensures planned { PlansSettle state.now now.now.earliest txn (standing_in state.now txn)
         result }
     ensures fit { IfOk result (IsFit state.now) }
@@ -135,7 +135,7 @@ fn settle_at(
     txn: TxnId,
     waited: Waited,
     parts: Parts,
-) -> Result<Plan, Fault>
+) -> Result<Step, Fault>
     requires { has_phase may_close state.now.memory.rows txn ≡ true }
     ensures plan { MakesSettled state.now txn waited parts result }
     ensures fit { IfOk result (IsFit state.now) }

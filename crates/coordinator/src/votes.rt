@@ -17,7 +17,7 @@ ghost use Rattle.coordinator.specs.ByMessage.{MakesVoteKept, stamp_with_vote, Pl
 
 use crate::commits::{commit_time, decision_of};
 use crate::parts::is_of_part;
-use memory::{Change, Plan, Request, Standing, State, outcome_to};
+use memory::{Change, Request, Standing, State, Step, outcome_to};
 use message::{Outcome, Vote};
 use rows::{CommitRequest, RowCollecting, Voted};
 use std::alloc::Global;
@@ -25,7 +25,7 @@ use units::{Fault, Ids, ShardNo, Stamp, TxnId};
 
 /// A vote: a yes is kept, and the last one decides; a no aborts. Who votes for a transaction that ended here is told how.
 #[tactic(auto, unfolding(protocol::specs::Cells::plan_vote))]
-pub fn on_vote(state: &State, alloc: Global, vote: &Vote) -> Result<Plan, Fault>
+pub fn on_vote(state: &State, alloc: Global, vote: &Vote) -> Result<Step, Fault>
     ensures planned { PlansVote state.now vote.now (standing_in state.now vote.now.txn) result }
     ensures fit { IfOk result (IsFit state.now) }
 {
@@ -52,7 +52,7 @@ pub fn on_vote(state: &State, alloc: Global, vote: &Vote) -> Result<Plan, Fault>
 
 // Who voted yes is told the outcome.
 #[tactic(auto, unfolding(protocol::specs::Cells::plan_tell))]
-fn tell(state: &State, alloc: Global, vote: &Vote, outcome: Option<Stamp>) -> Result<Plan, Fault>
+fn tell(state: &State, alloc: Global, vote: &Vote, outcome: Option<Stamp>) -> Result<Step, Fault>
     ensures plan { MakesPlan state.now
         (plan_tell (start_of state.now) vote.now.from vote.now.txn outcome vote.now.vote) result }
     ensures fit { IfOk result (IsFit state.now) }
@@ -78,7 +78,7 @@ fn vote_collected(
     alloc: Global,
     vote: &Vote,
     collecting: &RowCollecting,
-) -> Result<Plan, Fault>
+) -> Result<Step, Fault>
     requires row { HasRowIn state.now vote.now.txn (phase_of (Row.Collecting collecting.now)) }
     requires collects { has_phase is_collecting state.now.memory.rows vote.now.txn ≡ true }
     requires drops { may_drop state.now.memory.rows vote.now.txn ≡ true }
@@ -108,7 +108,7 @@ fn count(
     collecting: &RowCollecting,
     txn: TxnId,
     last: &Voted,
-) -> Result<Plan, Fault>
+) -> Result<Step, Fault>
     requires row { HasRowIn state.now txn (phase_of (Row.Collecting collecting.now)) }
     requires collects { has_phase is_collecting state.now.memory.rows txn ≡ true }
     ensures planned { IsPlanned state.now
@@ -129,7 +129,7 @@ fn decide_last(
     collecting: &RowCollecting,
     txn: TxnId,
     last: &Voted,
-) -> Result<Plan, Fault>
+) -> Result<Step, Fault>
     requires all { all_voted (other_parts state.now.setup.shard collecting.now.request.parts)
         (with_vote last.now.shard last.now.at collecting.now.votes) ≡ true }
     requires collects { has_phase is_collecting state.now.memory.rows txn ≡ true }
@@ -146,7 +146,7 @@ fn decide_last(
 }
 
 // A yes is kept.
-fn keep_vote(state: &State, alloc: Global, txn: TxnId, last: &Voted) -> Result<Plan, Fault>
+fn keep_vote(state: &State, alloc: Global, txn: TxnId, last: &Voted) -> Result<Step, Fault>
     requires { has_phase is_collecting state.now.memory.rows txn ≡ true }
     ensures plan { MakesVoteKept state.now txn last.now result }
     ensures fit { IfOk result (IsFit state.now) }
@@ -167,7 +167,7 @@ fn decide_counted(
     txn: TxnId,
     at: Stamp,
     collecting: &RowCollecting,
-) -> Result<Plan, Fault>
+) -> Result<Step, Fault>
     requires { has_phase is_collecting state.now.memory.rows txn ≡ true }
     ensures plan { MakesDecision state.now [] txn [] at collecting.now.request result }
     ensures fit { IfOk result (IsFit state.now) }

@@ -12,4 +12,4 @@ mod token;
 
 pub use gatelog::GateLog;
 pub use scanning::Sink;
-pub use token::{Entry, Logged, Staged, Word};
+pub use token::{Entry, Logged, Staged};

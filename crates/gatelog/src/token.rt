@@ -4,7 +4,6 @@ ghost use Rattle.gatelog.specs.Frames.{next_gate, staged_bytes};
 ghost use Rattle.spelling.specs.Grammar.{IsRecord};
 
 use byteorder::{BigEndian, ByteOrder};
-use counts::Past;
 use record::Record;
 use spelling::{encode_into, encoded_len};
 use std::alloc::Global;
@@ -179,41 +178,5 @@ impl Logged {
     {
         let Logged { item } = self;
         item
-    }
-
-    /// Its record, and the word that this stands in the log.
-    pub fn part(self) -> (Record, Word)
-        ensures record { result.0 ≡ self }
-        ensures word { result.1 ≡ self ∷ [] }
-    {
-        let Logged { item } = self;
-        let mut said = Past::none();
-        said.add(&item);
-        (item, Word { said })
-    }
-}
-
-/// The word that a record stands in the log, apart from the record. It takes no bytes.
-#[derive(Drop)]
-pub struct Word {
-    said: Past<Record>,
-}
-
-impl Model for Word {
-    ghost use Rattle.std.specs.Prelude.{List};
-    ghost use Rattle.record.specs.declared.record.Record.{Record};
-
-    ghost Value = { List Record };
-
-    ghost view = { λ w. w.said.entries };
-}
-
-impl Word {
-    /// The record, of which this is the word.
-    pub fn with(self, item: Record) -> Logged
-        requires { self ≡ item ∷ [] }
-        ensures { result ≡ item }
-    {
-        Logged::new(item)
     }
 }

@@ -13,7 +13,7 @@ use Rattle.protocol.proofs.PlanRows.{Ascend, AllOther, with_row-twice, find-with
 use Rattle.protocol.proofs.PlanRows.{wounded-alike, is_free-alike, others-with_row}
 use Rattle.rows.specs.CodeRows.{is_reading, phase_of_wait}
 use Rattle.rows.specs.RowTable.{put_row}
-use Rattle.memory.specs.Carry.{AdmissionIsUnseen, ReadyIsCarriable, FitsRows, MayFollow, MayInstall, Asks, asker, admitted}
+use Rattle.memory.specs.Carry.{AdmissionIsUnseen, FitStepsMayAsk, ReadyIsCarriable, FitsRows, MayAsk, MayFollow, MayInstall, Asks, asker, admitted}
 use Rattle.memory.specs.Plans.{change_of, phase_logged, collecting}
 use Rattle.memory.specs.declared.plan.Change.{Change}
 use Rattle.memory.specs.declared.plan.Change.TheVariants.{Keeps, Ends, Drops, Reads, Waits, Collects, Counts, Stands, Decides}
@@ -133,28 +133,44 @@ ended_the_same one other needs logged (Counts t n p) ids = refl
 ended_the_same one other needs logged (Stands t) ids = refl
 ended_the_same one other needs logged (Decides t) ids = refl
 
+-- who asks by a change that fits may ask
+asks_by : (rows : List Row) (us : List Id) (needs : List Lock) (logged : Option Record) (h : Change) → FitsRows rows us needs logged h
+    → MayAsk rows (asker h)
+asks_by rows us needs logged Keeps fits = tt
+asks_by rows us needs logged (Ends t) fits = tt
+asks_by rows us needs logged (Drops t) fits = tt
+asks_by rows us needs logged (Reads t) fits = fits.0.0
+asks_by rows us needs logged (Waits t w) fits = fits.0.0
+asks_by rows us needs logged (Collects t c) fits = fits.0.0
+asks_by rows us needs logged (Counts t n p) fits = tt
+asks_by rows us needs logged (Stands t) fits = fits.0.0
+asks_by rows us needs logged (Decides t) fits = tt
+
+pub may_ask_by : FitStepsMayAsk
+may_ask_by k s fit = asks_by k.memory.rows s.plan.wounded s.plan.needs.items s.logged s.plan.change fit.0
+
 pub admission_is_unseen : AdmissionIsUnseen
 unfolding carried
-admission_is_unseen m p up fits =
-    let rows = rows_the_same m.rows p.wounded p.needs.items p.logged p.change up fits in
-    let ended = ended_the_same (admitted m.rows (asker p.change)) m.rows p.needs.items p.logged p.change (with_ids m.ended p.wounded) in
-    λ i. record { last = p.last; rows = rows i; ended = ended i }
+admission_is_unseen m s up fits =
+    let rows = rows_the_same m.rows s.plan.wounded s.plan.needs.items s.logged s.plan.change up fits in
+    let ended = ended_the_same (admitted m.rows (asker s.plan.change)) m.rows s.plan.needs.items s.logged s.plan.change (with_ids m.ended s.plan.wounded) in
+    λ i. record { last = s.plan.last; rows = rows i; ended = ended i }
 
 pub ready_is_carriable : ReadyIsCarriable
-ready_is_carriable old new p up fit ready follows installs =
-    let rows : new.memory.rows ≡ admitted old.memory.rows (asker p.change) = ap (λ (m : Memory). m.rows) ready.memory in
+ready_is_carriable old new s up fit ready follows installs =
+    let rows : new.memory.rows ≡ admitted old.memory.rows (asker s.plan.change) = ap (λ (m : Memory). m.rows) ready.memory in
     let last : new.memory.last ≡ old.memory.last = ap (λ (m : Memory). m.last) ready.memory in
     record {
       fit = (
-        subst (λ (l : List Row). FitsRows l p.wounded p.needs.items p.logged p.change) (sym rows)
-            (fits_again old.memory.rows p.wounded p.needs.items p.logged p.change up fit.0),
-        subst (λ (n : ℕ). n ≤ p.last) (sym last) fit.1,
+        subst (λ (l : List Row). FitsRows l s.plan.wounded s.plan.needs.items s.logged s.plan.change) (sym rows)
+            (fits_again old.memory.rows s.plan.wounded s.plan.needs.items s.logged s.plan.change up fit.0),
+        subst (λ (n : ℕ). n ≤ s.plan.last) (sym last) fit.1,
       );
-      there = subst (λ (l : List Row). admitted l (asker p.change) ≡ l) (sym rows) (admitted_again old.memory.rows (asker p.change));
+      there = subst (λ (l : List Row). admitted l (asker s.plan.change) ≡ l) (sym rows) (admitted_again old.memory.rows (asker s.plan.change));
       records = ready.records;
       ends = ready.ends;
       locks = ready.locks;
-      follows = subst (λ (n : ℕ). MayFollow n new.facts p.logged) (ap (λ (s : Setup). s.shard) (sym ready.setup))
-          (subst (λ (f : Facts). MayFollow old.setup.shard f p.logged) (sym ready.facts) follows);
-      installs = subst (λ (f : Facts). MayInstall f p.logged) (sym ready.facts) installs;
+      follows = subst (λ (n : ℕ). MayFollow n new.facts s.logged) (ap (λ (o : Setup). o.shard) (sym ready.setup))
+          (subst (λ (f : Facts). MayFollow old.setup.shard f s.logged) (sym ready.facts) follows);
+      installs = subst (λ (f : Facts). MayInstall f s.logged) (sym ready.facts) installs;
     }

@@ -9,7 +9,7 @@ use Rattle.protocol.specs.Rows.{Memory, without_rows}
 use Rattle.protocol.specs.Plan.{carried, after_change, ended_by, with_ids}
 use Rattle.memory.specs.Carry.{MayFollow, IsDated}
 use Rattle.memory.specs.Plans.{change_of, plan_of}
-use Rattle.memory.specs.declared.plan.Plan.{Plan}
+use Rattle.memory.specs.declared.plan.Step.{Step}
 
 -- a promise or a decision that may come next is above 0
 pub dated : (shard : ℕ) (facts : Facts) (o : Option Record) → MayFollow shard facts o → IsDated o
@@ -33,11 +33,12 @@ stays_opened shard facts (Abort t) opened follows = opened
 stays_opened shard facts (Outcome t outcome) opened follows = opened
 
 -- the memory by its parts
-pub carried_is : (m next : Memory) (p : Plan) → next.last ≡ p.last → next.rows ≡ after_change (change_of m.rows p.needs.items p.logged p.change)
-    (without_rows m.rows p.wounded)
-    → next.ended ≡ ended_by (change_of m.rows p.needs.items p.logged p.change) (with_ids m.ended p.wounded) → next ≡ carried (plan_of m.rows p) m
+pub carried_is : (m next : Memory) (s : Step) → next.last ≡ s.plan.last
+    → next.rows ≡ after_change (change_of m.rows s.plan.needs.items s.logged s.plan.change) (without_rows m.rows s.plan.wounded)
+    → next.ended ≡ ended_by (change_of m.rows s.plan.needs.items s.logged s.plan.change) (with_ids m.ended s.plan.wounded)
+    → next ≡ carried (plan_of m.rows s) m
 unfolding carried
-carried_is m next p last rows ended = λ i. record { last = last i; rows = rows i; ended = ended i }
+carried_is m next s last rows ended = λ i. record { last = last i; rows = rows i; ended = ended i }
 
 -- the greatest timestamp that is raised
 pub raised_to : (last at : ℕ) → last ≤ at → max last at ≡ at

@@ -25,7 +25,7 @@ use Rattle.memory.specs.Standings.{standing_of, row_by, Allows}
 use Rattle.memory.specs.declared.standing.Standing.{Standing as CodeStanding}
 use Rattle.memory.specs.Kept.{Kept, start_of, IsPlanned, IsRefusal}
 use Rattle.memory.specs.Plans.{plan_of}
-use Rattle.memory.specs.declared.plan.Plan.{Plan as CodePlan}
+use Rattle.memory.specs.declared.plan.Step.{Step}
 use Rattle.locks.proofs.OpensEach.{opens_in, opens-none, opens-more}
 
 -- ---- how a transaction stands
@@ -76,13 +76,13 @@ allows rows t held (CodeStanding.Closed outcome) e = (ends_by rows t _ e, drops_
 -- ---- plans by how a transaction stands
 
 -- a plan that may be refused for want of memory alone
-pub planned-ok : (k : Kept) (p : Plan) (result : Result CodePlan Fault) → IfOk result (λ plan. plan_of k.memory.rows plan ≡ p)
+pub planned-ok : (k : Kept) (p : Plan) (result : Result Step Fault) → IfOk result (λ step. plan_of k.memory.rows step ≡ p)
     → IfErr result (λ fault. fault ≡ Fault.Memory) → IsPlanned k (Ok p) result
 planned-ok k p (Ok plan) made memory = ap Ok (sym made)
 planned-ok k p (Err fault) made memory = memory
 
-pub planned-by : (k : Kept) (planned : Planned) (p : Plan) (result : Result CodePlan Fault) → planned ≡ Ok p
-    → IfOk result (λ plan. plan_of k.memory.rows plan ≡ p) → IfErr result (λ fault. fault ≡ Fault.Memory) → IsPlanned k planned result
+pub planned-by : (k : Kept) (planned : Planned) (p : Plan) (result : Result Step Fault) → planned ≡ Ok p
+    → IfOk result (λ step. plan_of k.memory.rows step ≡ p) → IfErr result (λ fault. fault ≡ Fault.Memory) → IsPlanned k planned result
 planned-by k planned p result is made memory = subst (λ q. IsPlanned k q result) (sym is) (planned-ok k p result made memory)
 
 -- a refusal
@@ -90,7 +90,7 @@ pub refused-by : (planned : Planned) (fault : Fault) → planned ≡ Err fault �
 refused-by planned fault is = subst (λ q. IsRefusal q fault) (sym is) refl
 
 -- by the row
-pub planned-row : (k : Kept) (t : Id) (plan : Standing → Planned) (r : Row) (result : Result CodePlan Fault) → find_row k.memory.rows t ≡ Some r
+pub planned-row : (k : Kept) (t : Id) (plan : Standing → Planned) (r : Row) (result : Result Step Fault) → find_row k.memory.rows t ≡ Some r
     → IsPlanned k (plan (HasRow r.held r.phase)) result → IsPlanned k (plan (stands (start_of k) t)) result
 planned-row k t plan r result e made = subst (λ s. IsPlanned k (plan s) result) (sym (stands-row (start_of k) t r e)) made
 

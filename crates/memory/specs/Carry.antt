@@ -16,6 +16,7 @@ use Rattle.memory.specs.Kept.{Kept}
 use Rattle.ledger.specs.Ledger.{CanInstall}
 use Rattle.memory.specs.Plans.{plan_of}
 use Rattle.memory.specs.declared.plan.Plan.{Plan}
+use Rattle.memory.specs.declared.plan.Step.{Step}
 use Rattle.memory.specs.declared.plan.Change.{Change}
 
 -- a transaction may ask for locks: it reads, or has no row while there is room for one
@@ -87,9 +88,9 @@ FitsRows rows ended needs logged (Change.Counts t n p) = (ended ≡ []) × (logg
 FitsRows rows ended needs logged (Change.Stands t) = Asks rows t ended needs true × MayStand t logged
 FitsRows rows ended needs logged (Change.Decides t) = (ended ≡ []) × IsDecision t logged × (has_phase is_collecting rows t ≡ true)
 
--- a plan that may be carried out: its change may be made of the rows, and the greatest timestamp does not fall
-abbrev pub IsFit : Kept → Plan → Type 0
-IsFit k p = FitsRows k.memory.rows p.wounded p.needs.items p.logged p.change × (k.memory.last ≤ p.last)
+-- a step whose plan may be carried out once its record is logged: its change may be made of the rows, and the greatest timestamp does not fall
+abbrev pub IsFit : Kept → Step → Type 0
+IsFit k s = FitsRows k.memory.rows s.plan.wounded s.plan.needs.items s.logged s.plan.change × (k.memory.last ≤ s.plan.last)
 
 -- who asks for locks by a change
 abbrev pub asker : Change → Option Id
@@ -141,16 +142,16 @@ abbrev pub Admits : List Row → Option Id → Bool → Type 0
 Admits rows None taken = taken ≡ false
 Admits rows (Some t) taken = elim (find_row rows t) [ None ↦ taken ≡ true | Some r ↦ taken ≡ false ]
 
--- a plan that can be carried out now: it fits, its asker has a row, all memory is there, its record may come next, and what
--- it installs is above the versions of its keys
-pub record IsCarriable (k : Kept) (p : Plan) : Type 0 where
-  pub fit : IsFit k p
-  pub there : admitted k.memory.rows (asker p.change) ≡ k.memory.rows
+-- a step whose plan can be carried out now: it fits, its asker has a row, all memory is there, its record may come next, and what
+-- that installs is above the versions of its keys
+pub record IsCarriable (k : Kept) (s : Step) : Type 0 where
+  pub fit : IsFit k s
+  pub there : admitted k.memory.rows (asker s.plan.change) ≡ k.memory.rows
   pub records : 1 ≤ k.records
-  pub ends : length p.wounded < k.ends
-  pub locks : AskerHasRoom (table_in k) (asker p.change) (length p.needs.items)
-  pub follows : MayFollow k.setup.shard k.facts p.logged
-  pub installs : MayInstall k.facts p.logged
+  pub ends : length s.plan.wounded < k.ends
+  pub locks : AskerHasRoom (table_in k) (asker s.plan.change) (length s.plan.needs.items)
+  pub follows : MayFollow k.setup.shard k.facts s.logged
+  pub installs : MayInstall k.facts s.logged
 
 -- who asks may
 abbrev pub MayAsk : List Row → Option Id → Type 0
@@ -181,14 +182,18 @@ IsDated (Some (Record.Ceiling at)) = Unit {0}
 IsDated (Some (Record.Abort u)) = Unit {0}
 IsDated (Some (Record.Outcome u o)) = Unit {0}
 
--- a plan makes the same of a state whether its asker was taken in before it or not
+-- who asks for locks by a step that fits may do so
+abbrev pub FitStepsMayAsk : Type 0
+FitStepsMayAsk = (k : Kept) (s : Step) → IsFit k s → MayAsk k.memory.rows (asker s.plan.change)
+
+-- a step makes the same of a state whether its asker was taken in before it or not
 abbrev pub AdmissionIsUnseen : Type 0
 AdmissionIsUnseen =
-    (m : Memory) (p : Plan) → IsById (λ r. r.txn) m.rows → FitsRows m.rows p.wounded p.needs.items p.logged p.change →
-    carried (plan_of (admitted m.rows (asker p.change)) p) (admitted_to m (asker p.change)) ≡ carried (plan_of m.rows p) m
+    (m : Memory) (s : Step) → IsById (λ r. r.txn) m.rows → FitsRows m.rows s.plan.wounded s.plan.needs.items s.logged s.plan.change →
+    carried (plan_of (admitted m.rows (asker s.plan.change)) s) (admitted_to m (asker s.plan.change)) ≡ carried (plan_of m.rows s) m
 
--- a plan that fits can be carried out once all is ready, where its record may come next and install what it does
+-- a step that fits can be carried out once all is ready, where its record may come next and install what it does
 abbrev pub ReadyIsCarriable : Type 0
 ReadyIsCarriable =
-    (old new : Kept) (p : Plan) → IsById (λ r. r.txn) old.memory.rows → IsFit old p → HasMemoryFor old new p →
-    MayFollow old.setup.shard old.facts p.logged → MayInstall old.facts p.logged → IsCarriable new p
+    (old new : Kept) (s : Step) → IsById (λ r. r.txn) old.memory.rows → IsFit old s → HasMemoryFor old new s.plan →
+    MayFollow old.setup.shard old.facts s.logged → MayInstall old.facts s.logged → IsCarriable new s

@@ -8,7 +8,7 @@ use Rattle.locks.specs.Table.{Token}
 use Rattle.protocol.specs.Rows.{Memory}
 use Rattle.protocol.specs.Plan as protocol
 use Rattle.memory.specs.Plans.{plan_of}
-use Rattle.memory.specs.declared.plan.Plan.{Plan}
+use Rattle.memory.specs.declared.plan.Step.{Step}
 
 -- what a shard was told, the facts of its log and the rest; and for what it has memory: to learn so many records, to end so
 -- many transactions, and to grant each transaction what its token has room for
@@ -30,6 +30,6 @@ IsRefusal (Err why) fault = fault ≡ why
 IsRefusal (Ok p) fault = fault ≡ Fault.Memory
 
 -- what a planner answers: the plan of the definitions, or why there is none
-abbrev pub IsPlanned : Kept → protocol.Planned → Result Plan Fault → Type 0
+abbrev pub IsPlanned : Kept → protocol.Planned → Result Step Fault → Type 0
 IsPlanned k planned result =
-    MatchResult result (λ plan. planned ≡ Ok (plan_of k.memory.rows plan)) (IsRefusal planned)
+    MatchResult result (λ step. planned ≡ Ok (plan_of k.memory.rows step)) (IsRefusal planned)

@@ -1,4 +1,4 @@
--- A plan of the code as one of the protocol.
+-- A step of the code as a plan of the protocol.
 use Rattle.std.specs.Prelude.{ℕ, List, [], ◌∷◌, Option, Some, None}
 use Rattle.units.specs.Ids.{Id}
 use Rattle.units.specs.declared.lock.Lock.{Lock}
@@ -10,7 +10,7 @@ use Rattle.rows.specs.declared.wait.CommitRequest.{CommitRequest}
 use Rattle.protocol.specs.Rows.{Phase, Row, Voted, Idle, Collecting, find_row, with_vote}
 use Rattle.protocol.specs.Outputs.{vote_to}
 use Rattle.protocol.specs.Plan as protocol
-use Rattle.memory.specs.declared.plan.Plan.{Plan}
+use Rattle.memory.specs.declared.plan.Step.{Step}
 use Rattle.memory.specs.declared.plan.Change.{Change}
 
 -- a commit that collects votes, with those that came
@@ -39,27 +39,15 @@ change_of rows needs logged (Change.Counts t n p) = protocol.Puts t [] (counted 
 change_of rows needs logged (Change.Stands t) = protocol.Puts t needs (phase_logged logged)
 change_of rows needs logged (Change.Decides t) = protocol.Puts t [] (phase_logged logged)
 
--- a plan as one of the protocol, where these are the rows before it
-abbrev pub plan_of : List Row → Plan → protocol.Plan
-plan_of rows p =
+-- a step's plan with its record as one of the protocol, where these are the rows before it
+abbrev pub plan_of : List Row → Step → protocol.Plan
+plan_of rows s =
     record {
-      wounded = p.wounded;
-      change = change_of rows p.needs.items p.logged p.change;
-      logged = p.logged;
-      last = p.last;
-      outbox = p.outbox;
-    }
-
--- a plan with this as the record that it logs
-abbrev pub logging : Option Record → Plan → Plan
-logging logged p =
-    record {
-      wounded = p.wounded;
-      needs = p.needs;
-      change = p.change;
-      logged = logged;
-      last = p.last;
-      outbox = p.outbox;
+      wounded = s.plan.wounded;
+      change = change_of rows s.plan.needs.items s.logged s.plan.change;
+      logged = s.logged;
+      last = s.plan.last;
+      outbox = s.plan.outbox;
     }
 
 -- the refused vote of a transaction, to the coordinator that awaits one

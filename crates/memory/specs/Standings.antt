@@ -15,7 +15,7 @@ use Rattle.rows.specs.RowTable.{has_phase}
 use Rattle.memory.specs.Carry.{may_drop, may_end}
 use Rattle.memory.specs.Kept.{Kept, start_of, IsPlanned}
 use Rattle.memory.specs.Plans.{collecting, plan_of}
-use Rattle.memory.specs.declared.plan.Plan.{Plan}
+use Rattle.memory.specs.declared.plan.Step.{Step}
 use Rattle.memory.specs.declared.standing.Standing.{Standing as CodeStanding}
 
 -- how a transaction stands
@@ -63,13 +63,13 @@ abbrev pub EndsNobody : Kept → Id → List Write → Type 0
 EndsNobody k t ws = protocol.in_way (start_of k) t (exclusive ws) ≡ []
 
 -- where there is a plan, it is this one of the definitions
-abbrev pub MakesPlan : Kept → protocol.Plan → Result Plan Fault → Type 0
-MakesPlan k p result = IfOk result (λ plan. plan_of k.memory.rows plan ≡ p)
+abbrev pub MakesPlan : Kept → protocol.Plan → Result Step Fault → Type 0
+MakesPlan k p result = IfOk result (λ step. plan_of k.memory.rows step ≡ p)
 
 -- where there is a plan, it answers this alone
-abbrev pub MakesReply : Kept → Envelope → Result Plan Fault → Type 0
+abbrev pub MakesReply : Kept → Envelope → Result Step Fault → Type 0
 MakesReply k envelope result = MakesPlan k (protocol.replies (start_of k) (envelope ∷ [])) result
 
 -- what a giving up comes to, which both planners answer in part: the coordinator where votes are collected, the participant elsewhere
-abbrev pub PlansGiveUp : Kept → Id → Standing → Result Plan Fault → Type 0
+abbrev pub PlansGiveUp : Kept → Id → Standing → Result Step Fault → Type 0
 PlansGiveUp k t standing result = IsPlanned k (Ok (plan_give_up (start_of k) t standing)) result

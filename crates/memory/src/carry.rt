@@ -4,10 +4,10 @@ ghost use Rattle.protocol.specs.Rows.{Memory, without_row, held_in, without_rows
 ghost use Rattle.protocol.specs.Plan.{carried, after_change, ended_by, with_ids};
 ghost use Rattle.protocol.specs.Step.{facts_after};
 ghost use Rattle.rows.specs.RowTable.{put_row, phase_by, room};
-ghost use Rattle.memory.specs.Carry.{AdmissionIsUnseen, ReadyIsCarriable, IsFit, MayAsk, HasMemoryFor, IsCarriable, IsDated, Admits, MayUndo};
+ghost use Rattle.memory.specs.Carry.{AdmissionIsUnseen, FitStepsMayAsk, ReadyIsCarriable, MayAsk, HasMemoryFor, IsCarriable, IsDated, Admits, MayUndo};
 ghost use Rattle.memory.specs.Carry.{MayDrop, MayFollow, MayInstall, CanStand, FitsRows, AskerHasRoom, asker, admitted, admitted_to};
 ghost use Rattle.memory.specs.Carry.{may_ask, may_end};
-ghost use Rattle.memory.specs.Plans.{plan_of, change_of, logging};
+ghost use Rattle.memory.specs.Plans.{plan_of, change_of};
 ghost use Rattle.memory.specs.Served.{IsHolding, stamp_held};
 
 use crate::plan::{Change, Plan};
@@ -46,7 +46,7 @@ impl State {
     /// Takes all the memory that a plan needs. A transaction that asks for locks, and has no row, gets one. Where memory is
     /// refused, all is as it was.
     pub fn make_ready(&mut self, alloc: Global, plan: &Plan) -> Result<Ready, Fault>
-        requires { IsFit self.old plan.now }
+        requires { MayAsk self.old.memory.rows (asker plan.now.change) }
         ensures ready { OnOk result (HasMemoryFor self.old self.new plan.now) }
         ensures admits { IfOk result
             (λ ready. Admits self.old.memory.rows (asker plan.now.change) ready.admitted) }
@@ -79,25 +79,24 @@ impl State {
         }
     }
 
-    /// Carries out a plan for which all was made ready, once its record is logged: what the plan itself has as its record
-    /// may have been moved out of it. It takes no memory.
+    /// Carries out a plan for which all was made ready, with the word that the record beside it is logged, where there is one. It
+    /// takes no memory.
     pub fn carry(&mut self, plan: Plan, logged: Option<Logged>) -> Outbox
-        requires ready { IsCarriable self.old (logging logged plan) }
+        requires ready { IsCarriable self.old (record { plan = plan; logged = logged }) }
         ensures setup { self.new.setup ≡ self.old.setup }
         ensures facts { self.new.facts ≡ facts_after self.old.facts logged }
         ensures memory { self.new.memory ≡
-            carried (plan_of self.old.memory.rows (logging logged plan)) self.old.memory }
+            carried (plan_of self.old.memory.rows (record { plan = plan; logged = logged }))
+            self.old.memory }
         ensures outbox { result ≡ plan.outbox }
     {
         let Plan {
             wounded,
             needs,
             change,
-            logged: moved,
             last,
             outbox,
         } = plan;
-        drop(moved);
         self.times.raise(last);
         let item = make_change(
             &mut self.rows,
@@ -115,9 +114,10 @@ impl State {
     }
 }
 
-/// A row that was taken in for a plan shows in nothing that the plan does, and a plan that fits can be carried out once all
-/// is ready. It does nothing.
+/// Who asks for locks by a step that fits may do so, a row that was taken in for it shows in nothing that its plan does, and the plan
+/// can be carried out once all is ready. It does nothing.
 pub fn ready_plans_can_be_carried()
+    ensures asks { FitStepsMayAsk }
     ensures unseen { AdmissionIsUnseen }
     ensures carriable { ReadyIsCarriable }
 {}

@@ -14,7 +14,7 @@ pub mod state;
 pub use carry::{Ready, ready_plans_can_be_carried};
 pub use envelopes::{answer_to, ask_to, done_to, outcome_to, vote_to};
 pub use laws::holds_follow_rows;
-pub use plan::{Change, Plan, Request};
+pub use plan::{Change, Plan, Request, Step};
 pub use planning::reads_stand;
 pub use standing::{PastCommit, Standing};
 pub use state::State;

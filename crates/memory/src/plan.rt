@@ -1,7 +1,10 @@
 //! What an input comes to, told before anything is changed.
+ghost use Rattle.std.specs.Prelude.{◌≡◌, []};
+
 use message::Outbox;
 use record::Record;
 use rows::{Gathering, Wait};
+use std::alloc::Global;
 use units::{Ids, Lock, ShardNo, Stamp, TxnId};
 
 /// What becomes of the row of a step's own transaction.
@@ -36,14 +39,42 @@ pub struct Request {
     pub change: Change,
 }
 
-/// What a step does: whom it ends first, the locks that its transaction asks for, the change of that transaction's row, the
-/// record that it logs, the greatest timestamp after it, and what it puts out.
+/// What a step does to a shard's memory, and what it puts out: whom it ends first, the locks that its transaction asks for, the
+/// change of that transaction's row, the greatest timestamp after it, and the messages.
 #[derive(Drop)]
 pub struct Plan {
     pub wounded: Ids,
     pub needs: Vec<Lock>,
     pub change: Change,
-    pub logged: Option<Record>,
     pub last: Stamp,
     pub outbox: Outbox,
+}
+
+impl Plan {
+    /// A plan that ends nobody else and puts nothing out.
+    pub fn quiet(alloc: Global, needs: Vec<Lock>, change: Change, last: Stamp) -> Plan
+        ensures { result ≡ record {
+          wounded = [];
+          needs = needs;
+          change = change;
+          last = last;
+          outbox = [];
+        } }
+    {
+        Plan {
+            wounded: Ids::from_vec(Vec::new(alloc)),
+            needs,
+            change,
+            last,
+            outbox: Outbox::from_vec(Vec::new(alloc)),
+        }
+    }
+}
+
+/// What an input comes to: a plan, and beside it the record that has to be logged before the plan is carried out, where there is
+/// one. So the record goes its own way, into the log and back, and no copy of it is made.
+#[derive(Drop)]
+pub struct Step {
+    pub plan: Plan,
+    pub logged: Option<Record>,
 }

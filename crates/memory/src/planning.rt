@@ -10,7 +10,7 @@ ghost use Rattle.memory.specs.Plans.{change_of, plan_of, refusal};
 ghost use Rattle.memory.specs.Standings.{MakesPlan, MakesReply};
 
 use crate::envelopes::{answer_to, done_to, outcome_to, vote_to};
-use crate::plan::{Change, Plan, Request};
+use crate::plan::{Change, Plan, Request, Step};
 use crate::standing::Standing;
 use crate::state::State;
 use message::{Answer, Done, Envelope, Outbox, Outcome, Reads};
@@ -42,22 +42,24 @@ pub fn reads_stand(state: &State, txn: TxnId, reads: &Reads) -> bool
 
 impl State {
     /// Messages alone.
-    pub fn replies(&self, alloc: Global, out: Vec<Envelope>) -> Plan
+    pub fn replies(&self, alloc: Global, out: Vec<Envelope>) -> Step
         ensures plan { plan_of self.now.memory.rows result ≡ replies (start_of self.now) out.items }
         ensures fit { IsFit self.now result }
     {
-        Plan {
-            wounded: Ids::from_vec(Vec::new(alloc)),
-            needs: Vec::new(alloc),
-            change: Change::Keeps,
+        Step {
+            plan: Plan {
+                wounded: Ids::from_vec(Vec::new(alloc)),
+                needs: Vec::new(alloc),
+                change: Change::Keeps,
+                last: self.last(),
+                outbox: Outbox::from_vec(out),
+            },
             logged: None,
-            last: self.last(),
-            outbox: Outbox::from_vec(out),
         }
     }
 
     /// Nothing at all.
-    pub fn idles(&self, alloc: Global) -> Plan
+    pub fn idles(&self, alloc: Global) -> Step
         ensures plan { plan_of self.now.memory.rows result ≡ replies (start_of self.now) [] }
         ensures fit { IsFit self.now result }
     {
@@ -65,7 +67,7 @@ impl State {
     }
 
     /// One message.
-    pub fn reply(&self, alloc: Global, envelope: Envelope) -> Result<Plan, Fault>
+    pub fn reply(&self, alloc: Global, envelope: Envelope) -> Result<Step, Fault>
         ensures plan { MakesReply self.now envelope result }
         ensures fit { IfOk result (IsFit self.now) }
         ensures memory { IfErr result (λ fault. fault ≡ Fault.Memory) }
@@ -77,19 +79,21 @@ impl State {
     }
 
     /// The transaction is ended.
-    pub fn ends(&self, alloc: Global, txn: TxnId, out: Vec<Envelope>) -> Plan
+    pub fn ends(&self, alloc: Global, txn: TxnId, out: Vec<Envelope>) -> Step
         requires { may_end self.now.memory.rows txn ≡ true }
         ensures plan { plan_of self.now.memory.rows result ≡
             ends (start_of self.now) txn out.items }
         ensures fit { IsFit self.now result }
     {
-        Plan {
-            wounded: Ids::from_vec(Vec::new(alloc)),
-            needs: Vec::new(alloc),
-            change: Change::Ends(txn),
+        Step {
+            plan: Plan {
+                wounded: Ids::from_vec(Vec::new(alloc)),
+                needs: Vec::new(alloc),
+                change: Change::Ends(txn),
+                last: self.last(),
+                outbox: Outbox::from_vec(out),
+            },
             logged: None,
-            last: self.last(),
-            outbox: Outbox::from_vec(out),
         }
     }
 
@@ -101,43 +105,41 @@ impl State {
         item: Record,
         last: Stamp,
         out: Vec<Envelope>,
-    ) -> Plan
+    ) -> Step
         requires drops { MayDrop self.now.memory.rows txn (Some item) }
         requires last { self.now.memory.last ≤ last }
         ensures plan { plan_of self.now.memory.rows result ≡ drops txn item last out.items }
         ensures fit { IsFit self.now result }
     {
-        Plan {
-            wounded: Ids::from_vec(Vec::new(alloc)),
-            needs: Vec::new(alloc),
-            change: Change::Drops(txn),
+        Step {
+            plan: Plan {
+                wounded: Ids::from_vec(Vec::new(alloc)),
+                needs: Vec::new(alloc),
+                change: Change::Drops(txn),
+                last,
+                outbox: Outbox::from_vec(out),
+            },
             logged: Some(item),
-            last,
-            outbox: Outbox::from_vec(out),
         }
     }
 
     /// The served time is raised, under a ceiling that is logged where it has to be.
-    pub fn serves(&self, alloc: Global, ceiling: Option<Record>, last: Stamp) -> Plan
+    pub fn serves(&self, alloc: Global, ceiling: Option<Record>, last: Stamp) -> Step
         requires ceiling { IsServing ceiling }
         requires last { self.now.memory.last ≤ last }
         ensures plan { plan_of self.now.memory.rows result ≡
             record { wounded = []; change = Keeps; logged = ceiling; last = last; outbox = [] } }
         ensures fit { IsFit self.now result }
     {
-        Plan {
-            wounded: Ids::from_vec(Vec::new(alloc)),
-            needs: Vec::new(alloc),
-            change: Change::Keeps,
+        Step {
+            plan: Plan::quiet(alloc, Vec::new(alloc), Change::Keeps, last),
             logged: ceiling,
-            last,
-            outbox: Outbox::from_vec(Vec::new(alloc)),
         }
     }
 
     /// The decision to abort: the session and the other parts are told.
     #[tactic(auto, unfolding(protocol::specs::Cells::plan_abort))]
-    pub fn aborts(&self, alloc: Global, txn: TxnId, parts: Parts) -> Result<Plan, Fault>
+    pub fn aborts(&self, alloc: Global, txn: TxnId, parts: Parts) -> Result<Step, Fault>
         requires { may_drop self.now.memory.rows txn ≡ true }
         ensures plan { MakesPlan self.now (plan_abort (start_of self.now) txn parts) result }
         ensures fit { IfOk result (IsFit self.now) }
@@ -184,7 +186,7 @@ impl State {
         logged: Option<Record>,
         last: Stamp,
         reply: Option<Envelope>,
-    ) -> Result<Plan, Fault>
+    ) -> Result<Step, Fault>
         requires fits { FitsRows self.now.memory.rows request.wounded
             request.needs.items logged request.change }
         requires last { self.now.memory.last ≤ last }
@@ -206,14 +208,14 @@ impl State {
                     needs,
                     change,
                 } = request;
-                Ok(Plan {
+                let plan = Plan {
                     wounded,
                     needs,
                     change,
-                    logged,
                     last,
                     outbox,
-                })
+                };
+                Ok(Step { plan, logged })
             }
             Err(fault) => {
                 drop(request);

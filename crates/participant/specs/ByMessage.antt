@@ -11,33 +11,33 @@ use Rattle.protocol.specs.Rows.{Standing}
 use Rattle.protocol.specs.Cells.{plan_nudge, plan_outcome, plan_prepare, plan_prepare_now, plan_promise, plan_read}
 use Rattle.memory.specs.Kept.{Kept, start_of, IsPlanned}
 use Rattle.memory.specs.Standings.{MakesPlan}
-use Rattle.memory.specs.declared.plan.Plan.{Plan}
+use Rattle.memory.specs.declared.plan.Step.{Step}
 use Rattle.participant.specs.Asks.{granted_read, promised_by}
 
-abbrev pub PlansRead : Kept → Read → Standing → Result Plan Fault → Type 0
+abbrev pub PlansRead : Kept → Read → Standing → Result Step Fault → Type 0
 PlansRead k m standing result = IsPlanned k (plan_read (start_of k) m.txn m.key standing) result
 
-abbrev pub PlansPrepare : Kept → ℕ → Prepare → Standing → Result Plan Fault → Type 0
+abbrev pub PlansPrepare : Kept → ℕ → Prepare → Standing → Result Step Fault → Type 0
 PlansPrepare k earliest m standing result = IsPlanned k (plan_prepare (start_of k) earliest m standing) result
 
 -- the reads still stand
-abbrev pub PlansPrepareNow : Kept → ℕ → Prepare → Result Plan Fault → Type 0
+abbrev pub PlansPrepareNow : Kept → ℕ → Prepare → Result Step Fault → Type 0
 PlansPrepareNow k earliest m result = IsPlanned k (plan_prepare_now (start_of k) earliest m) result
 
-abbrev pub PlansOutcome : Kept → Outcome → Standing → Result Plan Fault → Type 0
+abbrev pub PlansOutcome : Kept → Outcome → Standing → Result Step Fault → Type 0
 PlansOutcome k m standing result = IsPlanned k (plan_outcome (start_of k) m.from m.txn m.outcome standing) result
 
-abbrev pub PlansNudge : Kept → Id → Standing → Result Plan Fault → Type 0
+abbrev pub PlansNudge : Kept → Id → Standing → Result Step Fault → Type 0
 PlansNudge k t standing result = IsPlanned k (plan_nudge (start_of k) t standing) result
 
 -- a request whose locks are granted
-abbrev pub PlansPromise : Kept → ℕ → Id → PrepareRequest → Result Plan Fault → Type 0
+abbrev pub PlansPromise : Kept → ℕ → Id → PrepareRequest → Result Step Fault → Type 0
 PlansPromise k earliest t r result = IsPlanned k (plan_promise (start_of k) [] earliest t r.coordinator r.reads r.writes) result
 
 -- a shared lock is granted, and the read answered
-abbrev pub MakesGrantedRead : Kept → List Id → Id → Bytes → Result Plan Fault → Type 0
+abbrev pub MakesGrantedRead : Kept → List Id → Id → Bytes → Result Step Fault → Type 0
 MakesGrantedRead k ended t key result = MakesPlan k (granted_read (start_of k) ended t key) result
 
 -- the promise of a request, once its locks are granted
-abbrev pub MakesPromise : Kept → List Id → Id → ℕ → PrepareRequest → Result Plan Fault → Type 0
+abbrev pub MakesPromise : Kept → List Id → Id → ℕ → PrepareRequest → Result Step Fault → Type 0
 MakesPromise k ended t at r result = MakesPlan k (promised_by (start_of k) ended t at r.coordinator r.reads r.writes) result

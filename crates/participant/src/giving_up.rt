@@ -6,7 +6,7 @@ ghost use Rattle.memory.specs.Carry.{IsFit};
 ghost use Rattle.memory.specs.Standings.{standing_in, PlansGiveUp};
 
 use crate::prepares::refuse;
-use memory::{Plan, Standing, State};
+use memory::{Standing, State, Step};
 use message::GiveUp;
 use std::alloc::Global;
 use units::Fault;
@@ -14,7 +14,7 @@ use units::Fault;
 /// A giving up of a transaction that collects no votes here: one that reads, or is not known, is ended, and a prepare that it
 /// waits with is refused; any other goes on. One that collects votes `coordinator::give_up` aborts.
 #[tactic(auto, unfolding(protocol::specs::Cells::plan_give_up))]
-pub fn on_give_up(state: &State, alloc: Global, given: &GiveUp) -> Result<Plan, Fault>
+pub fn on_give_up(state: &State, alloc: Global, given: &GiveUp) -> Result<Step, Fault>
     requires { has_phase is_collecting state.now.memory.rows given.now.txn ≡ false }
     ensures planned { PlansGiveUp state.now given.now.txn (standing_in state.now given.now.txn)
         result }

@@ -10,7 +10,7 @@ ghost use Rattle.memory.specs.Standings.{standing_in};
 ghost use Rattle.participant.specs.ByMessage.{PlansOutcome, PlansNudge};
 
 use crate::prepares::refuse;
-use memory::{Plan, Standing, State, ask_to};
+use memory::{Standing, State, Step, ask_to};
 use message::Outcome;
 use record::Record;
 use rows::RowPrepared;
@@ -20,7 +20,7 @@ use units::{Fault, TxnId};
 /// The outcome of a transaction. A promise is closed by it, where it comes from the coordinator and is not below the
 /// promise; a transaction that made none here may be aborted, and never committed.
 #[tactic(auto, unfolding(protocol::specs::Cells::plan_outcome))]
-pub fn on_outcome(state: &State, alloc: Global, told: &Outcome) -> Result<Plan, Fault>
+pub fn on_outcome(state: &State, alloc: Global, told: &Outcome) -> Result<Step, Fault>
     ensures planned { PlansOutcome state.now told.now (standing_in state.now told.now.txn) result }
     ensures fit { IfOk result (IsFit state.now) }
 {
@@ -63,7 +63,7 @@ fn is_outcome_for(prepared: &RowPrepared, told: &Outcome) -> bool
 }
 
 // The promise is closed.
-fn close(state: &State, alloc: Global, told: &Outcome) -> Plan
+fn close(state: &State, alloc: Global, told: &Outcome) -> Step
     requires { has_phase may_close state.now.memory.rows told.now.txn ≡ true }
     ensures plan { plan_of state.now.memory.rows result ≡
         drops told.now.txn (Record.Outcome told.now.txn told.now.outcome)
@@ -83,7 +83,7 @@ fn close(state: &State, alloc: Global, told: &Outcome) -> Plan
 
 /// A prepared transaction's coordinator is asked how it ended.
 #[tactic(auto, unfolding(protocol::specs::Cells::plan_nudge))]
-pub fn on_nudge(state: &State, alloc: Global, txn: TxnId) -> Result<Plan, Fault>
+pub fn on_nudge(state: &State, alloc: Global, txn: TxnId) -> Result<Step, Fault>
     ensures planned { PlansNudge state.now txn (standing_in state.now txn) result }
     ensures fit { IfOk result (IsFit state.now) }
 {

@@ -10,7 +10,7 @@ ghost use Rattle.memory.specs.Kept.{start_of, IsPlanned};
 ghost use Rattle.memory.specs.Standings.{standing_in, opens_writes, EndsNobody, MakesPlan, MakesReply};
 ghost use Rattle.participant.specs.ByMessage.{PlansPrepare, PlansPrepareNow, PlansPromise, MakesPromise};
 
-use memory::{Change, Plan, Request, Standing, State, reads_stand, vote_to};
+use memory::{Change, Request, Standing, State, Step, reads_stand, vote_to};
 use message::Prepare;
 use record::{Prepared, Record};
 use rows::{PrepareRequest, Wait};
@@ -26,7 +26,7 @@ pub fn on_prepare(
     alloc: Global,
     now: &Reading,
     prepare: &Prepare,
-) -> Result<Plan, Fault>
+) -> Result<Step, Fault>
     ensures planned { PlansPrepare state.now now.now.earliest prepare.now
         (standing_in state.now prepare.now.txn) result }
     ensures fit { IfOk result (IsFit state.now) }
@@ -49,7 +49,7 @@ pub fn on_prepare(
 }
 
 // The vote, to the coordinator that the prepare names.
-fn vote(state: &State, alloc: Global, prepare: &Prepare, vote: Option<Stamp>) -> Result<Plan, Fault>
+fn vote(state: &State, alloc: Global, prepare: &Prepare, vote: Option<Stamp>) -> Result<Step, Fault>
     ensures plan { MakesReply state.now
         (vote_to state.now.setup.shard prepare.now.coordinator prepare.now.txn vote) result }
     ensures fit { IfOk result (IsFit state.now) }
@@ -66,7 +66,7 @@ fn prepare_fresh(
     alloc: Global,
     now: &Reading,
     prepare: &Prepare,
-) -> Result<Plan, Fault>
+) -> Result<Step, Fault>
     requires { may_end state.now.memory.rows prepare.now.txn ≡ true }
     ensures planned { IsPlanned state.now
         (plan_prepare_fresh (start_of state.now) now.now.earliest prepare.now
@@ -90,7 +90,7 @@ pub(crate) fn refuse(
     alloc: Global,
     txn: TxnId,
     coordinator: ShardNo,
-) -> Result<Plan, Fault>
+) -> Result<Step, Fault>
     requires { may_end state.now.memory.rows txn ≡ true }
     ensures plan { MakesPlan state.now
         (ends (start_of state.now) txn (refuses (start_of state.now) txn coordinator ∷ [])) result }
@@ -112,7 +112,7 @@ fn promise_now(
     now: &Reading,
     prepare: &Prepare,
     undisputed: bool,
-) -> Result<Plan, Fault>
+) -> Result<Step, Fault>
     requires nobody { undisputed ≡ true → EndsNobody state.now prepare.now.txn prepare.now.writes }
     requires opens { opens_writes state.now prepare.now.txn prepare.now.writes ≡ true }
     requires ends { may_end state.now.memory.rows prepare.now.txn ≡ true }
@@ -133,7 +133,7 @@ fn promise_now(
 }
 
 // The transaction waits with its prepare, where there is room for the row. Whoever is in its way and may be ended is ended.
-fn wait(state: &State, alloc: Global, prepare: &Prepare) -> Result<Plan, Fault>
+fn wait(state: &State, alloc: Global, prepare: &Prepare) -> Result<Step, Fault>
     requires opens { opens_writes state.now prepare.now.txn prepare.now.writes ≡ false }
     requires ends { may_end state.now.memory.rows prepare.now.txn ≡ true }
     ensures planned { (earliest : ℕ) → PlansPrepareNow state.now earliest prepare.now result }
@@ -168,7 +168,7 @@ pub fn resume_prepare(
     now: &Reading,
     txn: TxnId,
     request: &PrepareRequest,
-) -> Result<Plan, Fault>
+) -> Result<Step, Fault>
     requires { Asks state.now.memory.rows txn [] (exclusive request.now.writes) true }
     ensures planned { PlansPromise state.now now.now.earliest txn request.now result }
     ensures fit { IfOk result (IsFit state.now) }
@@ -205,7 +205,7 @@ fn promise(
     at: Stamp,
     request: PrepareRequest,
     undisputed: bool,
-) -> Result<Plan, Fault>
+) -> Result<Step, Fault>
     requires nobody { undisputed ≡ true → EndsNobody state.now txn request.writes }
     requires asks { Asks state.now.memory.rows txn
         (in_way (start_of state.now) txn (exclusive request.writes)) (exclusive request.writes) true }
@@ -241,7 +241,7 @@ fn wait_with(
     alloc: Global,
     txn: TxnId,
     request: PrepareRequest,
-) -> Result<Plan, Fault>
+) -> Result<Step, Fault>
     requires opens { opens_writes state.now txn request.writes ≡ false }
     requires asks { may_ask state.now.memory.rows txn ≡ true }
     ensures plan { MakesPlan state.now

@@ -10,7 +10,7 @@ ghost use Rattle.participant.specs.Asks.{read_asks};
 ghost use Rattle.memory.specs.Standings.{standing_in, MakesPlan, MakesReply};
 ghost use Rattle.participant.specs.ByMessage.{PlansRead, MakesGrantedRead};
 
-use memory::{Change, Plan, Request, Standing, State, answer_to};
+use memory::{Change, Request, Standing, State, Step, answer_to};
 use message::{Answer, Read};
 use rows::Wait;
 use std::alloc::Global;
@@ -18,7 +18,7 @@ use units::{Fault, Ids, Key, Lock, Mode, TxnId};
 
 /// A read: a key that is held is answered at once; else a shared lock is asked for, and the answer comes once it is held.
 #[tactic(auto, unfolding(protocol::specs::Cells::plan_read))]
-pub fn on_read(state: &State, alloc: Global, read: &Read) -> Result<Plan, Fault>
+pub fn on_read(state: &State, alloc: Global, read: &Read) -> Result<Step, Fault>
     ensures planned { PlansRead state.now read.now (standing_in state.now read.now.txn) result }
     ensures fit { IfOk result (IsFit state.now) }
 {
@@ -38,7 +38,7 @@ pub fn on_read(state: &State, alloc: Global, read: &Read) -> Result<Plan, Fault>
 }
 
 // A key that is held is answered at once; a row that waits stays as it is.
-fn read_row(state: &State, alloc: Global, txn: TxnId, key: &Key, waits: bool) -> Result<Plan, Fault>
+fn read_row(state: &State, alloc: Global, txn: TxnId, key: &Key, waits: bool) -> Result<Step, Fault>
     requires { may_end state.now.memory.rows txn ≡ true }
     ensures planned { IsPlanned state.now
         (plan_read_row (start_of state.now) txn key.now (held_in state.now.memory.rows txn) waits)
@@ -55,7 +55,7 @@ fn read_row(state: &State, alloc: Global, txn: TxnId, key: &Key, waits: bool) ->
 }
 
 // A key that is held is answered.
-fn answer_held(state: &State, alloc: Global, txn: TxnId, key: &Key) -> Result<Plan, Fault>
+fn answer_held(state: &State, alloc: Global, txn: TxnId, key: &Key) -> Result<Step, Fault>
     ensures plan { MakesReply state.now (answers (start_of state.now) txn key.now) result }
     ensures fit { IfOk result (IsFit state.now) }
     ensures memory { IfErr result (λ fault. fault ≡ Fault.Memory) }
@@ -67,7 +67,7 @@ fn answer_held(state: &State, alloc: Global, txn: TxnId, key: &Key) -> Result<Pl
 }
 
 // A shared lock and the answer, or a wait, where there is room for the row.
-fn read_now(state: &State, alloc: Global, txn: TxnId, key: &Key) -> Result<Plan, Fault>
+fn read_now(state: &State, alloc: Global, txn: TxnId, key: &Key) -> Result<Step, Fault>
     requires { may_end state.now.memory.rows txn ≡ true }
     ensures planned { IsPlanned state.now (plan_read_now (start_of state.now) txn key.now) result }
     ensures fit { IfOk result (IsFit state.now) }
@@ -79,7 +79,7 @@ fn read_now(state: &State, alloc: Global, txn: TxnId, key: &Key) -> Result<Plan,
 }
 
 // A shared lock and the answer, or a wait.
-fn ask_for_key(state: &State, alloc: Global, txn: TxnId, key: &Key) -> Result<Plan, Fault>
+fn ask_for_key(state: &State, alloc: Global, txn: TxnId, key: &Key) -> Result<Step, Fault>
     requires { may_ask state.now.memory.rows txn ≡ true }
     ensures plan { MakesPlan state.now (read_asks (start_of state.now) txn key.now) result }
     ensures fit { IfOk result (IsFit state.now) }
@@ -104,7 +104,7 @@ fn ask_for_key(state: &State, alloc: Global, txn: TxnId, key: &Key) -> Result<Pl
 }
 
 /// The read that a transaction waits with, once its lock is granted.
-pub fn resume_read(state: &State, alloc: Global, txn: TxnId, key: &Key) -> Result<Plan, Fault>
+pub fn resume_read(state: &State, alloc: Global, txn: TxnId, key: &Key) -> Result<Step, Fault>
     requires { Asks state.now.memory.rows txn [] (to_read key.now) true }
     ensures planned { (earliest : ℕ)
         → IsPlanned state.now (plan_go_on (start_of state.now) earliest txn (WaitsRead key.now))
@@ -126,7 +126,7 @@ fn grant(
     needs: Vec<Lock>,
     txn: TxnId,
     key: &Key,
-) -> Result<Plan, Fault>
+) -> Result<Step, Fault>
     requires needs { needs.items ≡ to_read key.now }
     requires asks { Asks state.now.memory.rows txn wounded (to_read key.now) true }
     ensures plan { MakesGrantedRead state.now wounded txn key.now result }
@@ -145,7 +145,7 @@ fn grant(
 }
 
 // The read is refused.
-fn refuse(state: &State, alloc: Global, txn: TxnId, key: &Key) -> Result<Plan, Fault>
+fn refuse(state: &State, alloc: Global, txn: TxnId, key: &Key) -> Result<Step, Fault>
     ensures plan { MakesReply state.now
         (answer_to state.now.setup.shard txn key.now state.now.facts.epoch Refused) result }
     ensures fit { IfOk result (IsFit state.now) }

@@ -4,14 +4,14 @@ ghost use Rattle.coordinator.specs.ByMessage.{PlansAsk, PlansCommit, PlansSettle
 ghost use Rattle.memory.specs.Carry.{IsFit};
 ghost use Rattle.memory.specs.Standings.{standing_in};
 
-use memory::{Plan, State};
+use memory::{State, Step};
 use message::{Ask, Commit, Vote};
 use std::alloc::Global;
 use truetime::Reading;
 use units::{Fault, TxnId};
 
 /// A commit is decided, collects votes, waits, or is aborted; one that came before is not done again.
-pub fn commit(state: &State, alloc: Global, now: &Reading, commit: &Commit) -> Result<Plan, Fault>
+pub fn commit(state: &State, alloc: Global, now: &Reading, commit: &Commit) -> Result<Step, Fault>
     ensures planned { PlansCommit state.now now.now.latest commit.now
         (standing_in state.now commit.now.txn) result }
     ensures fit { IfOk result (IsFit state.now) }
@@ -20,7 +20,7 @@ pub fn commit(state: &State, alloc: Global, now: &Reading, commit: &Commit) -> R
 }
 
 /// A yes is kept; the last one decides, at a timestamp above the reading at which the commit came.
-pub fn vote(state: &State, alloc: Global, vote: &Vote) -> Result<Plan, Fault>
+pub fn vote(state: &State, alloc: Global, vote: &Vote) -> Result<Step, Fault>
     ensures planned { PlansVote state.now vote.now (standing_in state.now vote.now.txn) result }
     ensures fit { IfOk result (IsFit state.now) }
 {
@@ -28,7 +28,7 @@ pub fn vote(state: &State, alloc: Global, vote: &Vote) -> Result<Plan, Fault>
 }
 
 /// Who asks how a transaction ended is told an abort only once it is logged.
-pub fn ask(state: &State, alloc: Global, ask: &Ask) -> Result<Plan, Fault>
+pub fn ask(state: &State, alloc: Global, ask: &Ask) -> Result<Step, Fault>
     ensures planned { PlansAsk state.now ask.now (standing_in state.now ask.now.txn) result }
     ensures fit { IfOk result (IsFit state.now) }
 {
@@ -36,7 +36,7 @@ pub fn ask(state: &State, alloc: Global, ask: &Ask) -> Result<Plan, Fault>
 }
 
 /// A commit is told only once its timestamp has surely passed.
-pub fn settle(state: &State, alloc: Global, now: &Reading, txn: TxnId) -> Result<Plan, Fault>
+pub fn settle(state: &State, alloc: Global, now: &Reading, txn: TxnId) -> Result<Step, Fault>
     ensures planned { PlansSettle state.now now.now.earliest txn (standing_in state.now txn)
         result }
     ensures fit { IfOk result (IsFit state.now) }

@@ -4,14 +4,14 @@ ghost use Rattle.memory.specs.Carry.{IsFit};
 ghost use Rattle.memory.specs.Standings.{standing_in};
 ghost use Rattle.participant.specs.ByMessage.{PlansOutcome, PlansPrepare, PlansRead};
 
-use memory::{Plan, State};
+use memory::{State, Step};
 use message::{Outcome, Prepare, Read};
 use std::alloc::Global;
 use truetime::Reading;
 use units::Fault;
 
 /// A read is answered under its lock; nobody who has promised is ended for it.
-pub fn read(state: &State, alloc: Global, read: &Read) -> Result<Plan, Fault>
+pub fn read(state: &State, alloc: Global, read: &Read) -> Result<Step, Fault>
     ensures planned { PlansRead state.now read.now (standing_in state.now read.now.txn) result }
     ensures fit { IfOk result (IsFit state.now) }
 {
@@ -24,7 +24,7 @@ pub fn prepare(
     alloc: Global,
     now: &Reading,
     prepare: &Prepare,
-) -> Result<Plan, Fault>
+) -> Result<Step, Fault>
     ensures planned { PlansPrepare state.now now.now.earliest prepare.now
         (standing_in state.now prepare.now.txn) result }
     ensures fit { IfOk result (IsFit state.now) }
@@ -33,7 +33,7 @@ pub fn prepare(
 }
 
 /// An outcome closes a promise once.
-pub fn outcome(state: &State, alloc: Global, told: &Outcome) -> Result<Plan, Fault>
+pub fn outcome(state: &State, alloc: Global, told: &Outcome) -> Result<Step, Fault>
     ensures planned { PlansOutcome state.now told.now (standing_in state.now told.now.txn) result }
     ensures fit { IfOk result (IsFit state.now) }
 {

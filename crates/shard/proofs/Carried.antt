@@ -12,8 +12,8 @@ use Rattle.protocol.specs.Step.{facts_after}
 use Rattle.protocol.specs.Sound.{IsSound}
 use Rattle.memory.specs.Carry.{AdmissionIsUnseen, ReadyIsCarriable, HasMemoryFor, IsCarriable, MayInstall}
 use Rattle.memory.specs.Kept.{Kept}
-use Rattle.memory.specs.Plans.{plan_of, logging}
-use Rattle.memory.specs.declared.plan.Plan.{Plan}
+use Rattle.memory.specs.Plans.{plan_of}
+use Rattle.memory.specs.declared.plan.Step.{Step}
 use Rattle.shard.specs.Due.{IsDue}
 use Rattle.shard.specs.Logs.{and_logged, facts_logged}
 
@@ -33,30 +33,28 @@ pub facts-logged : (records : Result (List Record) Fault) (f : Facts) (r : Recor
 facts-logged (Ok rs) f r known = ap Some (learned-append no_facts rs r ∙ ap (λ g. learn g r) (ap given known))
 facts-logged (Err fault) f r known = absurd (cc)
 
--- ---- a plan
+-- ---- a step
 
--- its record is handed over beside it
-module _ (k ready : Kept) (p : Plan) (l : Option Record) (own : p.logged ≡ l) (due : IsDue k p) (made : HasMemoryFor k ready p) where
+-- its plan is carried out once its record is logged
+module _ (k ready : Kept) (s : Step) (due : IsDue k s) (made : HasMemoryFor k ready s.plan) where
   -- it can be carried out
-  pub can_carry : ReadyIsCarriable → IsCarriable ready (logging l p)
-  can_carry law =
-      subst (λ (o : Option Record). IsCarriable ready (logging o p)) own (law k ready p due.order due.fit made due.follows due.installs)
+  pub can_carry : ReadyIsCarriable → IsCarriable ready s
+  can_carry law = law k ready s due.order due.fit made due.follows due.installs
 
   -- and makes of the memory what the plan says, told from the state before
-  pub memory_after : AdmissionIsUnseen → (after : Memory) → after ≡ carried (plan_of ready.memory.rows (logging l p)) ready.memory →
-      after ≡ carried (plan_of k.memory.rows p) k.memory
+  pub memory_after : AdmissionIsUnseen → (after : Memory) → after ≡ carried (plan_of ready.memory.rows s) ready.memory →
+      after ≡ carried (plan_of k.memory.rows s) k.memory
   memory_after unseen after e =
-      e ∙ ap (λ (o : Option Record). carried (plan_of ready.memory.rows (logging o p)) ready.memory) (sym own)
-      ∙ ap (λ (m : Memory). carried (plan_of m.rows p) m) made.memory ∙ unseen k.memory p due.order (due.fit).0
+      e ∙ ap (λ (m : Memory). carried (plan_of m.rows s) m) made.memory ∙ unseen k.memory s due.order (due.fit).0
 
-  pub facts_then : (after : Facts) → after ≡ facts_after ready.facts l → after ≡ facts_after k.facts p.logged
-  facts_then after e = e ∙ ap (λ (f : Facts). facts_after f l) made.facts ∙ ap (facts_after k.facts) (sym own)
+  pub facts_then : (after : Facts) → after ≡ facts_after ready.facts s.logged → after ≡ facts_after k.facts s.logged
+  facts_then after e = e ∙ ap (λ (f : Facts). facts_after f s.logged) made.facts
 
   -- the shard is sound then
-  pub sound_then : (setup : Setup) (facts : Facts) (memory : Memory) → setup ≡ k.setup → facts ≡ facts_after k.facts p.logged
-      → memory ≡ carried (plan_of k.memory.rows p) k.memory → ∥ IsSound setup.shard facts memory ∥₁
+  pub sound_then : (setup : Setup) (facts : Facts) (memory : Memory) → setup ≡ k.setup → facts ≡ facts_after k.facts s.logged
+      → memory ≡ carried (plan_of k.memory.rows s) k.memory → ∥ IsSound setup.shard facts memory ∥₁
   sound_then setup facts memory is_setup is_facts is_memory =
-      ∥∥₁_map due.sound (λ s.
+      ∥∥₁_map due.sound (λ o.
       subst (λ (t : Setup). IsSound t.shard facts memory) (sym is_setup)
       (subst (λ f. IsSound k.setup.shard f memory) (sym is_facts)
-      (subst (IsSound k.setup.shard (facts_after k.facts p.logged)) (sym is_memory) s)))
+      (subst (IsSound k.setup.shard (facts_after k.facts s.logged)) (sym is_memory) o)))

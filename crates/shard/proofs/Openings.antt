@@ -16,7 +16,7 @@ use Rattle.protocol.proofs.RowChanges.{by_id-claims}
 use Rattle.memory.specs.Carry.{IsFit, MayFollow, MayInstall}
 use Rattle.memory.specs.Kept.{Kept}
 use Rattle.memory.specs.Plans.{plan_of}
-use Rattle.memory.specs.declared.plan.Plan.{Plan}
+use Rattle.memory.specs.declared.plan.Step.{Step}
 use Rattle.protocol.specs.Showable.{IsShowable}
 use Rattle.shard.specs.Due.{IsDue}
 use Rattle.units.specs.declared.setup.Setup.{Setup}
@@ -62,7 +62,7 @@ opened_memory k p last logged again same plan =
     ∙ ap (λ m. record { last = m.last; rows = m.rows; ended = m.ended }) again
 
 -- and may be logged and carried out
-pub opening_due : OpeningKeepsSound → (k : Kept) (p : Plan) (last : ℕ) → k.memory ≡ rebuilt k.facts → ∥ IsSound k.setup.shard k.facts k.memory ∥₁ →
+pub opening_due : OpeningKeepsSound → (k : Kept) (p : Step) (last : ℕ) → k.memory ≡ rebuilt k.facts → ∥ IsSound k.setup.shard k.facts k.memory ∥₁ →
     IsShowable k.facts k.memory → last ≡ k.memory.last → IsFit k p
     → plan_of k.memory.rows p ≡ record { wounded = []; change = protocol.Keeps; logged = Some (next k.facts); last = last; outbox = [] } → IsDue k p
 opening_due law k p last again sound showable same fit plan = record {

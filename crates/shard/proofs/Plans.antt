@@ -21,7 +21,7 @@ use Rattle.protocol.specs.Sound.{IsSound, StepKeepsSound, LoggedFollows, Install
 use Rattle.memory.specs.Carry.{IsFit, MayFollow, MayInstall}
 use Rattle.memory.specs.Kept.{Kept, start_of}
 use Rattle.memory.specs.Plans.{plan_of}
-use Rattle.memory.specs.declared.plan.Plan.{Plan as CodePlan}
+use Rattle.memory.specs.declared.plan.Step.{Step}
 use Rattle.protocol.specs.Showable.{IsShowable}
 use Rattle.shard.specs.Due.{IsDue}
 
@@ -50,7 +50,7 @@ by_id-prop id (x ∷ xs) = ×_prop (hlevel props) (by_id-prop id xs)
 pub ascending : (shard : ℕ) (facts : Facts) (memory : Memory) → ∥ IsSound shard facts memory ∥₁ → IsById (λ r. r.txn) memory.rows
 ascending shard facts memory sound = ∥∥₁_elim sound (by_id-prop (λ (r : Row). r.txn) memory.rows) (λ s. by_id-claims memory.rows s.table.order)
 
-module _ (k : Kept) (now : Interval) (i : Input) (p : CodePlan) (limit : IsInLimit i) (planned : plan_input k.setup (start_of k) now i ≡
+module _ (k : Kept) (now : Interval) (i : Input) (p : Step) (limit : IsInLimit i) (planned : plan_input k.setup (start_of k) now i ≡
     Ok (plan_of k.memory.rows p)) where
   follows_next : LoggedFollows → ∥ IsSound k.setup.shard k.facts k.memory ∥₁ → (r : Record) → p.logged ≡ Some r → follows_facts k.setup.shard k.facts r ≡ true
   follows_next follows sound r e =

@@ -27,7 +27,7 @@ use Rattle.protocol.proofs.InWay.{row_at}
 use Rattle.protocol.proofs.RowChanges.{row_as}
 use Rattle.memory.specs.Kept.{Kept, start_of}
 use Rattle.memory.specs.Plans.{plan_of}
-use Rattle.memory.specs.declared.plan.Plan.{Plan as CodePlan}
+use Rattle.memory.specs.declared.plan.Step.{Step}
 use Rattle.shard.specs.Logs.{and_logged, facts_logged, KeepsRecords}
 use Rattle.shard.specs.Settled.{HasCommit, IsDurablySettled}
 use Rattle.shard.proofs.Commitments.{has-commit}
@@ -94,7 +94,7 @@ HasCommit-prop : (records : Result (List Record) Fault) (t : Id) (at : ℕ) → 
 HasCommit-prop (Ok records) t at = hlevel props
 HasCommit-prop (Err fault) t at = hlevel props
 
-module _ (k : Kept) (now : Interval) (p : CodePlan) (sound : ∥ IsSound k.setup.shard k.facts k.memory ∥₁) where
+module _ (k : Kept) (now : Interval) (p : Step) (sound : ∥ IsSound k.setup.shard k.facts k.memory ∥₁) where
   -- its decision is in the log, and in one with a record more
   decision_there : (records : Result (List Record) Fault) (r : Record) (t : Id) (done : Settles (start_of k) t (plan_of k.memory.rows p))
       → facts_logged records ≡ Some k.facts → HasCommit (and_logged records (Some r)) t done.at
@@ -105,7 +105,7 @@ module _ (k : Kept) (now : Interval) (p : CodePlan) (sound : ∥ IsSound k.setup
       subst (HasCommit (and_logged records (Some r)) t) there.2 (has-commit t there.0 records k.facts r known there.1))
 
   durably : (keeps : Type 0) (disk : Surface) (records : Result (List Record) Fault) (t : Id) (result : Result (List Envelope) Fault)
-      → Settles (start_of k) t (plan_of k.memory.rows p) → IfOk result (λ out. out ≡ p.outbox) →
+      → Settles (start_of k) t (plan_of k.memory.rows p) → IfOk result (λ out. out ≡ p.plan.outbox) →
       OnOk result (keeps → KeepsRecords disk (and_logged records p.logged))
       → (keeps → facts_logged records ≡ Some k.facts) → IsDurablySettled keeps disk (Input.Settle t) result
   durably keeps disk records t (Err fault) done out durable known = tt
@@ -120,7 +120,7 @@ module _ (k : Kept) (now : Interval) (p : CodePlan) (sound : ∥ IsSound k.setup
 
   -- what an input that is taken puts out and leaves on the disk
   pub durably_settled : (keeps : Type 0) (disk : Surface) (records : Result (List Record) Fault) (i : Input) (result : Result (List Envelope) Fault)
-      → plan_input k.setup (start_of k) now i ≡ Ok (plan_of k.memory.rows p) → IfOk result (λ out. out ≡ p.outbox)
+      → plan_input k.setup (start_of k) now i ≡ Ok (plan_of k.memory.rows p) → IfOk result (λ out. out ≡ p.plan.outbox)
       → OnOk result (keeps → KeepsRecords disk (and_logged records p.logged)) → (keeps → facts_logged records ≡ Some k.facts)
       → IsDurablySettled keeps disk i result
   unfolding plan_input

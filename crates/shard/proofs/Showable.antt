@@ -17,7 +17,7 @@ use Rattle.protocol.specs.Sound.{IsSound}
 use Rattle.protocol.specs.Step.{IsInLimit, facts_after, plan_input}
 use Rattle.memory.specs.Kept.{Kept, start_of}
 use Rattle.memory.specs.Plans.{plan_of}
-use Rattle.memory.specs.declared.plan.Plan.{Plan}
+use Rattle.memory.specs.declared.plan.Step.{Step}
 use Rattle.recovery.specs.Recovered.{items}
 use Rattle.protocol.specs.Showable.{IsShowable, KeepsShowable, StepKeepsShowable, TakenIsShowable, WritesAscend, record_ascends}
 
@@ -26,7 +26,7 @@ as-showable facts given memory held same also showable =
     subst (λ (f : Facts). IsShowable f memory) (sym same) (subst (λ (m : Memory). IsShowable given m) (sym also) showable)
 
 -- a plan of an input leaves it so
-module _ (k : Kept) (now : Interval) (i : Input) (p : Plan) (limit : IsInLimit i) (ordered : WritesAscend i)
+module _ (k : Kept) (now : Interval) (i : Input) (p : Step) (limit : IsInLimit i) (ordered : WritesAscend i)
     (planned : plan_input k.setup (start_of k) now i ≡ Ok (plan_of k.memory.rows p)) where
   pub showable_then : StepKeepsShowable → ∥ IsSound k.setup.shard k.facts k.memory ∥₁ → IsShowable k.facts k.memory
       → IsShowable (facts_after k.facts p.logged) (carried (plan_of k.memory.rows p) k.memory)

@@ -16,7 +16,7 @@ ghost use Rattle.shard.specs.On.{HasStepped, IsLogFull};
 use crate::machine::Machine;
 use book::{Book, Page};
 use disk::Disk;
-use memory::Plan;
+use memory::Step;
 use message::{Input, Outbox};
 use record::Record;
 use std::alloc::Global;
@@ -53,68 +53,68 @@ fn page_of<D: Disk>(
     alloc: Global,
     now: &Reading,
     input: &Input,
-    plan: &Plan,
+    step: &Step,
 ) -> Result<Page, Fault>
     ensures page { IfOk result
-        (λ page. page ≡ record { input = input.now; now = now.now; outbox = plan.now.outbox }) }
+        (λ page. page ≡ record { input = input.now; now = now.now; outbox = step.now.plan.outbox }) }
     ensures room { OnOk result (length book.now.pages < book.now.capacity) }
     ensures cause { IfErr result
         (λ fault. ((fault ≡ Fault.Memory) × (length book.now.pages < book.now.capacity))
         ⊎ ((book.now.capacity ≤ length book.now.pages)
         × (((fault ≡ Fault.TimeSpent)
-        × IsLogFull (seen_machine machine.now).gate plan.now.logged)
-        ⊎ ((fault ≡ Fault.BookFull) × HasPlace (seen_machine machine.now).gate plan.now.logged)))) }
+        × IsLogFull (seen_machine machine.now).gate step.now.logged)
+        ⊎ ((fault ≡ Fault.BookFull) × HasPlace (seen_machine machine.now).gate step.now.logged)))) }
 {
     if book.is_full() {
-        return Err(machine.crowded(plan));
+        return Err(machine.crowded(step));
     }
-    Page::of(alloc, now, input, &plan.outbox)
+    Page::of(alloc, now, input, &step.plan.outbox)
 }
 
-// Carries out the plan of an input, and keeps its page. All memory is taken before.
+// Carries out the step of an input, and keeps its page. All memory is taken before.
 pub(crate) fn write_page<D: Disk>(
     machine: &mut Machine<D>,
     book: &mut Book,
     alloc: Global,
     now: &Reading,
     input: &Input,
-    plan: Plan,
+    step: Step,
 ) -> Result<Outbox, Fault>
     requires running { IsFalse (seen_machine machine.old).stopped }
     requires stands { D.keeps_model
         → KeepsRecords (surface (D.file (seen_machine machine.old).disk))
         (records_in (surface (D.file (seen_machine machine.old).disk)).seen) }
-    requires due { IsDue machine.old.state plan }
+    requires due { IsDue machine.old.state step }
     ensures room { OnOk result (length book.old.pages < book.old.capacity) }
     ensures stepped { length book.old.pages < book.old.capacity →
         HasStepped D.keeps_model D.obeys D.file D.clock D.since D.failures D.plan
         (seen_machine machine.old) (seen_machine machine.new)
-        (Does plan.logged (carried
-        (plan_of machine.old.state.memory.rows plan) machine.old.state.memory) plan.outbox)
+        (Does step.logged (carried
+        (plan_of machine.old.state.memory.rows step) machine.old.state.memory) step.plan.outbox)
         result }
     ensures crowded { book.old.capacity ≤ length book.old.pages
         → IsCrowded (seen_machine machine.old) (seen_machine machine.new)
-        (Does plan.logged (carried
-        (plan_of machine.old.state.memory.rows plan) machine.old.state.memory) plan.outbox)
+        (Does step.logged (carried
+        (plan_of machine.old.state.memory.rows step) machine.old.state.memory) step.plan.outbox)
         result }
     ensures durable { OnOk result
         (D.keeps_model → KeepsRecords (surface (D.file (seen_machine machine.new).disk))
         (and_logged (records_in
-        (surface (D.file (seen_machine machine.old).disk)).seen) plan.logged)) }
-    ensures out { IfOk result (λ out. out ≡ plan.outbox) }
+        (surface (D.file (seen_machine machine.old).disk)).seen) step.logged)) }
+    ensures out { IfOk result (λ out. out ≡ step.plan.outbox) }
     ensures page { IfOk result
         (λ out. book.new ≡ with_page book.old
         (record { input = input.now; now = now.now; outbox = out })) }
     ensures kept { IfErr result (λ fault. book.new ≡ book.old) }
 {
-    let page = match page_of(machine, book, alloc, now, input, &plan) {
+    let page = match page_of(machine, book, alloc, now, input, &step) {
         Ok(page) => page,
         Err(fault) => {
-            drop(plan);
+            drop(step);
             return Err(fault);
         }
     };
-    match machine.carry_out(alloc, plan) {
+    match machine.carry_out(alloc, step) {
         Ok(outbox) => {
             book.push(page);
             Ok(outbox)

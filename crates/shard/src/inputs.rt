@@ -13,7 +13,7 @@ ghost use Rattle.memory.specs.Standings.{standing_in, PlansGiveUp};
 use crate::addressing::is_for;
 use ceiling::needed;
 use coordinator::{give_up, on_ask, on_commit, on_vote, resume_commit, settle};
-use memory::{Plan, State};
+use memory::{State, Step};
 use message::{GiveUp, Input, Message};
 use participant::{
     on_give_up, on_nudge, on_outcome, on_prepare, on_read, resume_prepare, resume_read,
@@ -30,7 +30,7 @@ pub(crate) fn plan_input(
     alloc: Global,
     now: &Reading,
     input: &Input,
-) -> Result<Plan, Fault>
+) -> Result<Step, Fault>
     ensures planned { IsPlanned state.now
         (plan_input state.now.setup (start_of state.now) now.now input.now) result }
     ensures fit { IfOk result (IsFit state.now) }
@@ -56,7 +56,7 @@ fn plan_message(
     alloc: Global,
     now: &Reading,
     message: &Message,
-) -> Result<Plan, Fault>
+) -> Result<Step, Fault>
     ensures planned { IsPlanned state.now
         (plan_message (start_of state.now) now.now message.now) result }
     ensures fit { IfOk result (IsFit state.now) }
@@ -74,7 +74,7 @@ fn plan_message(
 }
 
 // A giving up: by the coordinator where votes are collected, else by the participant.
-fn plan_given_up(state: &State, alloc: Global, given: &GiveUp) -> Result<Plan, Fault>
+fn plan_given_up(state: &State, alloc: Global, given: &GiveUp) -> Result<Step, Fault>
     ensures planned { PlansGiveUp state.now given.now.txn (standing_in state.now given.now.txn)
         result }
     ensures fit { IfOk result (IsFit state.now) }
@@ -89,7 +89,7 @@ fn plan_given_up(state: &State, alloc: Global, given: &GiveUp) -> Result<Plan, F
 
 // The oldest wait that would be granted now goes on.
 #[tactic(auto, unfolding(protocol::specs::Cells::plan_resume))]
-fn plan_resume(state: &State, alloc: Global, now: &Reading) -> Result<Plan, Fault>
+fn plan_resume(state: &State, alloc: Global, now: &Reading) -> Result<Step, Fault>
     ensures planned { IsPlanned state.now
         (plan_resume (start_of state.now) now.now.earliest) result }
     ensures fit { IfOk result (IsFit state.now) }
@@ -101,7 +101,7 @@ fn plan_resume(state: &State, alloc: Global, now: &Reading) -> Result<Plan, Faul
 }
 
 // What a transaction waits with goes on.
-fn resume_of(state: &State, alloc: Global, now: &Reading, txn: TxnId) -> Result<Plan, Fault>
+fn resume_of(state: &State, alloc: Global, now: &Reading, txn: TxnId) -> Result<Step, Fault>
     requires { Asks state.now.memory.rows txn [] (needs_in state.now.memory.rows txn) true }
     ensures planned { IsPlanned state.now
         (plan_resume_id (start_of state.now) now.now.earliest (Some txn)) result }
@@ -121,7 +121,7 @@ fn resume_row(
     now: &Reading,
     txn: TxnId,
     row: &Row,
-) -> Result<Plan, Fault>
+) -> Result<Step, Fault>
     requires { Asks state.now.memory.rows txn [] (needs_of (phase_of row.now)) true }
     ensures planned { IsPlanned state.now
         (plan_go_on (start_of state.now) now.now.earliest txn (phase_of row.now)) result }
@@ -141,7 +141,7 @@ fn resume_wait(
     now: &Reading,
     txn: TxnId,
     wait: Option<&Wait>,
-) -> Result<Plan, Fault>
+) -> Result<Step, Fault>
     requires { Asks state.now.memory.rows txn []
         (needs_of (phase_of_wait (option_copied wait))) true }
     ensures planned { IsPlanned state.now
@@ -164,7 +164,7 @@ fn resume_key(
     now: &Reading,
     txn: TxnId,
     key: &Key,
-) -> Result<Plan, Fault>
+) -> Result<Step, Fault>
     requires { Asks state.now.memory.rows txn [] (to_read key.now) true }
     ensures planned { IsPlanned state.now
         (plan_go_on (start_of state.now) now.now.earliest txn (WaitsRead key.now)) result }
@@ -175,7 +175,7 @@ fn resume_key(
 
 // Reads are served up to a time that has come. A ceiling is logged before, where the log's greatest timestamp is below it.
 #[tactic(auto, unfolding(protocol::specs::Cells::plan_advance))]
-fn plan_advance(state: &State, alloc: Global, now: &Reading, to: Stamp) -> Result<Plan, Fault>
+fn plan_advance(state: &State, alloc: Global, now: &Reading, to: Stamp) -> Result<Step, Fault>
     ensures planned { IsPlanned state.now
         (plan_advance (start_of state.now) now.now.latest state.now.setup.stride to) result }
     ensures fit { IfOk result (IsFit state.now) }

@@ -22,7 +22,7 @@ use crate::inputs::plan_input;
 use crate::logging::append_record;
 use disk::Disk;
 use gatelog::GateLog;
-use memory::{Plan, State, ready_plans_can_be_carried};
+use memory::{State, Step, ready_plans_can_be_carried};
 use message::{Input, Outbox};
 use protocol::{
     fresh_is_showable, fresh_is_sound, installs_above, logged_follows, opening_keeps_sound,
@@ -47,14 +47,14 @@ impl<D: Disk> Machine<D> {
     ghost use Rattle.shard.specs.Core.{seen_machine};
 
     // What an input comes to, told before anything is changed; or why it is refused.
-    pub(crate) fn plan(&self, alloc: Global, now: &Reading, input: &Input) -> Result<Plan, Fault>
+    pub(crate) fn plan(&self, alloc: Global, now: &Reading, input: &Input) -> Result<Step, Fault>
         ensures running { OnOk result (IsFalse (seen_machine self.now).stopped) }
         ensures stands { OnOk result
             (D.keeps_model → KeepsRecords (surface (D.file (seen_machine self.now).disk))
             (records_in (surface (D.file (seen_machine self.now).disk)).seen)) }
         ensures planned { IfOk result
-            (λ plan. plan_input self.now.state.setup (start_of self.now.state) now.now input.now ≡
-            Ok (plan_of self.now.state.memory.rows plan)) }
+            (λ step. plan_input self.now.state.setup (start_of self.now.state) now.now input.now ≡
+            Ok (plan_of self.now.state.memory.rows step)) }
         ensures due { IfOk result (IsDue self.now.state) }
         ensures refused { IfErr result
             (λ fault. HasStepped D.keeps_model D.obeys D.file D.clock D.since D.failures D.plan
@@ -81,40 +81,42 @@ impl<D: Disk> Machine<D> {
         self.gate_log.is_near_limit()
     }
 
-    // Why a plan is refused where there is no room for its page: the log has none for its record, or else the book.
-    pub(crate) fn crowded(&self, plan: &Plan) -> Fault
+    // Why a step is refused where there is no room for its page: the log has none for its record, or else the book.
+    pub(crate) fn crowded(&self, step: &Step) -> Fault
         ensures { ((result ≡ Fault.TimeSpent)
-            × IsLogFull (seen_machine self.now).gate plan.now.logged)
-            ⊎ ((result ≡ Fault.BookFull) × HasPlace (seen_machine self.now).gate plan.now.logged) }
+            × IsLogFull (seen_machine self.now).gate step.now.logged)
+            ⊎ ((result ≡ Fault.BookFull) × HasPlace (seen_machine self.now).gate step.now.logged) }
     {
-        match &plan.logged {
+        match &step.logged {
             Some(item) if !self.gate_log.has_place(item) => Fault::TimeSpent,
             Some(_) | None => Fault::BookFull,
         }
     }
 
-    // Logs the record of a plan, where it has one, and carries the plan out. All memory is taken before.
-    pub(crate) fn carry_out(&mut self, alloc: Global, mut plan: Plan) -> Result<Outbox, Fault>
+    // Logs the record of a step, where there is one, and carries its plan out. All memory is taken before.
+    pub(crate) fn carry_out(&mut self, alloc: Global, step: Step) -> Result<Outbox, Fault>
         requires running { IsFalse (seen_machine self.old).stopped }
         requires stands { D.keeps_model
             → KeepsRecords (surface (D.file (seen_machine self.old).disk))
             (records_in (surface (D.file (seen_machine self.old).disk)).seen) }
-        requires due { IsDue self.old.state plan }
+        requires due { IsDue self.old.state step }
         ensures { HasStepped D.keeps_model D.obeys D.file D.clock D.since D.failures D.plan
             (seen_machine self.old) (seen_machine self.new)
-            (Does plan.logged
-            (carried (plan_of self.old.state.memory.rows plan) self.old.state.memory)
-            plan.outbox) result }
+            (Does step.logged
+            (carried (plan_of self.old.state.memory.rows step) self.old.state.memory)
+            step.plan.outbox) result }
     {
         ready_plans_can_be_carried();
+        let Step { plan, logged } = step;
         let ready = match self.state.make_ready(alloc, &plan) {
             Ok(ready) => ready,
             Err(fault) => {
                 drop(plan);
+                drop(logged);
                 return Err(fault);
             }
         };
-        let Some(item) = plan.logged.take() else {
+        let Some(item) = logged else {
             return Ok(self.state.carry(plan, None));
         };
         match append_record(&mut self.gate_log, alloc, item) {
@@ -216,10 +218,10 @@ impl<D: Disk> Machine<D> {
         };
         let mut machine = Machine { gate_log, state };
         let last = machine.state.last();
-        let plan = machine
+        let step = machine
             .state
             .serves(alloc, Some(Record::Opened { epoch }), last);
-        match machine.carry_out(alloc, plan) {
+        match machine.carry_out(alloc, step) {
             Ok(outbox) => drop(outbox),
             Err(fault) => return Err((fault, machine.stop())),
         }

@@ -30,7 +30,7 @@ use crate::opening::Opening;
 use book::{Book, a_page_is_a_step};
 use disk::Disk;
 use gatelog::GateLog;
-use memory::Plan;
+use memory::Step;
 use message::{Input, Outbox};
 use protocol::{own_refusals, taken_is_showable};
 use record::{Record, accepted_follows, learn_agrees, learnt_agrees};
@@ -125,7 +125,7 @@ impl<D: Disk> Core<D> {
     {
         own_refusals();
         match self.machine.plan(alloc, now, input) {
-            Ok(plan) => self.enter(alloc, now, input, plan),
+            Ok(step) => self.enter(alloc, now, input, step),
             Err(fault) => Err(self.first_refusal(fault)),
         }
     }
@@ -147,13 +147,13 @@ impl<D: Disk> Core<D> {
         }
     }
 
-    // Carries out the plan of an input, with its page where a book is kept.
+    // Carries out the step of an input, with its page where a book is kept.
     fn enter(
         &mut self,
         alloc: Global,
         now: &Reading,
         input: &Input,
-        plan: Plan,
+        step: Step,
     ) -> Result<Outbox, Fault>
         requires running { IsFalse (seen self.old).stopped }
         requires stands { D.keeps_model
@@ -161,8 +161,8 @@ impl<D: Disk> Core<D> {
             (records_in (surface (D.file (seen self.old).disk)).seen) }
         requires planned { plan_input self.old.machine.state.setup
             (start_of self.old.machine.state) now.now input.now ≡ Ok
-            (plan_of self.old.machine.state.memory.rows plan) }
-        requires due { IsDue self.old.machine.state plan }
+            (plan_of self.old.machine.state.memory.rows step) }
+        requires due { IsDue self.old.machine.state step }
         ensures stepped { HasBookRoom (seen self.old).setup.book (book_of self.old) →
             HasStepped D.keeps_model D.obeys D.file D.clock D.since D.failures D.plan
             (seen self.old) (seen self.new) (step_of (seen self.old) now.now input.now) result }
@@ -176,8 +176,8 @@ impl<D: Disk> Core<D> {
     {
         a_page_is_a_step();
         match &mut self.book {
-            None => self.machine.carry_out(alloc, plan),
-            Some(book) => write_page(&mut self.machine, book, alloc, now, input, plan),
+            None => self.machine.carry_out(alloc, step),
+            Some(book) => write_page(&mut self.machine, book, alloc, now, input, step),
         }
     }
 

@@ -7,7 +7,8 @@ use Rattle.protocol.specs.Plan.{carried, after_change, ended_by, with_ids}
 use Rattle.record.specs.declared.record.Record.{Record}
 use Rattle.memory.specs.Carry.{FitsRows, AskerHasRoom, MayFollow, MayInstall, asker, admitted, table_in}
 use Rattle.memory.specs.Kept.{Kept}
-use Rattle.memory.specs.Plans.{change_of, plan_of, logging}
+use Rattle.memory.specs.Plans.{change_of, plan_of}
+use Rattle.memory.specs.declared.plan.Step.{Step}
 use Rattle.memory.proofs.Logged.{dated, carried_is, raised_to}
 use Rattle.memory.proofs.state.State.carry.Goals as goal
 
@@ -46,7 +47,8 @@ make_change-item-requires-clause-dated c =
 
 pub returns-clause-memory : goal.returns-clause-memory
 returns-clause-memory c =
-    let p = logging c.args.logged c.args.plan in
+    let s : Step = record { plan = c.args.plan; logged = c.args.logged } in
+    let p = c.args.plan in
     let m : Memory = record { last = c.self.inside.times.last; rows = c.self.inside.rows.rows; ended = c.self.inside.ended.ids } in
     let next : Memory = record {
       last = c.make_change-item.new.times.last;
@@ -58,12 +60,12 @@ returns-clause-memory c =
     let last : next.last ≡ p.last = c.make_change-item.ensures.last ∙ ap (λ (t : Times). t.last) c.raise.ensures ∙ raised_to m.last p.last low in
     let us : List Id = c.as_slice.result.now in
     let needs : List Lock = c.deref.result.now in
-    let rows : next.rows ≡ after_change (change_of m.rows p.needs.items p.logged p.change) (without_rows m.rows p.wounded) =
+    let rows : next.rows ≡ after_change (change_of m.rows p.needs.items s.logged p.change) (without_rows m.rows p.wounded) =
     c.make_change-item.ensures.rows
     ∙ ap (λ (ts : List Id). after_change (change_of m.rows needs c.args.logged p.change) (without_rows m.rows ts)) c.as_slice.ensures
     ∙ ap (λ (ls : List Lock). after_change (change_of m.rows ls c.args.logged p.change) (without_rows m.rows p.wounded)) c.deref.ensures.value in
-    let ended : next.ended ≡ ended_by (change_of m.rows p.needs.items p.logged p.change) (with_ids m.ended p.wounded) =
+    let ended : next.ended ≡ ended_by (change_of m.rows p.needs.items s.logged p.change) (with_ids m.ended p.wounded) =
     c.make_change-item.ensures.ended
     ∙ ap (λ (ts : List Id). ended_by (change_of m.rows needs c.args.logged p.change) (with_ids m.ended ts)) c.as_slice.ensures
     ∙ ap (λ (ls : List Lock). ended_by (change_of m.rows ls c.args.logged p.change) (with_ids m.ended p.wounded)) c.deref.ensures.value in
-    subst (λ (k : Kept). next ≡ carried (plan_of k.memory.rows p) k.memory) c.self.view_is (carried_is m next p last rows ended)
+    subst (λ (k : Kept). next ≡ carried (plan_of k.memory.rows s) k.memory) c.self.view_is (carried_is m next s last rows ended)

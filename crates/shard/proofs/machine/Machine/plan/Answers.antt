@@ -3,7 +3,7 @@ use Rattle.units.specs.declared.fault.Fault.{Fault}
 use Rattle.protocol.specs.Step.{plan_input, step_within}
 use Rattle.memory.specs.Carry.{IsFit}
 use Rattle.memory.specs.Kept.{IsPlanned, start_of}
-use Rattle.memory.specs.declared.plan.Plan.{Plan}
+use Rattle.memory.specs.declared.plan.Step.{Step}
 use Rattle.shard.specs.Core.{seen_machine}
 use Rattle.shard.specs.Due.{IsDue}
 use Rattle.shard.specs.Logs.{items_of}
@@ -16,7 +16,7 @@ use Rattle.shard.proofs.machine.Machine.plan.Goals as goal
 pub returns-clause-due : goal.returns-clause-due
 returns-clause-due g c = by_result c.plan_input.result c.plan_input.ensures.planned c.plan_input.ensures.fit
   where
-    by_result : (r : Result Plan Fault)
+    by_result : (r : Result Step Fault)
         → IsPlanned c.args.self.now.state (plan_input c.args.self.now.state.setup (start_of c.args.self.now.state) c.args.now.now c.args.input.now) r
         → IfOk r (IsFit c.args.self.now.state) → IfOk r (IsDue c.args.self.now.state)
     by_result (Ok p) planned fit =
@@ -30,7 +30,7 @@ pub returns-clause-refused : goal.returns-clause-refused
 unfolding step_within
 returns-clause-refused g c = by_result c.plan_input.result c.plan_input.ensures.planned
   where
-    by_result : (r : Result Plan Fault)
+    by_result : (r : Result Step Fault)
         → IsPlanned c.args.self.now.state (plan_input c.args.self.now.state.setup (start_of c.args.self.now.state) c.args.now.now c.args.input.now) r
         → IfErr r (λ fault. HasStepped g.D.Disk.keeps_model g.D.Disk.obeys g.D.Disk.file g.D.Disk.clock g.D.Disk.since g.D.Disk.failures g.D.Disk.plan
         (seen_machine c.args.self.now) (seen_machine c.args.self.now) (step_of (seen_machine c.args.self.now) c.args.now.now c.args.input.now) (Err fault))

@@ -15,10 +15,10 @@ pub carry_out-requires-clause-due : goal.carry_out-requires-clause-due
 carry_out-requires-clause-due g c =
     let k = c.args.state in
     let epoch : c.in-Ok.epoch ≡ k.facts.epoch + 1 = c.in-Ok.ensures.0 ∙ ap (λ n. n + 1) c.epoch.ensures in
-    opening_due c.opening_keeps_sound.ensures k c.serves-plan.result c.last-last.result c.requires.rebuilt c.requires.sound c.requires.showable
+    opening_due c.opening_keeps_sound.ensures k c.serves-step.result c.last-last.result c.requires.rebuilt c.requires.sound c.requires.showable
     c.last-last.ensures
-    c.serves-plan.ensures.fit
-    (c.serves-plan.ensures.plan ∙ ap (λ n. record {
+    c.serves-step.ensures.fit
+    (c.serves-step.ensures.plan ∙ ap (λ n. record {
       wounded = [];
       change = protocol.Keeps;
       logged = Some (Record.Opened n);
@@ -31,7 +31,7 @@ pub returns-clause-memory : goal.returns-clause-memory
 returns-clause-memory g c =
     let k = c.args.state in
     c.in-Ok-carry_out.ensures.done.2.1
-    ∙ opened_memory k (plan_of k.memory.rows c.serves-plan.result) c.last-last.result _ c.requires.rebuilt c.last-last.ensures c.serves-plan.ensures.plan
+    ∙ opened_memory k (plan_of k.memory.rows c.serves-step.result) c.last-last.result _ c.requires.rebuilt c.last-last.ensures c.serves-step.ensures.plan
 
 pub returns-in-Err-carry_out-clause-refused : goal.returns-in-Err-carry_out-clause-refused
 returns-in-Err-carry_out-clause-refused g c =
@@ -41,8 +41,8 @@ returns-in-Err-carry_out-clause-refused g c =
     let fault = c.in-Err-carry_out.fault in
     let left = (seen_machine c.carry_out.new.self).disk in
     let epoch : c.in-Ok.epoch ≡ k.facts.epoch + 1 = c.in-Ok.ensures.0 ∙ ap (λ n. n + 1) c.epoch.ensures in
-    let logged : c.serves-plan.result.logged ≡ Some (Record.Opened (k.facts.epoch + 1)) =
-    ap (λ (p : protocol.Plan). p.logged) c.serves-plan.ensures.plan ∙ ap (λ n. Some (Record.Opened n)) epoch in
+    let logged : c.serves-step.result.logged ≡ Some (Record.Opened (k.facts.epoch + 1)) =
+    ap (λ (p : protocol.Plan). p.logged) c.serves-step.ensures.plan ∙ ap (λ n. Some (Record.Opened n)) epoch in
     let back : c.stop-in-Err-carry_out.result ≡ left = (search rules) in
     record {
       cause = (search rules);
@@ -60,8 +60,8 @@ pub returns-clause-appended : goal.returns-clause-appended
 returns-clause-appended g c =
     let k = c.args.state in
     let epoch : c.in-Ok.epoch ≡ k.facts.epoch + 1 = c.in-Ok.ensures.0 ∙ ap (λ n. n + 1) c.epoch.ensures in
-    let logged : c.serves-plan.result.logged ≡ Some (Record.Opened (k.facts.epoch + 1)) =
-    ap (λ (p : protocol.Plan). p.logged) c.serves-plan.ensures.plan ∙ ap (λ n. Some (Record.Opened n)) epoch in
+    let logged : c.serves-step.result.logged ≡ Some (Record.Opened (k.facts.epoch + 1)) =
+    ap (λ (p : protocol.Plan). p.logged) c.serves-step.ensures.plan ∙ ap (λ n. Some (Record.Opened n)) epoch in
     appended_by g.D.Disk.keeps_model g.D.Disk.obeys g.D.Disk.file g.D.Disk.clock g.D.Disk.since g.D.Disk.failures g.D.Disk.plan
     _ (seen_machine c.carry_out.new.self) (Record.Opened (k.facts.epoch + 1)) _ _ logged c.requires.running c.in-Ok-carry_out.ensures.done.1
     (omega (arith, c.in-Ok.ensures.1, c.epoch.ensures)) c.in-Ok-carry_out.ensures.written
@@ -73,8 +73,8 @@ pub returns-clause-facts : goal.returns-clause-facts
 returns-clause-facts g c =
     let k = c.args.state in
     let epoch : c.in-Ok.epoch ≡ k.facts.epoch + 1 = c.in-Ok.ensures.0 ∙ ap (λ n. n + 1) c.epoch.ensures in
-    let logged : c.serves-plan.result.logged ≡ Some (Record.Opened (k.facts.epoch + 1)) =
-    ap (λ (p : protocol.Plan). p.logged) c.serves-plan.ensures.plan ∙ ap (λ n. Some (Record.Opened n)) epoch in
+    let logged : c.serves-step.result.logged ≡ Some (Record.Opened (k.facts.epoch + 1)) =
+    ap (λ (p : protocol.Plan). p.logged) c.serves-step.ensures.plan ∙ ap (λ n. Some (Record.Opened n)) epoch in
     c.in-Ok-carry_out.ensures.done.2.0 ∙ ap (facts_after k.facts) logged
 
 pub returns-in-Err-clause-refused : goal.returns-in-Err-clause-refused

@@ -28,8 +28,8 @@ invariant_of-self-in-Some g c =
     (cases_lt (length b.pages) b.capacity) c.write_page.result c.write_page.ensures.stepped c.write_page.ensures.crowded in
     record {
       replays = ∥∥₁_map c.args.self.now.replays (λ h.
-          kept-book c.a_page_is_a_step.ensures g.D.Disk.file old new b c.write_page.new.book c.args.now.now c.args.input.now c.args.plan.logged
-          (carried (plan_of k.memory.rows c.args.plan) k.memory) c.args.plan.outbox c.write_page.result (ap (stepped k.memory) c.requires.planned)
+          kept-book c.a_page_is_a_step.ensures g.D.Disk.file old new b c.write_page.new.book c.args.now.now c.args.input.now c.args.step.logged
+          (carried (plan_of k.memory.rows c.args.step) k.memory) c.args.step.plan.outbox c.write_page.result (ap (stepped k.memory) c.requires.planned)
           w.0 w.1 w.2 c.write_page.ensures.page c.write_page.ensures.kept
           (subst (λ o. IsBookOf k.setup o (stand_of old)) c.in-Some.is h));
     }
@@ -44,11 +44,11 @@ returns-in-None-clause-stepped g c room =
 pub returns-in-None-clause-settled : goal.returns-in-None-clause-settled
 returns-in-None-clause-settled g c =
     let k = c.args.self.now.machine.state in
-    durably_settled k c.args.now.now c.args.plan c.args.self.now.machine.sound g.D.Disk.keeps_model
+    durably_settled k c.args.now.now c.args.step c.args.self.now.machine.sound g.D.Disk.keeps_model
     (surface (g.D.Disk.file (disk_of c.carry_out.new.self.gate_log)))
     (records_in (surface (g.D.Disk.file (disk_of c.args.self.now.machine.gate_log))).seen) c.args.input.now c.carry_out.result c.requires.planned
-    (outbox_of (seen c.args.self.now) (seen_machine c.carry_out.new.self) c.args.plan.logged (carried (plan_of k.memory.rows c.args.plan) k.memory)
-    c.args.plan.outbox c.carry_out.result c.carry_out.ensures.done)
+    (outbox_of (seen c.args.self.now) (seen_machine c.carry_out.new.self) c.args.step.logged (carried (plan_of k.memory.rows c.args.step) k.memory)
+    c.args.step.plan.outbox c.carry_out.result c.carry_out.ensures.done)
     c.carry_out.ensures.written.durable (λ keeps.
     let disk = disk_of c.args.self.now.machine.gate_log in
     facts-held _ (surface (g.D.Disk.file disk)) _ c.requires.running (g.met.D.Disk.reads_now disk) (c.args.self.now.machine.agrees keeps))
@@ -72,7 +72,7 @@ returns-in-Some-clause-crowded g c full =
 
 pub returns-in-Some-clause-settled : goal.returns-in-Some-clause-settled
 returns-in-Some-clause-settled g c =
-    durably_settled c.args.self.now.machine.state c.args.now.now c.args.plan c.args.self.now.machine.sound g.D.Disk.keeps_model
+    durably_settled c.args.self.now.machine.state c.args.now.now c.args.step c.args.self.now.machine.sound g.D.Disk.keeps_model
     (surface (g.D.Disk.file (disk_of c.write_page.new.machine.gate_log)))
     (records_in (surface (g.D.Disk.file (disk_of c.args.self.now.machine.gate_log))).seen) c.args.input.now c.write_page.result c.requires.planned
     c.write_page.ensures.out c.write_page.ensures.durable (λ keeps.
