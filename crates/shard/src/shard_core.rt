@@ -20,7 +20,7 @@ ghost use Rattle.shard.specs.Due.{IsDue};
 ghost use Rattle.shard.specs.Logs.{records_in, KeepsRecords};
 ghost use Rattle.shard.specs.On.{HasStepped, step_of};
 ghost use Rattle.shard.specs.Opened.{HasOpened, HasNotOpened};
-ghost use Rattle.shard.specs.Look.{IsLook, IsSeen, safe_at};
+ghost use Rattle.shard.specs.Look.{IsLook, safe_at};
 ghost use Rattle.shard.specs.Settled.{IsDurablySettled};
 ghost use Rattle.units.specs.Locks.{ready};
 
@@ -36,7 +36,7 @@ use protocol::{own_refusals, taken_is_showable};
 use record::{Record, accepted_follows, learn_agrees, learnt_agrees};
 use std::alloc::Global;
 use truetime::Reading;
-use units::{Epoch, Fault, Install, Key, Seen, Setup, Stamp, TxnId};
+use units::{Epoch, Fault, Install, Key, Seen, Setup, Stamp, TxnId, put_in_front};
 
 /// The core of a shard: its log, what it keeps in memory, and its book, where it was told to keep one. Once a device call has
 /// failed in it, it is stopped, and each input is refused. It has to be spent, by `stop`.
@@ -320,19 +320,4 @@ impl<D: Disk> Core<D> {
         ensures replays { ∥ IsBookOf (seen self.now).setup (book_of self.now)
             (stand_of (seen self.now)) ∥₁ }
     {}
-}
-
-// Puts some bytes at the front of a buffer, where they have room.
-fn put_in_front(bytes: &[u8], buffer: &mut [u8]) -> Result<Seen, Fault>
-    ensures done { IfOk result (λ seen. IsSeen (Some bytes.now) buffer.old buffer.new seen) }
-    ensures over { IfErr result
-        (λ fault. (fault ≡ Fault.Room) × (length buffer.old < length bytes.now)
-        × (buffer.new ≡ buffer.old)) }
-{
-    let size = bytes.len();
-    if buffer.len() < size {
-        return Err(Fault::Room);
-    }
-    buffer[..size].copy_from_slice(bytes);
-    Ok(Seen::Value(size))
 }
