@@ -69,10 +69,10 @@ installs facts (Outcome t (Some s)) can = record {
 
 -- what is installed comes behind the versions whose places are known
 module _ (facts : Facts) (item : Record) (can : CanInstall facts item) where
-  pub still_orders : (p : Headed) → Orders facts.installs (length facts.installs) p → Orders (learn facts item).installs (length facts.installs) p
+  pub still_orders : (p : Headed) → Orders 0 facts.installs (length facts.installs) p → Orders 0 (learn facts item).installs (length facts.installs) p
   still_orders p o =
       let i = installs facts item can in
-      subst (λ t. Orders t (length facts.installs) p) (sym i.all) (orders_more facts.installs (versions (writes_given facts item) i.at) p o)
+      subst (λ t. Orders 0 t (length facts.installs) p) (sym i.all) (orders_more 0 facts.installs (versions (writes_given facts item) i.at) p o)
 
   pub are_behind : ascends write_before (writes_given facts item) ≡ true → AreBehind (learn facts item).installs (length facts.installs)
   are_behind up =

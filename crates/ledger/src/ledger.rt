@@ -49,7 +49,7 @@ impl Model for Ledger {
       room = room_for l.facts.room l.places.room;
     } };
 
-    ghost invariant = { λ l. Orders l.facts.facts.installs (length l.facts.facts.installs) l.places };
+    ghost invariant = { λ l. Orders 0 l.facts.facts.installs (length l.facts.facts.installs) l.places };
 }
 
 impl Ledger {
@@ -166,8 +166,9 @@ impl Ledger {
         ensures shard { self.new.shard ≡ self.old.shard }
     {
         self.ascend(&item);
+        let known = self.facts.installs().len();
         self.facts.learn_next(item);
-        self.places.follow(self.facts.installs());
+        self.places.follow(self.facts.installs(), known);
     }
 
     // The writes that a record installs ascend by key, and are not many. It does nothing.
@@ -191,7 +192,7 @@ impl Ledger {
 
 // The timestamp is above all versions of the keys that are written.
 fn are_above(installs: &[Install], places: &Places, writes: &[Write], at: Stamp) -> bool
-    requires { Orders installs.now (length installs.now) places.now }
+    requires { Orders 0 installs.now (length installs.now) places.now }
     ensures { result ≡ above_versions installs.now at writes.now }
 {
     for write in writes {

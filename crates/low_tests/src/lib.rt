@@ -29,6 +29,10 @@ mod files;
 #[cfg(test)]
 mod folder;
 #[cfg(test)]
+mod forgotten;
+#[cfg(test)]
+mod horizons;
+#[cfg(test)]
 mod ids;
 #[cfg(test)]
 mod known;

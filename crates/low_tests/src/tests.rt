@@ -1,9 +1,9 @@
 //! The tests, each of some areas.
 use crate::checks::{check, check_rows};
 use crate::{
-    clocks, crowd, devices, disks, documents, drawers, drive_lines, figures, files, known, ledgers,
-    left, limits, looks, messages, plain, records, refusals, screens, seated, sessions, spellings,
-    tables, terminals, verdicts, versioned,
+    clocks, crowd, devices, disks, documents, drawers, drive_lines, figures, files, forgotten,
+    horizons, known, ledgers, left, limits, looks, messages, plain, records, refusals, screens,
+    seated, sessions, spellings, tables, terminals, verdicts, versioned,
 };
 
 #[test]
@@ -50,6 +50,9 @@ fn what_is_kept_of_logs(rt: HostRuntime) {
     check_rows(&rt, &rt, "logs that are opened again", &left::REOPENED);
     check_rows(&rt, &rt, "versions", &versioned::LOOKED);
     check_rows(&rt, &rt, "drawn versions", &versioned::DRAWN);
+    check_rows(&rt, &rt, "versions behind a horizon", &forgotten::FORGOTTEN);
+    check_rows(&rt, &rt, "many versions behind a horizon", &horizons::MANY);
+    check_rows(&rt, &rt, "drawn versions behind horizons", &horizons::DRAWN);
     assert!(rt; ledgers::is_installed(rt.alloc()), "a promise is installed");
     assert!(rt; ledgers::are_added_once(rt.alloc()), "ids are added once");
 }

@@ -11,22 +11,22 @@ use units::{Key, Stamp, Value, Write, Writes};
 use versions::Versions;
 
 // A version of a key, by its letter: the timestamp, and a value of one letter or an erasure.
-struct Version {
-    key: u8,
-    at: u64,
-    value: Option<u8>,
+pub struct Version {
+    pub key: u8,
+    pub at: u64,
+    pub value: Option<u8>,
 }
 
 // A version in a plain list of all, ascending by key and timestamp.
 #[derive(Clone, Copy)]
-struct Plain {
-    key: Key,
-    at: u64,
-    value: Option<u8>,
+pub struct Plain {
+    pub key: Key,
+    pub at: u64,
+    pub value: Option<u8>,
 }
 
 // Installs the version where its key takes it, and says whether it does.
-fn install(alloc: Global, versions: &mut Versions, new: &Plain) -> Option<bool> {
+pub fn install(alloc: Global, versions: &mut Versions, new: &Plain) -> Option<bool> {
     let Ok(()) = versions.reserve(1) else {
         return None;
     };
@@ -48,7 +48,7 @@ fn install(alloc: Global, versions: &mut Versions, new: &Plain) -> Option<bool> 
 }
 
 // Installs each that its key takes.
-fn install_rows(alloc: Global, versions: &mut Versions, rows: &[Version]) -> bool {
+pub fn install_rows(alloc: Global, versions: &mut Versions, rows: &[Version]) -> bool {
     for row in rows {
         let new = Plain {
             key: key(row.key),
@@ -93,11 +93,11 @@ fn install_two(alloc: Global, versions: &mut Versions) -> bool
 
 // What is found of a key at a timestamp, or of all where there is none: how many versions stand up to there, and how many of
 // all are compared at most, where that is looked at.
-struct Lookup {
-    key: u8,
-    at: Option<u64>,
-    value: Option<u8>,
-    place: Option<(usize, u32)>,
+pub struct Lookup {
+    pub key: u8,
+    pub at: Option<u64>,
+    pub value: Option<u8>,
+    pub place: Option<(usize, u32)>,
 }
 
 /// Versions, and what is found of them.
@@ -329,7 +329,7 @@ pub static LOOKED: [Named<Looked>; 5] = [
     },
 ];
 
-fn all_found(versions: &Versions, rows: &[Lookup]) -> bool {
+pub fn all_found(versions: &Versions, rows: &[Lookup]) -> bool {
     for row in rows {
         let key = key(row.key);
         let (found, at) = match row.at {
@@ -364,7 +364,7 @@ impl Row for Looked {
 }
 
 // Draws a number below a limit.
-fn draw(state: &mut u64, limit: u64) -> u64
+pub fn draw(state: &mut u64, limit: u64) -> u64
     requires { 0 < limit }
     ensures { result < limit }
 {
@@ -397,7 +397,7 @@ fn draw_key(state: &mut u64, letters: usize) -> Key {
 }
 
 // Draws a version of a key behind that many letters, one of these numbers.
-fn draw_version(state: &mut u64, letters: &[usize; 5], turn: u32) -> Plain {
+pub fn draw_version(state: &mut u64, letters: &[usize; 5], turn: u32) -> Plain {
     let chosen = draw(state, 5) as usize;
     let key = draw_key(state, letters[chosen]);
     let at = u64::from(turn) + draw(state, 60);
@@ -443,7 +443,7 @@ fn told(all: &[Plain], key: &Key, at: u64) -> Listed {
 }
 
 // The versions and the plain list take the new one, or neither does.
-fn take(alloc: Global, versions: &mut Versions, all: &mut Vec<Plain>, new: &Plain) -> bool {
+pub fn take(alloc: Global, versions: &mut Versions, all: &mut Vec<Plain>, new: &Plain) -> bool {
     let listed = told(all, &new.key, new.at);
     match install(alloc, versions, new) {
         Some(true) => listed.is_above && all.insert(listed.count.min(all.len()), *new).is_ok(),
@@ -452,7 +452,7 @@ fn take(alloc: Global, versions: &mut Versions, all: &mut Vec<Plain>, new: &Plai
     }
 }
 
-fn agree_at(versions: &Versions, all: &[Plain], sought: &Plain) -> bool {
+pub fn agree_at(versions: &Versions, all: &[Plain], sought: &Plain) -> bool {
     let (key, at) = (&sought.key, stamp(sought.at));
     let listed = told(all, key, sought.at);
     let (found, probes) = versions.find(key, at, &mut Count::none());
@@ -473,7 +473,7 @@ pub struct Drawn {
 }
 
 // Lengths of what keys begin with.
-const PREFIXES: [usize; 5] = [0, 3, 8, 9, 20];
+pub const PREFIXES: [usize; 5] = [0, 3, 8, 9, 20];
 
 pub static DRAWN: [Named<Drawn>; 6] = [
     Named {

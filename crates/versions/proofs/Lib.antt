@@ -8,3 +8,9 @@ pub mod Pieces
 pub mod Heads
 pub mod Spots
 pub mod Orders
+pub mod Found
+pub mod Pruned
+pub mod Passed
+pub mod Shorter
+pub mod Gathered
+mod Examples

@@ -81,7 +81,7 @@ rises key at (x ∷ t) up = by_test (is_by key at x) refl (rises key at t up.1)
     by_test true k rest = (above t k up.0, rest)
     by_test false k rest = rest
 
-none_by : (key : List ℕ) (at : ℕ) (t : List Install) → AllAfter key at t 0 → filter (is_by key at) t ≡ []
+pub none_by : (key : List ℕ) (at : ℕ) (t : List Install) → AllAfter key at t 0 → filter (is_by key at) t ≡ []
 none_by key at [] after = refl
 none_by key at (x ∷ t) after =
     let none : is_by key at x ≡ false = grind (arith, nat_tests, after 0 x (omega arith) (omega arith)) in

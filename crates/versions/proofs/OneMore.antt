@@ -9,8 +9,9 @@ use Rattle.units.specs.Versions.{of_key, newest, latest}
 use Rattle.units.proofs.KeyLaws.{same_key-is}
 use Rattle.units.specs.declared.writes.Install.{Install}
 use Rattle.versions.specs.Ordered.{is_by, is_not_after, installed, is_above}
-use Rattle.versions.specs.Places.{PlaceDoesNotMatter}
+use Rattle.versions.specs.Places.{PlaceDoesNotMatter, PlaceDoesNotMatterFrom}
 use Rattle.versions.proofs.Newest.{newer, at_time_is}
+use Rattle.versions.proofs.Pruned.{all_from_the_beginning, all_from_any_time}
 
 -- each is below the timestamp
 abbrev below : ℕ → List Install → Bool
@@ -165,17 +166,17 @@ same_by test i ordered log h same = by_test (test i) refl
         ap (λ r. follow (newest r) (λ i. i.value)) (keep-installed test i ordered k) ∙ same
         ∙ sym (ap (λ r. follow (newest r) (λ i. i.value)) (keep-last test i log k))
 
-pub place_does_not_matter : PlaceDoesNotMatter
+pub place_does_not_matter_from : PlaceDoesNotMatterFrom
 unfolding latest
-place_does_not_matter i ordered log above same = record {
+place_does_not_matter_from h i ordered log above same = record {
   now = λ key. same_by (λ x. same_key x.key key) i ordered log (λ k. (along ordered key k above_ordered, along log key k above)) (same.now key);
-  at = λ key t.
+  at = λ key t le.
       at_time_is key t (installed ordered i)
       ∙ same_by (is_by key t) i ordered log (λ k. (
         below_by key t i.at ordered (along ordered key (of_the_key key t k) above_ordered),
         below_by key t i.at log (along log key (of_the_key key t k) above),
       ))
-      (sym (at_time_is key t ordered) ∙ same.at key t ∙ at_time_is key t log)
+      (sym (at_time_is key t ordered) ∙ same.at key t le ∙ at_time_is key t log)
       ∙ sym (at_time_is key t (log ++ i ∷ []));
   above = λ key t. each-kept (λ x. nat_lt x.at t) (λ x. same_key x.key key) i ordered log (same.above key t);
 }
@@ -188,3 +189,8 @@ place_does_not_matter i ordered log above same = record {
 
     along : (s : List Install) (key : List ℕ) → same_key i.key key ≡ true → is_above s i.key i.at ≡ true → is_above s key i.at ≡ true
     along s key k h = subst (λ z. is_above s z i.at ≡ true) (same_key-is i.key key k) h
+
+pub place_does_not_matter : PlaceDoesNotMatter
+place_does_not_matter i ordered log above same =
+    all_from_the_beginning (installed ordered i) (log ++ i ∷ [])
+    (place_does_not_matter_from 0 i ordered log above (all_from_any_time 0 ordered log same))

@@ -1,5 +1,5 @@
 -- Places by which versions of another list are read, as that list grows.
-use Rattle.std.proofs.Common.{◌≡◌, ℕ, ◌+◌, ◌<◌, ◌^◌, ◌-◌, true, List, [], ◌∷◌, ◌++◌, length, get_or, take, drop, refl, sym, ap, subst, ◌∙◌, arith}
+use Rattle.std.proofs.Common.{◌≡◌, ℕ, ◌+◌, ◌<◌, ◌≤◌, ◌^◌, ◌-◌, max, true, List, [], ◌∷◌, ◌++◌, length, get_or, take, drop, refl, sym, ap, subst, ◌∙◌, arith}
 use Rattle.std.proofs.lemmas.Bool.{and_parts}
 use Rattle.std.proofs.lemmas.List.{drop_more, take_more}
 use Rattle.units.specs.Keys.{write_before}
@@ -12,11 +12,13 @@ use Rattle.versions.specs.Headed.{Headed}
 use Rattle.versions.specs.Heads.{AreHeads}
 use Rattle.versions.specs.Ordered.{installed, is_above, IsInOrder}
 use Rattle.versions.specs.Orders.{Orders, AreBehind}
-use Rattle.versions.specs.Places.{SameValues}
+use Rattle.versions.specs.Places.{SameFrom}
 use Rattle.versions.proofs.Arranged.{still_arranged}
 use Rattle.versions.proofs.AtOnce.{still_above, rest_ascends}
 use Rattle.versions.proofs.Kept.{kept-installed}
-use Rattle.versions.proofs.OneMore.{place_does_not_matter}
+use Rattle.versions.proofs.Pruned.{kept-pruned, pruned_after}
+use Rattle.versions.specs.Pruned.{pruned}
+use Rattle.versions.proofs.OneMore.{place_does_not_matter_from}
 
 pub take_whole : (t : List Install) → take (length t) t ≡ t
 take_whole [] = refl
@@ -31,25 +33,25 @@ drop_front [] more = refl
 drop_front (x ∷ t) more = drop_front t more
 
 -- the list has grown
-pub orders_more : (t more : List Install) (p : Headed) → Orders t (length t) p → Orders (t ++ more) (length t) p
-orders_more t more p o =
+pub orders_more : (h : ℕ) (t more : List Install) (p : Headed) → Orders h t (length t) p → Orders h (t ++ more) (length t) p
+orders_more h t more p o =
     let same : arranged t p.places ≡ arranged (t ++ more) p.places = sym (still_arranged t more p.places o.within) in
     record {
       within = o.within;
-      all = o.all;
+      few = o.few;
       kept = subst (IsInOrder (2 ^ 62 - 1)) same o.kept;
       headed = subst (λ r. AreHeads p.prefix r p.heads) same o.headed;
-      same = subst (λ r. SameValues r (take (length t) (t ++ more))) same
-          (subst (SameValues (arranged t p.places)) (take_whole t ∙ sym (take_front t more)) o.same);
+      same = subst (λ r. SameFrom h r (take (length t) (t ++ more))) same
+          (subst (SameFrom h (arranged t p.places)) (take_whole t ∙ sym (take_front t more)) o.same);
     }
 
 -- what is read by the places is read of the list
-module _ (t : List Install) (p : Headed) (o : Orders t (length t) p) where
+module _ (h : ℕ) (t : List Install) (p : Headed) (o : Orders h t (length t) p) where
   pub latest_by : (key : List ℕ) → latest t key ≡ latest (arranged t p.places) key
   latest_by key = ap (λ r. latest r key) (sym (take_whole t)) ∙ sym (o.same.now key)
 
-  pub at_time_by : (key : List ℕ) (at : ℕ) → at_time t key at ≡ at_time (arranged t p.places) key at
-  at_time_by key at = ap (λ r. at_time r key at) (sym (take_whole t)) ∙ sym (o.same.at key at)
+  pub at_time_by : (key : List ℕ) (at : ℕ) → h ≤ at → at_time t key at ≡ at_time (arranged t p.places) key at
+  at_time_by key at le = ap (λ r. at_time r key at) (sym (take_whole t)) ∙ sym (o.same.at key at le)
 
   pub above_by : (key : List ℕ) (at : ℕ) → is_above t key at ≡ is_above (arranged t p.places) key at
   above_by key at = ap (λ r. is_above r key at) (sym (take_whole t)) ∙ sym (o.same.above key at)
@@ -103,19 +105,30 @@ module _ (t : List Install) (k : ℕ) (lt : k < length t) where
           }
 
   -- the place of the first is put in
-  pub orders_next : (p q : Headed) → Orders t k p → AreBehind t k → arranged t q.places ≡ installed (arranged t p.places) (get_or t k no_install)
+  pub orders_next : (h : ℕ) (p q : Headed) → Orders h t k p → AreBehind t k → arranged t q.places ≡ installed (arranged t p.places) (get_or t k no_install)
       → AreWithin q.places (k + 1) → AreHeads q.prefix (arranged t q.places) q.heads → length q.places ≡ length p.places + 1
-      → (get_or t k no_install).at < 2 ^ 62 → Orders t (k + 1) q
-  orders_next p q o b items within heads long in_time =
+      → (get_or t k no_install).at < 2 ^ 62 → Orders h t (k + 1) q
+  orders_next h p q o b items within heads long in_time =
       let x = get_or t k no_install in
       let above = first_above b in
       let above_here = o.same.above x.key x.at ∙ above in
       record {
         within = within;
-        all = omega (arith, long, o.all);
+        few = omega (arith, long, o.few);
         kept = subst (IsInOrder (2 ^ 62 - 1)) (sym items) (kept-installed (2 ^ 62 - 1) x (arranged t p.places) above_here (omega (arith, in_time)) o.kept);
         headed = heads;
-        same = subst (λ r. SameValues r (take (k + 1) t)) (sym items)
-            (subst (SameValues (installed (arranged t p.places) x)) (sym (take_more t k no_install lt))
-            (place_does_not_matter x (arranged t p.places) (take k t) above o.same));
+        same = subst (λ r. SameFrom h r (take (k + 1) t)) (sym items)
+            (subst (SameFrom h (installed (arranged t p.places) x)) (sym (take_more t k no_install lt))
+            (place_does_not_matter_from h x (arranged t p.places) (take k t) above o.same));
       }
+
+-- what is below a horizon is forgotten
+pub orders_forgotten : (before h : ℕ) (t : List Install) (p q : Headed) → Orders before t (length t) p → arranged t q.places ≡ pruned h (arranged t p.places)
+    → AreWithin q.places (length t) → AreHeads q.prefix (arranged t q.places) q.heads → length q.places ≤ length p.places → Orders (max before h) t (length t) q
+orders_forgotten before h t p q o items within heads fewer = record {
+  within = within;
+  few = omega (arith, fewer, o.few);
+  kept = subst (IsInOrder (2 ^ 62 - 1)) (sym items) (kept-pruned (2 ^ 62 - 1) h (arranged t p.places) o.kept);
+  headed = heads;
+  same = subst (λ r. SameFrom (max before h) r (take (length t) t)) (sym items) (pruned_after before h (arranged t p.places) (take (length t) t) o.same);
+}

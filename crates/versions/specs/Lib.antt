@@ -2,8 +2,10 @@ pub mod Arranged
 pub mod Halves
 pub mod Ordered
 pub mod Places
+pub mod Pruned
 pub mod Store
 pub mod Pieces
 pub mod Heads
 pub mod Headed
 pub mod Orders
+pub mod Gathered

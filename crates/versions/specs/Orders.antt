@@ -1,5 +1,5 @@
 -- The places of versions that another list keeps.
-use Rattle.std.specs.Prelude.{◌≡◌, ℕ, ◌^◌, ◌-◌, IsTrue, List, length, take, drop}
+use Rattle.std.specs.Prelude.{◌≡◌, ℕ, ◌≤◌, ◌^◌, ◌-◌, IsTrue, List, length, take, drop}
 use Rattle.units.specs.Keys.{write_before}
 use Rattle.units.specs.Lists.{ascends}
 use Rattle.units.specs.Versions.{versions, above_versions}
@@ -9,15 +9,16 @@ use Rattle.versions.specs.Arranged.{arranged, AreWithin}
 use Rattle.versions.specs.Headed.{Headed}
 use Rattle.versions.specs.Heads.{AreHeads}
 use Rattle.versions.specs.Ordered.{IsInOrder}
-use Rattle.versions.specs.Places.{SameValues}
+use Rattle.versions.specs.Places.{SameFrom}
 
--- the places are those of the first so many versions of a list, in order, and read so they answer as in the order of the list
-pub record Orders (installs : List Install) (known : ℕ) (p : Headed) : Type 0 where
+-- the places are of versions among the first so many of a list, in order, and read so they answer from a horizon up as these do in the
+-- order of the list
+pub record Orders (horizon : ℕ) (installs : List Install) (known : ℕ) (p : Headed) : Type 0 where
   pub within : AreWithin p.places known
-  pub all : length p.places ≡ known
+  pub few : length p.places ≤ known
   pub kept : IsInOrder (2 ^ 62 - 1) (arranged installs p.places)
   pub headed : AreHeads p.prefix (arranged installs p.places) p.heads
-  pub same : SameValues (arranged installs p.places) (take known installs)
+  pub same : SameFrom horizon (arranged installs p.places) (take known installs)
 
 -- behind the first so many versions stand those of one transaction's writes, at a timestamp above their keys' others
 pub record AreBehind (installs : List Install) (known : ℕ) : Type 0 where

@@ -1,5 +1,5 @@
 -- Versions in order answer as the same versions in the order of the log.
-use Rattle.std.specs.Prelude.{◌≡◌, ℕ, IsTrue, List, [], ◌∷◌, ◌++◌}
+use Rattle.std.specs.Prelude.{◌≡◌, ℕ, ◌≤◌, IsTrue, List, [], ◌∷◌, ◌++◌}
 use Rattle.units.specs.Keys.{Bytes, write_before}
 use Rattle.units.specs.Lists.{ascends}
 use Rattle.units.specs.Versions.{latest, at_time, versions, above_versions}
@@ -13,6 +13,12 @@ pub record SameValues (a b : List Install) : Type 0 where
   pub at : (key : Bytes) (t : ℕ) → at_time a key t ≡ at_time b key t
   pub above : (key : Bytes) (t : ℕ) → is_above a key t ≡ is_above b key t
 
+-- the same, but for the values before a horizon
+pub record SameFrom (horizon : ℕ) (a b : List Install) : Type 0 where
+  pub now : (key : Bytes) → latest a key ≡ latest b key
+  pub at : (key : Bytes) (t : ℕ) → horizon ≤ t → at_time a key t ≡ at_time b key t
+  pub above : (key : Bytes) (t : ℕ) → is_above a key t ≡ is_above b key t
+
 -- one more version, above its key's others, answers at its place in order as it does at the end of the log
 abbrev pub PlaceDoesNotMatter : Type 0
 PlaceDoesNotMatter = (install : Install) (ordered log : List Install) → IsTrue (is_above log install.key install.at)
@@ -22,3 +28,15 @@ PlaceDoesNotMatter = (install : Install) (ordered log : List Install) → IsTrue
 abbrev pub PlacesDoNotMatter : Type 0
 PlacesDoNotMatter = (writes : List Write) (at : ℕ) (ordered log : List Install) → IsTrue (ascends write_before writes)
     → IsTrue (above_versions log at writes) → SameValues ordered log → SameValues (all_installed ordered (versions writes at)) (log ++ versions writes at)
+
+-- the same of versions that are read from a horizon up
+abbrev pub PlaceDoesNotMatterFrom : Type 0
+PlaceDoesNotMatterFrom = (horizon : ℕ) (install : Install) (ordered log : List Install) → IsTrue (is_above log install.key install.at)
+    → SameFrom horizon ordered log → SameFrom horizon (installed ordered install) (log ++ install ∷ [])
+
+-- from the beginning of time on these are all values, and all values are those from any time on
+abbrev pub AllFromTheBeginning : Type 0
+AllFromTheBeginning = (a b : List Install) → SameFrom 0 a b → SameValues a b
+
+abbrev pub AllFromAnyTime : Type 0
+AllFromAnyTime = (horizon : ℕ) (a b : List Install) → SameValues a b → SameFrom horizon a b

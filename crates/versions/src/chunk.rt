@@ -1,5 +1,5 @@
 //! A piece of a long list of places, each with the head of its key.
-ghost use Rattle.std.specs.Prelude.{◌≡◌, ◌<◌, ◌≤◌, ◌++◌, ◌∷◌, [], length, IfOk, IfErr, slice_index_or, slice_set};
+ghost use Rattle.std.specs.Prelude.{◌≡◌, ◌<◌, ◌≤◌, ◌++◌, ◌∷◌, [], length, take, IfOk, IfErr, slice_index_or, slice_set};
 ghost use Rattle.std.specs.List.{insert};
 
 use std::alloc::Global;
@@ -67,6 +67,13 @@ impl Piece {
         ensures { self.new ≡ slice_set self.old at spot }
     {
         self.spots[at] = spot;
+    }
+
+    /// Keeps so many from the front, and the space of all.
+    pub fn shorten(&mut self, len: usize)
+        ensures { self.new ≡ take len self.old }
+    {
+        self.spots.truncate(len);
     }
 
     /// Puts a place into a piece that is not full. It takes no memory.

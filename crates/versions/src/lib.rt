@@ -2,6 +2,7 @@
 #![tactic(auto)]
 
 mod chunk;
+mod forgetting;
 mod head;
 mod laws;
 mod order;
@@ -10,6 +11,6 @@ mod search;
 mod sequence;
 mod store;
 
-pub use laws::place_does_not_matter;
+pub use laws::{forgotten_is_not_missed, place_does_not_matter};
 pub use placed::Places;
 pub use store::Versions;

@@ -1,5 +1,5 @@
 //! The places of versions in order, each with the head of its key.
-ghost use Rattle.std.specs.Prelude.{◌≡◌, ℕ, List, ◌+◌, ◌<◌, ◌≤◌, [], length, IsOk, IfErr, OnOk, slice_index_or, slice_set};
+ghost use Rattle.std.specs.Prelude.{◌≡◌, ℕ, List, ◌+◌, ◌<◌, ◌≤◌, [], length, take, IsOk, IfErr, OnOk, slice_index_or, slice_set};
 ghost use Rattle.std.specs.List.{insert};
 ghost use Rattle.units.specs.Keys.{same_key};
 ghost use Rattle.units.specs.declared.writes.Install.{Install};
@@ -42,7 +42,7 @@ impl Places {
     pub fn none(alloc: Global) -> Places
         ensures places { result.places ≡ [] }
         ensures heads { result.heads ≡ [] }
-        ensures orders { Orders [] 0 result }
+        ensures orders { Orders 0 [] 0 result }
     {
         Places {
             spots: Sequence::none(alloc),
@@ -88,8 +88,8 @@ impl Places {
         ensures heads { self.new.heads ≡ self.old.heads }
         ensures prefix { self.new.prefix ≡ self.old.prefix }
         ensures keeps { self.old.room ≤ self.new.room }
-        ensures orders { (installs : List Install) (known : ℕ) → Orders installs known self.old
-            → Orders installs known self.new }
+        ensures orders { (horizon : ℕ) (installs : List Install) (known : ℕ)
+            → Orders horizon installs known self.old → Orders horizon installs known self.new }
         ensures memory { IfErr result (λ fault. fault ≡ Fault.Memory) }
         ensures succeeds { more ≤ self.old.room → IsOk result }
     {
@@ -135,6 +135,44 @@ impl Places {
     {
         let place = self.get(at);
         self.spots.set(at, Spot { place, head });
+    }
+
+    /// Writes over a place. The head beside it stays.
+    pub(crate) fn set_place(&mut self, at: usize, place: usize)
+        requires { at < length self.old.places }
+        ensures places { self.new.places ≡ slice_set self.old.places at place }
+        ensures heads { self.new.heads ≡ self.old.heads }
+        ensures prefix { self.new.prefix ≡ self.old.prefix }
+        ensures room { self.new.room ≡ self.old.room }
+    {
+        let head = self.head(at);
+        self.spots.set(at, Spot { place, head });
+    }
+
+    /// Writes one place with its head over another.
+    pub(crate) fn copy(&mut self, from: usize, to: usize)
+        requires from { from < length self.old.places }
+        requires to { to < length self.old.places }
+        ensures places { self.new.places ≡
+            slice_set self.old.places to (slice_index_or self.old.places from 0) }
+        ensures heads { self.new.heads ≡
+            slice_set self.old.heads to (slice_index_or self.old.heads from 0) }
+        ensures prefix { self.new.prefix ≡ self.old.prefix }
+        ensures room { self.new.room ≡ self.old.room }
+    {
+        let (place, head) = (self.get(from), self.head(from));
+        self.spots.set(to, Spot { place, head });
+    }
+
+    /// Keeps so many from the front. The space of the others is room from then on.
+    pub(crate) fn shorten(&mut self, len: usize)
+        requires { len ≤ length self.old.places }
+        ensures places { self.new.places ≡ take len self.old.places }
+        ensures heads { self.new.heads ≡ take len self.old.heads }
+        ensures prefix { self.new.prefix ≡ self.old.prefix }
+        ensures room { len + self.new.room ≡ length self.old.places + self.old.room }
+    {
+        self.spots.shorten(len);
     }
 }
 

@@ -235,6 +235,7 @@ pub fn install(installs: &mut Vec<Install>, places: &mut Places, new: Install)
     ensures heads { AreHeads places.new.prefix (arranged installs.new.items places.new.places)
         places.new.heads }
     ensures len { (vec_len installs.new ≡ vec_len installs.old + 1)
+        × (length places.new.places ≡ length places.old.places + 1)
         × (places.new.room + 1 ≡ places.old.room) }
     ensures in_time { new.at < 2 ^ 62 }
     ensures capacity { vec_capacity installs.new ≡ vec_capacity installs.old }

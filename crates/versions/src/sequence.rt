@@ -1,5 +1,5 @@
 //! A long list of places, each with its head, in pieces, so that one more moves few of them.
-ghost use Rattle.std.specs.Prelude.{◌≡◌, ◌+◌, ◌*◌, ◌<◌, ◌≤◌, [], length, IsOk, IfErr, OnOk, OnErr, slice_index_or, slice_set};
+ghost use Rattle.std.specs.Prelude.{◌≡◌, ◌+◌, ◌*◌, ◌<◌, ◌≤◌, [], length, take, IsOk, IfErr, OnOk, OnErr, slice_index_or, slice_set};
 ghost use Rattle.std.specs.List.{insert};
 ghost use Rattle.versions.specs.Pieces.{joined, IsLaid};
 
@@ -99,6 +99,16 @@ impl Sequence {
         set(&mut self.pieces, at, spot);
     }
 
+    /// Keeps so many from the front. The space of the others is room from then on.
+    pub fn shorten(&mut self, len: usize)
+        requires { len ≤ length self.old.spots }
+        ensures spots { self.new.spots ≡ take len self.old.spots }
+        ensures room { len + self.new.room ≡ length self.old.spots + self.old.room }
+    {
+        shorten(&mut self.pieces, len);
+        self.len = len;
+    }
+
     /// Puts in a place. It takes no memory.
     pub fn insert(&mut self, at: usize, spot: Spot)
         requires at { at ≤ length self.old.spots }
@@ -129,6 +139,20 @@ fn set(pieces: &mut [Piece], at: usize, spot: Spot)
     ensures len { length pieces.new ≡ length pieces.old }
 {
     pieces[at / PIECE].set(at % PIECE, spot);
+}
+
+// Keeps so many from the front; the later pieces are emptied.
+fn shorten(pieces: &mut [Piece], len: usize)
+    requires { IsLaid pieces.old }
+    ensures spots { joined pieces.new ≡ take len (joined pieces.old) }
+    ensures laid { IsLaid pieces.new }
+    ensures len { length pieces.new ≡ length pieces.old }
+{
+    let Some((first, rest)) = pieces.split_first_mut() else {
+        return;
+    };
+    first.shorten(len);
+    shorten(rest, len.saturating_sub(PIECE));
 }
 
 // Puts in a place; each full piece from there on hands its last one to the next.

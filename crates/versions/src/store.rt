@@ -5,7 +5,9 @@ ghost use Rattle.units.specs.Versions.{latest, at_time, versions, above_versions
 ghost use Rattle.units.specs.Keys.{write_before};
 ghost use Rattle.units.specs.Lists.{ascends};
 ghost use Rattle.versions.specs.Ordered.{installed, all_installed, count_not_after, is_above};
+ghost use Rattle.versions.specs.Pruned.{pruned};
 
+use crate::forgetting::{forget, gather};
 use crate::placed::Places;
 use crate::search::{self, find, install};
 use counts::Count;
@@ -108,6 +110,20 @@ impl Versions {
             let Write { key, value } = write;
             self.install(key, at, value);
         }
+    }
+
+    /// Forgets the versions below a horizon: of each key all below it go, save the newest that is not above it. So values at the
+    /// horizon or later stay as they are, and so does what is taken as new. It takes no memory, and what goes leaves its room.
+    pub fn forget(&mut self, horizon: Stamp)
+        ensures installs { self.new.installs ≡ pruned horizon self.old.installs }
+        ensures room { self.old.room ≤ self.new.room }
+        ensures freed { length self.new.installs + self.new.room ≡
+            length self.old.installs + self.old.room }
+    {
+        let before = self.places.len();
+        forget(&self.installs, &mut self.places, horizon);
+        gather(&mut self.installs, &mut self.places);
+        self.room += before - self.places.len();
     }
 
     /// The most recent value of a key: none where there is none or it was erased.

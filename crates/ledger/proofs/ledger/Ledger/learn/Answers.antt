@@ -12,31 +12,48 @@ follow-requires-clause-known c =
     let f = c.self.inside.facts.facts in
     let places = c.self.inside.places in
     let can : CanInstall f c.args.item = subst (λ (k : Known). CanInstall k.facts c.args.item) (sym c.self.view_is) c.requires.installs in
-    subst (λ (t : List Install). Orders t (length places.places) places)
-    (sym (c.installs.ensures ∙ ap (λ (g : Facts). g.installs) c.learn_next.ensures.facts))
-    (subst (λ (n : ℕ). Orders (learn f c.args.item).installs n places) (sym c.self.invariant.all) (still_orders f c.args.item can places c.self.invariant))
+    let known : length c.installs-known.result.now ≡ length f.installs = ap length c.installs-known.ensures in (
+      0,
+      subst (λ (t : List Install). Orders 0 t (length c.installs-known.result.now) places)
+          (sym (c.installs.ensures ∙ ap (λ (g : Facts). g.installs) c.learn_next.ensures.facts))
+          (subst (λ (n : ℕ). Orders 0 (learn f c.args.item).installs n places) (sym known) (still_orders f c.args.item can places c.self.invariant)),
+    )
 
 pub follow-requires-clause-behind : goal.follow-requires-clause-behind
 follow-requires-clause-behind c =
     let f = c.self.inside.facts.facts in
     let can : CanInstall f c.args.item = subst (λ (k : Known). CanInstall k.facts c.args.item) (sym c.self.view_is) c.requires.installs in
     let up = subst (λ (k : Known). is_up k.facts c.args.item ≡ true) (sym c.self.view_is) c.ascend.ensures.up in
-    subst (λ (t : List Install). AreBehind t (length c.self.inside.places.places))
+    let known : length c.installs-known.result.now ≡ length f.installs = ap length c.installs-known.ensures in
+    subst (λ (t : List Install). AreBehind t (length c.installs-known.result.now))
     (sym (c.installs.ensures ∙ ap (λ (g : Facts). g.installs) c.learn_next.ensures.facts))
-    (subst (AreBehind (learn f c.args.item).installs) (sym c.self.invariant.all) (are_behind f c.args.item can up))
+    (subst (AreBehind (learn f c.args.item).installs) (sym known) (are_behind f c.args.item can up))
 
 pub follow-requires-clause-longer : goal.follow-requires-clause-longer
 follow-requires-clause-longer c =
     let f = c.self.inside.facts.facts in
     let can : CanInstall f c.args.item = subst (λ (k : Known). CanInstall k.facts c.args.item) (sym c.self.view_is) c.requires.installs in
     let long = ap length (c.installs.ensures ∙ ap (λ (g : Facts). g.installs) c.learn_next.ensures.facts) ∙ as_many_more f c.args.item can in
-    omega (arith, long, c.self.invariant.all)
+    let known : length c.installs-known.result.now ≡ length f.installs = ap length c.installs-known.ensures in
+    omega (arith, long, known)
 
 pub follow-requires-clause-room : goal.follow-requires-clause-room
 follow-requires-clause-room c =
     let f = c.self.inside.facts.facts in
     let can : CanInstall f c.args.item = subst (λ (k : Known). CanInstall k.facts c.args.item) (sym c.self.view_is) c.requires.installs in
     let long = ap length (c.installs.ensures ∙ ap (λ (g : Facts). g.installs) c.learn_next.ensures.facts) ∙ as_many_more f c.args.item can in
+    let known : length c.installs-known.result.now ≡ length f.installs = ap length c.installs-known.ensures in
     let few = subst (λ (k : Known). length (writes_given k.facts c.args.item) ≤ 128) (sym c.self.view_is) c.ascend.ensures.few in
     let room : 1 ≤ min c.self.inside.facts.room (c.self.inside.places.room / 128) = subst (λ (k : Known). 1 ≤ k.room) (sym c.self.view_is) c.requires.room in
-    omega (arith, long, few, room, c.self.invariant.all)
+    omega (arith, long, known, few, room)
+
+pub invariant_of-self : goal.invariant_of-self
+invariant_of-self c =
+    let f = c.self.inside.facts.facts in
+    let places = c.self.inside.places in
+    let can : CanInstall f c.args.item = subst (λ (k : Known). CanInstall k.facts c.args.item) (sym c.self.view_is) c.requires.installs in
+    let known : length c.installs-known.result.now ≡ length f.installs = ap length c.installs-known.ensures in
+    subst (λ (t : List Install). Orders 0 t (length t) c.follow.new.self) c.installs.ensures
+    (c.follow.ensures.all 0 (subst (λ (t : List Install). Orders 0 t (length c.installs-known.result.now) places)
+    (sym (c.installs.ensures ∙ ap (λ (g : Facts). g.installs) c.learn_next.ensures.facts))
+    (subst (λ (n : ℕ). Orders 0 (learn f c.args.item).installs n places) (sym known) (still_orders f c.args.item can places c.self.invariant))))

@@ -7,5 +7,5 @@ use Rattle.ledger.proofs.ledger.Ledger.new.Goals as goal
 
 pub invariant_of-result : goal.invariant_of-result
 invariant_of-result c =
-    subst (λ (f : Facts). Orders f.installs (length f.installs) c.none.result) (sym c.new.ensures.facts)
-    (subst (λ (t : List Install). Orders t (length t) c.none.result) (sym no_installs) c.none.ensures.orders)
+    subst (λ (f : Facts). Orders 0 f.installs (length f.installs) c.none.result) (sym c.new.ensures.facts)
+    (subst (λ (t : List Install). Orders 0 t (length t) c.none.result) (sym no_installs) c.none.ensures.orders)

@@ -10,6 +10,7 @@ invariant_of-self c =
     let above = subst (λ (s : Store). is_above s.installs c.args.key c.args.at ≡ true) (sym c.self.view_is) c.requires.above in
     record {
       within = c.install.ensures.within;
+      all = omega (arith, c.install.ensures.len, c.self.invariant.all);
       kept =
           subst (IsInOrder 4611686018427387903) (sym c.install.ensures.items)
           (kept-installed _ (record { key = c.args.key; at = c.args.at; value = c.args.value })

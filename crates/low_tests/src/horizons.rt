@@ -1,0 +1,230 @@
+//! Many versions, and drawn ones, of which those below horizons are forgotten.
+use crate::checks::{Named, Row};
+use crate::lines::byte;
+use crate::versioned::{PREFIXES, Plain, agree_at, draw, draw_version, install, take};
+use counts::Count;
+use made::{key, stamp};
+use std::alloc::Global;
+use std::ops::Range;
+use units::{Key, Stamp};
+use versions::Versions;
+
+/// So many versions, one at each timestamp from 1 on, of so many keys in turn that begin alike; a horizon, how many it leaves, and
+/// how many come behind it.
+pub struct Many {
+    versions: u64,
+    keys: u64,
+    horizon: u64,
+    left: usize,
+    behind: u64,
+}
+
+pub static MANY: [Named<Many>; 4] = [
+    // 4,500 and the 500 behind it.
+    Named {
+        what: "of one key",
+        row: Many {
+            versions: 5_000,
+            keys: 1,
+            horizon: 4_500,
+            left: 501,
+            behind: 5_000,
+        },
+    },
+    Named {
+        what: "the last of one key",
+        row: Many {
+            versions: 9_000,
+            keys: 1,
+            horizon: 9_000,
+            left: 1,
+            behind: 3,
+        },
+    },
+    // 8,997, 8,998 and 8,999, and the one behind them.
+    Named {
+        what: "of three keys",
+        row: Many {
+            versions: 9_000,
+            keys: 3,
+            horizon: 8_999,
+            left: 4,
+            behind: 9_000,
+        },
+    },
+    // 4,093 to 4,097, and the 4,903 behind them.
+    Named {
+        what: "of five keys, in two pieces",
+        row: Many {
+            versions: 9_000,
+            keys: 5,
+            horizon: 4_097,
+            left: 4_908,
+            behind: 100,
+        },
+    },
+];
+
+// The value that is written at a turn.
+fn value_in(turn: u64) -> Option<u8> {
+    Some((turn % 251) as u8)
+}
+
+// The key whose turn it is, and what it is given then.
+fn in_turn(turn: u64, keys: u64) -> Plain {
+    let last = (turn % keys.clamp(1, 200)) as u8;
+    let bytes = [b'a', b'c', b'c', b'o', b'u', b'n', b't', b' ', last];
+    match Key::new(&bytes) {
+        Ok(key) => Plain {
+            key,
+            at: turn,
+            value: value_in(turn),
+        },
+        Err(_) => unreachable!(),
+    }
+}
+
+fn install_turns(alloc: Global, versions: &mut Versions, keys: u64, turns: Range<u64>) -> bool {
+    for turn in turns {
+        let Some(true) = install(alloc, versions, &in_turn(turn, keys)) else {
+            return false;
+        };
+    }
+    true
+}
+
+// At each of these timestamps the key whose turn it is has what it is given then, and the next one what it was given last.
+fn show_turns(versions: &Versions, keys: u64, turns: Range<u64>) -> bool {
+    for turn in turns {
+        let at = stamp(turn);
+        let next = turn.saturating_add(1);
+        let own = versions.at(&in_turn(turn, keys).key, at);
+        let other = versions.at(&in_turn(next, keys).key, at);
+        if byte(own) != value_in(turn) || byte(other) != value_in(next.saturating_sub(keys)) {
+            return false;
+        }
+    }
+    true
+}
+
+// How many versions there are.
+fn count_all(versions: &Versions) -> usize {
+    versions
+        .find(&key(255), stamp(Stamp::MAX), &mut Count::none())
+        .0
+}
+
+fn is_forgotten(alloc: Global, versions: &mut Versions, row: &Many) -> bool {
+    let end = row.versions.saturating_add(1);
+    let later = end.saturating_add(row.behind);
+    if !install_turns(alloc, versions, row.keys, 1..end) {
+        return false;
+    }
+    versions.forget(stamp(row.horizon));
+    let before = stamp(row.horizon.saturating_sub(1));
+    count_all(versions) == row.left
+        && versions
+            .at(&in_turn(row.horizon, row.keys).key, before)
+            .is_none()
+        && show_turns(versions, row.keys, row.horizon..end)
+        && install_turns(alloc, versions, row.keys, end..later)
+        && show_turns(versions, row.keys, row.horizon..later)
+}
+
+impl Row for Many {
+    fn holds(&self, rt: &HostRuntime) -> bool {
+        let alloc = rt.alloc();
+        let mut versions = Versions::none(alloc);
+        let shown = is_forgotten(alloc, &mut versions, self);
+        drop(versions);
+        shown
+    }
+}
+
+/// So many drawn versions of keys behind one of these numbers of letters. At each so many-th turn those below a drawn horizon are
+/// forgotten, and some versions are looked for.
+pub struct Drawn {
+    letters: [usize; 5],
+    turns: u32,
+    apart: u32,
+}
+
+pub static DRAWN: [Named<Drawn>; 2] = [
+    Named {
+        what: "behind 8 letters",
+        row: Drawn {
+            letters: [8; 5],
+            turns: 600,
+            apart: 40,
+        },
+    },
+    Named {
+        what: "behind several prefixes",
+        row: Drawn {
+            letters: PREFIXES,
+            turns: 2_000,
+            apart: 150,
+        },
+    },
+];
+
+// A later version of the key is not above the horizon.
+fn has_later(all: &[Plain], one: &Plain, horizon: u64) -> bool {
+    for other in all {
+        if other.key.is(&one.key) && one.at < other.at && other.at <= horizon {
+            return true;
+        }
+    }
+    false
+}
+
+// The plain list without what goes.
+fn without(alloc: Global, all: &[Plain], horizon: u64) -> Option<Vec<Plain>> {
+    let mut kept = Vec::new(alloc);
+    for one in all {
+        if !has_later(all, one, horizon) && kept.push(*one).is_err() {
+            return None;
+        }
+    }
+    Some(kept)
+}
+
+// Versions and the plain list forget what is below the horizon, and say the same of each version that there was.
+fn forget_both(alloc: Global, versions: &mut Versions, all: &mut Vec<Plain>, horizon: u64) -> bool {
+    let Some(kept) = without(alloc, all, horizon) else {
+        return false;
+    };
+    versions.forget(stamp(horizon));
+    for sought in all.iter() {
+        if !agree_at(versions, &kept, sought) {
+            return false;
+        }
+    }
+    *all = kept;
+    true
+}
+
+fn agree(alloc: Global, versions: &mut Versions, all: &mut Vec<Plain>, row: &Drawn) -> bool {
+    let mut state = u64::from(row.turns);
+    for turn in 0..row.turns {
+        let new = draw_version(&mut state, &row.letters, turn);
+        let horizon = u64::from(turn) + draw(&mut state, 60);
+        let agreed = take(alloc, versions, all, &new)
+            && (turn % row.apart.max(1) != 0 || forget_both(alloc, versions, all, horizon));
+        if !agreed {
+            return false;
+        }
+    }
+    true
+}
+
+impl Row for Drawn {
+    fn holds(&self, rt: &HostRuntime) -> bool {
+        let alloc = rt.alloc();
+        let (mut versions, mut all) = (Versions::none(alloc), Vec::new(alloc));
+        let agreed = agree(alloc, &mut versions, &mut all, self);
+        drop(versions);
+        drop(all);
+        agreed
+    }
+}
