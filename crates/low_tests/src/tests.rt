@@ -45,14 +45,18 @@ fn disks_and_logs(rt: HostRuntime) {
 }
 
 #[test]
+fn forgotten_versions(rt: HostRuntime) {
+    check_rows(&rt, &rt, "versions behind a horizon", &forgotten::FORGOTTEN);
+    check_rows(&rt, &rt, "many versions behind a horizon", &horizons::MANY);
+    check_rows(&rt, &rt, "drawn versions behind horizons", &horizons::DRAWN);
+}
+
+#[test]
 fn what_is_kept_of_logs(rt: HostRuntime) {
     check_rows(&rt, &rt, "what logs determine", &known::CASES);
     check_rows(&rt, &rt, "logs that are opened again", &left::REOPENED);
     check_rows(&rt, &rt, "versions", &versioned::LOOKED);
     check_rows(&rt, &rt, "drawn versions", &versioned::DRAWN);
-    check_rows(&rt, &rt, "versions behind a horizon", &forgotten::FORGOTTEN);
-    check_rows(&rt, &rt, "many versions behind a horizon", &horizons::MANY);
-    check_rows(&rt, &rt, "drawn versions behind horizons", &horizons::DRAWN);
     assert!(rt; ledgers::is_installed(rt.alloc()), "a promise is installed");
     assert!(rt; ledgers::are_added_once(rt.alloc()), "ids are added once");
 }
