@@ -27,7 +27,7 @@ followed_part shard before (x ∷ es) (suc n) e =
     ap₂ (λ a b. a && b) p.0 (followed_part shard (before ++ x.item ∷ []) es n p.1)
 
 -- one entry more
-next_items : (es : List Placed) (i : ℕ) (e : Placed) → i < length es → e ≡ slice_index_or es i e
+pub next_items : (es : List Placed) (i : ℕ) (e : Placed) → i < length es → e ≡ slice_index_or es i e
     → items (take (i + 1) es) ≡ items (take i es) ++ e.item ∷ []
 next_items es i e small is =
     let next : i + 1 ≡ suc i = omega arith in
