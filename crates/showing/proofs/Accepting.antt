@@ -12,7 +12,7 @@ use Rattle.facts.specs.Rules.{follows_facts}
 use Rattle.gatelog.specs.Placed.{Placed}
 use Rattle.recovery.specs.Recovered.{items}
 
-both : (a b : Bool) → (a && b) ≡ true → (a ≡ true) × (b ≡ true)
+pub both : (a b : Bool) → (a && b) ≡ true → (a ≡ true) × (b ≡ true)
 both true b e = (refl, e)
 both false b e = absurd cc
 

@@ -1,8 +1,9 @@
 mod Accepting
 mod Counted
-mod Doubts
+mod Doubting
 mod Ends
-mod Following
+mod Numbered
+mod Summing
 mod Telling
 mod Values
 mod Whose

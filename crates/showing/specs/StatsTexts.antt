@@ -1,5 +1,5 @@
 -- How the numbers of logs are printed.
-use Rattle.std.specs.Prelude.{◌≡◌, ℕ, Bool, List, [], ◌∷◌, ◌++◌, codes, flat_map, length, map, sum_by, nat_lt, if◌then◌else◌}
+use Rattle.std.specs.Prelude.{◌≡◌, ℕ, Bool, true, false, List, [], ◌∷◌, ◌++◌, codes, flat_map, length, map, sum_by, nat_lt, if◌then◌else◌}
 use Rattle.std.specs.Fmt.{decimal}
 use Rattle.units.specs.Texts.{txn_text}
 use Rattle.showing.specs.declared.figure.Figure.{Figure}
@@ -51,9 +51,14 @@ figures = Bytes ∷ Records ∷ Opened ∷ Ceilings ∷ Prepares ∷ Commits ∷
 abbrev pub number_line : Figure → ℕ → List ℕ
 number_line figure number = word_of figure ++ (codes " " ++ (decimal number ++ codes "\n"))
 
+-- how a transaction in doubt stands
+abbrev pub standing_word : Bool → List ℕ
+standing_word true = codes "decided"
+standing_word false = codes "promised"
+
 -- a transaction in doubt, on a line
 abbrev pub doubt_line : doubts.InDoubt → List ℕ
-doubt_line doubt = (if doubt.is_decided then codes "decided" else codes "promised")
+doubt_line doubt = standing_word doubt.is_decided
     ++ (codes " " ++ (txn_text doubt.txn ++ (codes " " ++ (decimal doubt.at ++ codes "\n"))))
 
 -- what is told of a log: its name, its numbers, and what is in doubt

@@ -1,6 +1,6 @@
 //! The numbers of logs as text.
 ghost use Rattle.std.specs.Prelude.{◌≡◌, ◌++◌, IfErr, OnOk, flat_map, map, string_bytes};
-ghost use Rattle.showing.specs.StatsTexts.{doubt_line, log_text, number_line, number_of, sum_of, sums_text};
+ghost use Rattle.showing.specs.StatsTexts.{doubt_line, log_text, number_line, number_of, standing_word, sum_of, sums_text};
 
 use crate::figure::Figure;
 use crate::stats::{InDoubt, Numbers, Stats};
@@ -129,14 +129,16 @@ fn push_doubt(text: &mut String, alloc: Global, doubt: &InDoubt) -> Result<(), F
         (string_bytes text.new ≡ string_bytes text.old ++ doubt_line doubt.now) }
     ensures memory { IfErr result (λ fault. fault ≡ Fault.Memory) }
 {
-    let word = if doubt.is_decided {
-        "decided"
-    } else {
-        "promised"
-    };
+    let word = standing_word(doubt.is_decided);
     let txn = doubt.txn;
     let at = doubt.at;
     let line = format!(in alloc; "{word} {txn} {at}\n")?;
     text.push_str(&line)?;
     Ok(())
+}
+
+fn standing_word(is_decided: bool) -> &'static str
+    ensures { result.now ≡ standing_word is_decided }
+{
+    if is_decided { "decided" } else { "promised" }
 }

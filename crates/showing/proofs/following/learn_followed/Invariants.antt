@@ -8,9 +8,9 @@ use Rattle.showing.proofs.following.learn_followed.Given as goal
 
 abbrev pub invariant-loop-entry : goal.invariant-loop-entry
 invariant-loop-entry l = record {
-  shard : l.facts.shard ≡ l.shard;
+  shard : l.facts.shard ≡ l.fn.shard;
   known : l.facts.facts ≡ facts_of (items (take l.entry-index l.entries));
-  followed : IsTrue (followed l.shard (items (take l.entry-index l.entries)));
-  rest : records_behind l.shard [] l.entries
-      ≡ records_behind l.shard (items (take l.entry-index l.entries)) (drop l.entry-index l.entries);
+  followed : IsTrue (followed l.fn.shard (items (take l.entry-index l.entries)));
+  rest : records_behind l.fn.shard [] l.entries
+      ≡ records_behind l.fn.shard (items (take l.entry-index l.entries)) (drop l.entry-index l.entries);
 }
