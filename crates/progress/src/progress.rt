@@ -89,10 +89,10 @@ impl Progress {
             ≡ self.old.commits.count + length (commit_of turn.ended turn.micros) }
         ensures aborted { self.new.aborts.count
             ≡ self.old.aborts.count + length (abort_of turn.ended turn.micros) }
-        ensures kept { OnOk result
-            (self.new.commits.micros ≡ self.old.commits.micros ++ commit_of turn.ended turn.micros) }
-        ensures aborts_kept { OnOk result
-            (self.new.aborts.micros ≡ self.old.aborts.micros ++ abort_of turn.ended turn.micros) }
+        ensures kept { OnOk result (self.new.commits.micros
+            ≡ self.old.commits.micros ++ commit_of turn.ended turn.micros) }
+        ensures aborts_kept { OnOk result (self.new.aborts.micros
+            ≡ self.old.aborts.micros ++ abort_of turn.ended turn.micros) }
         ensures refused { OnErr result ((self.new.commits.micros ≡ self.old.commits.micros)
             × (self.new.aborts.micros ≡ self.old.aborts.micros)) }
         ensures looks { self.new.looks ≡ self.old.looks }

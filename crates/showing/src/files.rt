@@ -28,7 +28,8 @@ pub fn dump_file<F: Files>(alloc: Global, files: &F, path: &str) -> Result<Strin
 /// What the logs in some files hold, as numbers, and where they are several the sums. Each is opened to be read alone, and closed before
 /// the next one.
 pub fn stats_files<F: Files>(alloc: Global, files: &F, logs: &[&str]) -> Result<String, Fault>
-    ensures text { IfOk result (λ text. AreStats (map (λ log. log.now) logs.now) (string_bytes text)) }
+    ensures text { IfOk result (λ text.
+        AreStats (map (λ log. log.now) logs.now) (string_bytes text)) }
     ensures refused { IfErr result IsNotShown }
 {
     let mut text = String::new(alloc);

@@ -57,7 +57,8 @@ pub fn push_log(text: &mut String, alloc: Global, name: &str, stats: &Stats) -> 
 
 /// How many logs there are, and the sums of their numbers.
 pub fn push_sums(text: &mut String, alloc: Global, logs: &[Numbers]) -> Result<(), Fault>
-    ensures text { OnOk result (string_bytes text.new ≡ string_bytes text.old ++ sums_text logs.now) }
+    ensures text { OnOk result
+        (string_bytes text.new ≡ string_bytes text.old ++ sums_text logs.now) }
     ensures memory { IfErr result (λ fault. fault ≡ Fault.Memory) }
 {
     let count = logs.len();
