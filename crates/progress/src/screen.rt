@@ -1,5 +1,5 @@
 //! Lines on a terminal, each over the one before.
-ghost use Rattle.std.specs.Prelude.{◌≡◌, ◌+◌, ◌-◌, ◌<◌, ◌≤◌, ◌++◌, ◌∷◌, IfOk, min, length, replicate, string_bytes};
+ghost use Rattle.std.specs.Prelude.{◌≡◌, ◌⊎◌, [], ◌+◌, ◌-◌, ◌<◌, ◌≤◌, ◌++◌, ◌∷◌, IfOk, min, length, replicate, string_bytes};
 ghost use Rattle.progress.specs.Tally.{abort_of, commit_of};
 
 use crate::pace::Pace;
@@ -68,6 +68,9 @@ impl<W: Write> Screen<W> {
         ensures done { (tally_of self.new).done ≡ (tally_of self.old).done }
         ensures looks { (tally_of self.new).looks.count
             ≡ min ((tally_of self.old).looks.count + 1) (tally_of self.old).turns }
+        ensures kept { ((tally_of self.new).looks.micros ≡ (tally_of self.old).looks.micros)
+            ⊎ ((tally_of self.new).looks.micros
+            ≡ (tally_of self.old).looks.micros ++ micros ∷ []) }
         ensures ended { ((tally_of self.new).commits ≡ (tally_of self.old).commits)
             × ((tally_of self.new).aborts ≡ (tally_of self.old).aborts) }
         ensures last { last_of self.new ≡ last_of self.old }
