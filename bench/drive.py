@@ -3,8 +3,8 @@
 
 Each worker runs 1,000 transactions over as many keys, for each number of shards and workers, with disks in memory, with files in a new
 folder under TMPDIR, and with files in memory whose syncs take 5 milliseconds longer each (slow_sync.c, by the compiler `cc`). Several
-programs take turns, row by row. What a drive says on its last line of standard error, which it writes to a terminal alone, is read
-through a pseudo terminal. Behind the table is what the device of that folder takes by itself.
+programs take turns, row by row. What a drive says last on standard error, which it writes to a terminal alone, is read through a pseudo
+terminal: its last line, and the commits' line of its table. Behind the table is what the device of that folder takes by itself.
 
   --turns N          transactions of each worker (1000); on the slow device a fifth of them
   --stride N         how far ahead a ceiling is logged, in microseconds (100000)
@@ -25,7 +25,8 @@ import time
 MOST_KEYS = 1_000
 EPSILON = 100
 SLOW_SYNC = 5_000
-LAST_LINE = re.compile(r"(\d+) of \d+ done, (\d+) commits a second(?:, half within (\d+) us, 99 of 100 within (\d+) us)?")
+LAST_LINE = re.compile(r"(\d+) of \d+ done, (\d+) commits a second")
+COMMITS = re.compile(r"commits +\d+ +([\d-]+) +[\d-]+ +([\d-]+) +[\d-]+")
 HEAD = [
     "Disks", "Shards", "Workers", "Program", "Committed", "Aborted", "Unknown", "Over several, %", "Commits a second", "Half within, us",
     "99 of 100 within, us", "Turns a second", "Looks answered, %", "Verdict",
@@ -105,12 +106,14 @@ def row(program, name, place, shards, workers, turns, stride, folder, environmen
     told = dict(line.split(" ", 1) for line in printed.splitlines())
     fault = re.search(r"fault: .*", shown)
     found = list(LAST_LINE.finditer(shown))
-    rate, half, most = found[-1].group(2, 3, 4) if found else ("-", "-", "-")
+    rate = found[-1].group(2) if found else "-"
+    commits = COMMITS.search(shown)
+    half, most = commits.groups() if commits else ("-", "-")
     verdict = told.get("verdict", fault.group().strip() if fault else "-")
     counts = [told.get(word, "-") for word in ["committed", "aborted", "unknown"]]
     looks = round(100 * int(told["looks"]) / (workers * turns)) if "looks" in told else "-"
     several = over_several(shards, workers, turns)
-    return [place, shards, workers, name, *counts, several, rate, half or "-", most or "-", round(workers * turns / seconds), looks, verdict]
+    return [place, shards, workers, name, *counts, several, rate, half, most, round(workers * turns / seconds), looks, verdict]
 
 
 def slow_library(folder):

@@ -15,6 +15,8 @@ pub struct Turn {
 pub trait Watch {
     fn turned(&self, turn: Turn);
 
+    fn looked(&self, _micros: u64) {}
+
     fn stopped(&self, _shard: usize) {}
 }
 

@@ -384,10 +384,11 @@ fn greatest_epoch(rt: HostRuntime) {
     drop(go(&rt, rt.alloc(), &LOW_KEYS_AGAIN, left, &gate));
 }
 
-// Is told how long the shortest transaction took that committed.
+// Is told how long the shortest transaction took that committed, and how many looks were answered.
 #[derive(Drop)]
 struct Shortest {
     micros: AtomicU64,
+    looks: AtomicU64,
 }
 
 impl Watch for Shortest {
@@ -397,6 +398,10 @@ impl Watch for Shortest {
                 self.micros.store(turn.micros, Ordering::SeqCst);
             }
         }
+    }
+
+    fn looked(&self, _micros: u64) {
+        self.looks.fetch_add(1, Ordering::SeqCst);
     }
 }
 
@@ -424,6 +429,7 @@ fn as_settings_say(rt: HostRuntime) {
     let gate = Meeting::new(&rt, false);
     let watch = Shortest {
         micros: AtomicU64::new(u64::MAX),
+        looks: AtomicU64::new(0),
     };
     let disks = disks_of(&rt, rt.alloc(), &ONE_WORKER);
     let driven = drive(&rt, rt.alloc(), &settings, disks, &gate, &watch);
@@ -439,13 +445,14 @@ fn as_settings_say(rt: HostRuntime) {
     let kept = Kept::of(&rt, rt.alloc(), disks);
     let shortest = watch.micros.load(Ordering::SeqCst);
     let waited = summary.counts.committed > 0 && shortest >= 199_000 && shortest < u64::MAX;
+    let looks_told = watch.looks.load(Ordering::SeqCst) == summary.counts.looks;
     let ahead = kept.ceilings >= 1
         && kept.ceilings <= 2
         && last > 0
         && kept.least_ceiling > last.saturating_add(5_000_000);
     let counted = kept.writes > 0 && kept.sum() == kept.writes;
     drop(kept);
-    assert!(rt; waited);
+    assert!(rt; waited && looks_told);
     assert!(rt; ahead);
     assert!(rt; counted);
 }

@@ -1,4 +1,4 @@
-//! Lines of a drive.
+//! Lines of a drive, and its table.
 use crate::checks::is_text;
 use progress::{Ended, Progress, Turn};
 use std::alloc::Global;
@@ -10,42 +10,40 @@ struct Group {
     times: u64,
 }
 
-// Some turns of a drive, and its lines after so many microseconds.
-struct Row {
-    turns: u64,
-    groups: [Group; 3],
+// So many looks that took as long.
+struct Looks {
     micros: u64,
-    line: &'static str,
-    last_line: &'static str,
+    times: u64,
 }
 
-static ROWS: [Row; 4] = [
+// Some turns of a drive, and looks, of which no more count than there are turns, its line after so many microseconds, and its table.
+struct Row {
+    name: &'static str,
+    turns: u64,
+    groups: &'static [Group],
+    looks: &'static [Looks],
+    micros: u64,
+    line: &'static str,
+    table: &'static str,
+}
+
+static ROWS: [Row; 6] = [
     Row {
+        name: "nothing",
         turns: 200,
-        groups: [
-            Group {
-                ended: Ended::Committed,
-                micros: 1,
-                times: 0,
-            },
-            Group {
-                ended: Ended::Aborted,
-                micros: 1,
-                times: 0,
-            },
-            Group {
-                ended: Ended::Unknown,
-                micros: 1,
-                times: 0,
-            },
-        ],
+        groups: &[],
+        looks: &[],
         micros: 0,
         line: "0 of 200 done, 0 commits a second",
-        last_line: "0 of 200 done, 0 commits a second",
+        table: "     us       count        half   90 of 100   99 of 100        most\n\
+            commits           0           -           -           -           -\n\
+            \x20aborts           0           -           -           -           -\n\
+            \x20 looks           0           -           -           -           -\n",
     },
     Row {
+        name: "each kind",
         turns: 200,
-        groups: [
+        groups: &[
             Group {
                 ended: Ended::Aborted,
                 micros: 2,
@@ -62,13 +60,27 @@ static ROWS: [Row; 4] = [
                 times: 1,
             },
         ],
+        looks: &[
+            Looks {
+                micros: 4,
+                times: 90,
+            },
+            Looks {
+                micros: 50,
+                times: 10,
+            },
+        ],
         micros: 375_000,
         line: "120 of 200 done, 312 commits a second",
-        last_line: "120 of 200 done, 312 commits a second, half within 3000 us, 99 of 100 within 3000 us",
+        table: "     us       count        half   90 of 100   99 of 100        most\n\
+            commits         117        3000        3000        3000        3000\n\
+            \x20aborts           2           2           2           2           2\n\
+            \x20 looks         100           4           4          50          50\n",
     },
     Row {
+        name: "in any order",
         turns: 200,
-        groups: [
+        groups: &[
             Group {
                 ended: Ended::Committed,
                 micros: 9_120,
@@ -85,13 +97,21 @@ static ROWS: [Row; 4] = [
                 times: 1,
             },
         ],
+        looks: &[Looks {
+            micros: 7,
+            times: 1,
+        }],
         micros: 655_000,
         line: "200 of 200 done, 305 commits a second",
-        last_line: "200 of 200 done, 305 commits a second, half within 1850 us, 99 of 100 within 9120 us",
+        table: "     us       count        half   90 of 100   99 of 100        most\n\
+            commits         200        1850        9120        9120       50000\n\
+            \x20aborts           0           -           -           -           -\n\
+            \x20 looks           1           7           7           7           7\n",
     },
     Row {
+        name: "none committed",
         turns: 3,
-        groups: [
+        groups: &[
             Group {
                 ended: Ended::Aborted,
                 micros: 5,
@@ -102,15 +122,66 @@ static ROWS: [Row; 4] = [
                 micros: 5,
                 times: 1,
             },
-            Group {
-                ended: Ended::Aborted,
-                micros: 5,
-                times: 0,
-            },
         ],
+        looks: &[],
         micros: 1_000_000,
         line: "3 of 3 done, 0 commits a second",
-        last_line: "3 of 3 done, 0 commits a second",
+        table: "     us       count        half   90 of 100   99 of 100        most\n\
+            commits           0           -           -           -           -\n\
+            \x20aborts           2           5           5           5           5\n\
+            \x20 looks           0           -           -           -           -\n",
+    },
+    Row {
+        name: "four figures",
+        turns: 100,
+        groups: &[
+            Group {
+                ended: Ended::Committed,
+                micros: 30,
+                times: 9,
+            },
+            Group {
+                ended: Ended::Committed,
+                micros: 40,
+                times: 1,
+            },
+            Group {
+                ended: Ended::Committed,
+                micros: 10,
+                times: 50,
+            },
+            Group {
+                ended: Ended::Committed,
+                micros: 20,
+                times: 40,
+            },
+        ],
+        looks: &[Looks {
+            micros: 1,
+            times: 101,
+        }],
+        micros: 1_000_000,
+        line: "100 of 100 done, 100 commits a second",
+        table: "     us       count        half   90 of 100   99 of 100        most\n\
+            commits         100          10          20          30          40\n\
+            \x20aborts           0           -           -           -           -\n\
+            \x20 looks         100           1           1           1           1\n",
+    },
+    Row {
+        name: "a number wider than its column",
+        turns: 1,
+        groups: &[Group {
+            ended: Ended::Aborted,
+            micros: 9_999_999_999_999,
+            times: 1,
+        }],
+        looks: &[],
+        micros: 1_000_000,
+        line: "1 of 1 done, 0 commits a second",
+        table: "     us       count        half   90 of 100   99 of 100        most\n\
+            commits           0           -           -           -           -\n\
+            \x20aborts           1 9999999999999 9999999999999 9999999999999 9999999999999\n\
+            \x20 looks           0           -           -           -           -\n",
     },
 ];
 
@@ -126,20 +197,37 @@ fn count(progress: &mut Progress, group: &Group) {
     }
 }
 
+// Counts some looks.
+fn count_looks(progress: &mut Progress, looks: &Looks) {
+    for _look in 0..looks.times {
+        if !progress.has_looked() {
+            let _ = progress.count_look(looks.micros);
+        }
+    }
+}
+
+// No line has more than 80 columns.
+fn is_narrow(text: &str) -> bool {
+    text.lines().all(|line| line.len() <= 80)
+}
+
 fn has_its_lines(alloc: Global, row: &Row) -> bool {
     let mut progress = Progress::new(alloc, row.turns);
-    for group in &row.groups {
+    for group in row.groups {
         count(&mut progress, group);
     }
+    for looks in row.looks {
+        count_looks(&mut progress, looks);
+    }
     let has_line = is_text(progress.line(alloc, row.micros), row.line);
-    is_text(progress.last_line(alloc, row.micros), row.last_line) && has_line
+    is_text(progress.table(alloc), row.table) && has_line && is_narrow(row.table)
 }
 
 /// The first row that is wrong.
 pub fn wrong(alloc: Global) -> &'static str {
     for row in &ROWS {
         if !has_its_lines(alloc, row) {
-            return row.last_line;
+            return row.name;
         }
     }
     ""

@@ -3,6 +3,7 @@ use cli::{Driven, Files, NoVerdict, Stream, System, answer};
 use disk::Disk;
 use made::id;
 use settings::Settings;
+use showing::stats_files;
 use simdisk::SimDisk;
 use std::alloc::Global;
 use std::io;
@@ -152,6 +153,11 @@ pub fn print<'a>(
         err: err.into_writer().bytes,
         status,
     }
+}
+
+/// What the logs in some files hold, as numbers.
+pub fn stats(alloc: Global, files: &[File<'_>], logs: &[&str]) -> Result<String, Fault> {
+    stats_files(alloc, &Memory { files }, logs)
 }
 
 /// A command line, what is printed to both outputs, and the status.

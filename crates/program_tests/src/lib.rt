@@ -16,6 +16,8 @@ mod given;
 #[cfg(test)]
 mod of_keys;
 #[cfg(test)]
+mod of_logs;
+#[cfg(test)]
 mod outside;
 #[cfg(test)]
 mod played;

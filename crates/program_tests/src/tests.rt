@@ -3,7 +3,9 @@ use crate::cases::CASES;
 use crate::crashes::CRASHES;
 use crate::stops::FAILED;
 use crate::whole_schedules::SCHEDULES;
-use crate::{comparing, each_call, outside, played, printed, schedule_texts, stops, unlawful};
+use crate::{
+    comparing, each_call, of_logs, outside, played, printed, schedule_texts, stops, unlawful,
+};
 use std::process::Abort;
 
 // Ends the test with the row that is wrong, if there is one: each area names the first of its rows that does not hold, and else
@@ -17,6 +19,7 @@ fn answers(rt: HostRuntime) {
     let alloc = rt.alloc();
     check(&rt, "commands", printed::wrong_answer(alloc));
     check(&rt, "words", printed::wrong_words(alloc));
+    check(&rt, "numbers of logs", of_logs::wrong(alloc));
     check(&rt, "files that are played", played::wrong(alloc));
     check(&rt, "crashes in calls", stops::wrong(alloc));
     check(&rt, "stops in each call", each_call::wrong(alloc));

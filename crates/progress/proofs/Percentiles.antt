@@ -1,15 +1,16 @@
 -- Percentiles of numbers in order, and of the same numbers in any order.
-use Rattle.std.proofs.Common.{◌≡◌, ℕ, zero, suc, ◌+◌, ◌-◌, ◌*◌, ◌/◌, ◌<◌, ◌≤◌, List, length, get_or, take, drop, cond, arith, add-one}
-use Rattle.std.specs.Prelude.{count_by, nat_le, nat_lt, All, Result, Ok, Err, IfOk, ◌++◌}
+use Rattle.std.proofs.Common.{◌≡◌, ◌∙◌, ◌++◌, ap, append_assoc, sym, [], Option, Some, None, ℕ, zero, suc, ◌+◌, ◌-◌, ◌*◌, ◌/◌, ◌<◌, ◌≤◌, List, length, get_or, take, drop, cond, arith, add-one}
+use Rattle.std.specs.Prelude.{count_by, nat_le, nat_lt, All}
 use Rattle.std.specs.List.Sorted.{IsNonDecreasing, IsPermutation}
 use Rattle.std.proofs.lemmas.Bool.{le-leb, le-ltb}
-use Rattle.std.proofs.lemmas.List.{get_or-drop, length-drop, length-take-le}
+use Rattle.std.proofs.lemmas.List.{nil_from_length, get_or-drop, length-drop, length-take-le}
 use Rattle.std.proofs.lemmas.List.Elements.{All-from_get_or, Contains-get_or}
 use Rattle.std.proofs.lemmas.List.Sorted.{Contains-permutation, IsPermutation-sym, length_permutation, sum_by-IsPermutation}
 use Rattle.std.proofs.lemmas.List.Sums.{count_by-le-length, count_by_more_yes, sum_by-le, sum_by-take-drop, sum_by-take-le}
 use Rattle.std.proofs.Math.Nat.{mul-le-mul_left}
 use Rattle.progress.specs.Figures.{IsPercentile}
-use Rattle.progress.specs.Tally.{figures_text}
+use Rattle.progress.specs.Tally.{AreFiguresOf, AreTold}
+use Rattle.progress.specs.declared.series.Figures.{Figures}
 
 -- the first numbers, of which each is at most this
 count_of_low : (value d : ℕ) (xs : List ℕ) (i : ℕ) → i ≤ length xs → ((k : ℕ) → k < i → get_or xs k d ≤ value)
@@ -67,11 +68,23 @@ percentile_of_place percent xs d ascends some few full =
     (omega (arith, at_most, at_least)) (omega (arith, at_most, at_least)) (omega (arith, at_most, at_least))
 
 -- what is told of numbers in order is told of the same numbers in any order
-pub figures_of_any_order : {T E : Type 0} (bytes_of : T → List ℕ) (xs ys : List ℕ) (half most : ℕ) (line : List ℕ) (result : Result T E)
-    → IsPermutation xs ys → IsPercentile 50 ys half → IsPercentile 99 ys most
-    → IfOk result (λ text. bytes_of text ≡ line ++ figures_text half most)
-    → IfOk result (λ text. (half most : ℕ) × IsPercentile 50 xs half × IsPercentile 99 xs most
-    × (bytes_of text ≡ line ++ figures_text half most))
-figures_of_any_order bytes_of xs ys half most line (Ok text) permuted is_half is_most is =
-    (half, most, percentile_of_permuted 50 xs ys half permuted is_half, percentile_of_permuted 99 xs ys most permuted is_most, is)
-figures_of_any_order bytes_of xs ys half most line (Err error) permuted is_half is_most is = tt
+pub told_of_permuted : (xs ys : List ℕ) (figures : Figures) → IsPermutation xs ys → AreTold ys figures → AreTold xs figures
+told_of_permuted xs ys figures permuted told = record {
+  half = percentile_of_permuted 50 xs ys figures.half permuted told.half;
+  ninety = percentile_of_permuted 90 xs ys figures.ninety permuted told.ninety;
+  ninety_nine = percentile_of_permuted 99 xs ys figures.ninety_nine permuted told.ninety_nine;
+  most = percentile_of_permuted 100 xs ys figures.most permuted told.most;
+}
+
+none_of_permuted : (xs ys : List ℕ) → IsPermutation xs ys → ys ≡ [] → xs ≡ []
+none_of_permuted xs ys permuted none = nil_from_length xs (sym (length_permutation xs ys permuted) ∙ ap length none)
+
+pub figures_of_permuted : (xs ys : List ℕ) (figures : Option Figures) → IsPermutation xs ys → AreFiguresOf ys figures → AreFiguresOf xs figures
+figures_of_permuted xs ys None permuted none = none_of_permuted xs ys permuted none
+figures_of_permuted xs ys (Some figures) permuted told = told_of_permuted xs ys figures permuted told
+
+-- lines put one behind the other
+pub stacked : (b0 b1 b2 b3 head r1 r2 r3 : List ℕ) → b0 ≡ head → b1 ≡ b0 ++ r1 → b2 ≡ b1 ++ r2 → b3 ≡ b2 ++ r3 → b3 ≡ head ++ (r1 ++ (r2 ++ r3))
+stacked b0 b1 b2 b3 head r1 r2 r3 none one two three =
+    three ∙ ap (λ b. b ++ r3) (two ∙ ap (λ b. b ++ r2) (one ∙ ap (λ b. b ++ r1) none))
+    ∙ append_assoc (head ++ r1) r2 r3 ∙ append_assoc head r1 (r2 ++ r3)

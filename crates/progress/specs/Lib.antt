@@ -1,3 +1,4 @@
 pub mod Figures
-pub mod Tally
 pub mod Screens
+pub mod Table
+pub mod Tally

@@ -1,25 +1,29 @@
 //! How far a drive is.
-ghost use Rattle.std.specs.Prelude.{◌≡◌, ◌≢◌, ◌+◌, ◌<◌, ◌++◌, ◌↔◌, ◌≤◌, [], ℕ, length, IsTrue, IfOk, OnOk, OnErr, string_bytes};
-ghost use Rattle.progress.specs.Figures.{IsPercentile};
-ghost use Rattle.progress.specs.Tally.{durations_of, figures_text, line_text};
+ghost use Rattle.std.specs.Prelude.{◌≡◌, ◌+◌, ◌<◌, ◌++◌, ◌∷◌, ◌↔◌, ◌≤◌, [], Option, length, IsTrue, IfOk, OnOk, OnErr, string_bytes};
+ghost use Rattle.progress.specs.Table.{IsTable, row_text};
+ghost use Rattle.progress.specs.Tally.{AreFiguresOf, abort_of, commit_of, line_text};
+ghost use Rattle.progress.specs.declared.series.Figures.{Figures};
 
-use crate::figures::{per_second, percentile};
+use crate::figures::per_second;
+use crate::series::Series;
+use crate::table::{HEAD, row};
 use crate::turn::{Ended, Turn};
 use std::alloc::{AllocError, Global};
 use std::marker::Model;
 
-/// The turns of a drive: how many there are, how many are done, how many of these committed, and how many microseconds commits
-/// took.
+/// The turns of a drive: how many there are, how many are done, and how many of these committed or were aborted, with how many
+/// microseconds each took; and the same of the looks that were answered.
 #[derive(Drop)]
 pub struct Progress {
     turns: u64,
     done: u64,
-    committed: u64,
-    micros: Vec<u64>,
+    commits: Series,
+    aborts: Series,
+    looks: Series,
 }
 
 impl Model for Progress {
-    ghost use Rattle.std.specs.Prelude.{◌≤◌};
+    ghost use Rattle.std.specs.Prelude.{◌+◌, ◌≤◌};
     ghost use Rattle.progress.specs.Tally.{Tally};
 
     ghost Value = { Tally };
@@ -27,23 +31,29 @@ impl Model for Progress {
     ghost view = { λ p. record {
       turns = p.turns;
       done = p.done;
-      committed = p.committed;
-      micros = p.micros.items;
+      commits = p.commits;
+      aborts = p.aborts;
+      looks = p.looks;
     } };
 
-    ghost invariant = { λ p. (p.done ≤ p.turns) × (p.committed ≤ p.done) };
+    ghost invariant = { λ p. (p.done ≤ p.turns)
+        × (p.commits.count + p.aborts.count ≤ p.done) × (p.looks.count ≤ p.turns) };
 }
 
 impl Progress {
     /// So many turns, of which none is done.
     pub fn new(alloc: Global, turns: u64) -> Progress
-        ensures { result ≡ record { turns = turns; done = 0; committed = 0; micros = [] } }
+        ensures turns { (result.turns ≡ turns) × (result.done ≡ 0) }
+        ensures commits { result.commits ≡ record { count = 0; micros = [] } }
+        ensures aborts { result.aborts ≡ record { count = 0; micros = [] } }
+        ensures looks { result.looks ≡ record { count = 0; micros = [] } }
     {
         Progress {
             turns,
             done: 0,
-            committed: 0,
-            micros: Vec::new(alloc),
+            commits: Series::new(alloc),
+            aborts: Series::new(alloc),
+            looks: Series::new(alloc),
         }
     }
 
@@ -55,26 +65,58 @@ impl Progress {
         self.done == self.turns
     }
 
+    /// Whether as many looks were answered as there are turns.
+    pub fn has_looked(&self) -> bool
+        ensures looked { IsTrue result ↔ (self.now.looks.count ≡ self.now.turns) }
+        ensures within { self.now.looks.count ≤ self.now.turns }
+    {
+        self.looks.count() == self.turns
+    }
+
+    /// Whether nothing was counted.
+    pub fn is_new(&self) -> bool
+        ensures { IsTrue result ↔ ((self.now.done ≡ 0) × (self.now.looks.count ≡ 0)) }
+    {
+        self.done == 0 && self.looks.count() == 0
+    }
+
     /// Counts a turn. Where there is no memory to keep how long it took, it is counted all the same.
     pub fn count(&mut self, turn: Turn) -> Result<(), AllocError>
         requires { self.old.done < self.old.turns }
         ensures turns { self.new.turns ≡ self.old.turns }
         ensures done { self.new.done ≡ self.old.done + 1 }
-        ensures committed { self.new.committed
-            ≡ self.old.committed + length (durations_of turn.ended turn.micros) }
-        ensures kept { OnOk result
-            (self.new.micros ≡ self.old.micros ++ durations_of turn.ended turn.micros) }
-        ensures refused { OnErr result (self.new.micros ≡ self.old.micros) }
+        ensures committed { self.new.commits.count
+            ≡ self.old.commits.count + length (commit_of turn.ended turn.micros) }
+        ensures aborted { self.new.aborts.count
+            ≡ self.old.aborts.count + length (abort_of turn.ended turn.micros) }
+        ensures kept { OnOk result (self.new.commits.micros
+            ≡ self.old.commits.micros ++ commit_of turn.ended turn.micros) }
+        ensures aborts_kept { OnOk result (self.new.aborts.micros
+            ≡ self.old.aborts.micros ++ abort_of turn.ended turn.micros) }
+        ensures refused { OnErr result ((self.new.commits.micros ≡ self.old.commits.micros)
+            × (self.new.aborts.micros ≡ self.old.aborts.micros)) }
+        ensures looks { self.new.looks ≡ self.old.looks }
     {
         self.done += 1;
         match turn.ended {
-            Ended::Committed => {
-                self.committed += 1;
-                self.micros.push(turn.micros)?;
-                Ok(())
-            }
-            Ended::Aborted | Ended::Unknown => Ok(()),
+            Ended::Committed => self.commits.add(turn.micros),
+            Ended::Aborted => self.aborts.add(turn.micros),
+            Ended::Unknown => Ok(()),
         }
+    }
+
+    /// Counts a look that was answered after so many microseconds, as `count` does a turn.
+    pub fn count_look(&mut self, micros: u64) -> Result<(), AllocError>
+        requires { self.old.looks.count < self.old.turns }
+        ensures turns { (self.new.turns ≡ self.old.turns) × (self.new.done ≡ self.old.done) }
+        ensures ended { (self.new.commits ≡ self.old.commits)
+            × (self.new.aborts ≡ self.old.aborts) }
+        ensures looked { self.new.looks.count ≡ self.old.looks.count + 1 }
+        ensures kept { OnOk result
+            (self.new.looks.micros ≡ self.old.looks.micros ++ micros ∷ []) }
+        ensures refused { OnErr result (self.new.looks.micros ≡ self.old.looks.micros) }
+    {
+        self.looks.add(micros)
     }
 
     /// How far it is after so many microseconds.
@@ -83,43 +125,38 @@ impl Progress {
     {
         let done = self.done;
         let turns = self.turns;
-        let rate = per_second(self.committed, micros);
+        let rate = per_second(self.commits.count(), micros);
         format!(in alloc; "{done} of {turns} done, {rate} commits a second")
     }
 
-    /// The same at the end, and behind it, where something committed, how long half of the commits took at most, and 99 of 100.
-    pub fn last_line(self, alloc: Global, micros: u64) -> Result<String, AllocError>
-        ensures none { self.micros ≡ [] → IfOk result
-            (λ text. string_bytes text ≡ line_text self micros) }
-        ensures figures { self.micros ≢ [] → IfOk result (λ text. (half most : ℕ)
-            × IsPercentile 50 self.micros half × IsPercentile 99 self.micros most
-            × (string_bytes text ≡ line_text self micros ++ figures_text half most)) }
+    /// A table of the commits, the aborts and the looks: how many there were, and how many microseconds half of them took at most, 90 of
+    /// 100 and 99 of 100, and the longest.
+    pub fn table(self, alloc: Global) -> Result<String, AllocError>
+        ensures { IfOk result (λ text. IsTable self (string_bytes text)) }
     {
-        let line = self.line(alloc, micros)?;
         let Progress {
             turns: _,
             done: _,
-            committed: _,
-            micros: durations,
+            commits,
+            aborts,
+            looks,
         } = self;
-        with_figures(alloc, line, durations)
+        let mut text = String::new(alloc);
+        text.push_str(HEAD)?;
+        push_row(&mut text, alloc, "commits", commits)?;
+        push_row(&mut text, alloc, "aborts", aborts)?;
+        push_row(&mut text, alloc, "looks", looks)?;
+        Ok(text)
     }
 }
 
-// A line, and behind it how long commits took.
-fn with_figures(alloc: Global, line: String, durations: Vec<u64>) -> Result<String, AllocError>
-    ensures none { durations.items ≡ [] → IfOk result
-        (λ text. string_bytes text ≡ string_bytes line) }
-    ensures figures { durations.items ≢ [] → IfOk result (λ text. (half most : ℕ)
-        × IsPercentile 50 durations.items half × IsPercentile 99 durations.items most
-        × (string_bytes text ≡ string_bytes line ++ figures_text half most)) }
+// A line of the table.
+fn push_row(text: &mut String, alloc: Global, word: &str, series: Series) -> Result<(), AllocError>
+    ensures { OnOk result ((figures : Option Figures) × AreFiguresOf series.micros figures
+        × (string_bytes text.new ≡ string_bytes text.old
+        ++ row_text word.now series.count figures)) }
 {
-    let mut sorted = durations;
-    sorted.sort()?;
-    match (percentile(&sorted, 50), percentile(&sorted, 99)) {
-        (Some(half), Some(most)) => {
-            format!(in alloc; "{line}, half within {half} us, 99 of 100 within {most} us")
-        }
-        _ => Ok(line),
-    }
+    let count = series.count();
+    let line = row(alloc, word, count, series.figures()?)?;
+    text.push_str(&line)
 }

@@ -1,10 +1,12 @@
 //! Lines on a terminal, each over the one before.
-ghost use Rattle.std.specs.Prelude.{◌≡◌, ◌+◌, ◌<◌, ◌≤◌, min};
+ghost use Rattle.std.specs.Prelude.{◌≡◌, ◌⊎◌, [], ◌+◌, ◌-◌, ◌<◌, ◌≤◌, ◌++◌, ◌∷◌, IfOk, min, length, replicate, string_bytes};
+ghost use Rattle.progress.specs.Tally.{abort_of, commit_of};
 
 use crate::pace::Pace;
 use crate::progress::Progress;
+use crate::table::push_blanks;
 use crate::turn::Turn;
-use std::alloc::Global;
+use std::alloc::{AllocError, Global};
 use std::io;
 use std::io::Write;
 
@@ -15,6 +17,8 @@ pub struct Screen<W: Write> {
     writer: W,
     progress: Progress,
     pace: Pace,
+    // How many bytes stand on the terminal's last line.
+    shown: usize,
 }
 
 impl<W: Write> Screen<W> {
@@ -30,6 +34,7 @@ impl<W: Write> Screen<W> {
             writer,
             progress: Progress::new(alloc, turns),
             pace: Pace::new(),
+            shown: 0,
         }
     }
 
@@ -39,6 +44,12 @@ impl<W: Write> Screen<W> {
         ensures turns { (tally_of self.new).turns ≡ (tally_of self.old).turns }
         ensures done { (tally_of self.new).done
             ≡ min ((tally_of self.old).done + 1) (tally_of self.old).turns }
+        ensures counted { (tally_of self.old).done < (tally_of self.old).turns →
+            ((tally_of self.new).commits.count ≡ (tally_of self.old).commits.count
+            + length (commit_of turn.ended turn.micros))
+            × ((tally_of self.new).aborts.count ≡ (tally_of self.old).aborts.count
+            + length (abort_of turn.ended turn.micros)) }
+        ensures looks { (tally_of self.new).looks ≡ (tally_of self.old).looks }
         ensures early { micros < last_of self.old + 200000
             → (last_of self.new ≡ last_of self.old) × (writer_of self.new ≡ writer_of self.old) }
         ensures shown { last_of self.old + 200000 ≤ micros → last_of self.new ≡ micros }
@@ -51,12 +62,32 @@ impl<W: Write> Screen<W> {
         }
     }
 
+    /// Counts a look that was answered after so many microseconds. One more than there were to be turns is passed over.
+    pub fn looked(&mut self, micros: u64)
+        ensures turns { (tally_of self.new).turns ≡ (tally_of self.old).turns }
+        ensures done { (tally_of self.new).done ≡ (tally_of self.old).done }
+        ensures looks { (tally_of self.new).looks.count
+            ≡ min ((tally_of self.old).looks.count + 1) (tally_of self.old).turns }
+        ensures kept { ((tally_of self.new).looks.micros ≡ (tally_of self.old).looks.micros)
+            ⊎ ((tally_of self.new).looks.micros
+            ≡ (tally_of self.old).looks.micros ++ micros ∷ []) }
+        ensures ended { ((tally_of self.new).commits ≡ (tally_of self.old).commits)
+            × ((tally_of self.new).aborts ≡ (tally_of self.old).aborts) }
+        ensures last { last_of self.new ≡ last_of self.old }
+        ensures writer { writer_of self.new ≡ writer_of self.old }
+    {
+        if !self.progress.has_looked() {
+            let _ = self.progress.count_look(micros);
+        }
+    }
+
     /// Shows a line that stays.
     pub fn tell(&mut self, alloc: Global, line: &str)
         ensures tally { tally_of self.new ≡ tally_of self.old }
         ensures last { last_of self.new ≡ last_of self.old }
     {
-        let _ = write_over(alloc, &mut self.writer, line, "\n");
+        let _ = self.write_over(alloc, line, "\n");
+        self.shown = 0;
     }
 
     fn show(&mut self, alloc: Global, micros: u64) -> io::Result<()>
@@ -64,25 +95,64 @@ impl<W: Write> Screen<W> {
         ensures last { last_of self.new ≡ last_of self.old }
     {
         let line = self.progress.line(alloc, micros)?;
-        write_over(alloc, &mut self.writer, &line, "")
+        self.write_over(alloc, &line, "")?;
+        self.shown = line.len();
+        Ok(())
     }
 
-    /// Shows the last line, of a drive that took so many microseconds, and gives the writer back.
+    // Writes a line over the one before.
+    fn write_over(&mut self, alloc: Global, line: &str, end: &str) -> io::Result<()>
+        ensures tally { tally_of self.new ≡ tally_of self.old }
+        ensures last { last_of self.new ≡ last_of self.old }
+    {
+        let text = over(alloc, line, self.shown, end)?;
+        self.writer.write_all(text.as_bytes())
+    }
+
+    /// Shows the last line, of a drive that took so many microseconds, and the table of how long what was counted took, and gives
+    /// the writer back. Where nothing was counted nothing is shown.
     pub fn finish(self, alloc: Global, micros: u64) -> W {
+        let mut screen = self;
+        if screen.progress.is_new() {
+            return screen.into_writer();
+        }
+        if let Ok(line) = screen.progress.line(alloc, micros) {
+            let _ = screen.write_over(alloc, &line, "\n");
+        }
         let Screen {
             mut writer,
             progress,
             pace: _,
-        } = self;
-        if let Ok(line) = progress.last_line(alloc, micros) {
-            let _ = write_over(alloc, &mut writer, &line, "\n");
+            shown: _,
+        } = screen;
+        if let Ok(table) = progress.table(alloc) {
+            let _ = writer.write_all(table.as_bytes());
         }
+        writer
+    }
+
+    fn into_writer(self) -> W
+        ensures { result ≡ writer_of self }
+    {
+        let Screen {
+            writer,
+            progress: _,
+            pace: _,
+            shown: _,
+        } = self;
         writer
     }
 }
 
-// Writes a line over the one before, blank to its end, so that nothing is left of a longer one.
-fn write_over<W: Write>(alloc: Global, writer: &mut W, line: &str, end: &str) -> io::Result<()> {
-    let text = format!(in alloc; "\r{line:<60}{end}")?;
-    writer.write_all(text.as_bytes())
+// A line over one of so many bytes, of which nothing is left, and its end.
+fn over(alloc: Global, line: &str, shown: usize, end: &str) -> Result<String, AllocError>
+    ensures { IfOk result (λ text. string_bytes text ≡ 13 ∷ (line.now
+        ++ (replicate (shown - length line.now) 32 ++ end.now))) }
+{
+    let mut text = String::new(alloc);
+    text.push_str("\r")?;
+    text.push_str(line)?;
+    push_blanks(&mut text, line.len(), shown)?;
+    text.push_str(end)?;
+    Ok(text)
 }

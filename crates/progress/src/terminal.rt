@@ -27,7 +27,7 @@ impl<'r, R: Wait + time::Clock, W: Write + Drop> Terminal<'r, R, W> {
         }
     }
 
-    /// Shows the last line once the drive is over, and gives the writer back.
+    /// Shows the last line and the table once the drive is over, and gives the writer back.
     pub fn finish(self) -> W {
         let Terminal {
             rt,
@@ -43,6 +43,10 @@ impl<R: Wait + time::Clock, W: Write + Drop> Watch for Terminal<'_, R, W> {
     fn turned(&self, turn: Turn) {
         let micros = self.stopwatch.micros(self.rt);
         self.screen.lock(self.rt).turned(self.alloc, turn, micros);
+    }
+
+    fn looked(&self, micros: u64) {
+        self.screen.lock(self.rt).looked(micros);
     }
 
     fn stopped(&self, shard: usize) {

@@ -15,9 +15,12 @@ pub struct Turn {
     pub micros: u64,
 }
 
-/// Who is told of each turn that ended, by the thread that ran it. Threads tell at the same time.
+/// Who is told of each turn that ended, and of each look that was answered, by the thread that ran it. Threads tell at the same time.
 pub trait Watch {
     fn turned(&self, turn: Turn);
+
+    /// The look behind a turn was answered after so many microseconds.
+    fn looked(&self, _micros: u64) {}
 
     /// The device of this shard failed, so that it has stopped.
     fn stopped(&self, _shard: usize) {}
@@ -35,6 +38,12 @@ impl<W: Watch> Watch for Option<W> {
     fn turned(&self, turn: Turn) {
         if let Some(watch) = self {
             watch.turned(turn);
+        }
+    }
+
+    fn looked(&self, micros: u64) {
+        if let Some(watch) = self {
+            watch.looked(micros);
         }
     }
 

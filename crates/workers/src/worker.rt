@@ -66,7 +66,8 @@ impl<R: Wait + time::Clock, C: Clock + Drop, W: Watch> Worker<'_, '_, R, C, W> {
         Ok(Report { counts, lines })
     }
 
-    // A transaction, whose end the watch is told, and then a look at its first key. It says whether that was answered.
+    // A transaction, whose end the watch is told, and then a look at its first key, of which it is told where it was answered. It says
+    // whether it was.
     fn turn(&mut self, keys: &[Key], lines: &mut Vec<Line>) -> Result<(Ended, bool), Fault>
         ensures { MatchResult result (λ turned. (told : List Line)
             × IsTurn keys.now turned.0 turned.1 told
@@ -78,7 +79,11 @@ impl<R: Wait + time::Clock, C: Clock + Drop, W: Watch> Worker<'_, '_, R, C, W> {
             ended,
             micros: stopwatch.micros(self.rt),
         });
+        let stopwatch = Stopwatch::start(self.rt);
         let looked = self.look_at_first(keys, lines)?;
+        if looked {
+            self.watch.looked(stopwatch.micros(self.rt));
+        }
         Ok((ended, looked))
     }
 
