@@ -14,7 +14,7 @@ ghost use Rattle.output.specs.declared.failure.Failure.TheVariants.{Refused, Unw
 ghost use Rattle.command_line.specs.Lines.{are_plain, asks_help};
 ghost use Rattle.output.specs.Replies.{Is};
 ghost use Rattle.cli.specs.Disks.{LogsCommand, LogsTo};
-ghost use Rattle.cli.specs.Faults.{FailsAs, MayRefuse, MayRefuseTo};
+ghost use Rattle.cli.specs.Faults.{FailsAs, IsRefusedBy, MayRefuse, MayRefuseTo};
 ghost use Rattle.cli.specs.Replies.{Tells, TellsTo, reply_of, reply_to};
 ghost use Rattle.output.specs.Streams.{failures_of, fault_line, writer_of};
 
@@ -79,10 +79,11 @@ pub fn answer<
         × ((failures_of err.old < failures_of err.new)
         ⊎ Appends (E.contents (writer_of err.old)) (E.contents (writer_of err.new))
         (fault_line fault))) }
-    // The fault of a command over files is one of its own.
+    // The fault of a command over files is one of its own; that of a drive is one of its settings, or one for which what drives refuses.
     ensures numbered { are_plain (map (λ w. w.now) words.entry.now) ≡ true → result.0 ≡ 2
         → (failures_of out.old < failures_of out.new)
-        ⊎ ((fault : Fault) × MayRefuseTo (command_of (map (λ w. w.now) words.entry.now)) fault
+        ⊎ ((fault : Fault) × MayRefuseTo (IsRefusedBy (D.post system.now.drive alloc))
+        (command_of (map (λ w. w.now) words.entry.now)) fault
         × ((failures_of err.old < failures_of err.new)
         ⊎ Appends (E.contents (writer_of err.old)) (E.contents (writer_of err.new))
         (fault_line fault))) }
@@ -134,7 +135,8 @@ fn carry_out<'a, F: Files, D: Fn(Global, &Settings) -> Result<Driven, NoVerdict>
         FailsFor (failures_of out.old < failures_of out.new) failure
         (reply_to (map (λ w. w.now) words.entry.now))) }
     ensures numbered { are_plain (map (λ w. w.now) words.entry.now) ≡ true → IfErr result.0
-        (FailsAs (MayRefuseTo (command_of (map (λ w. w.now) words.entry.now)))) }
+        (FailsAs (MayRefuseTo (IsRefusedBy (D.post system.now.drive alloc))
+        (command_of (map (λ w. w.now) words.entry.now)))) }
     ensures unwritten { result.0 ≡ Err Unwritten → failures_of out.old < failures_of out.new }
     ensures counted { (fault : Fault) → result.0 ≡ Err (Refused fault)
         → failures_of out.new ≡ failures_of out.old }
@@ -170,7 +172,8 @@ fn run<F: Files, D: Fn(Global, &Settings) -> Result<Driven, NoVerdict>, O: Write
     ensures failures { IfErr result.0 (λ failure.
         FailsFor (failures_of out.old < failures_of out.new) failure
         (reply_of (asked_for asked.entry))) }
-    ensures numbered { IfErr result.0 (FailsAs (MayRefuse (asked_for asked.entry))) }
+    ensures numbered { IfErr result.0 (FailsAs
+        (MayRefuse (IsRefusedBy (D.post system.now.drive alloc)) (asked_for asked.entry))) }
     ensures unwritten { result.0 ≡ Err Unwritten → failures_of out.old < failures_of out.new }
     ensures counted { (fault : Fault) → result.0 ≡ Err (Refused fault)
         → failures_of out.new ≡ failures_of out.old }

@@ -2,8 +2,9 @@
 ghost use Rattle.std.specs.Prelude.{◌≡◌, ◌⊎◌, ◌<◌, List, ℕ, None, Err, IfOk, IfErr};
 ghost use Rattle.std.specs.Io.KnownBytes.{Appends};
 ghost use Rattle.units.specs.declared.fault.Fault.{Fault};
+ghost use Rattle.cli.specs.Faults.{FailsAs, IsNotDriven, IsRefusedBy};
 ghost use Rattle.output.specs.Failures.{FailsFor};
-ghost use Rattle.output.specs.declared.failure.Failure.TheVariants.{Refused};
+ghost use Rattle.output.specs.declared.failure.Failure.TheVariants.{Refused, Unwritten};
 ghost use Rattle.output.specs.Streams.{failures_of, writer_of};
 
 use drive::NoVerdict;
@@ -29,6 +30,8 @@ pub fn run_drive<F: Files, D: Fn(Global, &Settings) -> Result<Driven, NoVerdict>
         × Appends (O.contents (writer_of out.old)) (O.contents (writer_of out.new)) text) }
     ensures failures { IfErr result
         (λ failure. FailsFor (failures_of out.old < failures_of out.new) failure None) }
+    ensures numbered { IfErr result
+        (FailsAs (IsNotDriven (IsRefusedBy (D.post system.now.drive alloc)))) }
     ensures refused { (fault : Fault) → result ≡ Err (Refused fault) → (out.new ≡ out.old)
         ⊎ ((text : List ℕ)
         × Appends (O.contents (writer_of out.old)) (O.contents (writer_of out.new)) text) }
@@ -54,6 +57,8 @@ fn refuse<O: Write>(none: NoVerdict, out: &mut Stream<O>) -> Result<u8, Failure>
     ensures counted { (fault : Fault) → result ≡ Err (Refused fault)
         → failures_of out.new ≡ failures_of out.old }
     ensures never { IfOk result (λ status. ⊥) }
+    ensures told { IfErr result
+        (λ failure. (failure ≡ Unwritten) ⊎ (failure ≡ Refused none.fault)) }
 {
     let NoVerdict { fault, text } = none;
     if let Some(text) = text {
@@ -69,6 +74,8 @@ fn driven_by<F: Files, D: Fn(Global, &Settings) -> Result<Driven, NoVerdict>>(
     system: &System<F, D>,
 ) -> Result<Driven, NoVerdict>
     requires { D.IsAlwaysCallable system.now.drive }
+    ensures { IfErr result
+        (λ none. IsNotDriven (IsRefusedBy (D.post system.now.drive alloc)) none.fault) }
 {
     let text = read_text(alloc, &system.files, file, Reason::Settings)?;
     let settings = Settings::read(alloc, &text)?;

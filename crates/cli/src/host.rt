@@ -8,7 +8,9 @@ ghost use Rattle.command_line.specs.declared.commands.Command.TheVariants.{Help}
 ghost use Rattle.command_line.specs.declared.usage.TheConstants.{USAGE};
 ghost use Rattle.command_line.specs.Lines.{are_plain, asks_help};
 ghost use Rattle.output.specs.Replies.{Is};
-ghost use Rattle.cli.specs.Faults.{FailsAs, MayRefuse, MayRefuseTo};
+ghost use Rattle.cli.specs.Faults.{MayRefuseTo};
+ghost use Rattle.drive.specs.Told.{HasNoVerdict};
+ghost use Rattle.drive.specs.declared.shards.NoVerdict.{NoVerdict};
 ghost use Rattle.cli.specs.Replies.{Tells, TellsTo, reply_of, reply_to};
 ghost use Rattle.output.specs.Streams.{failures_of, fault_line, writer_of};
 
@@ -65,10 +67,11 @@ pub fn program<
         × ((failures_of err.old < failures_of err.new)
         ⊎ Appends (E.contents (writer_of err.old)) (E.contents (writer_of err.new))
         (fault_line fault))) }
-    // The fault of a command over files is one of its own.
+    // The fault of a command over files is one of its own, and so is that of a drive.
     ensures numbered { are_plain (map (λ w. w.now) words.entry.now) ≡ true → result ≡ 2
         → (failures_of out.old < failures_of out.new)
-        ⊎ ((fault : Fault) × MayRefuseTo (command_of (map (λ w. w.now) words.entry.now)) fault
+        ⊎ ((fault : Fault) × MayRefuseTo HasNoVerdict
+        (command_of (map (λ w. w.now) words.entry.now)) fault
         × ((failures_of err.old < failures_of err.new)
         ⊎ Appends (E.contents (writer_of err.old)) (E.contents (writer_of err.new))
         (fault_line fault))) }
@@ -79,7 +82,9 @@ pub fn program<
         (fault_line fault))) }
     ensures silent { failures_of out.old < failures_of out.new → err.new ≡ err.old }
 {
-    let drive = |alloc: Global, settings: &Settings| drive_shards(rt, alloc, settings, terminal);
+    let drive = |alloc: Global, settings: &Settings| -> Result<Driven, NoVerdict>
+        ensures { IfErr result (λ none. HasNoVerdict none.fault) }
+    { drive_shards(rt, alloc, settings, terminal) };
     let files = HostFiles {
         rt,
         is_watched: terminal.is_some(),
@@ -94,7 +99,9 @@ fn answer_by<
     O: Write,
     E: Write,
 >(alloc: Global, files: F, drive: D, words: &[&str], out: &mut Stream<O>, err: &mut Stream<E>) -> u8
-    requires { D.IsAlwaysCallable drive }
+    requires drives { D.IsAlwaysCallable drive }
+    requires refuses { (settings : _) (none : NoVerdict) → D.post drive alloc settings (Err none)
+        → HasNoVerdict none.fault }
     ensures status { (result ≡ 0) ⊎ (result ≡ 1) ⊎ (result ≡ 2) }
     ensures printed { are_plain (map (λ w. w.now) words.entry.now) ≡ true → result ≢ 2
         → (text : List ℕ) × Is (reply_to (map (λ w. w.now) words.entry.now)) (Ok (text, result))
@@ -121,7 +128,8 @@ fn answer_by<
     // The fault of a command over files is one of its own.
     ensures numbered { are_plain (map (λ w. w.now) words.entry.now) ≡ true → result ≡ 2
         → (failures_of out.old < failures_of out.new)
-        ⊎ ((fault : Fault) × MayRefuseTo (command_of (map (λ w. w.now) words.entry.now)) fault
+        ⊎ ((fault : Fault) × MayRefuseTo HasNoVerdict
+        (command_of (map (λ w. w.now) words.entry.now)) fault
         × ((failures_of err.old < failures_of err.new)
         ⊎ Appends (E.contents (writer_of err.old)) (E.contents (writer_of err.new))
         (fault_line fault))) }
