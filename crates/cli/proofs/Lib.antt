@@ -1,1 +1,1 @@
-pub mod Drives
+pub mod Refusals

@@ -3,7 +3,9 @@ use Rattle.std.specs.Prelude.{◌≡◌, ◌⊎◌, ℕ, Result, Ok, Err}
 use Rattle.units.specs.declared.fault.Fault.{Fault}
 use Rattle.units.specs.declared.fault.Fault.TheVariants.{BadRequest, Device, Memory}
 use Rattle.units.specs.declared.fault.Reason.TheVariants.{Settings, Unlawful}
-use Rattle.command_line.specs.Commands.{Asked, help, once_asked, format_asked, play_asked, inspect_asked, drive_asked, dump_asked, history_asked, get_asked}
+use Rattle.command_line.specs.Commands.{Asked, help, once_asked, format_asked, play_asked, inspect_asked, drive_asked, dump_asked, history_asked, get_asked, put_asked}
+use Rattle.client.specs.declared.ended.Ended.{Ended}
+use Rattle.cli.specs.declared.engine.Put.{Put}
 use Rattle.drive.specs.declared.shards.NoVerdict.{NoVerdict}
 use Rattle.inspection.specs.Files.{IsNotJudged}
 use Rattle.output.specs.declared.failure.Failure.{Failure}
@@ -37,21 +39,34 @@ IsNotDriven drives fault = IsNotMade fault ⊎ ((fault ≡ BadRequest Settings) 
 abbrev pub IsRefusedBy : {S : Type 0} → (S → Result Driven NoVerdict → Type 0) → Fault → Type 0
 IsRefusedBy {S} call fault = (settings : S) × (none : NoVerdict) × call settings (Err none) × (none.fault ≡ fault)
 
--- what a command may be refused for, where its words do not tell it, and what drives shards is refused for this
-abbrev pub MayRefuse : (Fault → Type 0) → Asked → Fault → Type 0
-MayRefuse drives help fault = Unit {0}
-MayRefuse drives (once_asked key value first second) fault = Unit {0}
-MayRefuse drives (format_asked file) fault = IsNotMade fault
-MayRefuse drives (play_asked file) fault = IsNotPlayed fault
-MayRefuse drives (inspect_asked lines logs) fault = IsNotJudged fault
-MayRefuse drives (drive_asked file) fault = IsNotDriven drives fault
-MayRefuse drives (dump_asked file) fault = IsNotShown fault
-MayRefuse drives (history_asked dir key) fault = IsNotTold fault
-MayRefuse drives (get_asked dir key at) fault = IsNotTold fault
+-- the folder of a store is not read, or what puts a write refuses for this
+abbrev pub IsNotPut : (Fault → Type 0) → Fault → Type 0
+IsNotPut puts fault = IsUnreadStore fault ⊎ puts fault
 
-abbrev pub MayRefuseTo : (Fault → Type 0) → Result Asked Fault → Fault → Type 0
-MayRefuseTo drives (Ok asked) fault = MayRefuse drives asked fault
-MayRefuseTo drives (Err why) fault = Unit {0}
+-- a call that is to put some write may be refused for this
+abbrev pub IsUnputBy : (Put → Result Ended Fault → Type 0) → Fault → Type 0
+IsUnputBy call fault = (write : Put) × call write (Err fault)
+
+-- any fault
+abbrev pub AnyFault : Fault → Type 0
+AnyFault fault = Unit {0}
+
+-- what a command may be refused for, where its words do not tell it, by what a drive and what a write are refused for
+abbrev pub MayRefuse : (Fault → Type 0) → (Fault → Type 0) → Asked → Fault → Type 0
+MayRefuse drives puts help fault = Unit {0}
+MayRefuse drives puts (once_asked key value first second) fault = Unit {0}
+MayRefuse drives puts (format_asked file) fault = IsNotMade fault
+MayRefuse drives puts (play_asked file) fault = IsNotPlayed fault
+MayRefuse drives puts (inspect_asked lines logs) fault = IsNotJudged fault
+MayRefuse drives puts (drive_asked file) fault = IsNotDriven drives fault
+MayRefuse drives puts (dump_asked file) fault = IsNotShown fault
+MayRefuse drives puts (history_asked dir key) fault = IsNotTold fault
+MayRefuse drives puts (get_asked dir key at) fault = IsNotTold fault
+MayRefuse drives puts (put_asked dir key value) fault = IsNotPut puts fault
+
+abbrev pub MayRefuseTo : (Fault → Type 0) → (Fault → Type 0) → Result Asked Fault → Fault → Type 0
+MayRefuseTo drives puts (Ok asked) fault = MayRefuse drives puts asked fault
+MayRefuseTo drives puts (Err why) fault = Unit {0}
 
 -- a write failed, or a command is refused for such a fault
 abbrev pub FailsAs : (Fault → Type 0) → Failure → Type 0

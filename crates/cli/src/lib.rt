@@ -4,19 +4,25 @@
 mod answers;
 mod drive_command;
 mod dump;
+mod engine;
 mod format;
 mod help;
 mod host;
+mod host_put;
 mod inspect;
 mod key_commands;
 mod play;
+mod put_command;
 mod settings_text;
 mod store_folder;
 
 pub use answers::answer;
 pub use command_line::{Command, command};
 pub use drive::{NoVerdict, run};
+pub use engine::{Engine, Put};
 pub use host::program;
+pub use host_put::put_in_store;
 pub use output::Stream;
 pub use settings_text::settings;
+pub use store::Ended;
 pub use system::{Driven, Files, System};

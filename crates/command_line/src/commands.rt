@@ -46,4 +46,10 @@ pub enum Command<'a> {
         key: Key,
         at: Option<Stamp>,
     },
+    /// The write of a value to a key is committed in the store in a folder.
+    Put {
+        dir: &'a str,
+        key: Key,
+        value: Value,
+    },
 }

@@ -17,7 +17,7 @@ use units::{Fault, Reason};
 type Form<'a> = (&'a str, &'a [(&'a str, usize)]);
 
 /// The program's commands.
-static COMMANDS: [Form<'static>; 8] = [
+static COMMANDS: [Form<'static>; 9] = [
     (
         "once",
         &[
@@ -36,6 +36,7 @@ static COMMANDS: [Form<'static>; 8] = [
     ("dump", &[("file", 1)]),
     ("history", &[("dir", 1), ("key", 1)]),
     ("get", &[("dir", 1), ("key", 1), ("at", 0)]),
+    ("put", &[("dir", 1), ("key", 1), ("value", 1)]),
 ];
 
 /// A command, with its words.
@@ -73,6 +74,11 @@ pub enum Line<'a> {
         dir: &'a str,
         key: &'a str,
         at: Option<&'a str>,
+    },
+    Put {
+        dir: &'a str,
+        key: &'a str,
+        value: &'a str,
     },
 }
 
@@ -130,6 +136,9 @@ fn found_line<'a>(alloc: Global, matches: &ArgMatches<'a>) -> Result<Line<'a>, F
     if let Some(given) = matches.subcommand_matches("get") {
         return Ok(get_line(given));
     }
+    if let Some(given) = matches.subcommand_matches("put") {
+        return Ok(put_line(given));
+    }
     Err(Fault::BadRequest(Reason::Command))
 }
 
@@ -168,6 +177,18 @@ fn get_line<'a>(given: &ArgMatches<'a>) -> Line<'a>
         dir: word(given, "dir"),
         key: word(given, "key"),
         at: given.get_str("at"),
+    }
+}
+
+// The words of `put`.
+fn put_line<'a>(given: &ArgMatches<'a>) -> Line<'a>
+    ensures { (line : CommandLine) → (entry_of line).0 ≡ codes "put"
+        → rows_of (found_of given.now) ≡ (entry_of line).1 → line_view result ≡ line }
+{
+    Line::Put {
+        dir: word(given, "dir"),
+        key: word(given, "key"),
+        value: word(given, "value"),
     }
 }
 

@@ -1,7 +1,7 @@
-//! Files in memory, and drives of nothing, for commands that ask for them.
-use cli::{Driven, Files, NoVerdict, Stream, System, answer};
+//! Files in memory, and drives and writes of nothing, for commands that ask for them.
+use cli::{Driven, Ended, Engine, Files, NoVerdict, Put, Stream, System, answer};
 use disk::Disk;
-use made::id;
+use made::{id, stamp};
 use settings::Settings;
 use simdisk::SimDisk;
 use std::alloc::Global;
@@ -81,6 +81,16 @@ fn told(alloc: Global, settings: &Settings) -> Result<Driven, NoVerdict> {
     }
 }
 
+// Writes nothing. What became of a write is told by its value.
+fn ended(_alloc: Global, write: Put<'_>) -> Result<Ended, Fault> {
+    match write.value.as_bytes() {
+        b"stands" => Ok(Ended::Committed(stamp(112))),
+        b"dropped" => Ok(Ended::Aborted),
+        b"silent" => Ok(Ended::Unknown(id(2))),
+        _ => Err(Fault::Stranger),
+    }
+}
+
 /// How many writes each output takes before it fails, and whether all that is printed is compared, or how it begins.
 #[derive(Clone, Copy)]
 pub struct Writes {
@@ -134,7 +144,10 @@ pub fn print<'a>(
 ) -> Printed {
     let system = System {
         files: Memory { files },
-        drive: told,
+        drive: Engine {
+            run: told,
+            put: ended,
+        },
     };
     let mut out = Stream::new(Paper {
         bytes: Vec::new(alloc),
