@@ -12,7 +12,7 @@ use Rattle.facts.specs.Rules.{follows_facts}
 use Rattle.gatelog.specs.Placed.{Placed}
 use Rattle.recovery.specs.Recovered.{items}
 
-both : (a b : Bool) → (a && b) ≡ true → (a ≡ true) × (b ≡ true)
+pub both : (a b : Bool) → (a && b) ≡ true → (a ≡ true) × (b ≡ true)
 both true b e = (refl, e)
 both false b e = absurd cc
 
@@ -27,7 +27,7 @@ followed_part shard before (x ∷ es) (suc n) e =
     ap₂ (λ a b. a && b) p.0 (followed_part shard (before ++ x.item ∷ []) es n p.1)
 
 -- one entry more
-next_items : (es : List Placed) (i : ℕ) (e : Placed) → i < length es → e ≡ slice_index_or es i e
+pub next_items : (es : List Placed) (i : ℕ) (e : Placed) → i < length es → e ≡ slice_index_or es i e
     → items (take (i + 1) es) ≡ items (take i es) ++ e.item ∷ []
 next_items es i e small is =
     let next : i + 1 ≡ suc i = omega arith in

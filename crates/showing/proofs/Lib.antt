@@ -1,4 +1,9 @@
 mod Accepting
+mod Counted
+mod Doubting
 mod Ends
+mod Numbered
+mod Summing
 mod Telling
 mod Values
+mod Whose

@@ -1,13 +1,16 @@
 //! Texts of logs.
-ghost use Rattle.std.specs.Prelude.{IfOk, IfErr, List, string_bytes};
+ghost use Rattle.std.specs.Prelude.{IfOk, IfErr, List, map, string_bytes};
 ghost use Rattle.gatelog.specs.Placed.{Placed};
 ghost use Rattle.showing.specs.Dumps.{IsADump, IsNotShown};
 ghost use Rattle.showing.specs.HistoryTexts.{IsAHistory, IsAValue, IsNotTold};
+ghost use Rattle.showing.specs.StatsTexts.{AreStats};
 
 use crate::history_lines::{history_text, value_line};
 use crate::lines::dump_text;
 use crate::reading::read_dump;
 use crate::shard_log::{read_history, read_value};
+use crate::stats::read_stats;
+use crate::stats_lines::{push_log, push_sums};
 use disk::Disk;
 use std::alloc::Global;
 use system::Files;
@@ -20,6 +23,25 @@ pub fn dump_file<F: Files>(alloc: Global, files: &F, path: &str) -> Result<Strin
 {
     let dump = read_dump(alloc, files.open(alloc, path)?)?;
     dump_text(alloc, &dump.entries, dump.end)
+}
+
+/// What the logs in some files hold, as numbers, and where they are several the sums. Each is opened to be read alone, and closed before
+/// the next one.
+pub fn stats_files<F: Files>(alloc: Global, files: &F, logs: &[&str]) -> Result<String, Fault>
+    ensures text { IfOk result (λ text. AreStats (map (λ log. log.now) logs.now) (string_bytes text)) }
+    ensures refused { IfErr result IsNotShown }
+{
+    let mut text = String::new(alloc);
+    let mut told = Vec::new(alloc);
+    for log in logs {
+        let stats = read_stats(alloc, files.open(alloc, log)?)?;
+        push_log(&mut text, alloc, log, &stats)?;
+        told.push(stats.numbers)?;
+    }
+    if told.len() > 1 {
+        push_sums(&mut text, alloc, &told)?;
+    }
+    Ok(text)
 }
 
 /// What the log of a shard says of a key, as text.

@@ -1,0 +1,8 @@
+-- What is told of the logs that were read.
+use Rattle.std.proofs.Common.{◌≡◌, List, map, take, flat_map, string_bytes}
+use Rattle.showing.specs.StatsTexts.{ToldLog, log_text}
+use Rattle.showing.proofs.files.stats_files.Given as goal
+
+abbrev pub invariant-loop-log : goal.invariant-loop-log
+invariant-loop-log g l = (told : List ToldLog) × (map (λ t. t.name) told ≡ map (λ log. log.now) (take l.log-index l.logs))
+    × (map (λ t. t.numbers) told ≡ l.told.items) × (string_bytes l.text ≡ flat_map log_text told)

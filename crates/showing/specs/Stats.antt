@@ -1,0 +1,114 @@
+-- What the log in a file holds, as numbers, and what is in doubt in it.
+use Rattle.std.specs.Prelude.{ℕ, Bool, true, false, List, [], ◌∷◌, ◌++◌, Option, Some, None, Result, Ok, length, map, fold, if◌then◌else◌}
+use Rattle.units.specs.Ids.{Id}
+use Rattle.units.specs.Keys.{Bytes, has_key}
+use Rattle.units.specs.Lists.{gather, head}
+use Rattle.units.specs.declared.fault.Fault.{Fault}
+use Rattle.units.specs.declared.writes.Install.{Install}
+use Rattle.record.specs.Installs.{installs_of}
+use Rattle.record.specs.Records.{as_aborted, as_committed, as_ended, as_opened, as_prepared, epoch_of, floor_of}
+use Rattle.record.specs.declared.record.Record.{Record}
+use Rattle.record.specs.declared.record.Record.TheVariants.{Opened, Ceiling, Prepare, Commit, Abort, Outcome}
+use Rattle.gatelog.specs.Log.{log}
+use Rattle.gatelog.specs.Placed.{Placed}
+use Rattle.recovery.specs.Recovered.{items}
+use Rattle.inspection.specs.Files.{records_behind}
+use Rattle.texts.specs.Numbers.{and_then}
+use Rattle.showing.specs.Histories.{end_in}
+use Rattle.showing.specs.declared.kinds.Kinds.{Kinds}
+use Rattle.showing.specs.declared.stats.InDoubt.{InDoubt}
+use Rattle.showing.specs.declared.stats.Numbers.{Numbers}
+
+-- the record as a ceiling
+abbrev pub as_ceiling : Record → Option ℕ
+as_ceiling (Opened epoch) = None
+as_ceiling (Ceiling at) = Some at
+as_ceiling (Prepare p) = None
+as_ceiling (Commit c) = None
+as_ceiling (Abort t) = None
+as_ceiling (Outcome t o) = None
+
+-- how many records there are of each kind
+abbrev pub kinds_of : List Record → Kinds
+kinds_of records = record {
+  opened = length (gather as_opened records);
+  ceilings = length (gather as_ceiling records);
+  prepares = length (gather as_prepared records);
+  commits = length (gather as_committed records);
+  aborts = length (gather as_aborted records);
+  outcomes = length (gather as_ended records);
+}
+
+-- some keys with one more, where it is not there
+abbrev pub with_key : List Bytes → Bytes → List Bytes
+with_key ks k = if has_key ks k then ks else ks ++ k ∷ []
+
+-- the keys of some versions, each once
+abbrev pub keys_of : List Install → List Bytes
+keys_of installs = fold with_key [] (map (λ i. i.key) installs)
+
+-- the record as a promise or a decision, which is in doubt until there is an outcome
+abbrev pub as_begun : Record → Option InDoubt
+as_begun (Opened epoch) = None
+as_begun (Ceiling at) = None
+as_begun (Prepare p) = Some (record { txn = p.txn; at = p.at; is_decided = false })
+as_begun (Commit c) = Some (record { txn = c.txn; at = c.at; is_decided = true })
+as_begun (Abort t) = None
+as_begun (Outcome t o) = None
+
+-- it is in doubt, where its transaction has no end
+abbrev pub unless_ended : InDoubt → Option (Option ℕ) → Option InDoubt
+unless_ended doubt None = Some doubt
+unless_ended doubt (Some outcome) = None
+
+abbrev pub doubt_of : (Id → Option (Option ℕ)) → Option InDoubt → Option InDoubt
+doubt_of ends None = None
+doubt_of ends (Some begun) = unless_ended begun (ends begun.txn)
+
+-- the transactions that a log promises or decides and does not end, in its order
+abbrev pub doubts_in : List Record → List InDoubt
+doubts_in records = gather (λ r. doubt_of (end_in records) (as_begun r)) records
+
+-- the numbers of a log, in a file of so many bytes
+abbrev pub numbers_of : ℕ → List Record → Numbers
+numbers_of bytes records = record {
+  bytes = bytes;
+  records = length records;
+  kinds = kinds_of records;
+  keys = length (keys_of (installs_of records));
+  versions = length (installs_of records);
+  epoch = epoch_of records;
+  floor = floor_of records;
+  in_doubt = length (doubts_in records);
+}
+
+-- the shard that made the decision of a record, the least of its parts
+abbrev pub decided_by : Option (List ℕ) → Option ℕ
+decided_by None = None
+decided_by (Some parts) = head parts
+
+abbrev pub parts_in : Record → Option (List ℕ)
+parts_in (Opened epoch) = None
+parts_in (Ceiling at) = None
+parts_in (Prepare p) = None
+parts_in (Commit c) = Some c.parts
+parts_in (Abort t) = None
+parts_in (Outcome t o) = None
+
+-- a shard, or the last one
+abbrev pub or_last : Option ℕ → ℕ
+or_last None = 15
+or_last (Some shard) = shard
+
+-- the shard whose log it is, by its first decision; where there is none, the last shard, which takes each promise that any shard takes
+abbrev pub shard_told : List Record → ℕ
+shard_told records = or_last (head (gather (λ r. decided_by (parts_in r)) records))
+
+-- what the entries of a log tell, where each record follows those before it
+abbrev pub stats_by : ℕ → List Placed → Result (Numbers × List InDoubt) Fault
+stats_by bytes entries =
+    and_then (records_behind (shard_told (items entries)) [] entries) (λ records. Ok (numbers_of bytes records, doubts_in records))
+
+-- what a file tells, or why it holds no log
+abbrev pub stats_in : List ℕ → Result (Numbers × List InDoubt) Fault
+stats_in image = and_then (log image) (stats_by (length image))

@@ -1,0 +1,89 @@
+-- How the numbers of logs are printed.
+use Rattle.std.specs.Prelude.{◌≡◌, ℕ, Bool, true, false, List, [], ◌∷◌, ◌++◌, codes, flat_map, length, map, sum_by, nat_lt, if◌then◌else◌}
+use Rattle.std.specs.Fmt.{decimal}
+use Rattle.units.specs.Texts.{txn_text}
+use Rattle.showing.specs.declared.figure.Figure.{Figure}
+use Rattle.showing.specs.declared.figure.Figure.TheVariants.{Bytes, Records, Opened, Ceilings, Prepares, Commits, Aborts, Outcomes, Keys, Versions, Epoch, Floor, InDoubt}
+use Rattle.showing.specs.declared.stats.Numbers.{Numbers}
+use Rattle.showing.specs.declared.stats.InDoubt as doubts
+
+-- a number of a log
+abbrev pub number_of : Figure → Numbers → ℕ
+number_of Bytes numbers = numbers.bytes
+number_of Records numbers = numbers.records
+number_of Opened numbers = numbers.kinds.opened
+number_of Ceilings numbers = numbers.kinds.ceilings
+number_of Prepares numbers = numbers.kinds.prepares
+number_of Commits numbers = numbers.kinds.commits
+number_of Aborts numbers = numbers.kinds.aborts
+number_of Outcomes numbers = numbers.kinds.outcomes
+number_of Keys numbers = numbers.keys
+number_of Versions numbers = numbers.versions
+number_of Epoch numbers = numbers.epoch
+number_of Floor numbers = numbers.floor
+number_of InDoubt numbers = numbers.in_doubt
+
+-- what stands before it
+abbrev pub word_of : Figure → List ℕ
+word_of Bytes = codes "bytes"
+word_of Records = codes "records"
+word_of Opened = codes "opened"
+word_of Ceilings = codes "ceiling"
+word_of Prepares = codes "prepare"
+word_of Commits = codes "commit"
+word_of Aborts = codes "abort"
+word_of Outcomes = codes "outcome"
+word_of Keys = codes "keys"
+word_of Versions = codes "versions"
+word_of Epoch = codes "epoch"
+word_of Floor = codes "floor"
+word_of InDoubt = codes "in doubt"
+
+-- the numbers of which there are sums
+abbrev pub summed : List Figure
+summed = Bytes ∷ Records ∷ Opened ∷ Ceilings ∷ Prepares ∷ Commits ∷ Aborts ∷ Outcomes ∷ Keys ∷ Versions ∷ InDoubt ∷ []
+
+-- all of them
+abbrev pub figures : List Figure
+figures = Bytes ∷ Records ∷ Opened ∷ Ceilings ∷ Prepares ∷ Commits ∷ Aborts ∷ Outcomes ∷ Keys ∷ Versions ∷ Epoch ∷ Floor ∷ InDoubt ∷ []
+
+-- a number on a line
+abbrev pub number_line : Figure → ℕ → List ℕ
+number_line figure number = word_of figure ++ (codes " " ++ (decimal number ++ codes "\n"))
+
+-- how a transaction in doubt stands
+abbrev pub standing_word : Bool → List ℕ
+standing_word true = codes "decided"
+standing_word false = codes "promised"
+
+-- a transaction in doubt, on a line
+abbrev pub doubt_line : doubts.InDoubt → List ℕ
+doubt_line doubt = standing_word doubt.is_decided
+    ++ (codes " " ++ (txn_text doubt.txn ++ (codes " " ++ (decimal doubt.at ++ codes "\n"))))
+
+-- what is told of a log: its name, its numbers, and what is in doubt
+pub record ToldLog : Type 0 where
+  pub name : List ℕ
+  pub numbers : Numbers
+  pub in_doubt : List doubts.InDoubt
+
+abbrev pub log_text : ToldLog → List ℕ
+log_text told = (codes "log " ++ (told.name ++ codes "\n"))
+    ++ (flat_map (λ f. number_line f (number_of f told.numbers)) figures ++ flat_map doubt_line told.in_doubt)
+
+-- a sum over some logs
+abbrev pub sum_of : Figure → List Numbers → ℕ
+sum_of figure logs = sum_by (number_of figure) logs
+
+-- how many logs there are, and the sums of their numbers
+abbrev pub sums_text : List Numbers → List ℕ
+sums_text logs = (codes "all " ++ (decimal (length logs) ++ codes "\n")) ++ flat_map (λ f. number_line f (sum_of f logs)) summed
+
+-- what is told of each log, and where they are several the sums
+abbrev pub stats_text : List ToldLog → List ℕ
+stats_text told =
+    flat_map log_text told ++ (if nat_lt 1 (length told) then sums_text (map (λ t. t.numbers) told) else [])
+
+-- it is what is told of the logs of these names
+abbrev pub AreStats : List (List ℕ) → List ℕ → Type 0
+AreStats names text = (told : List ToldLog) × (map (λ t. t.name) told ≡ names) × (text ≡ stats_text told)

@@ -1,0 +1,54 @@
+//! How many records of each kind a log has.
+ghost use Rattle.std.specs.Prelude.{◌≡◌, ◌^◌};
+ghost use Rattle.recovery.specs.Recovered.{items};
+ghost use Rattle.showing.specs.Counting.{AreFewer, with_kind};
+ghost use Rattle.showing.specs.Stats.{kinds_of};
+
+use gatelog::Entry;
+use record::Record;
+
+/// How many records there are of each kind.
+#[derive(Clone, Copy)]
+pub struct Kinds {
+    pub opened: u64,
+    pub ceilings: u64,
+    pub prepares: u64,
+    pub commits: u64,
+    pub aborts: u64,
+    pub outcomes: u64,
+}
+
+impl Kinds {
+    // Counts one record more.
+    fn count(&mut self, item: &Record)
+        requires { AreFewer self.old (2 ^ 63) }
+        ensures { self.new ≡ with_kind self.old item.now }
+    {
+        match item {
+            Record::Opened { epoch: _ } => self.opened += 1,
+            Record::Ceiling { at: _ } => self.ceilings += 1,
+            Record::Prepare(_) => self.prepares += 1,
+            Record::Commit(_) => self.commits += 1,
+            Record::Abort { txn: _ } => self.aborts += 1,
+            Record::Outcome { txn: _, outcome: _ } => self.outcomes += 1,
+        }
+    }
+}
+
+/// Counts the records of a log.
+pub fn kinds_of(entries: &[Entry]) -> Kinds
+    ensures { result ≡ kinds_of (items entries.now) }
+{
+    let mut kinds = Kinds {
+        opened: 0,
+        ceilings: 0,
+        prepares: 0,
+        commits: 0,
+        aborts: 0,
+        outcomes: 0,
+    };
+    for entry in entries {
+        kinds.count(entry.item());
+    }
+    kinds
+}
