@@ -3,7 +3,7 @@ use Rattle.std.specs.Prelude.{◌≡◌, ◌⊎◌, ℕ, Result, Ok, Err}
 use Rattle.units.specs.declared.fault.Fault.{Fault}
 use Rattle.units.specs.declared.fault.Fault.TheVariants.{BadRequest, Device, Memory}
 use Rattle.units.specs.declared.fault.Reason.TheVariants.{Settings, Unlawful}
-use Rattle.command_line.specs.Commands.{Asked, help, once_asked, format_asked, play_asked, inspect_asked, drive_asked, dump_asked, history_asked, get_asked, put_asked}
+use Rattle.command_line.specs.Commands.{Asked, help, once_asked, format_asked, play_asked, inspect_asked, drive_asked, dump_asked, history_asked, get_asked, put_asked, stats_asked}
 use Rattle.client.specs.declared.ended.Ended.{Ended}
 use Rattle.cli.specs.declared.engine.Put.{Put}
 use Rattle.drive.specs.declared.shards.NoVerdict.{NoVerdict}
@@ -63,6 +63,7 @@ MayRefuse drives puts (dump_asked file) fault = IsNotShown fault
 MayRefuse drives puts (history_asked dir key) fault = IsNotTold fault
 MayRefuse drives puts (get_asked dir key at) fault = IsNotTold fault
 MayRefuse drives puts (put_asked dir key value) fault = IsNotPut puts fault
+MayRefuse drives puts (stats_asked logs) fault = IsNotShown fault
 
 abbrev pub MayRefuseTo : (Fault → Type 0) → (Fault → Type 0) → Result Asked Fault → Fault → Type 0
 MayRefuseTo drives puts (Ok asked) fault = MayRefuse drives puts asked fault

@@ -24,10 +24,12 @@ use crate::dump::dump;
 use crate::engine::{Engine, Put};
 use crate::format::format;
 use crate::help::help;
+use crate::hints::{Hints, tell_place};
 use crate::inspect::inspect;
 use crate::key_commands::{get, history};
 use crate::play::play;
 use crate::put_command::put;
+use crate::stats_command::stats;
 use command_line::{Command, command};
 use drive::NoVerdict;
 use once::once;
@@ -42,10 +44,11 @@ use units::Fault;
 
 /// Carries a command line out, with what it asks of the system, on an empty disk and over standard output and standard error.
 /// Gives the status, 0, 1 for a verdict of no or for early, 2 for a fault, and the disk, which holds what was printed of a
-/// commit. A fault is printed on standard error, except that after a failed write nothing more is printed.
+/// commit. A fault is printed on standard error, except that after a failed write nothing more is printed; who is told hints is told then where
+/// it lies.
 pub fn answer<
     'a,
-    F: Files,
+    F: Hints,
     D: Fn(Global, &Settings) -> Result<Driven, NoVerdict>,
     P: Fn(Global, Put<'_>) -> Result<Ended, Fault>,
     O: Write,
@@ -108,6 +111,7 @@ pub fn answer<
         Ok(status) => (status, disk),
         Err(Failure::Refused(fault)) => {
             let _ = err.print_fault(fault);
+            tell_place(alloc, &system.files, words, fault);
             (2, disk)
         }
         Err(Failure::Unwritten) => (2, disk),
@@ -222,5 +226,6 @@ fn run<
         Command::History { dir, key } => (history(alloc, dir, &key, &system.files, out), disk),
         Command::Get { dir, key, at } => (get(alloc, dir, &key, at, &system.files, out), disk),
         Command::Put { dir, key, value } => (put(alloc, dir, &key, &value, system, out), disk),
+        Command::Stats { logs } => (stats(alloc, &logs, &system.files, out), disk),
     }
 }

@@ -17,6 +17,7 @@ ghost use Rattle.output.specs.Streams.{failures_of, fault_line, writer_of};
 
 use crate::answers::answer;
 use crate::engine::{Engine, Put};
+use crate::hints::Hints;
 use crate::host_put::put_in_store;
 use drive::{NoVerdict, drive_shards};
 use host_files::HostFiles;
@@ -31,12 +32,13 @@ use std::sync::Wait;
 use std::thread::Threads;
 use std::{rt, time};
 use store::Ended;
-use system::{Driven, Files, System};
+use system::{Driven, System};
 use units::Fault;
 
 /// Carries a command line out, with the files and threads of the machine, over standard output and standard error. Gives the
 /// status: 0, 1 for a verdict of no or for early, 2 for a fault. A fault is printed on standard error, except that after a failed
-/// write nothing more is printed. Where standard error is a terminal, a drive shows how far it is there.
+/// write nothing more is printed. Where standard error is a terminal, a drive shows how far it is there, and behind the line of a fault
+/// one tells the file in which it lies, where that is known.
 pub fn program<
     R: rt::Files<File = File> + Eprint + RandomSource + Threads + Wait + time::Clock + Sync,
     O: Write,
@@ -101,7 +103,7 @@ pub fn program<
 
 // The same, with these files, and with what drives shards.
 fn answer_by<
-    F: Files + Drop,
+    F: Hints + Drop,
     D: Fn(Global, &Settings) -> Result<Driven, NoVerdict>,
     P: Fn(Global, Put<'_>) -> Result<Ended, Fault>,
     O: Write,

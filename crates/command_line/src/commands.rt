@@ -52,4 +52,8 @@ pub enum Command<'a> {
         key: Key,
         value: Value,
     },
+    /// What the logs in some files hold is told in figures.
+    Stats {
+        logs: Vec<&'a str>,
+    },
 }

@@ -17,7 +17,7 @@ use units::{Fault, Reason};
 type Form<'a> = (&'a str, &'a [(&'a str, usize)]);
 
 /// The program's commands.
-static COMMANDS: [Form<'static>; 9] = [
+static COMMANDS: [Form<'static>; 10] = [
     (
         "once",
         &[
@@ -37,6 +37,7 @@ static COMMANDS: [Form<'static>; 9] = [
     ("history", &[("dir", 1), ("key", 1)]),
     ("get", &[("dir", 1), ("key", 1), ("at", 0)]),
     ("put", &[("dir", 1), ("key", 1), ("value", 1)]),
+    ("stats", &[("logs", 16)]),
 ];
 
 /// A command, with its words.
@@ -79,6 +80,9 @@ pub enum Line<'a> {
         dir: &'a str,
         key: &'a str,
         value: &'a str,
+    },
+    Stats {
+        logs: Vec<&'a str>,
     },
 }
 
@@ -138,6 +142,9 @@ fn found_line<'a>(alloc: Global, matches: &ArgMatches<'a>) -> Result<Line<'a>, F
     }
     if let Some(given) = matches.subcommand_matches("put") {
         return Ok(put_line(given));
+    }
+    if let Some(given) = matches.subcommand_matches("stats") {
+        return stats_line(alloc, given);
     }
     Err(Fault::BadRequest(Reason::Command))
 }
@@ -202,6 +209,17 @@ fn inspect_line<'a>(alloc: Global, given: &ArgMatches<'a>) -> Result<Line<'a>, F
     let lines = word(given, "lines");
     let logs = words(alloc, given, "logs")?;
     Ok(Line::Inspect { lines, logs })
+}
+
+// The words of `stats`.
+fn stats_line<'a>(alloc: Global, given: &ArgMatches<'a>) -> Result<Line<'a>, Fault>
+    ensures found { (line : CommandLine) → (entry_of line).0 ≡ codes "stats"
+        → rows_of (found_of given.now) ≡ (entry_of line).1
+        → IfOk result (λ l. line_view l ≡ line) }
+    ensures memory { IfErr result (λ f. f ≡ Memory) }
+{
+    let logs = words(alloc, given, "logs")?;
+    Ok(Line::Stats { logs })
 }
 
 // The word that the argument was given, and the empty word where it was given none.

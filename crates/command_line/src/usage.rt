@@ -63,6 +63,12 @@ put DIR KEY VALUE
     'aborted', where it stands nowhere, or 'unknown' and the transaction, where
     the store did not say in time whether it stands (1). No store is made.
 
+stats LOG..
+    Prints what each log holds, 1 to 16 files, as numbers: bytes, records by kind,
+    keys, versions, the last epoch, the floor, and the transactions in doubt,
+    which were promised or decided and have no outcome; for several logs also
+    the sums. It writes to no file.
+
 status: 0, or 1 where it was too early, the verdict is no or a write does not
 surely stand, or 2 at a fault, which is one line on standard error. After a
 write that fails nothing more is printed (2).

@@ -1,6 +1,6 @@
 //! Commands, one after the other in one folder.
 use crate::folder::Folder;
-use cli::{Driven, Ended, Engine, Files, NoVerdict, Put, Stream, System, answer, put_in_store};
+use cli::{Driven, Ended, Engine, Hints, NoVerdict, Put, Stream, System, answer, put_in_store};
 use drive::drive_shards;
 use host_files::HostFiles;
 use settings::Settings;
@@ -355,7 +355,7 @@ fn is_right(out: &[u8], err: &[u8], step: &Step) -> bool {
 // Whether the words print what the step says, and give its status.
 fn prints<
     'w,
-    F: Files,
+    F: Hints,
     D: Fn(Global, &Settings) -> Result<Driven, NoVerdict>,
     P: Fn(Global, Put<'_>) -> Result<Ended, Fault>,
 >(alloc: Global, system: &System<F, Engine<D, P>>, words: &'w [&'w str], step: &Step) -> bool
@@ -376,7 +376,7 @@ fn prints<
 
 // Whether a command prints what it should, and gives its status.
 fn is_answered<
-    F: Files,
+    F: Hints,
     D: Fn(Global, &Settings) -> Result<Driven, NoVerdict>,
     P: Fn(Global, Put<'_>) -> Result<Ended, Fault>,
 >(
@@ -399,7 +399,7 @@ fn is_answered<
 
 // The first of some commands that is not answered as it should be: it and the names of its files.
 fn first_wrong<
-    F: Files,
+    F: Hints,
     D: Fn(Global, &Settings) -> Result<Driven, NoVerdict>,
     P: Fn(Global, Put<'_>) -> Result<Ended, Fault>,
 >(

@@ -1,5 +1,5 @@
 //! Files in memory, and drives and writes of nothing, for commands that ask for them.
-use cli::{Driven, Ended, Engine, Files, NoVerdict, Put, Stream, System, answer};
+use cli::{Driven, Ended, Engine, Files, Hints, NoVerdict, Put, Stream, System, answer};
 use disk::Disk;
 use made::{id, stamp};
 use settings::Settings;
@@ -16,10 +16,10 @@ pub struct File<'f> {
     pub bytes: &'f [u8],
 }
 
-/// Some files.
+//// Some files.
 #[derive(Clone, Copy)]
-struct Memory<'f> {
-    files: &'f [File<'f>],
+pub struct Memory<'f> {
+    pub files: &'f [File<'f>],
 }
 
 impl<'f> Memory<'f> {
@@ -60,6 +60,10 @@ impl Files for Memory<'_> {
             Err(_) => Err(Fault::Device),
         }
     }
+}
+
+impl Hints for Memory<'_> {
+    fn hint(&self, _line: &str) {}
 }
 
 // Drives nothing. What came of it is told by the settings: a drive of one key is torn, and one of two has counts and no verdict.

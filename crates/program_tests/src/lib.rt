@@ -18,6 +18,8 @@ mod of_keys;
 #[cfg(test)]
 mod outside;
 #[cfg(test)]
+mod places;
+#[cfg(test)]
 mod played;
 #[cfg(test)]
 mod printed;

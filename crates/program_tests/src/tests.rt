@@ -3,7 +3,9 @@ use crate::cases::CASES;
 use crate::crashes::CRASHES;
 use crate::stops::FAILED;
 use crate::whole_schedules::SCHEDULES;
-use crate::{comparing, each_call, outside, played, printed, schedule_texts, stops, unlawful};
+use crate::{
+    comparing, each_call, outside, places, played, printed, schedule_texts, stops, unlawful,
+};
 use std::process::Abort;
 
 // Ends the test with the row that is wrong, if there is one: each area names the first of its rows that does not hold, and else
@@ -18,6 +20,9 @@ fn answers(rt: HostRuntime) {
     check(&rt, "commands", printed::wrong_answer(alloc));
     check(&rt, "words", printed::wrong_words(alloc));
     check(&rt, "files that are played", played::wrong(alloc));
+    for place in places::wrong(alloc) {
+        check(&rt, "places of faults", place);
+    }
     check(&rt, "crashes in calls", stops::wrong(alloc));
     check(&rt, "stops in each call", each_call::wrong(alloc));
     check(&rt, "texts", schedule_texts::wrong(alloc));
