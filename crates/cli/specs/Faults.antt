@@ -3,13 +3,17 @@ use Rattle.std.specs.Prelude.{◌≡◌, ◌⊎◌, ℕ, Result, Ok, Err}
 use Rattle.units.specs.declared.fault.Fault.{Fault}
 use Rattle.units.specs.declared.fault.Fault.TheVariants.{BadRequest, Device, Memory}
 use Rattle.units.specs.declared.fault.Reason.TheVariants.{Settings, Unlawful}
-use Rattle.command_line.specs.Commands.{Asked, help, once_asked, format_asked, play_asked, inspect_asked, drive_asked, dump_asked, history_asked, get_asked}
+use Rattle.command_line.specs.Commands.{Asked, help, once_asked, format_asked, play_asked, inspect_asked, drive_asked, dump_asked, history_asked, get_asked, put_asked, stats_asked}
+use Rattle.client.specs.declared.ended.Ended.{Ended}
+use Rattle.cli.specs.declared.engine.Put.{Put}
+use Rattle.drive.specs.declared.shards.NoVerdict.{NoVerdict}
 use Rattle.inspection.specs.Files.{IsNotJudged}
 use Rattle.output.specs.declared.failure.Failure.{Failure}
 use Rattle.output.specs.declared.failure.Failure.TheVariants.{Refused, Unwritten}
 use Rattle.script.specs.Refusals.{IsNoSchedule}
 use Rattle.showing.specs.Dumps.{IsNotShown}
 use Rattle.showing.specs.HistoryTexts.{IsNotTold}
+use Rattle.system.specs.declared.asked.Driven.{Driven}
 
 -- memory is wanting, or the system refuses the file
 abbrev pub IsNotMade : Fault → Type 0
@@ -27,21 +31,43 @@ IsUnreadStore fault = (fault ≡ Memory) ⊎ ((fault ≡ Device) ⊎ (fault ≡ 
 abbrev pub IsNotPlayed : Fault → Type 0
 IsNotPlayed fault = IsNotMade fault ⊎ (IsNoSchedule fault ⊎ ((event : ℕ) × (fault ≡ BadRequest (Unlawful event))))
 
--- what a command may be refused for, where its words do not tell it; what a drive may be refused for is not said
-abbrev pub MayRefuse : Asked → Fault → Type 0
-MayRefuse help fault = Unit {0}
-MayRefuse (once_asked key value first second) fault = Unit {0}
-MayRefuse (format_asked file) fault = IsNotMade fault
-MayRefuse (play_asked file) fault = IsNotPlayed fault
-MayRefuse (inspect_asked lines logs) fault = IsNotJudged fault
-MayRefuse (drive_asked file) fault = Unit {0}
-MayRefuse (dump_asked file) fault = IsNotShown fault
-MayRefuse (history_asked dir key) fault = IsNotTold fault
-MayRefuse (get_asked dir key at) fault = IsNotTold fault
+-- the file is not read, it holds no settings, or what drives shards by them refuses for this
+abbrev pub IsNotDriven : (Fault → Type 0) → Fault → Type 0
+IsNotDriven drives fault = IsNotMade fault ⊎ ((fault ≡ BadRequest Settings) ⊎ drives fault)
 
-abbrev pub MayRefuseTo : Result Asked Fault → Fault → Type 0
-MayRefuseTo (Ok asked) fault = MayRefuse asked fault
-MayRefuseTo (Err why) fault = Unit {0}
+-- a call by some settings may be refused for this
+abbrev pub IsRefusedBy : {S : Type 0} → (S → Result Driven NoVerdict → Type 0) → Fault → Type 0
+IsRefusedBy {S} call fault = (settings : S) × (none : NoVerdict) × call settings (Err none) × (none.fault ≡ fault)
+
+-- the folder of a store is not read, or what puts a write refuses for this
+abbrev pub IsNotPut : (Fault → Type 0) → Fault → Type 0
+IsNotPut puts fault = IsUnreadStore fault ⊎ puts fault
+
+-- a call that is to put some write may be refused for this
+abbrev pub IsUnputBy : (Put → Result Ended Fault → Type 0) → Fault → Type 0
+IsUnputBy call fault = (write : Put) × call write (Err fault)
+
+-- any fault
+abbrev pub AnyFault : Fault → Type 0
+AnyFault fault = Unit {0}
+
+-- what a command may be refused for, where its words do not tell it, by what a drive and what a write are refused for
+abbrev pub MayRefuse : (Fault → Type 0) → (Fault → Type 0) → Asked → Fault → Type 0
+MayRefuse drives puts help fault = Unit {0}
+MayRefuse drives puts (once_asked key value first second) fault = Unit {0}
+MayRefuse drives puts (format_asked file) fault = IsNotMade fault
+MayRefuse drives puts (play_asked file) fault = IsNotPlayed fault
+MayRefuse drives puts (inspect_asked lines logs) fault = IsNotJudged fault
+MayRefuse drives puts (drive_asked file) fault = IsNotDriven drives fault
+MayRefuse drives puts (dump_asked file) fault = IsNotShown fault
+MayRefuse drives puts (history_asked dir key) fault = IsNotTold fault
+MayRefuse drives puts (get_asked dir key at) fault = IsNotTold fault
+MayRefuse drives puts (put_asked dir key value) fault = IsNotPut puts fault
+MayRefuse drives puts (stats_asked logs) fault = IsNotShown fault
+
+abbrev pub MayRefuseTo : (Fault → Type 0) → (Fault → Type 0) → Result Asked Fault → Fault → Type 0
+MayRefuseTo drives puts (Ok asked) fault = MayRefuse drives puts asked fault
+MayRefuseTo drives puts (Err why) fault = Unit {0}
 
 -- a write failed, or a command is refused for such a fault
 abbrev pub FailsAs : (Fault → Type 0) → Failure → Type 0

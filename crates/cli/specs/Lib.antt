@@ -1,3 +1,4 @@
 pub mod Disks
 pub mod Faults
+pub mod Puts
 pub mod Replies

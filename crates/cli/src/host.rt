@@ -8,11 +8,17 @@ ghost use Rattle.command_line.specs.declared.commands.Command.TheVariants.{Help}
 ghost use Rattle.command_line.specs.declared.usage.TheConstants.{USAGE};
 ghost use Rattle.command_line.specs.Lines.{are_plain, asks_help};
 ghost use Rattle.output.specs.Replies.{Is};
-ghost use Rattle.cli.specs.Faults.{FailsAs, MayRefuse, MayRefuseTo};
+ghost use Rattle.cli.specs.Faults.{AnyFault, MayRefuseTo};
+ghost use Rattle.cli.specs.Puts.{AnyEnd};
+ghost use Rattle.drive.specs.Told.{HasNoVerdict};
+ghost use Rattle.drive.specs.declared.shards.NoVerdict.{NoVerdict};
 ghost use Rattle.cli.specs.Replies.{Tells, TellsTo, reply_of, reply_to};
 ghost use Rattle.output.specs.Streams.{failures_of, fault_line, writer_of};
 
 use crate::answers::answer;
+use crate::engine::{Engine, Put};
+use crate::hints::Hints;
+use crate::host_put::put_in_store;
 use drive::{NoVerdict, drive_shards};
 use host_files::HostFiles;
 use output::Stream;
@@ -25,11 +31,14 @@ use std::random::RandomSource;
 use std::sync::Wait;
 use std::thread::Threads;
 use std::{rt, time};
-use system::{Driven, Files, System};
+use store::Ended;
+use system::{Driven, System};
+use units::Fault;
 
 /// Carries a command line out, with the files and threads of the machine, over standard output and standard error. Gives the
 /// status: 0, 1 for a verdict of no or for early, 2 for a fault. A fault is printed on standard error, except that after a failed
-/// write nothing more is printed. Where standard error is a terminal, a drive shows how far it is there.
+/// write nothing more is printed. Where standard error is a terminal, a drive shows how far it is there, and behind the line of a fault
+/// one tells the file in which it lies, where that is known.
 pub fn program<
     R: rt::Files<File = File> + Eprint + RandomSource + Threads + Wait + time::Clock + Sync,
     O: Write,
@@ -54,7 +63,7 @@ pub fn program<
         × Appends (O.contents (writer_of out.old)) (O.contents (writer_of out.new)) USAGE.now }
     // What files tell: a format prints nothing, an inspection a verdict, which its status goes with, and a dump lines of records.
     ensures tells { are_plain (map (λ w. w.now) words.entry.now) ≡ true → result ≢ 2
-        → (text : List ℕ) × TellsTo (command_of (map (λ w. w.now) words.entry.now)) result text
+        → (text : List ℕ) × TellsTo AnyEnd (command_of (map (λ w. w.now) words.entry.now)) result text
         × Appends (O.contents (writer_of out.old)) (O.contents (writer_of out.new)) text }
     ensures quiet { result ≢ 2 → err.new ≡ err.old }
     // A status of 2 has a reason: a write to standard output that failed, or a fault, whose line is on standard error.
@@ -65,10 +74,11 @@ pub fn program<
         × ((failures_of err.old < failures_of err.new)
         ⊎ Appends (E.contents (writer_of err.old)) (E.contents (writer_of err.new))
         (fault_line fault))) }
-    // The fault of a command over files is one of its own.
+    // The fault of a command over files is one of its own, and so is that of a drive.
     ensures numbered { are_plain (map (λ w. w.now) words.entry.now) ≡ true → result ≡ 2
         → (failures_of out.old < failures_of out.new)
-        ⊎ ((fault : Fault) × MayRefuseTo (command_of (map (λ w. w.now) words.entry.now)) fault
+        ⊎ ((fault : Fault) × MayRefuseTo HasNoVerdict AnyFault
+        (command_of (map (λ w. w.now) words.entry.now)) fault
         × ((failures_of err.old < failures_of err.new)
         ⊎ Appends (E.contents (writer_of err.old)) (E.contents (writer_of err.new))
         (fault_line fault))) }
@@ -79,22 +89,37 @@ pub fn program<
         (fault_line fault))) }
     ensures silent { failures_of out.old < failures_of out.new → err.new ≡ err.old }
 {
-    let drive = |alloc: Global, settings: &Settings| drive_shards(rt, alloc, settings, terminal);
+    let drive = |alloc: Global, settings: &Settings| -> Result<Driven, NoVerdict>
+        ensures { IfErr result (λ none. HasNoVerdict none.fault) }
+    { drive_shards(rt, alloc, settings, terminal) };
     let files = HostFiles {
         rt,
         is_watched: terminal.is_some(),
     };
-    answer_by(alloc, files, drive, words, out, err)
+    let put = |alloc: Global, write: Put<'_>| put_in_store(rt, alloc, write);
+    let engine = Engine { run: drive, put };
+    answer_by(alloc, files, engine, words, out, err)
 }
 
 // The same, with these files, and with what drives shards.
 fn answer_by<
-    F: Files + Drop,
+    F: Hints + Drop,
     D: Fn(Global, &Settings) -> Result<Driven, NoVerdict>,
+    P: Fn(Global, Put<'_>) -> Result<Ended, Fault>,
     O: Write,
     E: Write,
->(alloc: Global, files: F, drive: D, words: &[&str], out: &mut Stream<O>, err: &mut Stream<E>) -> u8
-    requires { D.IsAlwaysCallable drive }
+>(
+    alloc: Global,
+    files: F,
+    engine: Engine<D, P>,
+    words: &[&str],
+    out: &mut Stream<O>,
+    err: &mut Stream<E>,
+) -> u8
+    requires drives { D.IsAlwaysCallable engine.run }
+    requires puts { P.IsAlwaysCallable engine.put }
+    requires refuses { (settings : _) (none : NoVerdict) → D.post engine.run alloc settings (Err none)
+        → HasNoVerdict none.fault }
     ensures status { (result ≡ 0) ⊎ (result ≡ 1) ⊎ (result ≡ 2) }
     ensures printed { are_plain (map (λ w. w.now) words.entry.now) ≡ true → result ≢ 2
         → (text : List ℕ) × Is (reply_to (map (λ w. w.now) words.entry.now)) (Ok (text, result))
@@ -107,7 +132,7 @@ fn answer_by<
         × Appends (O.contents (writer_of out.old)) (O.contents (writer_of out.new)) USAGE.now }
     // What files tell: a format prints nothing, an inspection a verdict, which its status goes with, and a dump lines of records.
     ensures tells { are_plain (map (λ w. w.now) words.entry.now) ≡ true → result ≢ 2
-        → (text : List ℕ) × TellsTo (command_of (map (λ w. w.now) words.entry.now)) result text
+        → (text : List ℕ) × TellsTo AnyEnd (command_of (map (λ w. w.now) words.entry.now)) result text
         × Appends (O.contents (writer_of out.old)) (O.contents (writer_of out.new)) text }
     ensures quiet { result ≢ 2 → err.new ≡ err.old }
     // A status of 2 has a reason: a write to standard output that failed, or a fault, whose line is on standard error.
@@ -121,7 +146,8 @@ fn answer_by<
     // The fault of a command over files is one of its own.
     ensures numbered { are_plain (map (λ w. w.now) words.entry.now) ≡ true → result ≡ 2
         → (failures_of out.old < failures_of out.new)
-        ⊎ ((fault : Fault) × MayRefuseTo (command_of (map (λ w. w.now) words.entry.now)) fault
+        ⊎ ((fault : Fault) × MayRefuseTo HasNoVerdict AnyFault
+        (command_of (map (λ w. w.now) words.entry.now)) fault
         × ((failures_of err.old < failures_of err.new)
         ⊎ Appends (E.contents (writer_of err.old)) (E.contents (writer_of err.new))
         (fault_line fault))) }
@@ -132,7 +158,10 @@ fn answer_by<
         (fault_line fault))) }
     ensures silent { failures_of out.old < failures_of out.new → err.new ≡ err.old }
 {
-    let system = System { files, drive };
+    let system = System {
+        files,
+        drive: engine,
+    };
     let (status, _) = answer(alloc, words, &system, SimDisk::new(alloc), out, err);
     status
 }

@@ -26,9 +26,7 @@ pub fn open_of_key<F: Files>(
     ensures owned { IfOk result (λ opened. shard_of opened.0.splits key.now ≡ opened.0.shard) }
     ensures refused { IfErr result IsUnreadStore }
 {
-    let manifest = format!(in alloc; "{folder}/store.toml")?;
-    let text = files.read(alloc, &manifest, MOST_MANIFEST)?;
-    let setup = setup_in(alloc, &text, key)?;
+    let setup = setup_of(splits_of(alloc, files, folder)?, key)?;
     match open_log(alloc, files, folder, &setup) {
         Ok(log) => Ok((setup, log)),
         Err(fault) => {
@@ -38,15 +36,24 @@ pub fn open_of_key<F: Files>(
     }
 }
 
-// What the shard of a key is told by a manifest.
-fn setup_in(alloc: Global, manifest: &[u8], key: &Key) -> Result<Setup, Fault>
+/// How the keys of the store in a folder are parted, by its manifest, which is read alone.
+pub fn splits_of<F: Files>(alloc: Global, files: &F, folder: &str) -> Result<Splits, Fault>
+    ensures { IfErr result IsUnreadStore }
+{
+    let manifest = format!(in alloc; "{folder}/store.toml")?;
+    let text = files.read(alloc, &manifest, MOST_MANIFEST)?;
+    splits_in(alloc, &text)
+}
+
+// What the shard of a key is told by these splits.
+fn setup_of(splits: Splits, key: &Key) -> Result<Setup, Fault>
     ensures owned { IfOk result (λ setup. shard_of setup.splits key.now ≡ setup.shard) }
     ensures refused { IfErr result IsNoManifest }
 {
     let Some(stride) = Stride::new(0) else {
+        drop(splits);
         return Err(NO_MANIFEST);
     };
-    let splits = splits_in(alloc, manifest)?;
     Ok(Setup {
         shard: splits.shard_of(key),
         splits,

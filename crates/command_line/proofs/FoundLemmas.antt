@@ -13,7 +13,7 @@ use Rattle.clap.specs.declared.parser.matches.SubCommand.{SubCommand}
 use Rattle.units.specs.declared.fault.Fault.{Fault}
 use Rattle.units.specs.declared.fault.Fault.TheVariants.{BadRequest, Memory}
 use Rattle.units.specs.declared.fault.Reason.TheVariants.{Command as command_reason}
-use Rattle.command_line.specs.Lines.{CommandLine, Word, once, format, play, inspect, drive, dump, history, get}
+use Rattle.command_line.specs.Lines.{CommandLine, Word, once, format, play, inspect, drive, dump, history, get, put, stats}
 use Rattle.command_line.specs.Parser.{entry_of, row}
 use Rattle.command_line.specs.Views.{line_view}
 use Rattle.command_line.specs.declared.parsing.Line.{Line}
@@ -69,6 +69,8 @@ once_found (dump f) inner key value e1 l1 e2 l2 name rows rk rv ra rb rc rd = ab
 once_found (history d k) inner key value e1 l1 e2 l2 name rows rk rv ra rb rc rd = absurd (differ _ _ refl refl name)
 once_found (get d k None) inner key value e1 l1 e2 l2 name rows rk rv ra rb rc rd = absurd (differ _ _ refl refl name)
 once_found (get d k (Some at)) inner key value e1 l1 e2 l2 name rows rk rv ra rb rc rd = absurd (differ _ _ refl refl name)
+once_found (put d k w) inner key value e1 l1 e2 l2 name rows rk rv ra rb rc rd = absurd (differ _ _ refl refl name)
+once_found (stats fs) inner key value e1 l1 e2 l2 name rows rk rv ra rb rc rd = absurd (differ _ _ refl refl name)
 
 -- the words are those that the argument was given
 abbrev pub ReadsAll : Found → Word → List Word → Type 0
@@ -89,6 +91,8 @@ inspect_found (dump f) inner lines logs name rows rl rs = absurd (differ _ _ ref
 inspect_found (history d k) inner lines logs name rows rl rs = absurd (differ _ _ refl refl name)
 inspect_found (get d k None) inner lines logs name rows rl rs = absurd (differ _ _ refl refl name)
 inspect_found (get d k (Some at)) inner lines logs name rows rl rs = absurd (differ _ _ refl refl name)
+inspect_found (put d k v) inner lines logs name rows rl rs = absurd (differ _ _ refl refl name)
+inspect_found (stats fs) inner lines logs name rows rl rs = absurd (differ _ _ refl refl name)
 
 pub history_found : (line : CommandLine) (inner : Found) (dir key : Word)
     → (entry_of line).0 ≡ codes "history" → rows_of inner ≡ (entry_of line).1
@@ -105,6 +109,8 @@ history_found (history d w) inner dir key name rows rd rk =
     λ i. history (ed i) (ek i)
 history_found (get d w None) inner dir key name rows rd rk = absurd (differ _ _ refl refl name)
 history_found (get d w (Some at)) inner dir key name rows rd rk = absurd (differ _ _ refl refl name)
+history_found (put d w v) inner dir key name rows rd rk = absurd (differ _ _ refl refl name)
+history_found (stats fs) inner dir key name rows rd rk = absurd (differ _ _ refl refl name)
 
 -- what the argument was given, or nothing
 abbrev pub MayRead : Found → Word → Option Word → Type 0
@@ -134,6 +140,43 @@ get_found (get d w (Some t)) inner dir key at name rows rd rk ra =
     let ek = reads_row inner _ (codes "key") key w rows rk refl in
     let ea = may_row inner _ (codes "at") at (Some t) rows ra refl in
     λ i. get (ed i) (ek i) (ea i)
+get_found (put d w v) inner dir key at name rows rd rk ra = absurd (differ _ _ refl refl name)
+get_found (stats fs) inner dir key at name rows rd rk ra = absurd (differ _ _ refl refl name)
+
+pub put_found : (line : CommandLine) (inner : Found) (dir key value : Word)
+    → (entry_of line).0 ≡ codes "put" → rows_of inner ≡ (entry_of line).1
+    → Reads inner (codes "dir") dir → Reads inner (codes "key") key → Reads inner (codes "value") value → put dir key value ≡ line
+put_found (once k v a b c d) inner dir key value name rows rd rk rv = absurd (differ _ _ refl refl name)
+put_found (format f) inner dir key value name rows rd rk rv = absurd (differ _ _ refl refl name)
+put_found (play f) inner dir key value name rows rd rk rv = absurd (differ _ _ refl refl name)
+put_found (inspect ls fs) inner dir key value name rows rd rk rv = absurd (differ _ _ refl refl name)
+put_found (drive f) inner dir key value name rows rd rk rv = absurd (differ _ _ refl refl name)
+put_found (dump f) inner dir key value name rows rd rk rv = absurd (differ _ _ refl refl name)
+put_found (history d w) inner dir key value name rows rd rk rv = absurd (differ _ _ refl refl name)
+put_found (get d w None) inner dir key value name rows rd rk rv = absurd (differ _ _ refl refl name)
+put_found (get d w (Some at)) inner dir key value name rows rd rk rv = absurd (differ _ _ refl refl name)
+put_found (put d w t) inner dir key value name rows rd rk rv =
+    let ed = reads_row inner _ (codes "dir") dir d rows rd refl in
+    let ek = reads_row inner _ (codes "key") key w rows rk refl in
+    let ev = reads_row inner _ (codes "value") value t rows rv refl in
+    λ i. put (ed i) (ek i) (ev i)
+put_found (stats fs) inner dir key value name rows rd rk rv = absurd (differ _ _ refl refl name)
+
+pub stats_found : (line : CommandLine) (inner : Found) (logs : List Word)
+    → (entry_of line).0 ≡ codes "stats" → rows_of inner ≡ (entry_of line).1 → ReadsAll inner (codes "logs") logs → stats logs ≡ line
+stats_found (once k v a b c d) inner logs name rows rs = absurd (differ _ _ refl refl name)
+stats_found (format f) inner logs name rows rs = absurd (differ _ _ refl refl name)
+stats_found (play f) inner logs name rows rs = absurd (differ _ _ refl refl name)
+stats_found (inspect ls fs) inner logs name rows rs = absurd (differ _ _ refl refl name)
+stats_found (drive f) inner logs name rows rs = absurd (differ _ _ refl refl name)
+stats_found (dump f) inner logs name rows rs = absurd (differ _ _ refl refl name)
+stats_found (history d w) inner logs name rows rs = absurd (differ _ _ refl refl name)
+stats_found (get d w None) inner logs name rows rs = absurd (differ _ _ refl refl name)
+stats_found (get d w (Some at)) inner logs name rows rs = absurd (differ _ _ refl refl name)
+stats_found (put d w v) inner logs name rows rs = absurd (differ _ _ refl refl name)
+stats_found (stats fs) inner logs name rows rs =
+    let es = rs fs (ap (all_of (codes "logs")) rows) in
+    λ i. stats (es i)
 
 -- a line with this name has one file
 abbrev pub HasFile : (Word → CommandLine) → CommandLine → Type 0
@@ -149,6 +192,8 @@ format_has (dump f) e = absurd (differ _ _ refl refl e)
 format_has (history d k) e = absurd (differ _ _ refl refl e)
 format_has (get d k None) e = absurd (differ _ _ refl refl e)
 format_has (get d k (Some a)) e = absurd (differ _ _ refl refl e)
+format_has (put d k v) e = absurd (differ _ _ refl refl e)
+format_has (stats fs) e = absurd (differ _ _ refl refl e)
 
 play_has : (line : CommandLine) → (entry_of line).0 ≡ codes "play" → HasFile play line
 play_has (once k v a b c d) e = absurd (differ _ _ refl refl e)
@@ -160,6 +205,8 @@ play_has (dump f) e = absurd (differ _ _ refl refl e)
 play_has (history d k) e = absurd (differ _ _ refl refl e)
 play_has (get d k None) e = absurd (differ _ _ refl refl e)
 play_has (get d k (Some a)) e = absurd (differ _ _ refl refl e)
+play_has (put d k v) e = absurd (differ _ _ refl refl e)
+play_has (stats fs) e = absurd (differ _ _ refl refl e)
 
 drive_has : (line : CommandLine) → (entry_of line).0 ≡ codes "drive" → HasFile drive line
 drive_has (once k v a b c d) e = absurd (differ _ _ refl refl e)
@@ -171,6 +218,8 @@ drive_has (dump f) e = absurd (differ _ _ refl refl e)
 drive_has (history d k) e = absurd (differ _ _ refl refl e)
 drive_has (get d k None) e = absurd (differ _ _ refl refl e)
 drive_has (get d k (Some a)) e = absurd (differ _ _ refl refl e)
+drive_has (put d k v) e = absurd (differ _ _ refl refl e)
+drive_has (stats fs) e = absurd (differ _ _ refl refl e)
 
 dump_has : (line : CommandLine) → (entry_of line).0 ≡ codes "dump" → HasFile dump line
 dump_has (once k v a b c d) e = absurd (differ _ _ refl refl e)
@@ -182,6 +231,8 @@ dump_has (dump f) e = (f, refl, refl)
 dump_has (history d k) e = absurd (differ _ _ refl refl e)
 dump_has (get d k None) e = absurd (differ _ _ refl refl e)
 dump_has (get d k (Some a)) e = absurd (differ _ _ refl refl e)
+dump_has (put d k v) e = absurd (differ _ _ refl refl e)
+dump_has (stats fs) e = absurd (differ _ _ refl refl e)
 
 file_found : (m : ArgMatches) (make : Word → CommandLine) (name : Word) (line : CommandLine) (inner : Found) (file : Word)
     → ((l : CommandLine) → (entry_of l).0 ≡ name → HasFile make l)
@@ -222,8 +273,9 @@ pub no_name : (m : ArgMatches) (line : CommandLine) → subcommand_rows_of m ≡
     → (subcommand_name_of m ≡ Some (codes "once") → ⊥) → (subcommand_name_of m ≡ Some (codes "format") → ⊥)
     → (subcommand_name_of m ≡ Some (codes "play") → ⊥) → (subcommand_name_of m ≡ Some (codes "inspect") → ⊥)
     → (subcommand_name_of m ≡ Some (codes "drive") → ⊥) → (subcommand_name_of m ≡ Some (codes "dump") → ⊥)
-    → (subcommand_name_of m ≡ Some (codes "history") → ⊥) → (subcommand_name_of m ≡ Some (codes "get") → ⊥) → ⊥
-no_name m line e a b c d f h p q =
+    → (subcommand_name_of m ≡ Some (codes "history") → ⊥) → (subcommand_name_of m ≡ Some (codes "get") → ⊥)
+    → (subcommand_name_of m ≡ Some (codes "put") → ⊥) → (subcommand_name_of m ≡ Some (codes "stats") → ⊥) → ⊥
+no_name m line e a b c d f h p q r s =
     let named : subcommand_name_of m ≡ Some (entry_of line).0 =
     sym (names_same (out-ArgMatches m).subcommand) ∙ ap (option_map (λ (p : Text × List Row). p.0)) e in
     go line named
@@ -238,6 +290,8 @@ no_name m line e a b c d f h p q =
     go (history _ _) n = p n
     go (get _ _ None) n = q n
     go (get _ _ (Some _)) n = q n
+    go (put _ _ _) n = r n
+    go (stats _) n = s n
 
 -- a line that was read is the line
 pub line_read : (r : Result Line Fault) (line : CommandLine) (expected : Option CommandLine) → expected ≡ Some line

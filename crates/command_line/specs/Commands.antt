@@ -4,12 +4,13 @@ use Rattle.units.specs.declared.fault.Fault.{Fault}
 use Rattle.units.specs.declared.fault.Fault.TheVariants.{BadRequest}
 use Rattle.units.specs.declared.fault.Reason.TheVariants as reason
 use Rattle.truetime.specs.Interval.{Interval}
-use Rattle.command_line.specs.Lines.{CommandLine, Word, asks_help, line_of, once, format, play, inspect, drive, dump, history, get}
+use Rattle.command_line.specs.Lines.{CommandLine, Word, asks_help, line_of, once, format, play, inspect, drive, dump, history, get, put, stats}
 use Rattle.texts.specs.Numbers.{and_then, interval_of, stamp_of}
 
 -- what words may ask for: the usage; a write of a value to a key at the readings of its commit and of its settling; a new log
 -- file; the report of a schedule in a file; the verdict on a file of lines and some logs; a drive by settings in a file; what a
--- log in a file holds; what the log of a store in a folder says of a key; the value of a key there, at a timestamp or the latest
+-- log in a file holds; what the log of a store in a folder says of a key; the value of a key there, at a timestamp or the latest;
+-- a write of a value to a key there; what some logs hold in figures
 pub data Asked : Type 0 where
   help : Asked
   once_asked : Word → Word → Interval → Interval → Asked
@@ -20,6 +21,8 @@ pub data Asked : Type 0 where
   dump_asked : Word → Asked
   history_asked : Word → Word → Asked
   get_asked : Word → Word → Option ℕ → Asked
+  put_asked : Word → Word → Word → Asked
+  stats_asked : List Word → Asked
 
 -- a key is the bytes of its word
 abbrev pub key_of : Word → Result Word Fault
@@ -48,6 +51,10 @@ history_of_words dir key = and_then (key_of key) (λ k. Ok (history_asked dir k)
 abbrev pub get_of_words : Word → Word → Option Word → Result Asked Fault
 get_of_words dir key at = and_then (key_of key) (λ k. and_then (at_of at) (λ s. Ok (get_asked dir k s)))
 
+-- the words of `put`: a folder, a key and a value
+abbrev pub put_of_words : Word → Word → Word → Result Asked Fault
+put_of_words dir key value = and_then (key_of key) (λ k. and_then (value_of value) (λ v. Ok (put_asked dir k v)))
+
 -- the command of a line
 abbrev pub command_of_line : CommandLine → Result Asked Fault
 command_of_line (once key value e1 l1 e2 l2) = once_of_words key value e1 l1 e2 l2
@@ -58,6 +65,8 @@ command_of_line (drive file) = Ok (drive_asked file)
 command_of_line (dump file) = Ok (dump_asked file)
 command_of_line (history dir key) = history_of_words dir key
 command_of_line (get dir key at) = get_of_words dir key at
+command_of_line (put dir key value) = put_of_words dir key value
+command_of_line (stats logs) = Ok (stats_asked logs)
 
 -- and what is no line is refused
 abbrev pub command_or_refusal : Option CommandLine → Result Asked Fault

@@ -18,6 +18,8 @@ pub data CommandLine : Type 0 where
   dump : Word → CommandLine
   history : Word → Word → CommandLine
   get : Word → Word → Option Word → CommandLine
+  put : Word → Word → Word → CommandLine
+  stats : List Word → CommandLine
 
 -- the word does not begin with `-` (45)
 abbrev pub is_plain : Word → Bool
@@ -70,6 +72,16 @@ get_of (dir ∷ key ∷ []) = Some (get dir key None)
 get_of (dir ∷ key ∷ at ∷ []) = Some (get dir key (Some at))
 get_of _ = None
 
+-- DIR KEY VALUE
+abbrev pub put_of : List Word → Option CommandLine
+put_of (dir ∷ key ∷ value ∷ []) = Some (put dir key value)
+put_of _ = None
+
+-- 1 to 16 LOGs
+abbrev pub stats_of : List Word → Option CommandLine
+stats_of (log ∷ logs) = if nat_lt 16 (length (log ∷ logs)) then None else Some (stats (log ∷ logs))
+stats_of [] = None
+
 -- the command line that the words are
 abbrev pub line_of : List Word → Option CommandLine
 line_of [] = None
@@ -82,4 +94,6 @@ line_of (name ∷ rest) =
     else (if bytes_eq (codes "dump") name then one_file dump rest
     else (if bytes_eq (codes "history") name then history_of rest
     else (if bytes_eq (codes "get") name then get_of rest
-    else None)))))))
+    else (if bytes_eq (codes "put") name then put_of rest
+    else (if bytes_eq (codes "stats") name then stats_of rest
+    else None)))))))))

@@ -46,4 +46,14 @@ pub enum Command<'a> {
         key: Key,
         at: Option<Stamp>,
     },
+    /// The write of a value to a key is committed in the store in a folder.
+    Put {
+        dir: &'a str,
+        key: Key,
+        value: Value,
+    },
+    /// What the logs in some files hold is told in figures.
+    Stats {
+        logs: Vec<&'a str>,
+    },
 }

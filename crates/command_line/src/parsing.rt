@@ -17,7 +17,7 @@ use units::{Fault, Reason};
 type Form<'a> = (&'a str, &'a [(&'a str, usize)]);
 
 /// The program's commands.
-static COMMANDS: [Form<'static>; 8] = [
+static COMMANDS: [Form<'static>; 10] = [
     (
         "once",
         &[
@@ -36,6 +36,8 @@ static COMMANDS: [Form<'static>; 8] = [
     ("dump", &[("file", 1)]),
     ("history", &[("dir", 1), ("key", 1)]),
     ("get", &[("dir", 1), ("key", 1), ("at", 0)]),
+    ("put", &[("dir", 1), ("key", 1), ("value", 1)]),
+    ("stats", &[("logs", 16)]),
 ];
 
 /// A command, with its words.
@@ -73,6 +75,14 @@ pub enum Line<'a> {
         dir: &'a str,
         key: &'a str,
         at: Option<&'a str>,
+    },
+    Put {
+        dir: &'a str,
+        key: &'a str,
+        value: &'a str,
+    },
+    Stats {
+        logs: Vec<&'a str>,
     },
 }
 
@@ -130,6 +140,12 @@ fn found_line<'a>(alloc: Global, matches: &ArgMatches<'a>) -> Result<Line<'a>, F
     if let Some(given) = matches.subcommand_matches("get") {
         return Ok(get_line(given));
     }
+    if let Some(given) = matches.subcommand_matches("put") {
+        return Ok(put_line(given));
+    }
+    if let Some(given) = matches.subcommand_matches("stats") {
+        return stats_line(alloc, given);
+    }
     Err(Fault::BadRequest(Reason::Command))
 }
 
@@ -171,6 +187,18 @@ fn get_line<'a>(given: &ArgMatches<'a>) -> Line<'a>
     }
 }
 
+// The words of `put`.
+fn put_line<'a>(given: &ArgMatches<'a>) -> Line<'a>
+    ensures { (line : CommandLine) → (entry_of line).0 ≡ codes "put"
+        → rows_of (found_of given.now) ≡ (entry_of line).1 → line_view result ≡ line }
+{
+    Line::Put {
+        dir: word(given, "dir"),
+        key: word(given, "key"),
+        value: word(given, "value"),
+    }
+}
+
 // The words of `inspect`.
 fn inspect_line<'a>(alloc: Global, given: &ArgMatches<'a>) -> Result<Line<'a>, Fault>
     ensures found { (line : CommandLine) → (entry_of line).0 ≡ codes "inspect"
@@ -181,6 +209,17 @@ fn inspect_line<'a>(alloc: Global, given: &ArgMatches<'a>) -> Result<Line<'a>, F
     let lines = word(given, "lines");
     let logs = words(alloc, given, "logs")?;
     Ok(Line::Inspect { lines, logs })
+}
+
+// The words of `stats`.
+fn stats_line<'a>(alloc: Global, given: &ArgMatches<'a>) -> Result<Line<'a>, Fault>
+    ensures found { (line : CommandLine) → (entry_of line).0 ≡ codes "stats"
+        → rows_of (found_of given.now) ≡ (entry_of line).1
+        → IfOk result (λ l. line_view l ≡ line) }
+    ensures memory { IfErr result (λ f. f ≡ Memory) }
+{
+    let logs = words(alloc, given, "logs")?;
+    Ok(Line::Stats { logs })
 }
 
 // The word that the argument was given, and the empty word where it was given none.

@@ -57,9 +57,21 @@ get DIR KEY [AT]
     Prints the value of KEY at the timestamp AT, or by the latest version, as
     '=' and the value, or 'none'. It writes to no file.
 
-status: 0, or 1 where it was too early or the verdict is no, or 2 at a fault,
-which is one line on standard error. After a write that fails nothing more is
-printed (2).
+put DIR KEY VALUE
+    Commits the write of VALUE to KEY in the store in DIR, as a transaction of
+    its own, and prints what became of it: 'committed' and the timestamp; or
+    'aborted', where it stands nowhere, or 'unknown' and the transaction, where
+    the store did not say in time whether it stands (1). No store is made.
+
+stats LOG..
+    Prints what each log holds, 1 to 16 files, as numbers: bytes, records by kind,
+    keys, versions, the last epoch, the floor, and the transactions in doubt,
+    which were promised or decided and have no outcome; for several logs also
+    the sums. It writes to no file.
+
+status: 0, or 1 where it was too early, the verdict is no or a write does not
+surely stand, or 2 at a fault, which is one line on standard error. After a
+write that fails nothing more is printed (2).
 ";
 
 /// Whether one of the words, before any `--`, is `-h` or `--help`.

@@ -3,7 +3,7 @@ ghost use Rattle.std.specs.Prelude.{◌≡◌, ◌⊎◌, Ok, Err, MatchResult, 
 ghost use Rattle.units.specs.declared.fault.Fault.TheVariants.{Memory};
 ghost use Rattle.command_line.specs.Lines.{are_covered, are_plain, asks_help, line_of};
 ghost use Rattle.command_line.specs.declared.commands.Command.TheVariants.{Help};
-ghost use Rattle.command_line.specs.Commands.{at_of, command_of, command_or_refusal, get_of_words, history_of_words, key_of, once_of_words, value_of};
+ghost use Rattle.command_line.specs.Commands.{at_of, command_of, command_or_refusal, get_of_words, history_of_words, key_of, once_of_words, put_of_words, value_of};
 ghost use Rattle.command_line.specs.Views.{asked_for};
 
 use crate::Command;
@@ -56,6 +56,8 @@ fn read_command<'a>(alloc: Global, words: &'a [&'a str]) -> Result<Command<'a>, 
         Line::Dump { file } => Ok(Command::Dump { file }),
         Line::History { dir, key } => read_history(dir, key),
         Line::Get { dir, key, at } => read_get(dir, key, at),
+        Line::Put { dir, key, value } => read_put(alloc, dir, key, value),
+        Line::Stats { logs } => Ok(Command::Stats { logs }),
     }
 }
 
@@ -105,6 +107,17 @@ fn read_get<'a>(dir: &'a str, key: &str, at: Option<&str>) -> Result<Command<'a>
     let key = read_key(key)?;
     let at = read_at(at)?;
     Ok(Command::Get { dir, key, at })
+}
+
+// The words of `put`.
+fn read_put<'a>(alloc: Global, dir: &'a str, key: &str, value: &str) -> Result<Command<'a>, Fault>
+    ensures { MatchResult result
+        (λ c. put_of_words dir.entry.now key.now value.now ≡ Ok (asked_for c))
+        (λ f. (f ≡ Memory) ⊎ (put_of_words dir.entry.now key.now value.now ≡ Err f)) }
+{
+    let key = read_key(key)?;
+    let value = read_value(alloc, value)?;
+    Ok(Command::Put { dir, key, value })
 }
 
 // A timestamp, where there is a word for it.

@@ -1,35 +1,42 @@
 //! Commands, one after the other in one folder.
 use crate::folder::Folder;
-use cli::{Driven, Files, NoVerdict, Stream, System, answer};
+use cli::{Driven, Ended, Engine, Hints, NoVerdict, Put, Stream, System, answer, put_in_store};
 use drive::drive_shards;
 use host_files::HostFiles;
 use settings::Settings;
 use simdisk::SimDisk;
 use std::alloc::Global;
 use std::process::Abort;
+use units::Fault;
 
-// What is printed: of a drive its counts, whose first three are of so many transactions together, and the verdict yes.
+// What is printed: of a drive its counts, whose first three are of so many transactions together, and the verdict yes; of a write that it is
+// committed; of a key its value, or lines of which the last ends so.
 #[derive(Clone, Copy)]
 enum Output {
     Nothing,
     Yes,
     Driven(u64),
+    Committed,
+    Is(&'static str),
+    Ends(&'static str),
 }
 
-// A command with the names of its files in the folder, what is printed, the fault, and the status.
+// A command with the names of its files in the folder and the words behind them, what is printed, the fault, and the status.
 #[derive(Clone, Copy)]
 struct Step {
     command: &'static str,
     names: &'static [&'static str],
+    more: &'static [&'static str],
     output: Output,
     fault: &'static str,
     status: u8,
 }
 
-static STEPS: [Step; 14] = [
+static STEPS: [Step; 23] = [
     Step {
         command: "format",
         names: &["a.log"],
+        more: &[],
         output: Output::Nothing,
         fault: "",
         status: 0,
@@ -37,6 +44,7 @@ static STEPS: [Step; 14] = [
     Step {
         command: "format",
         names: &["a.log"],
+        more: &[],
         output: Output::Nothing,
         fault: "fault: 2 Device\n",
         status: 2,
@@ -44,6 +52,7 @@ static STEPS: [Step; 14] = [
     Step {
         command: "inspect",
         names: &["no.lines", "a.log"],
+        more: &[],
         output: Output::Yes,
         fault: "",
         status: 0,
@@ -51,6 +60,7 @@ static STEPS: [Step; 14] = [
     Step {
         command: "inspect",
         names: &["no.lines", "a.log", "a.log"],
+        more: &[],
         output: Output::Yes,
         fault: "",
         status: 0,
@@ -58,6 +68,7 @@ static STEPS: [Step; 14] = [
     Step {
         command: "inspect",
         names: &["no.lines", "missing.log"],
+        more: &[],
         output: Output::Nothing,
         fault: "fault: 2 Device\n",
         status: 2,
@@ -65,6 +76,7 @@ static STEPS: [Step; 14] = [
     Step {
         command: "inspect",
         names: &["no.lines", "folder"],
+        more: &[],
         output: Output::Nothing,
         fault: "fault: 2 Device\n",
         status: 2,
@@ -72,6 +84,7 @@ static STEPS: [Step; 14] = [
     Step {
         command: "inspect",
         names: &["folder", "a.log"],
+        more: &[],
         output: Output::Nothing,
         fault: "fault: 2 Device\n",
         status: 2,
@@ -79,6 +92,7 @@ static STEPS: [Step; 14] = [
     Step {
         command: "inspect",
         names: &["no.lines", "no.lines"],
+        more: &[],
         output: Output::Nothing,
         fault: "fault: 12 NotALog\n",
         status: 2,
@@ -86,6 +100,7 @@ static STEPS: [Step; 14] = [
     Step {
         command: "drive",
         names: &["folder"],
+        more: &[],
         output: Output::Nothing,
         fault: "fault: 2 Device\n",
         status: 2,
@@ -93,6 +108,7 @@ static STEPS: [Step; 14] = [
     Step {
         command: "drive",
         names: &["missing.settings"],
+        more: &[],
         output: Output::Nothing,
         fault: "fault: 2 Device\n",
         status: 2,
@@ -100,6 +116,7 @@ static STEPS: [Step; 14] = [
     Step {
         command: "drive",
         names: &["memory.settings"],
+        more: &[],
         output: Output::Driven(200),
         fault: "",
         status: 0,
@@ -107,6 +124,7 @@ static STEPS: [Step; 14] = [
     Step {
         command: "drive",
         names: &["files.settings"],
+        more: &[],
         output: Output::Driven(200),
         fault: "",
         status: 0,
@@ -114,6 +132,7 @@ static STEPS: [Step; 14] = [
     Step {
         command: "drive",
         names: &["files.settings"],
+        more: &[],
         output: Output::Driven(200),
         fault: "",
         status: 0,
@@ -121,9 +140,82 @@ static STEPS: [Step; 14] = [
     Step {
         command: "inspect",
         names: &["no.lines", "shard-0.log", "shard-1.log"],
+        more: &[],
         output: Output::Yes,
         fault: "",
         status: 0,
+    },
+    Step {
+        command: "put",
+        names: &["."],
+        more: &["k0001", "once"],
+        output: Output::Committed,
+        fault: "",
+        status: 0,
+    },
+    Step {
+        command: "get",
+        names: &["."],
+        more: &["k0001"],
+        output: Output::Is("=once\n"),
+        fault: "",
+        status: 0,
+    },
+    Step {
+        command: "put",
+        names: &["."],
+        more: &["k0007", "far"],
+        output: Output::Committed,
+        fault: "",
+        status: 0,
+    },
+    Step {
+        command: "put",
+        names: &["."],
+        more: &["k0001", "twice"],
+        output: Output::Committed,
+        fault: "",
+        status: 0,
+    },
+    Step {
+        command: "get",
+        names: &["."],
+        more: &["k0001"],
+        output: Output::Is("=twice\n"),
+        fault: "",
+        status: 0,
+    },
+    Step {
+        command: "history",
+        names: &["."],
+        more: &["k0007"],
+        output: Output::Ends(" =far\n"),
+        fault: "",
+        status: 0,
+    },
+    Step {
+        command: "inspect",
+        names: &["no.lines", "shard-0.log", "shard-1.log"],
+        more: &[],
+        output: Output::Yes,
+        fault: "",
+        status: 0,
+    },
+    Step {
+        command: "put",
+        names: &["folder"],
+        more: &["k0001", "none"],
+        output: Output::Nothing,
+        fault: "fault: 2 Device\n",
+        status: 2,
+    },
+    Step {
+        command: "dump",
+        names: &["folder/store.toml"],
+        more: &[],
+        output: Output::Nothing,
+        fault: "fault: 2 Device\n",
+        status: 2,
     },
 ];
 
@@ -132,6 +224,7 @@ static CLOSED: [Step; 5] = [
     Step {
         command: "format",
         names: &["closed"],
+        more: &[],
         output: Output::Nothing,
         fault: "fault: 2 Device\n",
         status: 2,
@@ -139,6 +232,7 @@ static CLOSED: [Step; 5] = [
     Step {
         command: "play",
         names: &["closed"],
+        more: &[],
         output: Output::Nothing,
         fault: "fault: 2 Device\n",
         status: 2,
@@ -146,6 +240,7 @@ static CLOSED: [Step; 5] = [
     Step {
         command: "inspect",
         names: &["closed", "no.lines"],
+        more: &[],
         output: Output::Nothing,
         fault: "fault: 2 Device\n",
         status: 2,
@@ -153,6 +248,7 @@ static CLOSED: [Step; 5] = [
     Step {
         command: "inspect",
         names: &["no.lines", "closed"],
+        more: &[],
         output: Output::Nothing,
         fault: "fault: 2 Device\n",
         status: 2,
@@ -160,6 +256,7 @@ static CLOSED: [Step; 5] = [
     Step {
         command: "drive",
         names: &["closed"],
+        more: &[],
         output: Output::Nothing,
         fault: "fault: 2 Device\n",
         status: 2,
@@ -198,11 +295,25 @@ fn is_driven(text: &str, tried: u64) -> bool {
     counted == tried && text.lines().count() == 5 && text.ends_with("\nverdict yes\n")
 }
 
+// Whether a timestamp is told.
+fn is_committed(text: &str) -> bool {
+    let Some(at) = text.strip_prefix("committed ") else {
+        return false;
+    };
+    let Some(at) = at.strip_suffix("\n") else {
+        return false;
+    };
+    at.parse::<u64>().is_ok()
+}
+
 fn is_printed(text: &str, output: Output) -> bool {
     match output {
         Output::Nothing => text.is_empty(),
         Output::Yes => text == "yes\n",
         Output::Driven(tried) => is_driven(text, tried),
+        Output::Committed => is_committed(text),
+        Output::Is(right) => text == right,
+        Output::Ends(last) => text.ends_with(last),
     }
 }
 
@@ -220,11 +331,15 @@ fn words_of<'w>(
     alloc: Global,
     command: &'w str,
     paths: &'w [String],
+    more: &'w [&'w str],
 ) -> Vec<&'w str> {
     let mut words = Vec::new(alloc);
     words.push(command).ok().expect(test, "memory");
     for path in paths {
         words.push(path.as_str()).ok().expect(test, "memory");
+    }
+    for word in more {
+        words.push(word).ok().expect(test, "memory");
     }
     words
 }
@@ -238,13 +353,14 @@ fn is_right(out: &[u8], err: &[u8], step: &Step) -> bool {
 }
 
 // Whether the words print what the step says, and give its status.
-fn prints<'w, F: Files, D: Fn(Global, &Settings) -> Result<Driven, NoVerdict>>(
-    alloc: Global,
-    system: &System<F, D>,
-    words: &'w [&'w str],
-    step: &Step,
-) -> bool
-    requires { D.IsAlwaysCallable system.now.drive }
+fn prints<
+    'w,
+    F: Hints,
+    D: Fn(Global, &Settings) -> Result<Driven, NoVerdict>,
+    P: Fn(Global, Put<'_>) -> Result<Ended, Fault>,
+>(alloc: Global, system: &System<F, Engine<D, P>>, words: &'w [&'w str], step: &Step) -> bool
+    requires drives { D.IsAlwaysCallable system.now.drive.run }
+    requires puts { P.IsAlwaysCallable system.now.drive.put }
 {
     let mut out = Stream::new(Vec::new(alloc));
     let mut err = Stream::new(Vec::new(alloc));
@@ -259,17 +375,22 @@ fn prints<'w, F: Files, D: Fn(Global, &Settings) -> Result<Driven, NoVerdict>>(
 }
 
 // Whether a command prints what it should, and gives its status.
-fn is_answered<F: Files, D: Fn(Global, &Settings) -> Result<Driven, NoVerdict>>(
+fn is_answered<
+    F: Hints,
+    D: Fn(Global, &Settings) -> Result<Driven, NoVerdict>,
+    P: Fn(Global, Put<'_>) -> Result<Ended, Fault>,
+>(
     rt: &HostRuntime,
     test: &impl Abort,
-    system: &System<F, D>,
+    system: &System<F, Engine<D, P>>,
     folder: &Folder,
     step: &Step,
 ) -> bool
-    requires { D.IsAlwaysCallable system.now.drive }
+    requires drives { D.IsAlwaysCallable system.now.drive.run }
+    requires puts { P.IsAlwaysCallable system.now.drive.put }
 {
     let paths = paths_of(rt, test, folder, step.names);
-    let words = words_of(test, rt.alloc(), step.command, paths.as_slice());
+    let words = words_of(test, rt.alloc(), step.command, paths.as_slice(), step.more);
     let right = prints(rt.alloc(), system, words.as_slice(), step);
     drop(words);
     drop(paths);
@@ -277,14 +398,19 @@ fn is_answered<F: Files, D: Fn(Global, &Settings) -> Result<Driven, NoVerdict>>(
 }
 
 // The first of some commands that is not answered as it should be: it and the names of its files.
-fn first_wrong<F: Files, D: Fn(Global, &Settings) -> Result<Driven, NoVerdict>>(
+fn first_wrong<
+    F: Hints,
+    D: Fn(Global, &Settings) -> Result<Driven, NoVerdict>,
+    P: Fn(Global, Put<'_>) -> Result<Ended, Fault>,
+>(
     rt: &HostRuntime,
     test: &impl Abort,
-    system: &System<F, D>,
+    system: &System<F, Engine<D, P>>,
     folder: &Folder,
     steps: &[Step],
 ) -> Option<(&'static str, &'static [&'static str])>
-    requires { D.IsAlwaysCallable system.now.drive }
+    requires drives { D.IsAlwaysCallable system.now.drive.run }
+    requires puts { P.IsAlwaysCallable system.now.drive.put }
 {
     for step in steps {
         if !is_answered(rt, test, system, folder, step) {
@@ -302,8 +428,11 @@ fn commands_over_files(rt: HostRuntime) {
             rt: &rt,
             is_watched: false,
         },
-        drive: |alloc: Global, settings: &Settings| {
-            drive_shards(&rt, alloc, settings, Some(Vec::<u8>::new(alloc)))
+        drive: Engine {
+            run: |alloc: Global, settings: &Settings| {
+                drive_shards(&rt, alloc, settings, Some(Vec::<u8>::new(alloc)))
+            },
+            put: |alloc: Global, write: Put<'_>| put_in_store(&rt, alloc, write),
         },
     };
     let mut wrong = first_wrong(&rt, &rt, &system, &folder, &STEPS);

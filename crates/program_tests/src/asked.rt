@@ -108,7 +108,7 @@ pub static FILES: [File<'static>; 22] = [
     },
 ];
 
-pub static ASKED: [Asked; 49] = [
+pub static ASKED: [Asked; 55] = [
     Asked {
         text: "format new.log",
         words: &["format", "new.log"],
@@ -487,6 +487,52 @@ pub static ASKED: [Asked; 49] = [
     Asked {
         text: "dump opened.log done.log",
         words: &["dump", "opened.log", "done.log"],
+        printed: "",
+        refused: "fault: 7 BadRequest(command)\n",
+        status: 2,
+    },
+    Asked {
+        text: "stats done.log",
+        words: &["stats", "done.log"],
+        printed: "log done.log\nbytes 96\nrecords 3\nopened 1\nceiling 0\nprepare 0\ncommit 1\nabort 0\noutcome 1\nkeys 1\nversions 1\nepoch 1\nfloor 200\nin doubt 0\n",
+        refused: "",
+        status: 0,
+    },
+    Asked {
+        text: "stats promised.log done.log",
+        words: &["stats", "promised.log", "done.log"],
+        printed: "log promised.log\nbytes 58\nrecords 2\nopened 1\nceiling 0\nprepare 1\ncommit 0\nabort 0\noutcome 0\nkeys 0\nversions 0\nepoch 1\nfloor 200\nin doubt 1\npromised 1.2 200\nlog done.log\nbytes 96\nrecords 3\nopened 1\nceiling 0\nprepare 0\ncommit 1\nabort 0\noutcome 1\nkeys 1\nversions 1\nepoch 1\nfloor 200\nin doubt 0\nall 2\nbytes 154\nrecords 5\nopened 2\nceiling 0\nprepare 1\ncommit 1\nabort 0\noutcome 1\nkeys 1\nversions 1\nin doubt 1\n",
+        refused: "",
+        status: 0,
+    },
+    Asked {
+        text: "stats done.log missing",
+        words: &["stats", "done.log", "missing"],
+        printed: "",
+        refused: "fault: 2 Device\n",
+        status: 2,
+    },
+    Asked {
+        text: "stats done.log next_version.log",
+        words: &["stats", "done.log", "next_version.log"],
+        printed: "",
+        refused: "fault: 12 NotALog\n",
+        status: 2,
+    },
+    Asked {
+        text: "stats",
+        words: &["stats"],
+        printed: "",
+        refused: "fault: 7 BadRequest(command)\n",
+        status: 2,
+    },
+    Asked {
+        text: "stats of 17 logs",
+        words: &[
+            "stats", "done.log", "done.log", "done.log", "done.log", "done.log", "done.log",
+            "done.log", "done.log", "done.log", "done.log", "done.log", "done.log", "done.log",
+            "done.log", "done.log", "done.log", "done.log",
+        ],
         printed: "",
         refused: "fault: 7 BadRequest(command)\n",
         status: 2,

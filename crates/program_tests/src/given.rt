@@ -1,7 +1,7 @@
-//! Files in memory, and drives of nothing, for commands that ask for them.
-use cli::{Driven, Files, NoVerdict, Stream, System, answer};
+//! Files in memory, and drives and writes of nothing, for commands that ask for them.
+use cli::{Driven, Ended, Engine, Files, Hints, NoVerdict, Put, Stream, System, answer};
 use disk::Disk;
-use made::id;
+use made::{id, stamp};
 use settings::Settings;
 use showing::stats_files;
 use simdisk::SimDisk;
@@ -17,10 +17,10 @@ pub struct File<'f> {
     pub bytes: &'f [u8],
 }
 
-/// Some files.
+//// Some files.
 #[derive(Clone, Copy)]
-struct Memory<'f> {
-    files: &'f [File<'f>],
+pub struct Memory<'f> {
+    pub files: &'f [File<'f>],
 }
 
 impl<'f> Memory<'f> {
@@ -63,6 +63,10 @@ impl Files for Memory<'_> {
     }
 }
 
+impl Hints for Memory<'_> {
+    fn hint(&self, _line: &str) {}
+}
+
 // Drives nothing. What came of it is told by the settings: a drive of one key is torn, and one of two has counts and no verdict.
 fn told(alloc: Global, settings: &Settings) -> Result<Driven, NoVerdict> {
     if settings.keys == 2 {
@@ -79,6 +83,16 @@ fn told(alloc: Global, settings: &Settings) -> Result<Driven, NoVerdict> {
     match format!(in alloc; "looks {}\nverdict {says}\n", settings.keys) {
         Ok(text) => Ok(Driven { text, verdict }),
         Err(_) => Err(NoVerdict::from(Fault::Memory)),
+    }
+}
+
+// Writes nothing. What became of a write is told by its value.
+fn ended(_alloc: Global, write: Put<'_>) -> Result<Ended, Fault> {
+    match write.value.as_bytes() {
+        b"stands" => Ok(Ended::Committed(stamp(112))),
+        b"dropped" => Ok(Ended::Aborted),
+        b"silent" => Ok(Ended::Unknown(id(2))),
+        _ => Err(Fault::Stranger),
     }
 }
 
@@ -135,7 +149,10 @@ pub fn print<'a>(
 ) -> Printed {
     let system = System {
         files: Memory { files },
-        drive: told,
+        drive: Engine {
+            run: told,
+            put: ended,
+        },
     };
     let mut out = Stream::new(Paper {
         bytes: Vec::new(alloc),

@@ -20,6 +20,8 @@ mod of_logs;
 #[cfg(test)]
 mod outside;
 #[cfg(test)]
+mod places;
+#[cfg(test)]
 mod played;
 #[cfg(test)]
 mod printed;

@@ -1,4 +1,4 @@
-//! Commands that ask for what a store says of a key, over the files of some stores.
+//! Commands that ask for what a store says of a key, or write it, over the files of some stores.
 use crate::given::{Asked, File};
 
 pub static FILES: [File<'static>; 19] = [
@@ -106,7 +106,7 @@ pub static FILES: [File<'static>; 19] = [
     },
 ];
 
-pub static ASKED: [Asked; 40] = [
+pub static ASKED: [Asked; 53] = [
     Asked {
         text: "history one a",
         words: &["history", "one", "a"],
@@ -383,6 +383,97 @@ pub static ASKED: [Asked; 40] = [
     Asked {
         text: "history one, of an empty key",
         words: &["history", "one", ""],
+        printed: "",
+        refused: "fault: 7 BadRequest(key)\n",
+        status: 2,
+    },
+    Asked {
+        text: "put one a stands",
+        words: &["put", "one", "a", "stands"],
+        printed: "committed 112\n",
+        refused: "",
+        status: 0,
+    },
+    Asked {
+        text: "put two z stands",
+        words: &["put", "two", "z", "stands"],
+        printed: "committed 112\n",
+        refused: "",
+        status: 0,
+    },
+    Asked {
+        text: "put bytes a stands",
+        words: &["put", "bytes", "a", "stands"],
+        printed: "committed 112\n",
+        refused: "",
+        status: 0,
+    },
+    Asked {
+        text: "put one a dropped",
+        words: &["put", "one", "a", "dropped"],
+        printed: "aborted\n",
+        refused: "",
+        status: 1,
+    },
+    Asked {
+        text: "put one a silent",
+        words: &["put", "one", "a", "silent"],
+        printed: "unknown 1.2\n",
+        refused: "",
+        status: 1,
+    },
+    Asked {
+        text: "put one a refused",
+        words: &["put", "one", "a", "refused"],
+        printed: "",
+        refused: "fault: 14 Stranger\n",
+        status: 2,
+    },
+    Asked {
+        text: "put missing a stands",
+        words: &["put", "missing", "a", "stands"],
+        printed: "",
+        refused: "fault: 2 Device\n",
+        status: 2,
+    },
+    Asked {
+        text: "put unnamed a stands",
+        words: &["put", "unnamed", "a", "stands"],
+        printed: "",
+        refused: "fault: 7 BadRequest(settings)\n",
+        status: 2,
+    },
+    Asked {
+        text: "put later a stands",
+        words: &["put", "later", "a", "stands"],
+        printed: "",
+        refused: "fault: 7 BadRequest(settings)\n",
+        status: 2,
+    },
+    Asked {
+        text: "put unordered a stands",
+        words: &["put", "unordered", "a", "stands"],
+        printed: "",
+        refused: "fault: 7 BadRequest(settings)\n",
+        status: 2,
+    },
+    Asked {
+        text: "put one a",
+        words: &["put", "one", "a"],
+        printed: "",
+        refused: "fault: 7 BadRequest(command)\n",
+        status: 2,
+    },
+    Asked {
+        text: "put one a stands 5",
+        words: &["put", "one", "a", "stands", "5"],
+        printed: "",
+        refused: "fault: 7 BadRequest(command)\n",
+        status: 2,
+    },
+    Asked {
+        text: "put one, of an empty key",
+        words: &["put", "one", "", "stands"],
         printed: "",
         refused: "fault: 7 BadRequest(key)\n",
         status: 2,

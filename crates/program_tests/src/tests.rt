@@ -4,7 +4,8 @@ use crate::crashes::CRASHES;
 use crate::stops::FAILED;
 use crate::whole_schedules::SCHEDULES;
 use crate::{
-    comparing, each_call, of_logs, outside, played, printed, schedule_texts, stops, unlawful,
+    comparing, each_call, of_logs, outside, places, played, printed, schedule_texts, stops,
+    unlawful,
 };
 use std::process::Abort;
 
@@ -21,6 +22,9 @@ fn answers(rt: HostRuntime) {
     check(&rt, "words", printed::wrong_words(alloc));
     check(&rt, "numbers of logs", of_logs::wrong(alloc));
     check(&rt, "files that are played", played::wrong(alloc));
+    for place in places::wrong(alloc) {
+        check(&rt, "places of faults", place);
+    }
     check(&rt, "crashes in calls", stops::wrong(alloc));
     check(&rt, "stops in each call", each_call::wrong(alloc));
     check(&rt, "texts", schedule_texts::wrong(alloc));

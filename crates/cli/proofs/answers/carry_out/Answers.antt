@@ -1,13 +1,13 @@
-use Rattle.std.proofs.Common.{◌≡◌, ◌||◌, List, ap, map, refl, sym, subst, inl, inr, Result, Ok, Err}
-use Rattle.std.specs.Prelude.{IfErr}
+use Rattle.std.proofs.Common.{◌≡◌, ◌||◌, List, ap, map, refl, sym, subst, inl, inr, Result, Ok}
 use Rattle.std.proofs.lemmas.Result.{IfOk-weaker}
 use Rattle.units.specs.declared.fault.Fault.{Fault}
-use Rattle.units.specs.declared.fault.Fault.TheVariants.{Memory}
-use Rattle.command_line.specs.Commands.{Asked, command_of, help, once_asked, format_asked, play_asked, inspect_asked, drive_asked, dump_asked, history_asked, get_asked}
+use Rattle.command_line.specs.Commands.{Asked, command_of}
 use Rattle.command_line.specs.Lines.{Word, asks_help}
 use Rattle.command_line.specs.Views.{asked_for}
-use Rattle.cli.specs.Faults.{FailsAs, MayRefuse, MayRefuseTo}
+use Rattle.cli.specs.Faults.{IsRefusedBy, IsUnputBy}
+use Rattle.cli.specs.Puts.{IsPutBy}
 use Rattle.cli.specs.Replies.{TellsTo}
+use Rattle.cli.proofs.Refusals.{fails_for, memory_of, none_of}
 use Rattle.cli.proofs.answers.carry_out.Goals as goal
 
 pub returns-in-Ok-clause-tells : goal.returns-in-Ok-clause-tells
@@ -15,39 +15,26 @@ returns-in-Ok-clause-tells g c plain =
     let words : List Word = map (λ w. w.now) c.args.words.now in
     let is : command_of words ≡ Ok (asked_for c.in-Ok.asked) = c.in-Ok.ensures.exact (ap (λ b. b || asks_help words) plain) in
     IfOk-weaker c.run.result.0 _ _
-    (λ status told. (told.0, subst (λ (r : Result Asked Fault). TellsTo r status told.0) (sym is) told.1, told.2))
+    (λ status told. (told.0, subst (λ (r : Result Asked Fault). TellsTo (IsPutBy (goal.P-post g c.args.system.now.drive.put c.args.alloc)) r status told.0) (sym is) told.1, told.2))
     c.run.ensures.tells
 
 pub returns-in-Ok-clause-numbered : goal.returns-in-Ok-clause-numbered
 returns-in-Ok-clause-numbered g c plain =
     let words : List Word = map (λ w. w.now) c.args.words.now in
     let is : command_of words ≡ Ok (asked_for c.in-Ok.asked) = c.in-Ok.ensures.exact (ap (λ b. b || asks_help words) plain) in
-    subst (λ (r : Result Asked Fault). IfErr c.run.result.0 (FailsAs (MayRefuseTo r))) (sym is) c.run.ensures.numbered
-
--- memory may be wanting for any command
-any_asked : (asked : Asked) → MayRefuse asked Memory
-any_asked help = tt
-any_asked (once_asked key value first second) = tt
-any_asked (format_asked file) = inl refl
-any_asked (play_asked file) = inl (inl refl)
-any_asked (inspect_asked lines logs) = inl (inl refl)
-any_asked (drive_asked file) = tt
-any_asked (dump_asked file) = inl refl
-any_asked (history_asked dir key) = inl refl
-any_asked (get_asked dir key at) = inl refl
-
-any : (asked : Result Asked Fault) → MayRefuseTo asked Memory
-any (Ok asked) = any_asked asked
-any (Err why) = tt
+    fails_for (IsRefusedBy (goal.D-post g c.args.system.now.drive.run c.args.alloc)) (IsUnputBy (goal.P-post g c.args.system.now.drive.put c.args.alloc))
+    c.run.result.0 (sym is) c.run.ensures.numbered
 
 pub returns-in-Err-clause-numbered : goal.returns-in-Err-clause-numbered
 returns-in-Err-clause-numbered g c plain =
     let words : List Word = map (λ w. w.now) c.args.words.now in
+    let drives : Fault → Type 0 = IsRefusedBy (goal.D-post g c.args.system.now.drive.run c.args.alloc) in
+    let puts : Fault → Type 0 = IsUnputBy (goal.P-post g c.args.system.now.drive.put c.args.alloc) in
     inr (
       c.in-Err.fault,
       refl,
       elim (c.in-Err.ensures.exact (ap (λ b. b || asks_help words) plain)) [
-        | inl memory ↦ subst (λ (f : Fault). MayRefuseTo (command_of words) f) (sym memory) (any (command_of words))
-        | inr is ↦ subst (λ (r : Result Asked Fault). MayRefuseTo r c.in-Err.fault) (sym is) tt
+        | inl memory ↦ memory_of drives puts (command_of words) c.in-Err.fault memory
+        | inr is ↦ none_of drives puts (command_of words) c.in-Err.fault c.in-Err.fault is
       ],
     )

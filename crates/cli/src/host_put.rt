@@ -1,0 +1,52 @@
+//! A write to a store in a folder of the machine, on its threads.
+use crate::engine::Put;
+use std::alloc::Global;
+use std::fs::File;
+use std::random::RandomSource;
+use std::sync::Wait;
+use std::thread::Threads;
+use std::{rt, time};
+use store::{Client, Ended, Halt, Options, Store, Transaction};
+use units::{Fault, Key, Value};
+
+// How often the write is tried: no other client is there, and an abort may be left of what the store was in the midst of when it was closed.
+const TRIES: u32 = 5;
+
+// How often 20 milliseconds may pass in silence: two seconds, since a store that was opened again waits until the last ceiling has passed.
+const PATIENCE: u32 = 100;
+
+/// Opens the store, commits the write as a transaction of its own, and closes the store. Says what became of the write; where nobody could
+/// write, it stands nowhere. A refusal behind the commit, for want of memory alone, does not say that the write stands nowhere.
+pub fn put_in_store<R: rt::Files<File = File> + RandomSource + Threads + Wait + time::Clock + Sync>(
+    rt: &R,
+    alloc: Global,
+    write: Put<'_>,
+) -> Result<Ended, Fault> {
+    let Put {
+        folder,
+        splits,
+        key,
+        value,
+    } = write;
+    let mut options = Options::new(splits.copy(alloc)?, 1);
+    options.patience = PATIENCE;
+    let store = Store::open_folder(rt, alloc, folder, options)?;
+    let (ended, disks) = store.serve(|clients: Vec<Client<'_, R>>| commit(clients, key, value))?;
+    drop(disks);
+    ended
+}
+
+// What became of the write, by one of the clients.
+fn commit<R: Wait + time::Clock>(
+    clients: Vec<Client<'_, R>>,
+    key: &Key,
+    value: &Value,
+) -> Result<Ended, Fault> {
+    let mut clients = clients;
+    let Some(mut client) = clients.pop() else {
+        return Ok(Ended::Aborted);
+    };
+    client.transact(TRIES, |tx: &mut Transaction<'_, R>| -> Result<(), Halt> {
+        tx.put(key, value.copy()?)
+    })
+}

@@ -1,0 +1,199 @@
+//! Where the fault of a command lies, for whoever looks.
+use crate::store_folder::splits_of;
+use command_line::{Command, command};
+use inspection::inspect_files;
+use script::schedule;
+use settings::Settings;
+use showing::{dump_file, stats_files};
+use std::alloc::Global;
+use system::{Files, Note, read_text};
+use units::{Fault, Key, Reason, Splits};
+
+/// Where the fault of a command over files lies: `--> FILE`, or `--> FILE:LINE` where it is one of a line or an event. There is none of words, of
+/// want of memory, and where nobody can say. The files are looked at once more, so what has changed meanwhile is told as it is then.
+pub fn place_of<F: Files>(
+    alloc: Global,
+    files: &F,
+    words: &[&str],
+    fault: Fault,
+) -> Option<String> {
+    if fault == Fault::Memory {
+        return None;
+    }
+    let Ok(asked) = command(alloc, words) else {
+        return None;
+    };
+    let quiet = Quiet { files };
+    let place = place_for(alloc, &quiet, &asked, fault);
+    let Quiet { files: _ } = quiet;
+    drop(asked);
+    place
+}
+
+fn place_for<F: Files>(
+    alloc: Global,
+    files: &F,
+    asked: &Command<'_>,
+    fault: Fault,
+) -> Option<String> {
+    match asked {
+        Command::Help | Command::Once { .. } => None,
+        Command::Format { file } | Command::Dump { file } => at(alloc, file),
+        Command::Play { file } => in_schedule(alloc, files, file, fault),
+        Command::Inspect { lines, logs } => in_inspected(alloc, files, lines, logs, fault),
+        Command::Drive { file } => in_settings(alloc, files, file, fault),
+        Command::History { dir, key } | Command::Get { dir, key, .. } => {
+            in_log_of(alloc, files, dir, key)
+        }
+        Command::Put { dir, .. } => in_store(alloc, files, dir),
+        Command::Stats { logs } => in_logs(alloc, files, logs, fault),
+    }
+}
+
+fn at(alloc: Global, file: &str) -> Option<String> {
+    format!(in alloc; "--> {file}").ok()
+}
+
+fn at_line(alloc: Global, file: &str, line: u64) -> Option<String> {
+    format!(in alloc; "--> {file}:{line}").ok()
+}
+
+// In a schedule an event is a line, behind those of the shards, the splits and the stride.
+fn in_schedule<F: Files>(alloc: Global, files: &F, file: &str, fault: Fault) -> Option<String> {
+    match fault {
+        Fault::BadRequest(Reason::Syntax(line)) => at_line(alloc, file, line),
+        Fault::BadRequest(Reason::Unlawful(event)) => {
+            let first = first_event(alloc, files, file)?;
+            at_line(alloc, file, first.saturating_add(event))
+        }
+        _ => at(alloc, file),
+    }
+}
+
+// The line of the first event.
+fn first_event<F: Files>(alloc: Global, files: &F, file: &str) -> Option<u64> {
+    let text = read_text(alloc, files, file, Reason::Syntax(1)).ok()?;
+    let (config, events) = schedule(alloc, &text).ok()?;
+    drop(events);
+    Some((config.splits.as_slice().len() as u64).saturating_add(3))
+}
+
+// In the lines, or in the first log with which the first ones are refused like that.
+fn in_inspected<F: Files>(
+    alloc: Global,
+    files: &F,
+    lines: &str,
+    logs: &[&str],
+    fault: Fault,
+) -> Option<String> {
+    if let Fault::BadRequest(Reason::Syntax(line)) = fault {
+        return at_line(alloc, lines, line);
+    }
+    if read_text(alloc, files, lines, Reason::Syntax(1)).is_err() {
+        return at(alloc, lines);
+    }
+    for last in 0..logs.len() {
+        if inspect_files(alloc, files, lines, &logs[..last + 1]).err() == Some(fault) {
+            return at(alloc, logs[last]);
+        }
+    }
+    None
+}
+
+// In the first log that is refused like that.
+fn in_logs<F: Files>(alloc: Global, files: &F, logs: &[&str], fault: Fault) -> Option<String> {
+    for log in logs {
+        if stats_files(alloc, files, &[*log]).err() == Some(fault) {
+            return at(alloc, log);
+        }
+    }
+    None
+}
+
+// In the settings, or in the folder that they name.
+fn in_settings<F: Files>(alloc: Global, files: &F, file: &str, fault: Fault) -> Option<String> {
+    let Ok(text) = read_text(alloc, files, file, Reason::Settings) else {
+        return at(alloc, file);
+    };
+    let Ok(settings) = Settings::read(alloc, &text) else {
+        return at(alloc, file);
+    };
+    let place = match &settings.dir {
+        Some(dir) => in_folder(alloc, files, dir, &settings.splits, fault),
+        None => None,
+    };
+    drop(settings);
+    place
+}
+
+// In the manifest, where the settings tell of another store; in the first log that is refused like that; or somewhere in the folder.
+fn in_folder<F: Files>(
+    alloc: Global,
+    files: &F,
+    dir: &str,
+    splits: &Splits,
+    fault: Fault,
+) -> Option<String> {
+    match fault {
+        Fault::BadRequest(_) => return in_manifest(alloc, dir),
+        Fault::Device => return at(alloc, dir),
+        _ => {}
+    }
+    for shard in 0..splits.as_slice().len() + 1 {
+        let log = format!(in alloc; "{dir}/shard-{shard}.log").ok()?;
+        if dump_file(alloc, files, &log).err() == Some(fault) {
+            return at(alloc, &log);
+        }
+    }
+    at(alloc, dir)
+}
+
+fn in_manifest(alloc: Global, dir: &str) -> Option<String> {
+    format!(in alloc; "--> {dir}/store.toml").ok()
+}
+
+// In the manifest of a store, or in the log of the shard of a key.
+fn in_log_of<F: Files>(alloc: Global, files: &F, dir: &str, key: &Key) -> Option<String> {
+    match splits_of(alloc, files, dir) {
+        Ok(splits) => {
+            let shard = splits.shard_of(key);
+            drop(splits);
+            format!(in alloc; "--> {dir}/shard-{shard}.log").ok()
+        }
+        Err(_) => in_manifest(alloc, dir),
+    }
+}
+
+// In the manifest of a store, or somewhere in its folder.
+fn in_store<F: Files>(alloc: Global, files: &F, dir: &str) -> Option<String> {
+    match splits_of(alloc, files, dir) {
+        Ok(splits) => {
+            drop(splits);
+            at(alloc, dir)
+        }
+        Err(_) => in_manifest(alloc, dir),
+    }
+}
+
+// Files that are looked at once more: what is to be noted was noted.
+struct Quiet<'f, F> {
+    files: &'f F,
+}
+
+impl<F: Files> Files for Quiet<'_, F> {
+    type Log = F::Log;
+
+    fn read(&self, alloc: Global, path: &str, most: u64) -> Result<Vec<u8>, Fault> {
+        self.files.read(alloc, path, most)
+    }
+
+    fn create(&self, alloc: Global, path: &str) -> Result<F::Log, Fault> {
+        self.files.create(alloc, path)
+    }
+
+    fn open(&self, alloc: Global, path: &str) -> Result<F::Log, Fault> {
+        self.files.open(alloc, path)
+    }
+
+    fn tell(&self, _note: Note) {}
+}
