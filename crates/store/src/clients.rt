@@ -10,7 +10,7 @@ use crate::{Ended, Halt, Transaction, View};
 use board::{Snapshot, Viewer};
 use client::{Wire, Wires};
 use crossbeam_channel::Receiver;
-use message::Message;
+use letters::Reply;
 use std::marker::Model;
 use std::sync::Wait;
 use std::time;
@@ -24,7 +24,7 @@ use units::{Fault, ShardNo};
 pub struct Client<'s, R> {
     pub(crate) rt: &'s R,
     pub(crate) shared: &'s Shared,
-    pub(crate) inbox: Receiver<Message>,
+    pub(crate) inbox: Receiver<Reply>,
     pub(crate) number: usize,
     pub(crate) drawer: Drawer,
     pub(crate) past: Wires<'s, 's, R>,

@@ -7,7 +7,7 @@ use crate::shared::Shared;
 use crate::steady::SteadyClock;
 use client::Wires;
 use crossbeam_channel::Receiver;
-use message::Message;
+use letters::Reply;
 use tickets::Drawer;
 use units::Fault;
 use workers::Viewers;
@@ -15,7 +15,7 @@ use workers::Viewers;
 /// What clients are made of, one of each for each client: inboxes by the clients' numbers, drawers, and viewers of each shard.
 #[derive(Drop)]
 pub struct Crew {
-    pub inboxes: Vec<Receiver<Message>>,
+    pub inboxes: Vec<Receiver<Reply>>,
     pub drawers: Vec<Drawer>,
     pub viewers: Viewers,
 }
