@@ -5,7 +5,7 @@ ghost use Rattle.message.specs.declared.message.Envelope.{Envelope};
 ghost use Rattle.store.specs.Attempts.{Attempt, CannotBegin, ComesTo, Ends, HasTried, IsAtWork, beginning, drew, kept, runs_again};
 
 use crate::shared::Shared;
-use crate::steady::SteadyClock;
+use crate::steady::StoreClock;
 use crate::{Ended, Halt, Transaction, View};
 use board::{Snapshot, Viewer};
 use client::{Wire, Wires};
@@ -29,7 +29,7 @@ pub struct Client<'s, R> {
     pub(crate) drawer: Drawer,
     pub(crate) past: Wires<'s, 's, R>,
     pub(crate) viewers: Vec<Viewer>,
-    pub(crate) clock: SteadyClock<'s, R>,
+    pub(crate) clock: StoreClock<'s, R>,
     pub(crate) patience: u32,
 }
 
