@@ -16,24 +16,53 @@ use std::random::RandomSource;
 use std::sync::Wait;
 use std::thread::Threads;
 use std::{env, rt, thread, time};
-use store::{Client, Options, Store};
+use store::{Client, Options, Store, Unopened, UnopenedIn};
 use units::{Fault, Reason, Splits};
 
 /// How many tellers there are, beside one auditor.
 const TELLERS: u64 = 3;
 
+/// Why a bank does nothing more: its store is not opened, or a call was refused.
+#[derive(Clone, Copy)]
+enum Failure {
+    Unopened(Unopened),
+    Refused(Fault),
+}
+
+impl From<Unopened> for Failure {
+    fn from(unopened: Unopened) -> Failure {
+        Failure::Unopened(unopened)
+    }
+}
+
+impl From<Fault> for Failure {
+    fn from(fault: Fault) -> Failure {
+        Failure::Refused(fault)
+    }
+}
+
 fn main(rt: HostRuntime) -> ExitCode {
-    let done = match words(&rt) {
-        Ok((folder, transfers)) => serve(&rt, rt.alloc(), folder.as_str(), transfers),
-        Err(fault) => Err(fault),
-    };
-    let did = match done {
-        Ok(did) => did,
+    let (folder, transfers) = match words(&rt) {
+        Ok(words) => words,
         Err(fault) => {
             let _ = writeln!(rt.stderr(), "bank: {fault}");
             return ExitCode::from(2);
         }
     };
+    let done = serve(&rt, rt.alloc(), folder.as_str(), transfers);
+    let status = match done {
+        Ok(did) => tell(&rt, did),
+        Err(failure) => {
+            complain(&rt, folder.as_str(), failure);
+            ExitCode::from(2)
+        }
+    };
+    drop(folder);
+    status
+}
+
+// Says what was done, and whether it was right.
+fn tell(rt: &HostRuntime, did: Did) -> ExitCode {
     let Did {
         moved,
         dropped,
@@ -50,6 +79,19 @@ fn main(rt: HostRuntime) -> ExitCode {
         ExitCode::from(0)
     } else {
         ExitCode::from(1)
+    }
+}
+
+// Says why nothing more is done.
+fn complain(rt: &HostRuntime, folder: &str, failure: Failure) {
+    match failure {
+        Failure::Unopened(unopened) => {
+            let unopened = UnopenedIn { folder, unopened };
+            let _ = writeln!(rt.stderr(), "bank: {unopened}");
+        }
+        Failure::Refused(fault) => {
+            let _ = writeln!(rt.stderr(), "bank: {fault}");
+        }
     }
 }
 
@@ -72,14 +114,14 @@ fn serve<R: rt::Files<File = File> + RandomSource + Threads + Wait + time::Clock
     alloc: Global,
     folder: &str,
     transfers: u32,
-) -> Result<Did, Fault> {
+) -> Result<Did, Failure> {
     let splits = Splits::new(alloc, &[key_of(ACCOUNTS / 2)?])?;
     let store = Store::open_folder(rt, alloc, folder, Options::new(splits, TELLERS + 1))?;
     let (did, disks) = store.serve(|clients: Vec<Client<'_, R>>| work(
         rt, alloc, clients, transfers,
     ))?;
     drop(disks);
-    did
+    Ok(did?)
 }
 
 // Opens the accounts, and lets the last client audit while the others move money.

@@ -14,7 +14,7 @@ use Rattle.session.specs.Sessions.{Client, IsClosing, Moved, Denies, Goes, unles
 use Rattle.session.specs.Shown.{IsDenied, is_made}
 use Rattle.client.specs.Ends.{IsRefused, halt_for}
 use Rattle.client.specs.declared.ended.Ended.{Ended}
-use Rattle.client.specs.Refusals.{IsStepFault, IsStepHalt, is_step_reason}
+use Rattle.client.specs.Refusals.{IsReadHalt, IsStepFault, is_step_reason}
 
 -- each of some reasons is one for which a session refuses a step
 abbrev AreReasons : List (Bool × Reason) → Type 0
@@ -71,11 +71,11 @@ not_closed splits c sent P (Err fault) (inl denied, given_up) = closes_denied sp
 not_closed splits c sent P (Err fault) (inr memory, given_up) = inl memory
 
 -- a step that is refused ends the code
-pub halts_for : (f : Fault) → IsStepFault f → IsStepHalt (halt_for f)
-halts_for f (inl memory) = subst (λ (g : Fault). IsStepHalt (halt_for g)) (sym memory) (inl refl)
-halts_for f (inr why) = subst (λ (g : Fault). IsStepHalt (halt_for g)) (sym why.1) (by_reason why.0 why.2)
+pub halts_for : (f : Fault) → IsStepFault f → IsReadHalt (halt_for f)
+halts_for f (inl memory) = subst (λ (g : Fault). IsReadHalt (halt_for g)) (sym memory) (inl refl)
+halts_for f (inr why) = subst (λ (g : Fault). IsReadHalt (halt_for g)) (sym why.1) (by_reason why.0 why.2)
   where
-    by_reason : (w : Reason) → IsTrue (is_step_reason w) → IsStepHalt (halt_for (BadRequest w))
+    by_reason : (w : Reason) → IsTrue (is_step_reason w) → IsReadHalt (halt_for (BadRequest w))
     by_reason reason.Doomed among = tt
     by_reason reason.Many among = inr (reason.Many, refl, among)
     by_reason reason.Nothing among = inr (reason.Nothing, refl, among)
@@ -91,5 +91,5 @@ halts_for f (inr why) = subst (λ (g : Fault). IsStepHalt (halt_for g)) (sym why
     by_reason (reason.Unlawful n) among = inr (reason.Unlawful n, refl, among)
 
 -- a key that may not be asked for ends the code
-pub reads_halted : (splits : List Bytes) (k : Bytes) (c : Client) (f : Fault) → IsDenied (reads splits k c) f → IsStepHalt (halt_for f)
+pub reads_halted : (splits : List Bytes) (k : Bytes) (c : Client) (f : Fault) → IsDenied (reads splits k c) f → IsReadHalt (halt_for f)
 reads_halted splits k c f is = halts_for f (reads_denied splits k c f is)

@@ -113,3 +113,4 @@ abbrev pub left : Halt → Result Ended Fault
 left halt.Again = Ok ended.Aborted
 left halt.Abandon = Ok ended.Aborted
 left (halt.Refused fault) = Err fault
+left (halt.Unserved shard fault) = Err fault

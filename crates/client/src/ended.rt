@@ -6,7 +6,7 @@ ghost use Rattle.client.specs.Ends.{ended_of, finish_of};
 
 use message::Done;
 use session::{Closed, Finished, Tx};
-use units::{Fault, Reason, Stamp, TxnId};
+use units::{Fault, Reason, ShardNo, Stamp, TxnId};
 
 /// How a transaction ended.
 #[derive(Clone, Copy, PartialEq, Eq)]
@@ -19,13 +19,14 @@ pub enum Ended {
     Unknown(TxnId),
 }
 
-/// Why the code of a transaction goes no further: the store wants the transaction run again, as a new one; its user wants it dropped; or a
-/// call was refused.
+/// Why the code of a transaction goes no further: the store wants the transaction run again, as a new one; its user wants it dropped; a
+/// call was refused; or a shard has refused a letter of the transaction, as one that has stopped or whose rows are full.
 #[derive(Clone, Copy, PartialEq, Eq)]
 pub enum Halt {
     Again,
     Abandon,
     Refused(Fault),
+    Unserved { shard: ShardNo, fault: Fault },
 }
 
 impl From<Fault> for Halt {

@@ -10,11 +10,12 @@ ghost use Rattle.client.specs.declared.ended.Ended.TheVariants.{Committed};
 use crate::ended::end_of;
 use crate::hearing::Hearing;
 use crate::{Ended, Halt, Wire};
-use message::Done;
+use letters::Refused;
+use message::{Address, Done};
 use session::{Closed, Closing, Ongoing, Open, Tx};
 use std::sync::Wait;
 use std::time;
-use units::{Fault, Reason};
+use units::{Fault, Reason, ShardNo};
 
 impl<'s, R: Wait + time::Clock> Wire<'_, 's, R> {
     /// Ends a transaction whose code has run: one that went to its end is closed, and any other is given up.
@@ -38,6 +39,10 @@ impl<'s, R: Wait + time::Clock> Wire<'_, 's, R> {
                 Ok(Ended::Aborted)
             }
             Err(Halt::Refused(fault)) => {
+                self.give_up(tx)?;
+                Err(fault)
+            }
+            Err(Halt::Unserved { shard: _, fault }) => {
                 self.give_up(tx)?;
                 Err(fault)
             }
@@ -115,7 +120,8 @@ impl<'s, R: Wait + time::Clock> Wire<'_, 's, R> {
         }
     }
 
-    // Waits for the end, and asks for it after each silence. There is none where it does not come.
+    // Waits for the end, and asks for it after each silence. There is none where it does not come, or a shard's refusal says that to wait
+    // on is in vain.
     fn await_end<S: Closed>(&mut self, tx: &Tx<'s, S>) -> Option<Done>
         ensures sent { (n : ℕ) × (self.new.sent ≡
             self.old.sent ++ times n (closing_messages tx.now.splits tx.now.client)) }
@@ -130,11 +136,38 @@ impl<'s, R: Wait + time::Clock> Wire<'_, 's, R> {
                     }
                 }
                 Hearing::Silence => self.ask_again(tx),
+                Hearing::Refused(refused) => {
+                    if self.is_in_vain(tx, &refused) {
+                        return None;
+                    }
+                }
                 Hearing::Enough => return None,
                 Hearing::Heard(message) => drop(message),
             }
         }
         unreachable!()
+    }
+
+    // Whether it is in vain to wait on, since a shard has refused a letter of the transaction. Once it was asked for behind giving up, only
+    // where that is the shard which decides, and it has stopped: what another one refuses does not keep that one from telling the end.
+    fn is_in_vain<S: Closed>(&self, tx: &Tx<'s, S>, refused: &Refused) -> bool {
+        if !tx.txn().is(refused.txn) {
+            return false;
+        }
+        S::is_closing() || refused.fault == Fault::Stopped && self.decides(tx, refused.shard)
+    }
+
+    // Whether the shard decides: the closing goes to it first.
+    fn decides<S: Closed>(&self, tx: &Tx<'s, S>, shard: ShardNo) -> bool {
+        let Ok(outbox) = tx.again(self.alloc) else {
+            return false;
+        };
+        let decides = match outbox.as_slice().first() {
+            Some(envelope) => matches!(envelope.to, Address::Shard(first) if first == shard),
+            None => false,
+        };
+        drop(outbox);
+        decides
     }
 
     // Sends the messages of the closing once more, where there is memory.

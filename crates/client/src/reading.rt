@@ -5,10 +5,11 @@ ghost use Rattle.units.specs.Lists.{first};
 ghost use Rattle.message.specs.Ends.{End};
 ghost use Rattle.message.specs.declared.message.Envelope.{Envelope};
 ghost use Rattle.client.specs.Readings.{AreReads, HasRead, SeenStays, is_read, seen};
-ghost use Rattle.client.specs.Refusals.{IsStepFault, IsStepHalt};
+ghost use Rattle.client.specs.Refusals.{IsReadHalt, IsStepFault, unserved};
 
 use crate::hearing::Hearing;
 use crate::{Halt, Wire};
+use letters::Refused;
 use message::{Address, Envelope, Message, Read, ReadAnswer};
 use session::{Answered, Heard, Open, Tx};
 use std::alloc::Global;
@@ -26,7 +27,7 @@ impl<'s, R: Wait + time::Clock> Wire<'_, 's, R> {
         ensures splits { tx.new.splits ≡ tx.old.splits }
         ensures txn { tx.new.client.txn ≡ tx.old.client.txn }
         ensures read { HasRead tx.old.splits tx.old.client tx.new.client }
-        ensures refused { IfErr result IsStepHalt }
+        ensures refused { IfErr result IsReadHalt }
         ensures value { IfOk result (λ value. seen tx.new.client key.now ≡ Some value) }
     {
         ask(tx, key)?;
@@ -47,7 +48,7 @@ impl<'s, R: Wait + time::Clock> Wire<'_, 's, R> {
         ensures splits { tx.new.splits ≡ tx.old.splits }
         ensures txn { tx.new.client.txn ≡ tx.old.client.txn }
         ensures read { HasRead tx.old.splits tx.old.client tx.new.client }
-        ensures refused { IfErr result IsStepHalt }
+        ensures refused { IfErr result IsReadHalt }
         ensures values { IfOk result
             (λ values. map Some values.items ≡ map (seen tx.new.client) keys.now) }
     {
@@ -63,7 +64,7 @@ impl<'s, R: Wait + time::Clock> Wire<'_, 's, R> {
         ensures splits { tx.new.splits ≡ tx.old.splits }
         ensures txn { tx.new.client.txn ≡ tx.old.client.txn }
         ensures read { HasRead tx.old.splits tx.old.client tx.new.client }
-        ensures refused { IfErr result IsStepHalt }
+        ensures refused { IfErr result IsReadHalt }
     {
         for key in keys {
             ask(tx, key)?;
@@ -79,7 +80,7 @@ impl<'s, R: Wait + time::Clock> Wire<'_, 's, R> {
         ensures splits { tx.new.splits ≡ tx.old.splits }
         ensures txn { tx.new.client.txn ≡ tx.old.client.txn }
         ensures read { HasRead tx.old.splits tx.old.client tx.new.client }
-        ensures refused { IfErr result IsStepHalt }
+        ensures refused { IfErr result IsReadHalt }
     {
         if tx.awaited().is_empty() {
             return Ok(());
@@ -97,7 +98,7 @@ impl<'s, R: Wait + time::Clock> Wire<'_, 's, R> {
         unreachable!()
     }
 
-    // Hears one message, or nothing for a while.
+    // Hears one message, or that a letter was refused, or nothing for a while.
     fn await_one(&mut self, tx: &mut Tx<'s, Open>) -> Result<(), Halt>
         ensures sent { (sent : List Envelope) × (self.new.sent ≡ self.old.sent ++ sent)
             × AreReads tx.old.client.txn sent }
@@ -105,7 +106,7 @@ impl<'s, R: Wait + time::Clock> Wire<'_, 's, R> {
         ensures splits { tx.new.splits ≡ tx.old.splits }
         ensures txn { tx.new.client.txn ≡ tx.old.client.txn }
         ensures read { HasRead tx.old.splits tx.old.client tx.new.client }
-        ensures refused { IfErr result IsStepHalt }
+        ensures refused { IfErr result IsReadHalt }
     {
         match self.hear() {
             Hearing::Heard(message) => {
@@ -120,6 +121,7 @@ impl<'s, R: Wait + time::Clock> Wire<'_, 's, R> {
                 self.send_awaited(tx);
                 Ok(())
             }
+            Hearing::Refused(refused) => unserved(tx, &refused),
             Hearing::Enough => Err(Halt::Again),
             Hearing::End(_) => Ok(()),
         }
@@ -134,7 +136,7 @@ impl<'s, R: Wait + time::Clock> Wire<'_, 's, R> {
         ensures splits { tx.new.splits ≡ tx.old.splits }
         ensures txn { tx.new.client.txn ≡ tx.old.client.txn }
         ensures read { HasRead tx.old.splits tx.old.client tx.new.client }
-        ensures refused { IfErr result IsStepHalt }
+        ensures refused { IfErr result IsReadHalt }
     {
         match tx.answered(answer) {
             Ok(Heard::Value(value)) => drop(value),
@@ -142,9 +144,7 @@ impl<'s, R: Wait + time::Clock> Wire<'_, 's, R> {
             Ok(Heard::Doomed) => return Err(Halt::Again),
             Err(fault) => return Err(Halt::Refused(fault)),
         }
-        if self.inbox.is_empty() {
-            self.send_awaited_of(tx, answer.from);
-        }
+        self.send_awaited_of(tx, answer.from);
         Ok(())
     }
 
@@ -159,12 +159,15 @@ impl<'s, R: Wait + time::Clock> Wire<'_, 's, R> {
         }
     }
 
-    // Sends each read of a shard whose answer is awaited.
+    // Sends each read of a shard whose answer is awaited, where nothing else has come.
     fn send_awaited_of(&mut self, tx: &Tx<'s, Open>, shard: ShardNo)
         ensures sent { (sent : List Envelope) × (self.new.sent ≡ self.old.sent ++ sent)
             × AreReads tx.now.client.txn sent }
         ensures heard { self.new.heard ≡ self.old.heard }
     {
+        if !self.inbox.is_empty() {
+            return;
+        }
         for key in tx.awaited() {
             self.send_at(tx, key, shard);
         }
@@ -187,6 +190,20 @@ pub fn seen_stays()
     ensures { SeenStays }
 {}
 
+// What it comes to that a letter was refused: the code of its transaction goes no further. It may be that of an earlier transaction.
+fn unserved(tx: &Tx<'_, Open>, refused: &Refused) -> Result<(), Halt>
+    ensures { result ≡ unserved tx.now.client.txn refused.now }
+{
+    if tx.txn().is(refused.txn) {
+        Err(Halt::Unserved {
+            shard: refused.shard,
+            fault: refused.fault,
+        })
+    } else {
+        Ok(())
+    }
+}
+
 // The message that asks for a key.
 fn read_of(tx: &Tx<'_, Open>, key: &Key) -> Envelope
     ensures { is_read tx.now.client.txn result ≡ true }
@@ -206,7 +223,7 @@ fn ask(tx: &mut Tx<'_, Open>, key: &Key) -> Result<(), Halt>
     ensures splits { tx.new.splits ≡ tx.old.splits }
     ensures txn { tx.new.client.txn ≡ tx.old.client.txn }
     ensures read { HasRead tx.old.splits tx.old.client tx.new.client }
-    ensures refused { IfErr result IsStepHalt }
+    ensures refused { IfErr result IsReadHalt }
 {
     if is_known(tx, key) {
         return Ok(());

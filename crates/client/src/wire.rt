@@ -8,7 +8,7 @@ use crate::Stop;
 use crate::hearing::Hearing;
 use crossbeam_channel::Receiver;
 use growing::Growing;
-use letters::Network;
+use letters::{Network, Reply};
 use message::{Done, Envelope, Message, Outbox};
 use session::{Open, Tx};
 use std::alloc::Global;
@@ -27,7 +27,7 @@ pub struct Wire<'r, 's, R> {
     pub(crate) alloc: Global,
     pub(crate) network: &'s Network,
     pub(crate) stop: &'s Stop,
-    pub(crate) inbox: Receiver<Message>,
+    pub(crate) inbox: Receiver<Reply>,
     number: usize,
     patience: u32,
     silences: u32,
@@ -54,7 +54,7 @@ impl<'r, 's, R> Wire<'r, 's, R> {
         alloc: Global,
         network: &'s Network,
         stop: &'s Stop,
-        inbox: Receiver<Message>,
+        inbox: Receiver<Reply>,
         number: usize,
         patience: u32,
     ) -> Wire<'r, 's, R>
@@ -149,7 +149,7 @@ impl<'s, R: Wait + time::Clock> Wire<'_, 's, R> {
         Ok(tx)
     }
 
-    // Waits for a message.
+    // Waits for a message, or the word that a letter was refused.
     pub(crate) fn hear(&mut self) -> Hearing
         ensures sent { self.new.sent ≡ self.old.sent }
         ensures heard { self.new.heard ≡ self.old.heard ++ end_heard result }
@@ -157,7 +157,8 @@ impl<'s, R: Wait + time::Clock> Wire<'_, 's, R> {
         let stops = self.stop.is_told();
         let pause = Duration::from_millis(if stops { 0 } else { PAUSE });
         match self.inbox.recv_timeout(self.rt, pause) {
-            Ok(message) => self.sort(message),
+            Ok(Reply::Carry(message)) => self.sort(message),
+            Ok(Reply::Refused(refused)) => Hearing::Refused(refused),
             Err(_) => self.silence(stops),
         }
     }

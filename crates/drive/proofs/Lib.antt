@@ -1,2 +1,3 @@
+mod Openings
 mod Outcomes
 pub mod Refusals

@@ -1,2 +1,4 @@
+pub mod Openings
 pub mod Setups
 pub mod Told
+pub mod Unopened

@@ -11,6 +11,8 @@ ghost use Rattle.workers.specs.Summaries.{tried};
 ghost use Rattle.inspection.specs.Judged.{IsJudged};
 
 use crate::opening::{Closes, Opened, open_shards, run_of};
+use crate::steady::SteadyClock;
+use crate::unopened::Unopened;
 use crate::watched::Watched;
 use crossbeam_channel::Receiver;
 use disk::Disk;
@@ -20,6 +22,7 @@ use progress::Watch;
 use settings::Settings;
 use std::alloc::Global;
 use std::sync::Wait;
+use std::sync::atomic::AtomicU64;
 use std::thread::Threads;
 use std::{thread, time};
 use truetime::Clock;
@@ -41,6 +44,20 @@ pub struct Driven<D> {
 pub struct NoVerdict {
     pub fault: Fault,
     pub counts: Option<Counts>,
+}
+
+impl From<Unopened> for NoVerdict {
+    ghost use Rattle.std.specs.Prelude.{◌≡◌};
+    ghost use Rattle.drive.specs.Told.{refused_for};
+
+    ghost from_gives = { λ unopened none. none ≡ refused_for unopened.fault };
+
+    fn from(unopened: Unopened) -> NoVerdict {
+        NoVerdict {
+            fault: unopened.fault,
+            counts: None,
+        }
+    }
 }
 
 impl From<Fault> for NoVerdict {
@@ -108,7 +125,8 @@ pub fn clock_of<'r, R>(rt: &'r R, settings: &Settings) -> MachineClock<'r, R>
     }
 }
 
-/// The same by a clock, of which each node and each worker has a copy.
+/// The same by a clock, of which each node and each worker has a copy; its readings do not go back, and end no earlier than the greatest
+/// timestamp of the logs.
 pub fn drive_by<
     R: Threads + Wait + time::Clock + Sync,
     D: Disk + Drop + Send,
@@ -150,7 +168,7 @@ pub fn drive_by<
     }
 }
 
-/// The same by a clock, of which each node and each worker has a copy. Where there is no verdict, the counts are told all the same.
+/// The same by a clock, of which each node and each worker has a copy, as `drive_by` says. Where there is no verdict, the counts are told all the same.
 pub fn drive_counted<
     R: Threads + Wait + time::Clock + Sync,
     D: Disk + Drop + Send,
@@ -237,8 +255,15 @@ fn drive_nodes<
         nodes,
         viewers,
         epoch,
+        last,
     } = opened;
     let ids = run_of(epoch);
+    let reached = AtomicU64::new(last.micros());
+    let clock = SteadyClock {
+        clock,
+        from: last,
+        reached: &reached,
+    };
     match run(
         rt, alloc, settings, course, ids, &nodes, viewers, clock, gate, watch,
     ) {

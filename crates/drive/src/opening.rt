@@ -1,8 +1,11 @@
 //! The nodes of a drive.
-ghost use Rattle.std.specs.Prelude.{◌≡◌, ◌≢◌, ◌⊎◌, ◌≤◌, ◌+◌, ◌<◌, ℕ, length, slice_index_or, All, Err, IfErr, IfOk, IsOk, OnOk};
+ghost use Rattle.std.specs.Prelude.{◌≡◌, ◌≢◌, ◌⊎◌, ◌≤◌, ◌+◌, ◌<◌, length, map, max, Err, Some, IfErr, IfOk, IsOk, OnOk};
+ghost use Rattle.drive.specs.Openings.{AreSetups, IsCauseOf, IsEarly, IsFirstOf, IsOpenedOver, epoch_in, last_in};
 ghost use Rattle.drive.specs.Setups.{IsSetupOf};
-ghost use Rattle.drive.specs.Told.{IsUnmade, IsUnopened};
+ghost use Rattle.drive.specs.Told.{IsUnmade};
+ghost use Rattle.drive.specs.Unopened.{IsFirst, IsLastIn, IsRunOver, unopened_for};
 
+use crate::unopened::Unopened;
 use board::Viewer;
 use disk::Disk;
 use node::{Node, open_all};
@@ -11,7 +14,7 @@ use shard::Core;
 use std::alloc::Global;
 use std::sync::Wait;
 use std::thread::Threads;
-use units::{Book, Epoch, Fault, Reason, Run, Setup, ShardNo};
+use units::{Book, Epoch, Fault, Reason, Run, Setup, ShardNo, Stamp};
 use workers::Viewers;
 
 /// What a drive asks of nodes besides being served: each gives its disk back.
@@ -26,24 +29,29 @@ impl<D: Disk + Drop, H: Wait + Drop> Closes<D> for Node<D, H> {
     }
 }
 
-/// Nodes over opened disks, by shard; the viewers of each worker, by shard; and the greatest epoch, which is the run of all ids.
+/// Nodes over opened disks, by shard; the viewers of each worker, by shard; the greatest epoch, which is the run of all ids; and the greatest
+/// timestamp of the logs.
 #[derive(Drop)]
 pub struct Opened<N> {
     pub nodes: Vec<N>,
     pub viewers: Viewers,
     pub epoch: Epoch,
+    pub last: Stamp,
 }
 
 impl<N: Drop> Opened<N> {
-    // One node more, of an opening of this epoch. Its viewers are dealt out.
-    fn add(&mut self, node: N, viewers: Vec<Viewer>, epoch: Epoch) -> Result<(), Fault>
+    // One node more, of an opening of this epoch, behind a log with this greatest timestamp. Its viewers are dealt out.
+    fn add(&mut self, node: N, viewers: Vec<Viewer>, epoch: Epoch, last: Stamp) -> Result<(), Fault>
         ensures viewers { length self.new.viewers.by_worker.items
             ≡ length self.old.viewers.by_worker.items }
         ensures nodes { OnOk result
             (length self.new.nodes.items ≡ length self.old.nodes.items + 1) }
-        ensures unopened { IfErr result IsUnopened }
+        ensures epoch { self.new.epoch ≡ max self.old.epoch epoch }
+        ensures last { self.new.last ≡ max self.old.last last }
+        ensures memory { IfErr result (λ fault. fault ≡ Fault.Memory) }
     {
         self.epoch = later(self.epoch, epoch);
+        self.last = self.last.later(last);
         self.nodes.push(node)?;
         self.viewers.deal(viewers)?;
         Ok(())
@@ -58,25 +66,32 @@ pub fn open_shards<'r, R: Threads + Wait + Sync, D: Disk + Drop + Send>(
     settings: &Settings,
     disks: Vec<D>,
     workers: usize,
-) -> Result<Opened<Node<D, &'r R>>, Fault>
+) -> Result<Opened<Node<D, &'r R>>, Unopened>
     ensures viewers { IfOk result (λ opened.
         length opened.viewers.by_worker.items ≡ workers) }
     ensures nodes { IfOk result (λ opened. length opened.nodes.items ≡ length disks.items) }
+    ensures run { IfOk result (λ opened.
+        IsRunOver D.keeps_model D.file disks.items opened.epoch) }
+    ensures last { IfOk result (λ opened.
+        IsLastIn D.keeps_model D.file disks.items opened.last) }
     ensures shards { IsOk result → length disks.items ≡ length settings.now.splits + 1 }
     ensures refused { length disks.items ≢ length settings.now.splits + 1
-        → result ≡ Err (Fault.BadRequest Reason.Settings) }
-    ensures unmade { 0 < workers → workers ≤ 64 → IfErr result IsUnmade }
+        → result ≡ Err (unopened_for (Fault.BadRequest Reason.Settings)) }
+    ensures unmade { 0 < workers → workers ≤ 64
+        → IfErr result (λ unopened. IsUnmade unopened.fault) }
+    ensures first { 0 < workers → workers ≤ 64 → IfErr result
+        (IsFirst D.keeps_model D.file settings.now.splits settings.now.stride disks.items) }
 {
     if disks.len() != settings.splits.as_slice().len() + 1 {
         drop(disks);
-        return Err(Fault::BadRequest(Reason::Settings));
+        return Err(Unopened::from(Fault::BadRequest(Reason::Settings)));
     }
     let told = told(alloc, settings, disks)?;
     let viewers = match Viewers::none(alloc, workers) {
         Ok(viewers) => viewers,
         Err(fault) => {
             drop(told);
-            return Err(fault);
+            return Err(Unopened::from(fault));
         }
     };
     match open_all(rt, alloc, told) {
@@ -84,7 +99,7 @@ pub fn open_shards<'r, R: Threads + Wait + Sync, D: Disk + Drop + Send>(
         Err((fault, disks)) => {
             drop(disks);
             drop(viewers);
-            Err(fault)
+            Err(Unopened::from(fault))
         }
     }
 }
@@ -95,10 +110,11 @@ fn told<D: Drop>(
     settings: &Settings,
     disks: Vec<D>,
 ) -> Result<Vec<(D, Setup)>, Fault>
-    ensures disks { IfOk result (λ told. length told.items ≡ length disks.items) }
-    ensures setups { IfOk result (λ told. (number : ℕ) (d : _) → number < length told.items
-        → IsSetupOf settings.now number (slice_index_or told.items number d).1) }
-    ensures unmade { IfErr result IsUnmade }
+    ensures disks { IfOk result (λ told. map (λ one. one.0) told.items ≡ disks.items) }
+    ensures setups { IfOk result
+        (λ told. AreSetups settings.now.splits settings.now.stride 0 told.items) }
+    ensures few { IfOk result (λ told. length told.items ≤ 16) }
+    ensures unmade { IfErr result IsEarly }
 {
     let mut told = Vec::new(alloc);
     for disk in disks {
@@ -110,35 +126,49 @@ fn told<D: Drop>(
 
 // The nodes over what the openings of some disks came to, in their order. The first that is refused counts; the cores that are left
 // are stopped then.
-#[tactic(auto, using(crate::proofs::Refusals::of_first, crate::proofs::Refusals::of_rest))]
 fn nodes_over<D: Disk + Drop, H: Wait + Copy>(
     rt: H,
     alloc: Global,
     cores: Vec<Result<Core<D>, (Fault, D)>>,
     viewers: Viewers,
-) -> Result<Opened<Node<D, H>>, Fault>
-    ensures viewers { IfOk result (λ opened. length opened.viewers.by_worker.items
-        ≡ length viewers.by_worker.items) }
-    ensures nodes { IfOk result (λ opened. length opened.nodes.items ≡ length cores.items) }
-    ensures unopened { All (λ core. IfErr core (λ refused. IsUnopened refused.0)) cores.items
-        → 0 < length viewers.by_worker.items → length viewers.by_worker.items ≤ 64
-        → IfErr result IsUnopened }
+) -> Result<Opened<Node<D, H>>, Unopened>
+    requires { length cores.items ≤ 16 }
+    ensures viewers { IfOk result (λ opened.
+        length opened.viewers.by_worker.items ≡ length viewers.by_worker.items) }
+    ensures opened { IfOk result (λ opened.
+        IsOpenedOver cores.items (length opened.nodes.items) opened.epoch opened.last) }
+    ensures first { 0 < length viewers.by_worker.items
+        → length viewers.by_worker.items ≤ 64
+        → IfErr result (IsFirstOf cores.items) }
 {
     let mut cores = cores;
     let mut opened = Opened {
         nodes: Vec::new(alloc),
         viewers,
         epoch: Epoch::first(),
+        last: Stamp::zero(),
     };
     while !cores.is_empty() {
+        let shard = shard_at(opened.nodes.len());
         if let Err(fault) = add_node(&mut opened, rt, alloc, cores.remove(0)) {
             drop(opened);
             stop_all(cores);
-            return Err(fault);
+            return Err(Unopened { shard, fault });
         }
     }
     cores.destroy_empty();
     Ok(opened)
+}
+
+// The shard of a number, where there may be one.
+fn shard_at(number: usize) -> Option<ShardNo>
+    ensures { number < 16 → result ≡ Some number }
+{
+    if number < 16 {
+        ShardNo::new(number as u8)
+    } else {
+        None
+    }
 }
 
 // The next node, over what the opening of its disk came to.
@@ -153,9 +183,12 @@ fn add_node<D: Disk + Drop, H: Wait + Copy>(
         ≡ length opened.old.viewers.by_worker.items }
     ensures nodes { OnOk result
         (length opened.new.nodes.items ≡ length opened.old.nodes.items + 1) }
-    ensures unopened { IfErr core (λ refused. IsUnopened refused.0)
-        → 0 < length opened.old.viewers.by_worker.items
-        → length opened.old.viewers.by_worker.items ≤ 64 → IfErr result IsUnopened }
+    ensures core { IsOk result → IsOk core }
+    ensures epoch { IsOk result → opened.new.epoch ≡ max opened.old.epoch (epoch_in core) }
+    ensures last { IsOk result → opened.new.last ≡ max opened.old.last (last_in core) }
+    ensures refused { 0 < length opened.old.viewers.by_worker.items
+        → length opened.old.viewers.by_worker.items ≤ 64
+        → IfErr result (IsCauseOf core) }
 {
     let core = match core {
         Ok(core) => core,
@@ -165,8 +198,9 @@ fn add_node<D: Disk + Drop, H: Wait + Copy>(
         }
     };
     let epoch = core.epoch();
+    let last = core.last();
     match Node::new(rt, alloc, core, opened.viewers.by_worker.len()) {
-        Ok((node, viewers)) => opened.add(node, viewers, epoch),
+        Ok((node, viewers)) => opened.add(node, viewers, epoch, last),
         Err((fault, core)) => {
             drop(core.stop());
             Err(fault)
@@ -189,10 +223,10 @@ fn stop_all<D: Disk + Drop>(cores: Vec<Result<Core<D>, (Fault, D)>>) {
 
 // What the shard of this number is told.
 fn setup_of(alloc: Global, settings: &Settings, number: usize) -> Result<Setup, Fault>
-    ensures setup { IfOk result (IsSetupOf settings.now number) }
+    ensures setup { IfOk result (IsSetupOf settings.now.splits settings.now.stride number) }
+    ensures few { IsOk result → number < 16 }
     ensures refused { IfErr result (λ fault. (fault ≡ Fault.Memory)
         ⊎ ((fault ≡ Fault.BadRequest Reason.Settings) × (16 ≤ number))) }
-    ensures unmade { IfErr result IsUnmade }
 {
     if number >= 16 {
         return Err(Fault::BadRequest(Reason::Settings));
@@ -213,6 +247,7 @@ fn later(epoch: Epoch, other: Epoch) -> Epoch
     ensures first { epoch ≤ result }
     ensures second { other ≤ result }
     ensures one { (result ≡ epoch) ⊎ (result ≡ other) }
+    ensures greatest { result ≡ max epoch other }
 {
     if epoch.number() < other.number() {
         other

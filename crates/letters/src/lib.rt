@@ -13,7 +13,7 @@ mod sessions;
 mod threads;
 
 pub use gate::Gate;
-pub use letter::{Letter, Post};
+pub use letter::{Letter, Post, Refused, Reply};
 pub use network::{Inboxes, Mail, Network};
 pub use serves::{Due, Serves, serve};
 pub use threads::{Served, start, start_in};

@@ -2,10 +2,10 @@
 ghost use Rattle.std.specs.Prelude.{◌≡◌, [], length, IfOk, IfErr, OnOk};
 
 use crate::bell::Bell;
-use crate::letter::{Letter, Post};
+use crate::letter::{Letter, Post, Refused, Reply};
 use crate::sessions::Sessions;
 use crossbeam_channel::{Receiver, Sender, unbounded};
-use message::{Address, Envelope, Message};
+use message::{Address, Envelope};
 use std::alloc::Global;
 use std::sync::{Mutex, Wait};
 use std::time::Duration;
@@ -17,7 +17,7 @@ use units::{Fault, ShardNo, Stamp, TxnId};
 pub struct Network {
     nodes: Vec<Sender<Letter>>,
     bells: Vec<Bell>,
-    workers: Vec<Sender<Message>>,
+    workers: Vec<Sender<Reply>>,
     sessions: Mutex<Sessions>,
 }
 
@@ -36,7 +36,7 @@ impl Drop for Network {
 #[derive(Drop)]
 pub struct Inboxes {
     pub nodes: Vec<Receiver<Letter>>,
-    pub workers: Vec<Receiver<Message>>,
+    pub workers: Vec<Receiver<Reply>>,
 }
 
 impl Network {
@@ -84,14 +84,21 @@ impl Network {
                 None => drop(message),
             },
             Address::Session(txn) => match self.inbox_of(rt, txn) {
-                Some(inbox) => drop(inbox.send(rt, message)),
+                Some(inbox) => drop(inbox.send(rt, Reply::Carry(message))),
                 None => drop(message),
             },
         }
     }
 
+    /// Tells the worker that runs the transaction that a letter of it was refused.
+    pub fn refuse<R: Wait>(&self, rt: &R, refused: Refused) {
+        if let Some(inbox) = self.inbox_of(rt, refused.txn) {
+            drop(inbox.send(rt, Reply::Refused(refused)));
+        }
+    }
+
     // The inbox of the worker that runs the transaction.
-    fn inbox_of<R: Wait>(&self, rt: &R, txn: TxnId) -> Option<&Sender<Message>> {
+    fn inbox_of<R: Wait>(&self, rt: &R, txn: TxnId) -> Option<&Sender<Reply>> {
         let worker = self.sessions.lock(rt).worker_of(txn);
         match worker {
             Some(worker) => self.workers.get(worker),
@@ -209,6 +216,10 @@ pub struct Mail<'r, 's, R> {
 impl<R: Wait> Post for Mail<'_, '_, R> {
     fn post(&mut self, envelope: Envelope) {
         self.network.send(self.rt, envelope);
+    }
+
+    fn refuse(&mut self, refused: Refused) {
+        self.network.refuse(self.rt, refused);
     }
 
     fn is_looked_for(&self, shard: ShardNo) -> bool {

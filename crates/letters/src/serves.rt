@@ -11,7 +11,7 @@ use std::sync::Wait;
 use std::time;
 use std::time::Duration;
 use truetime::Clock;
-use units::{ShardNo, Stamp, TxnId};
+use units::{Fault, ShardNo, Stamp, TxnId};
 
 /// The standing of transactions that wait for a node's chores: decided and not settled, or prepared.
 #[derive(Clone, Copy)]
@@ -25,8 +25,14 @@ pub trait Serves {
     /// The shard's number.
     fn shard(&self) -> ShardNo;
 
-    /// Takes an input at a reading that is taken under the lock. What it puts out, where it was taken.
-    fn take<W: Wait, C: Clock>(&self, rt: &W, clock: &mut C, input: &Input) -> Option<Outbox>;
+    /// Takes an input at a reading that is taken under the lock. What it puts out, or why it was refused; where the clock has no reading, as
+    /// `TimeSpent`.
+    fn take<W: Wait, C: Clock>(
+        &self,
+        rt: &W,
+        clock: &mut C,
+        input: &Input,
+    ) -> Result<Outbox, Fault>;
 
     /// Whether there is a wait that can be granted.
     fn is_ready<W: Wait>(&self, rt: &W) -> bool;
@@ -57,7 +63,7 @@ const LETTERS_IN_A_ROW: u64 = 64;
 const READS_AT_MOST: usize = 1_024;
 
 /// Serves the letters of the inbox until one says to close, or the inbox is closed. Whenever none is there the node does its
-/// chores, and then waits for a letter until more are due. No stream of letters keeps it from them for more than 64
+/// chores, and then waits for a letter until more are due. Where it refuses the letter of a session, the post is told. No stream of letters keeps it from them for more than 64
 /// letters or, but for one letter, a millisecond. Behind its chores the gate is told where the node has stopped. Reads are taken behind the
 /// letters that came beside them, 64 at most.
 pub fn serve<N: Serves, W: Wait + time::Clock, P: Post, C: Clock, G: Gate>(

@@ -8,17 +8,24 @@ use std::alloc::Global;
 use std::sync::Wait;
 use std::time;
 use truetime::Clock;
-use units::{ShardNo, Stamp, TxnId};
+use units::{Fault, ShardNo, Stamp, TxnId};
 
 impl<D: Disk + Drop, R: Wait + Drop> Serves for Node<D, R> {
     fn shard(&self) -> ShardNo {
         self.shard
     }
 
-    fn take<W: Wait, C: Clock>(&self, rt: &W, clock: &mut C, input: &Input) -> Option<Outbox> {
+    fn take<W: Wait, C: Clock>(
+        &self,
+        rt: &W,
+        clock: &mut C,
+        input: &Input,
+    ) -> Result<Outbox, Fault> {
         let mut held = self.held.lock(rt);
-        let now = clock.now()?;
-        held.deliver(&now, input).ok()
+        match clock.now() {
+            Some(now) => held.deliver(&now, input),
+            None => Err(Fault::TimeSpent),
+        }
     }
 
     fn is_ready<W: Wait>(&self, rt: &W) -> bool {

@@ -1,3 +1,4 @@
 pub mod Attempts
+pub mod Standing
 pub mod Views
 pub mod Writing

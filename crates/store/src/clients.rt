@@ -5,12 +5,12 @@ ghost use Rattle.message.specs.declared.message.Envelope.{Envelope};
 ghost use Rattle.store.specs.Attempts.{Attempt, CannotBegin, ComesTo, Ends, HasTried, IsAtWork, beginning, drew, kept, runs_again};
 
 use crate::shared::Shared;
-use crate::steady::SteadyClock;
+use crate::steady::StoreClock;
 use crate::{Ended, Halt, Transaction, View};
 use board::{Snapshot, Viewer};
 use client::{Wire, Wires};
 use crossbeam_channel::Receiver;
-use message::Message;
+use letters::Reply;
 use std::marker::Model;
 use std::sync::Wait;
 use std::time;
@@ -24,12 +24,12 @@ use units::{Fault, ShardNo};
 pub struct Client<'s, R> {
     pub(crate) rt: &'s R,
     pub(crate) shared: &'s Shared,
-    pub(crate) inbox: Receiver<Message>,
+    pub(crate) inbox: Receiver<Reply>,
     pub(crate) number: usize,
     pub(crate) drawer: Drawer,
     pub(crate) past: Wires<'s, 's, R>,
     pub(crate) viewers: Vec<Viewer>,
-    pub(crate) clock: SteadyClock<'s, R>,
+    pub(crate) clock: StoreClock<'s, R>,
     pub(crate) patience: u32,
 }
 

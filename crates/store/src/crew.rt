@@ -4,10 +4,10 @@ ghost use Rattle.store.specs.Attempts.{IsFresh};
 
 use crate::clients::Client;
 use crate::shared::Shared;
-use crate::steady::SteadyClock;
+use crate::steady::StoreClock;
 use client::Wires;
 use crossbeam_channel::Receiver;
-use message::Message;
+use letters::Reply;
 use tickets::Drawer;
 use units::Fault;
 use workers::Viewers;
@@ -15,7 +15,7 @@ use workers::Viewers;
 /// What clients are made of, one of each for each client: inboxes by the clients' numbers, drawers, and viewers of each shard.
 #[derive(Drop)]
 pub struct Crew {
-    pub inboxes: Vec<Receiver<Message>>,
+    pub inboxes: Vec<Receiver<Reply>>,
     pub drawers: Vec<Drawer>,
     pub viewers: Viewers,
 }
@@ -26,7 +26,7 @@ impl Crew {
         &mut self,
         rt: &'s R,
         shared: &'s Shared,
-        clock: SteadyClock<'s, R>,
+        clock: StoreClock<'s, R>,
         patience: u32,
     ) -> Option<Client<'s, R>>
         requires { All (λ drawer. drawer.source ≡ shared.now.ids) self.old.drawers.items }
@@ -59,7 +59,7 @@ pub fn clients_of<'s, R>(
     rt: &'s R,
     shared: &'s Shared,
     crew: Crew,
-    clock: SteadyClock<'s, R>,
+    clock: StoreClock<'s, R>,
     patience: u32,
 ) -> Result<Vec<Client<'s, R>>, Fault>
     requires { All (λ drawer. drawer.source ≡ shared.now.ids) crew.drawers.items }

@@ -1,4 +1,6 @@
 //! How a store is parted and served.
+ghost use Rattle.std.specs.Prelude.{◌≡◌, ◌⊎◌, ◌<◌, ◌≤◌, Err, IfErr, IfOk, IsOk};
+
 use settings::Settings;
 use std::alloc::Global;
 use units::{Fault, Reason, Splits, Stride};
@@ -51,7 +53,17 @@ impl Options {
     }
 
     // What its shards and clients are opened by. Options beyond their limits are refused as `settings`.
-    pub(crate) fn settings(&self, alloc: Global) -> Result<Settings, Fault> {
+    pub(crate) fn settings(&self, alloc: Global) -> Result<Settings, Fault>
+        ensures splits { IfOk result (λ settings. settings.splits ≡ self.now.splits) }
+        ensures stride { IfOk result (λ settings. settings.stride ≡ self.now.stride) }
+        ensures clients { IfOk result (λ settings. settings.workers ≡ self.now.clients) }
+        ensures few { IsOk result → (0 < self.now.clients) × (self.now.clients ≤ 64) }
+        ensures limits { (1000000 < self.now.epsilon)
+            ⊎ ((self.now.clients ≡ 0) ⊎ (64 < self.now.clients))
+            → result ≡ Err (Fault.BadRequest Reason.Settings) }
+        ensures refused { IfErr result
+            (λ fault. (fault ≡ Fault.BadRequest Reason.Settings) ⊎ (fault ≡ Fault.Memory)) }
+    {
         if self.epsilon > 1_000_000 || self.clients == 0 || self.clients > 64 {
             return Err(Fault::BadRequest(Reason::Settings));
         }

@@ -6,7 +6,7 @@ use crate::Options;
 use crate::clients::Client;
 use crate::crew::{Crew, clients_of};
 use crate::shared::{Shared, Stopped};
-use crate::steady::SteadyClock;
+use crate::steady::StoreClock;
 use board::Viewer;
 use client::Stop;
 use crossbeam_channel::Receiver;
@@ -19,7 +19,7 @@ use std::thread::Threads;
 use std::{thread, time};
 use tickets::Tickets;
 use truetime::Clock;
-use units::{Epoch, Fault};
+use units::{Epoch, Fault, Stamp};
 use workers::{MachineClock, Viewers};
 
 /// Serves nodes of any kind, each on a thread, while `work` goes on with its clients.
@@ -33,6 +33,7 @@ pub fn serve_nodes<
     alloc: Global,
     options: &Options,
     epoch: Epoch,
+    last: Stamp,
     nodes: &[N],
     viewers: Viewers,
     work: F,
@@ -41,14 +42,15 @@ pub fn serve_nodes<
 {
     let made = shared_of(alloc, options, epoch, nodes.len(), viewers);
     let (shared, to_nodes, crew) = made?;
-    let latest = AtomicU64::new(0);
+    let reached = AtomicU64::new(last.micros());
     let machine = MachineClock {
         rt,
         epsilon: options.epsilon,
     };
-    let clock = SteadyClock {
+    let clock = StoreClock {
         machine,
-        latest: &latest,
+        from: last.micros(),
+        reached: &reached,
     };
     let answer = match served(rt, &shared, nodes, to_nodes, clock) {
         Ok(served) => work_beside(rt, &shared, served, crew, clock, options.patience, work),
@@ -132,9 +134,9 @@ fn work_beside<
 >(
     rt: &'a R,
     shared: &'a Shared,
-    served: Vec<Served<'a, N, P, SteadyClock<'a, R>>>,
+    served: Vec<Served<'a, N, P, StoreClock<'a, R>>>,
     crew: Crew,
-    clock: SteadyClock<'a, R>,
+    clock: StoreClock<'a, R>,
     patience: u32,
     work: F,
 ) -> Result<T, Fault>
@@ -172,7 +174,7 @@ fn work_with<
     rt: &'a R,
     shared: &'a Shared,
     crew: Crew,
-    clock: SteadyClock<'a, R>,
+    clock: StoreClock<'a, R>,
     patience: u32,
     work: F,
 ) -> Result<T, Fault>

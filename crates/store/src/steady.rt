@@ -1,21 +1,23 @@
-//! A clock that does not go back.
-ghost use Rattle.std.specs.Prelude.{◌≡◌, ⊤};
+//! The clock of a store.
+ghost use Rattle.std.specs.Prelude.{◌≡◌, ◌≤◌, ⊤, IfSome};
 
+use drive::SteadyClock;
 use std::alloc::AllocError;
-use std::sync::atomic::{AtomicU64, Ordering};
+use std::sync::atomic::AtomicU64;
 use std::time;
 use truetime::{Clock, Reading};
 use units::Stamp;
 use workers::MachineClock;
 
-/// The machine's clock, but one that does not go back: its copies share the latest microsecond that a reading of one of them reached, and
-/// a reading of an earlier time ends there, as wide as any.
-pub struct SteadyClock<'a, R> {
+/// The machine's clock, but one that does not go back (`SteadyClock`): its copies share the latest microsecond that was reached, and its readings
+/// end at a microsecond from which it goes on, or later.
+pub struct StoreClock<'a, R> {
     pub machine: MachineClock<'a, R>,
-    pub latest: &'a AtomicU64,
+    pub from: u64,
+    pub reached: &'a AtomicU64,
 }
 
-impl<R> Clone for SteadyClock<'_, R> {
+impl<R> Clone for StoreClock<'_, R> {
     ghost is_clone = { λ s r. r ≡ s };
 
     ghost is_infallible = { λ _. ⊤ };
@@ -25,19 +27,18 @@ impl<R> Clone for SteadyClock<'_, R> {
     }
 }
 
-impl<R> Copy for SteadyClock<'_, R> {}
+impl<R> Copy for StoreClock<'_, R> {}
 
-impl<R: time::Clock> Clock for SteadyClock<'_, R> {
-    fn now(&mut self) -> Option<Reading> {
-        let now = self.machine.now()?;
-        let reached = now.latest().micros();
-        let latest = self.latest.fetch_max(reached, Ordering::SeqCst);
-        if latest <= reached {
-            return Some(now);
-        }
-        let width = self.machine.epsilon.saturating_mul(2);
-        let earliest = Stamp::new(latest.saturating_sub(width)).ok()?;
-        let latest = Stamp::new(latest).ok()?;
-        Reading::new(earliest, latest).ok()
+impl<R: time::Clock> Clock for StoreClock<'_, R> {
+    fn now(&mut self) -> Option<Reading>
+        ensures from { IfSome result (λ now. self.old.from ≤ now.latest) }
+    {
+        let from = Stamp::new(self.from).ok()?;
+        let mut steady = SteadyClock {
+            clock: self.machine,
+            from,
+            reached: self.reached,
+        };
+        steady.now()
     }
 }

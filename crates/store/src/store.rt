@@ -1,23 +1,28 @@
 //! An open store.
+ghost use Rattle.std.specs.Prelude.{◌≡◌, ◌⊎◌, ◌<◌, ◌+◌, length, Err, IfErr, IfOk, IsOk};
+ghost use Rattle.drive.specs.Unopened.{IsFirst, IsLastIn, IsRunOver, unopened_for};
+
 use crate::Options;
 use crate::clients::Client;
 use crate::serving::serve_nodes;
 use disk::Disk;
-use drive::{Opened, open_shards};
+use drive::{Opened, Unopened, open_shards};
 use filedisk::FileDisk;
 use host_files::logs_in;
 use node::Node;
 use settings::Settings;
 use std::alloc::Global;
 use std::fs::File;
+use std::marker::Model;
 use std::random::RandomSource;
 use std::rt::Files;
 use std::sync::Wait;
 use std::thread::Threads;
 use std::time;
-use units::{Fault, Stamp};
+use units::{Fault, Reason};
 
-/// A store whose shards are open, each over a disk of its own.
+/// A store whose shards are open, each over a disk of its own. Contracts see the run of its ids, its splits, how many shards it has and for how
+/// many clients, and the timestamp from which its clock goes on.
 #[derive(Drop)]
 pub struct Store<'r, R: Wait, D: Disk + Drop> {
     rt: &'r R,
@@ -26,20 +31,52 @@ pub struct Store<'r, R: Wait, D: Disk + Drop> {
     opened: Opened<Node<D, &'r R>>,
 }
 
+impl<'r, R: Wait, D: Disk + Drop> Model for Store<'r, R, D> {
+    ghost use Rattle.std.specs.Prelude.{length};
+    ghost use Rattle.store.specs.Standing.{Standing};
+
+    ghost Value = { Standing };
+
+    ghost view = { λ s. record {
+      run = s.opened.epoch;
+      splits = s.options.splits;
+      shards = length s.opened.nodes.items;
+      clients = length s.opened.viewers.by_worker.items;
+      last = s.opened.last;
+    } };
+}
+
 impl<'r, R: Threads + Wait + Sync, D: Disk + Drop + Send> Store<'r, R, D> {
     /// Opens the logs of shards 0, 1 and so on, side by side: one disk a shard, with a formatted log. Options beyond their limits, and
-    /// more or fewer disks than shards, are refused as `settings`; else the first shard that is refused counts.
+    /// more or fewer disks than shards, are refused as `settings`; else the first shard that is refused counts, and is told.
+    ///
+    /// The run of all ids is the greatest epoch of these openings, each of which is one more than that of its log; so no id is of an earlier
+    /// opening. The clock goes on from the greatest timestamp of the logs.
     pub fn open(
         rt: &'r R,
         alloc: Global,
         disks: Vec<D>,
         options: Options,
-    ) -> Result<Store<'r, R, D>, Fault> {
+    ) -> Result<Store<'r, R, D>, Unopened>
+        ensures run { IfOk result
+            (λ store. IsRunOver D.keeps_model D.file disks.items store.run) }
+        ensures last { IfOk result
+            (λ store. IsLastIn D.keeps_model D.file disks.items store.last) }
+        ensures splits { IfOk result (λ store. store.splits ≡ options.splits) }
+        ensures shards { IfOk result (λ store. store.shards ≡ length disks.items) }
+        ensures clients { IfOk result (λ store. store.clients ≡ options.clients) }
+        ensures each { IsOk result → length disks.items ≡ length options.splits + 1 }
+        ensures limits { (1000000 < options.epsilon)
+            ⊎ ((options.clients ≡ 0) ⊎ (64 < options.clients))
+            → result ≡ Err (unopened_for (Fault.BadRequest Reason.Settings)) }
+        ensures first { IfErr result
+            (IsFirst D.keeps_model D.file options.splits options.stride disks.items) }
+    {
         let settings = match options.settings(alloc) {
             Ok(settings) => settings,
             Err(fault) => {
                 drop(disks);
-                return Err(fault);
+                return Err(Unopened::from(fault));
             }
         };
         let opened = open_shards(rt, alloc, &settings, disks, settings.workers as usize)?;
@@ -61,6 +98,7 @@ impl<'r, R: Threads + Wait + time::Clock + Sync, D: Disk + Drop + Send> Store<'r
         work: F,
     ) -> Result<(T, Vec<D>), Fault>
         requires { F.IsAlwaysCallable work }
+        ensures { IfOk result (λ done. length done.1.items ≡ self.entry.shards) }
     {
         let Store {
             rt,
@@ -72,8 +110,9 @@ impl<'r, R: Threads + Wait + time::Clock + Sync, D: Disk + Drop + Send> Store<'r
             nodes,
             viewers,
             epoch,
+            last,
         } = opened;
-        let answer = serve_nodes(rt, alloc, &options, epoch, &nodes, viewers, work);
+        let answer = serve_nodes(rt, alloc, &options, epoch, last, &nodes, viewers, work);
         drop(options);
         match answer {
             Ok(answer) => Ok((answer, closed(alloc, nodes)?)),
@@ -87,18 +126,19 @@ impl<'r, R: Threads + Wait + time::Clock + Sync, D: Disk + Drop + Send> Store<'r
 
 impl<'r, R: Files<File = File> + RandomSource + Threads + Wait + Sync> Store<'r, R, FileDisk> {
     /// Opens the store in a folder, which has to be there; a folder without a store gets one. Other options than those of the folder's
-    /// manifest are refused as `settings`, and a log that is missing as `Device`.
+    /// manifest are refused as `settings`, and a log that is missing as `Device`; then the first shard that is refused is told, whose log
+    /// is the file `shard-N.log`.
     pub fn open_folder(
         rt: &'r R,
         alloc: Global,
         folder: &str,
         options: Options,
-    ) -> Result<Store<'r, R, FileDisk>, Fault> {
+    ) -> Result<Store<'r, R, FileDisk>, Unopened> {
         match logs_in(rt, alloc, folder, &options.splits) {
             Ok(logs) => Store::open(rt, alloc, logs, options),
             Err(fault) => {
                 drop(options);
-                Err(fault)
+                Err(Unopened::from(fault))
             }
         }
     }
@@ -108,7 +148,9 @@ impl<'r, R: Files<File = File> + RandomSource + Threads + Wait + Sync> Store<'r,
 fn closed<D: Disk + Drop, H: Wait + Drop>(
     alloc: Global,
     nodes: Vec<Node<D, H>>,
-) -> Result<Vec<D>, Fault> {
+) -> Result<Vec<D>, Fault>
+    ensures { IfOk result (λ disks. length disks.items ≡ length nodes.items) }
+{
     let mut disks = Vec::new(alloc);
     for node in nodes {
         disks.push(node.close())?;

@@ -10,7 +10,7 @@ use crate::viewers::Viewers;
 use crate::worker::{Report, Worker, merged};
 use client::Wire;
 use crossbeam_channel::Receiver;
-use message::Message;
+use letters::Reply;
 use progress::Watch;
 use std::alloc::Global;
 use std::sync::Wait;
@@ -25,7 +25,7 @@ const PATIENCE: u32 = 100;
 /// What the workers are made of, one of each for each worker: inboxes by the workers' numbers, drawers, and viewers of each shard.
 #[derive(Drop)]
 pub struct Staff {
-    pub inboxes: Vec<Receiver<Message>>,
+    pub inboxes: Vec<Receiver<Reply>>,
     pub drawers: Drawers,
     pub viewers: Viewers,
 }

@@ -1,7 +1,7 @@
 //! The transaction of a worker's turn: it reads, writes what follows, and hears its end.
 ghost use Rattle.std.specs.Prelude.{◌≡◌, ◌++◌, [], List, IfErr, MatchResult, OnOk};
 ghost use Rattle.units.specs.declared.line.Line.{Line};
-ghost use Rattle.client.specs.Refusals.{IsStepHalt};
+ghost use Rattle.client.specs.Refusals.{IsReadHalt, IsStepHalt};
 ghost use Rattle.workers.specs.Refusals.{IsCutShort};
 ghost use Rattle.workers.specs.Turns.{IsReported, IsTransaction, asked_keys};
 
@@ -49,12 +49,32 @@ impl<'s, R: Wait + time::Clock, C: Clock + Drop, W: Watch> Worker<'_, 's, R, C, 
         }
     }
 
-    // Reads the keys, and writes what follows.
+    // Reads the keys, and writes what follows. Where a shard has refused a letter of the transaction, it is to be run again, as behind any
+    // other abort: the drive goes on.
     fn read(&mut self, tx: &mut Tx<'s, Open>, reads: &mut Reads, keys: &[Key]) -> Result<(), Halt>
         requires { reads.old.asked.items ≡ [] }
         ensures txn { reads.new.txn ≡ reads.old.txn }
         ensures keys { OnOk result (asked_keys reads.new.asked.items ≡ keys.now) }
         ensures refused { IfErr result IsStepHalt }
+    {
+        match self.read_each(tx, reads, keys) {
+            Ok(()) => Ok(()),
+            Err(Halt::Refused(fault)) => Err(Halt::Refused(fault)),
+            Err(_) => Err(Halt::Again),
+        }
+    }
+
+    // The same, but that a shard's refusal is handed on.
+    fn read_each(
+        &mut self,
+        tx: &mut Tx<'s, Open>,
+        reads: &mut Reads,
+        keys: &[Key],
+    ) -> Result<(), Halt>
+        requires { reads.old.asked.items ≡ [] }
+        ensures txn { reads.new.txn ≡ reads.old.txn }
+        ensures keys { OnOk result (asked_keys reads.new.asked.items ≡ keys.now) }
+        ensures refused { IfErr result IsReadHalt }
     {
         self.wire.fetch(tx, keys)?;
         for key in keys {

@@ -1,10 +1,9 @@
 use denote.Param.Send.{sendable}
-use Rattle.std.proofs.Common.{rules, inr, ℕ, ◌≡◌, ◌≤◌, ◌*◌, Option, refl, subst, ◌∙◌}
+use Rattle.std.proofs.Common.{rules, inr, ℕ, ◌≡◌, ◌≤◌, ◌*◌, refl, subst, ◌∙◌}
 use Rattle.std.specs.Prelude.{IfSome}
 use Rattle.node.proofs.node.Node.TheSendSync as crossing
 use Rattle.workers.specs.Reports.{IsTally}
 use Rattle.workers.specs.Summaries.{tried}
-use Rattle.workers.specs.declared.summary.Counts.{Counts}
 use Rattle.drive.proofs.Outcomes.{on_err, on_ok}
 use Rattle.drive.proofs.engine.drive_counted.Goals as goal
 

@@ -1,4 +1,4 @@
-use Rattle.std.proofs.Common.{◌⊎◌, ⊎_elim, inl, inr}
+use Rattle.std.proofs.Common.{⊎_elim, inl, inr}
 use Rattle.drive.proofs.Outcomes.{on_err}
 use Rattle.drive.proofs.engine.judged.Goals as goal
 

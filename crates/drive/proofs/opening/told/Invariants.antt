@@ -1,8 +1,10 @@
-use Rattle.std.proofs.Common.{◌≡◌, ◌+◌, ◌<◌, ℕ, length, slice_index_or}
-use Rattle.drive.specs.Setups.{IsSetupOf}
+use Rattle.std.proofs.Common.{◌≡◌, ◌≤◌, ◌++◌, length, map}
+use Rattle.drive.specs.Openings.{AreSetups}
 use Rattle.drive.proofs.opening.told.Given as goal
 
 abbrev pub invariant-loop-disk : goal.invariant-loop-disk
-invariant-loop-disk g l =
-    (length l.told.items + l.disk-iterator.rest.len ≡ length l.fn.disks.items)
-    × ((number : ℕ) (d : _) → number < length l.told.items → IsSetupOf l.settings number (slice_index_or l.told.items number d).1)
+invariant-loop-disk g l = record {
+  disks : map (λ one. one.0) l.told.items ++ l.disk-iterator.rest.items ≡ l.fn.disks.items;
+  setups : AreSetups l.settings.splits l.settings.stride 0 l.told.items;
+  few : length l.told.items ≤ 16;
+}

@@ -9,25 +9,17 @@ pub returns-in-Ok-Doomed-clause-read : goal.returns-in-Ok-Doomed-clause-read
 returns-in-Ok-Doomed-clause-read g c =
     (answer_read c.args.tx.now.splits c.args.tx.now.client c.answered.new.self.client _ _ _ _ _ c.answered.result c.answered.ensures.step).1
 
-pub returns-then-is_empty-clause-sent : goal.returns-then-is_empty-clause-sent
-returns-then-is_empty-clause-sent g c =
+pub returns-clause-sent : goal.returns-clause-sent
+returns-clause-sent g c =
     let old = c.args.tx.now in
     let new = c.answered.new.self in
     reads_of old.client.txn new.client.txn c.args.self.now.sent c.send_awaited_of.new.self.sent
     (answer_read old.splits old.client new.client _ _ _ _ _ c.answered.result c.answered.ensures.step).0 c.send_awaited_of.ensures.sent
 
-pub returns-then-is_empty-clause-txn : goal.returns-then-is_empty-clause-txn
-returns-then-is_empty-clause-txn g c =
+pub returns-clause-txn : goal.returns-clause-txn
+returns-clause-txn g c =
     (answer_read c.args.tx.now.splits c.args.tx.now.client c.answered.new.self.client _ _ _ _ _ c.answered.result c.answered.ensures.step).0
 
-pub returns-then-is_empty-clause-read : goal.returns-then-is_empty-clause-read
-returns-then-is_empty-clause-read g c =
-    (answer_read c.args.tx.now.splits c.args.tx.now.client c.answered.new.self.client _ _ _ _ _ c.answered.result c.answered.ensures.step).1
-
-pub returns-else-is_empty-clause-txn : goal.returns-else-is_empty-clause-txn
-returns-else-is_empty-clause-txn g c =
-    (answer_read c.args.tx.now.splits c.args.tx.now.client c.answered.new.self.client _ _ _ _ _ c.answered.result c.answered.ensures.step).0
-
-pub returns-else-is_empty-clause-read : goal.returns-else-is_empty-clause-read
-returns-else-is_empty-clause-read g c =
+pub returns-clause-read : goal.returns-clause-read
+returns-clause-read g c =
     (answer_read c.args.tx.now.splits c.args.tx.now.client c.answered.new.self.client _ _ _ _ _ c.answered.result c.answered.ensures.step).1

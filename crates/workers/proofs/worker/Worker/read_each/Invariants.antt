@@ -1,6 +1,6 @@
 use Rattle.std.proofs.Common.{◌≡◌, take}
 use Rattle.workers.specs.Turns.{asked_keys}
-use Rattle.workers.proofs.worker.Worker.read.Given as goal
+use Rattle.workers.proofs.worker.Worker.read_each.Given as goal
 
 abbrev pub invariant-loop-key : goal.invariant-loop-key
 invariant-loop-key g l = record {

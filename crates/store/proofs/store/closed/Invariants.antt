@@ -1,0 +1,5 @@
+use Rattle.std.proofs.Common.{◌≡◌, ◌+◌, length}
+use Rattle.store.proofs.store.closed.Given as goal
+
+abbrev pub invariant-loop-node : goal.invariant-loop-node
+invariant-loop-node g l = length l.disks.items + l.node-iterator.rest.len ≡ length l.fn.nodes.items

@@ -1,0 +1,11 @@
+-- What contracts see of an open store.
+use Rattle.std.specs.Prelude.{ℕ, List}
+use Rattle.units.specs.Keys.{Bytes}
+
+-- the run of its ids, its splits, how many shards it has and for how many clients, and the timestamp from which its clock goes on
+pub record Standing : Type 0 where
+  pub run : ℕ
+  pub splits : List Bytes
+  pub shards : ℕ
+  pub clients : ℕ
+  pub last : ℕ
