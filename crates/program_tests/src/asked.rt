@@ -494,14 +494,69 @@ pub static ASKED: [Asked; 55] = [
     Asked {
         text: "stats done.log",
         words: &["stats", "done.log"],
-        printed: "log done.log\nbytes 96\nrecords 3\nopened 1\nceiling 0\nprepare 0\ncommit 1\nabort 0\noutcome 1\nkeys 1\nversions 1\nepoch 1\nfloor 200\nin doubt 0\n",
+        printed: "log done.log
+bytes 96
+records 3
+opened 1
+ceiling 0
+prepare 0
+commit 1
+abort 0
+outcome 1
+keys 1
+versions 1
+epoch 1
+floor 200
+in doubt 0
+",
         refused: "",
         status: 0,
     },
     Asked {
         text: "stats promised.log done.log",
         words: &["stats", "promised.log", "done.log"],
-        printed: "log promised.log\nbytes 58\nrecords 2\nopened 1\nceiling 0\nprepare 1\ncommit 0\nabort 0\noutcome 0\nkeys 0\nversions 0\nepoch 1\nfloor 200\nin doubt 1\npromised 1.2 200\nlog done.log\nbytes 96\nrecords 3\nopened 1\nceiling 0\nprepare 0\ncommit 1\nabort 0\noutcome 1\nkeys 1\nversions 1\nepoch 1\nfloor 200\nin doubt 0\nall 2\nbytes 154\nrecords 5\nopened 2\nceiling 0\nprepare 1\ncommit 1\nabort 0\noutcome 1\nkeys 1\nversions 1\nin doubt 1\n",
+        printed: "log promised.log
+bytes 58
+records 2
+opened 1
+ceiling 0
+prepare 1
+commit 0
+abort 0
+outcome 0
+keys 0
+versions 0
+epoch 1
+floor 200
+in doubt 1
+promised 1.2 200
+log done.log
+bytes 96
+records 3
+opened 1
+ceiling 0
+prepare 0
+commit 1
+abort 0
+outcome 1
+keys 1
+versions 1
+epoch 1
+floor 200
+in doubt 0
+all 2
+bytes 154
+records 5
+opened 2
+ceiling 0
+prepare 1
+commit 1
+abort 0
+outcome 1
+keys 1
+versions 1
+in doubt 1
+",
         refused: "",
         status: 0,
     },
