@@ -30,7 +30,10 @@ pub fn put_in_store<R: rt::Files<File = File> + RandomSource + Threads + Wait + 
     } = write;
     let mut options = Options::new(splits.copy(alloc)?, 1);
     options.patience = PATIENCE;
-    let store = Store::open_folder(rt, alloc, folder, options)?;
+    let store = match Store::open_folder(rt, alloc, folder, options) {
+        Ok(store) => store,
+        Err(unopened) => return Err(unopened.fault),
+    };
     let (ended, disks) = store.serve(|clients: Vec<Client<'_, R>>| commit(clients, key, value))?;
     drop(disks);
     ended
