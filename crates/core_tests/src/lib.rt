@@ -46,6 +46,8 @@ mod tests;
 #[cfg(test)]
 mod together;
 #[cfg(test)]
+mod unserved;
+#[cfg(test)]
 mod verdict;
 #[cfg(test)]
 mod viewed;

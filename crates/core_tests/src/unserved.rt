@@ -1,0 +1,301 @@
+//! Clients hear at once that a shard refuses their letters.
+use crate::cores::{Setting, plain};
+use crate::given::{Given, message_of, reading};
+use crate::nodes::fresh_node;
+use crate::verdict::told;
+use client::{Ended, Halt, Stop, Wire};
+use crossbeam_channel::Receiver;
+use letters::{Inboxes, Letter, Mail, Network, Refused, Reply};
+use made::{key, shard, stamp};
+use message::{Address, Envelope};
+use node::{Gate, Node};
+use session::{Open, Tx};
+use simdisk::SimDisk;
+use std::alloc::Global;
+use std::process::Abort;
+use std::sync::Wait;
+use std::thread::Threads;
+use std::time::{Duration, Instant};
+use std::{thread, time};
+use tickets::{Drawer, Tickets};
+use truetime::{Clock, Reading};
+use units::{Fault, Run, ShardNo, Splits, Value};
+
+// How a transaction ends.
+#[derive(Clone, Copy, PartialEq, Eq)]
+enum Ends {
+    Committed,
+    Aborted,
+    Unknown,
+    Refused(Fault),
+}
+
+// What became of the node of fresh shard 1: its device has failed, and it could not be opened again, so that it holds its disk alone; how
+// many transactions have a row there; and whether the client hears first that a letter of an earlier transaction was refused. How a transaction
+// ends that reads there and is dropped then, and one that only writes, where one does.
+struct Row {
+    name: &'static str,
+    stops: bool,
+    rests: bool,
+    rows: u16,
+    late: bool,
+    reads: Ends,
+    writes: Option<Ends>,
+}
+
+static ROWS: [Row; 4] = [
+    Row {
+        name: "rows are full",
+        stops: false,
+        rests: false,
+        rows: 1_024,
+        late: false,
+        reads: Ends::Refused(Fault::RowsFull),
+        writes: Some(Ends::Aborted),
+    },
+    Row {
+        name: "a device has failed",
+        stops: true,
+        rests: false,
+        rows: 0,
+        late: false,
+        reads: Ends::Refused(Fault::Stopped),
+        writes: Some(Ends::Unknown),
+    },
+    Row {
+        name: "a disk alone",
+        stops: true,
+        rests: true,
+        rows: 0,
+        late: false,
+        reads: Ends::Refused(Fault::Stopped),
+        writes: Some(Ends::Unknown),
+    },
+    Row {
+        name: "a refusal comes late",
+        stops: false,
+        rests: false,
+        rows: 0,
+        late: true,
+        reads: Ends::Aborted,
+        writes: None,
+    },
+];
+
+// Always has this reading.
+#[derive(Clone, Copy)]
+struct Standing {
+    now: Reading,
+}
+
+impl Clock for Standing {
+    fn now(&mut self) -> Option<Reading> {
+        Some(self.now)
+    }
+}
+
+// Lets all letters through.
+#[derive(Clone, Copy)]
+struct Through;
+
+impl Gate for Through {
+    fn before(&self, _shard: ShardNo, _n: u64) {}
+
+    fn after(&self, _shard: ShardNo, _n: u64) {}
+}
+
+// A client that runs one transaction after the other.
+#[derive(Drop)]
+struct Caller<'s, R> {
+    rt: &'s R,
+    alloc: Global,
+    wire: Wire<'s, 's, R>,
+    splits: &'s Splits,
+    ids: &'s Tickets,
+    drawer: Drawer,
+    run: Run,
+    ghost drawn: { drawer.source ≡ ids.now },
+}
+
+impl<'s, R: Wait + time::Clock + Abort> Caller<'s, R> {
+    // A new transaction.
+    fn begin(&mut self) -> Tx<'s, Open> {
+        let begun = self
+            .wire
+            .begin(self.run, self.splits, self.ids, &mut self.drawer);
+        begun.ok().expect(self.rt, "a transaction")
+    }
+
+    // A transaction that reads, and is dropped then.
+    fn read(&mut self) -> Ends {
+        let mut tx = self.begin();
+        let ran = match self.wire.get(&mut tx, &key(b'z')) {
+            Ok(value) => {
+                drop(value);
+                Err(Halt::Abandon)
+            }
+            Err(halt) => Err(halt),
+        };
+        ends_of(self.wire.finish(tx, ran))
+    }
+
+    // A transaction that only writes, and closes.
+    fn write(&mut self) -> Ends {
+        let mut tx = self.begin();
+        let value = Value::new(self.alloc, b"1").ok().expect(self.rt, "a value");
+        let buffered = tx.buffer(key(b'z'), Some(value));
+        told(self.rt, buffered.is_ok(), "a write", 0);
+        ends_of(self.wire.finish(tx, Ok(())))
+    }
+
+    // A transaction of which a refused letter is heard only later.
+    fn be_late(&mut self, network: &Network) {
+        let tx = self.begin();
+        network.refuse(
+            self.rt,
+            Refused {
+                txn: tx.txn(),
+                shard: shard(1),
+                fault: Fault::Stopped,
+            },
+        );
+        let ends = ends_of(self.wire.finish(tx, Err(Halt::Abandon)));
+        told(self.rt, ends == Ends::Aborted, "a late refusal", 0);
+    }
+}
+
+// What the row says became of the node.
+fn failed<'r, R: Wait + Abort>(rt: &'r R, alloc: Global, node: &Node<SimDisk, &'r R>, row: &Row) {
+    if row.stops {
+        let failed = node.advance(rt, &reading(rt, 100, 110), stamp(100));
+        told(rt, failed.is_err(), row.name, 0);
+        drop(failed);
+    }
+    if row.rests {
+        let refused = node.restart(rt, rt, alloc, 0);
+        told(rt, refused.is_err(), row.name, 1);
+        drop(refused);
+    }
+}
+
+// Serves the node until the network closes.
+fn serve<'r, R: Wait + time::Clock + Abort>(
+    rt: &R,
+    node: &Node<SimDisk, &'r R>,
+    inbox: &Receiver<Letter>,
+    network: &Network,
+) {
+    let mut post = Mail { rt, network };
+    let mut clock = Standing {
+        now: reading(rt, 100, 110),
+    };
+    node.serve(rt, inbox, &mut post, &mut clock, &Through);
+}
+
+// How it ended.
+fn ends_of(ended: Result<Ended, Fault>) -> Ends {
+    match ended {
+        Ok(Ended::Committed(_)) => Ends::Committed,
+        Ok(Ended::Aborted) => Ends::Aborted,
+        Ok(Ended::Unknown(_)) => Ends::Unknown,
+        Err(fault) => Ends::Refused(fault),
+    }
+}
+
+// Whether a transaction ends as it has to, within a second: a fraction of the four that its client would wait.
+fn ends_soon<R: time::Clock + Abort>(rt: &R, since: Instant, ends: Ends, wanted: Ends) -> bool {
+    let took = since.elapsed(rt).ok().expect(rt, "a clock");
+    ends == wanted && took < Duration::from_secs(1)
+}
+
+// The client's transactions end as the row says, and then the network closes.
+fn call<R: Wait + time::Clock + Abort>(
+    rt: &R,
+    alloc: Global,
+    network: &Network,
+    inbox: Receiver<Reply>,
+    row: &Row,
+) {
+    for number in 0..row.rows {
+        let message = message_of(rt, alloc, Given::Read(number.saturating_add(1), b"z"));
+        network.send(
+            rt,
+            Envelope {
+                to: Address::Shard(shard(1)),
+                message,
+            },
+        );
+    }
+    let splits = Splits::new(alloc, &[key(b'm')]).ok().expect(rt, "splits");
+    let stop = Stop::new();
+    let (ids, mut drawers) = Tickets::new(alloc, 1).ok().expect(rt, "tickets");
+    let Some(drawer) = drawers.pop() else {
+        rt.panic("no drawer")
+    };
+    let mut caller = Caller {
+        rt,
+        alloc,
+        wire: Wire::new(rt, alloc, network, &stop, inbox, 0, 100),
+        splits: &splits,
+        ids: &ids,
+        drawer,
+        run: Run::new(2).expect(rt, "a run"),
+    };
+    // Till then the rows are taken.
+    if row.rows > 0 {
+        caller.read();
+    }
+    if row.late {
+        caller.be_late(network);
+    }
+    let start = Instant::now(rt).ok().expect(rt, "a clock");
+    let ends = caller.read();
+    told(rt, ends_soon(rt, start, ends, row.reads), row.name, 2);
+    if let Some(wanted) = row.writes {
+        let start = Instant::now(rt).ok().expect(rt, "a clock");
+        let ends = caller.write();
+        told(rt, ends_soon(rt, start, ends, wanted), row.name, 3);
+    }
+    drop(caller);
+    drop(drawers);
+    drop(ids);
+    drop(stop);
+    drop(splits);
+    network.close(rt);
+}
+
+// A client beside a node on a thread, as the row says.
+fn go<R: Threads + Wait + time::Clock + Sync + Abort>(rt: &R, alloc: Global, row: &Row) {
+    let setting = Setting {
+        fails: if row.stops { Some(3) } else { None },
+        ..plain(1, 0)
+    };
+    let (node, viewers) = fresh_node(rt, rt, alloc, setting);
+    drop(viewers);
+    failed(rt, alloc, &node, row);
+    let (network, inboxes) = Network::new(alloc, 2, 1).ok().expect(rt, "a network");
+    let Inboxes {
+        nodes: mut to_nodes,
+        workers: mut to_callers,
+    } = inboxes;
+    let to_node = to_nodes.pop().expect(rt, "an inbox");
+    let to_caller = to_callers.pop().expect(rt, "an inbox");
+    drop(to_nodes);
+    drop(to_callers);
+    thread::join(
+        rt,
+        || serve(rt, &node, &to_node, &network),
+        || call(rt, alloc, &network, to_caller, row),
+    );
+    drop(to_node);
+    drop(network);
+    drop(node.close());
+}
+
+// It fails where a letter that a shard refuses is silence to its client.
+#[test]
+fn refused_letters_are_heard(rt: HostRuntime) {
+    for row in &ROWS {
+        go(&rt, rt.alloc(), row);
+    }
+}
