@@ -13,7 +13,8 @@ use crossbeam_channel::Receiver;
 use letters::Reply;
 use std::marker::Model;
 use std::sync::Wait;
-use std::time;
+use std::time::Duration;
+use std::{thread, time};
 use tickets::Drawer;
 use truetime::Clock;
 use units::{Fault, ShardNo};
@@ -52,6 +53,12 @@ impl<'s, R> Model for Client<'s, R> {
 // A client waits no more than two seconds.
 const LONGEST: u32 = 100;
 
+// Clients that wait for one another are not to give up at the same time: so their patience differs, by their numbers.
+const APART: usize = 4;
+
+// So many milliseconds a client rests before it runs an aborted transaction again, which is a younger one then and would mostly be in the way.
+const REST_MILLIS: u64 = 2;
+
 impl<'s, R: Wait + time::Clock> Client<'s, R> {
     /// Runs the code of a transaction and commits it. After each abort the code is run again, as a new transaction, so often in all as
     /// `tries` says. Where the code asks for `Halt::Abandon` it is aborted at once, and a refusal that the code hands on is answered.
@@ -68,7 +75,7 @@ impl<'s, R: Wait + time::Clock> Client<'s, R> {
             × ((last : F) × HasTried F.FnMut self.old code made self.new last)
             × ComesTo tries self.new made result }
     {
-        let mut patience = self.patience;
+        let mut patience = self.patience.saturating_add((self.number % APART) as u32);
         for _try in 0..tries {
             let mut transaction = match self.begin(patience) {
                 Ok(transaction) => transaction,
@@ -81,7 +88,8 @@ impl<'s, R: Wait + time::Clock> Client<'s, R> {
             if !runs_again(&ran, &ended) {
                 return ended;
             }
-            patience = patience.saturating_mul(2).min(LONGEST);
+            patience = patience.saturating_add(1).min(LONGEST);
+            thread::sleep(self.rt, Duration::from_millis(REST_MILLIS));
         }
         Ok(Ended::Aborted)
     }

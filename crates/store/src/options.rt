@@ -16,8 +16,8 @@ pub struct Options {
     pub epsilon: u64,
     /// How many clients work at the same time: 1 to 64.
     pub clients: u64,
-    /// How often 20 milliseconds pass in silence before the first attempt of a transaction is given up; each further attempt waits twice
-    /// as often as the one before, and no more than 100 times.
+    /// How often 20 milliseconds pass in silence before the first attempt of a transaction is given up, up to three times more by the client's
+    /// number; each further attempt waits once more than the one before, and no more than 100 times.
     pub patience: u32,
 }
 
