@@ -1,4 +1,6 @@
 //! Clients hear at once that a shard refuses their letters.
+ghost use Rattle.std.specs.Prelude.{◌≡◌};
+
 use crate::cores::{Setting, plain};
 use crate::given::{Given, message_of, reading};
 use crate::nodes::fresh_node;
