@@ -4,8 +4,7 @@ ghost use Rattle.std.specs.Prelude.{◌≡◌, ◌⊎◌, ◌≤◌, ◌<◌, �
 use std::alloc::Global;
 use std::sync::Wait;
 use std::time;
-use store::{Client, Ended, Halt, Transaction, View};
-use units::{Fault, Key, Value};
+use store::{Client, Ended, Fault, Halt, Key, Transaction, Value, View};
 
 /// How many accounts there are.
 pub const ACCOUNTS: u32 = 16;

@@ -16,8 +16,7 @@ use std::random::RandomSource;
 use std::sync::Wait;
 use std::thread::Threads;
 use std::{env, rt, thread, time};
-use store::{Client, Options, Store, Unopened, UnopenedIn};
-use units::{Fault, Reason, Splits};
+use store::{Client, Fault, Options, Reason, Splits, Store, Unopened, UnopenedIn};
 
 /// How many tellers there are, beside one auditor.
 const TELLERS: u64 = 3;

@@ -17,4 +17,5 @@ pub use drive::{Unopened, UnopenedIn};
 pub use options::Options;
 pub use store::Store;
 pub use transaction::{Transaction, own_writes_are_seen};
+pub use units::{Fault, Key, Reason, Splits, Stamp, TxnId, Value};
 pub use view::View;
