@@ -12,6 +12,8 @@ mod gates;
 #[cfg(test)]
 mod kept;
 #[cfg(test)]
+mod services;
+#[cfg(test)]
 mod stops;
 #[cfg(test)]
 mod stores;

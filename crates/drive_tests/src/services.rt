@@ -1,0 +1,264 @@
+//! Services over disks in memory: what a client is told where a shard's device fails, and what a store goes on from that is opened again.
+use gatelog::GateLog;
+use simdisk::SimDisk;
+use std::alloc::Global;
+use std::process::Abort;
+use std::sync::Wait;
+use std::thread::Threads;
+use std::time;
+use std::time::{Duration, Instant};
+use store::{Client, Ended, Halt, Options, Store, Transaction, Unopened};
+use units::{Fault, Key, ShardNo, Splits, Stride, Value};
+
+// Which shard's disk fails, at which of its calls from the opening on, and how a transaction ends that writes there and on the other shard:
+// shard 0 decides.
+#[derive(Clone, Copy)]
+struct Row {
+    name: &'static str,
+    shard: u8,
+    call: u64,
+    commits: bool,
+}
+
+static ROWS: [Row; 4] = [
+    Row {
+        name: "call 20 of shard 0",
+        shard: 0,
+        call: 20,
+        commits: false,
+    },
+    Row {
+        name: "call 21 of shard 0",
+        shard: 0,
+        call: 21,
+        commits: false,
+    },
+    Row {
+        name: "call 22 of shard 1",
+        shard: 1,
+        call: 22,
+        commits: true,
+    },
+    Row {
+        name: "call 23 of shard 1",
+        shard: 1,
+        call: 23,
+        commits: true,
+    },
+];
+
+// A key of shard 0 and one of shard 1.
+const KEYS: [&[u8]; 2] = [b"a", b"z"];
+
+// Further ones: what is in doubt holds its locks.
+const FREE: [&[u8]; 2] = [b"b", b"y"];
+
+// A store of one client over two shards, which part at `m`. A client waits two seconds, so that what it hears in one was told.
+fn options_of(rt: &impl Abort, alloc: Global, stride: u64) -> Options {
+    let split = Key::new(b"m").ok().expect(rt, "a key");
+    let splits = Splits::new(alloc, &[split]).ok().expect(rt, "splits");
+    let mut options = Options::new(splits, 1);
+    options.stride = Stride::new(stride).expect(rt, "a stride");
+    options.patience = 100;
+    options
+}
+
+// An empty log on a disk.
+fn formatted(rt: &impl Abort, alloc: Global) -> SimDisk {
+    let log = GateLog::format(SimDisk::new(alloc)).ok();
+    log.expect(rt, "a log").into_disk()
+}
+
+// Two disks with an empty log, one of which fails as the row says.
+fn disks_of(rt: &impl Abort, alloc: Global, row: &Row) -> Vec<SimDisk> {
+    let mut disks = Vec::new(alloc);
+    for shard in 0..2 {
+        let mut disk = formatted(rt, alloc);
+        if shard == row.shard {
+            disk.fail_next(row.call);
+        }
+        disks.push(disk).ok().expect(rt, "memory");
+    }
+    disks
+}
+
+// A transaction that writes keys, and how it ended, where that took less than a second.
+fn write<R: Wait + time::Clock>(
+    rt: &R,
+    alloc: Global,
+    client: &mut Client<'_, R>,
+    keys: &[&[u8]],
+) -> Option<Ended> {
+    let start = Instant::now(rt).ok()?;
+    let ended = client.transact(1, |tx: &mut Transaction<'_, R>| -> Result<(), Halt> {
+        for key in keys {
+            tx.put(&Key::new(key)?, Value::new(alloc, b"1")?)?;
+        }
+        Ok(())
+    });
+    if start.elapsed(rt).ok()? < Duration::from_secs(1) {
+        ended.ok()
+    } else {
+        None
+    }
+}
+
+// Whether a transaction that reads a key is refused as `Stopped`, within a second.
+fn is_refused<R: Wait + time::Clock>(rt: &R, client: &mut Client<'_, R>, key: &[u8]) -> bool {
+    let Ok(start) = Instant::now(rt) else {
+        return false;
+    };
+    let ended = client.transact(5, |tx: &mut Transaction<'_, R>| -> Result<(), Halt> {
+        drop(tx.get(&Key::new(key)?)?);
+        Ok(())
+    });
+    match (ended, start.elapsed(rt)) {
+        (Err(fault), Ok(took)) => fault == Fault::Stopped && took < Duration::from_secs(1),
+        _ => false,
+    }
+}
+
+// Whether a transaction over both shards ends as the row says once the device has failed, and then those over one of them.
+fn goes_on<R: Wait + time::Clock>(
+    rt: &R,
+    alloc: Global,
+    clients: Vec<Client<'_, R>>,
+    row: &Row,
+) -> bool {
+    let mut clients = clients;
+    let Some(mut client) = clients.pop() else {
+        return false;
+    };
+    let mut last = write(rt, alloc, &mut client, &KEYS);
+    for _transaction in 0..100 {
+        if !matches!(last, Some(Ended::Committed(_))) {
+            break;
+        }
+        last = write(rt, alloc, &mut client, &KEYS);
+    }
+    let ended = match last {
+        Some(Ended::Aborted) => row.commits,
+        Some(Ended::Unknown(_)) => !row.commits,
+        _ => false,
+    };
+    let (failed, other) = if row.shard == 0 {
+        (KEYS[0], FREE[1])
+    } else {
+        (KEYS[1], FREE[0])
+    };
+    let refused = is_refused(rt, &mut client, failed);
+    let commits = matches!(
+        write(rt, alloc, &mut client, &[other]),
+        Some(Ended::Committed(_))
+    );
+    let told = match ShardNo::new(row.shard) {
+        Some(shard) => client.has_stopped(shard),
+        None => false,
+    };
+    drop(client);
+    drop(clients);
+    ended && refused && commits && told
+}
+
+// Whether that is so of a store over the disks of the row.
+fn go<R: Threads + Wait + time::Clock + Sync + Abort>(rt: &R, alloc: Global, row: &Row) -> bool {
+    let disks = disks_of(rt, alloc, row);
+    let store = Store::open(rt, alloc, disks, options_of(rt, alloc, 100_000));
+    let store = store.ok().expect(rt, row.name);
+    let served = store.serve(|clients: Vec<Client<'_, R>>| goes_on(rt, alloc, clients, row));
+    match served {
+        Ok((went, disks)) => {
+            drop(disks);
+            went
+        }
+        Err(_) => false,
+    }
+}
+
+// It fails where a letter that a shard refuses is silence to its client.
+#[test]
+fn services_hear_of_stopped_shards(rt: HostRuntime) {
+    for row in &ROWS {
+        let went = go(&rt, rt.alloc(), row);
+        assert!(rt; went, "{}", row.name);
+    }
+}
+
+// The run of a transaction's id, and the timestamp of a view that was answered.
+fn seen<R: Wait + time::Clock>(clients: Vec<Client<'_, R>>) -> Option<(u64, u64)> {
+    let mut clients = clients;
+    let mut client = clients.pop()?;
+    let mut run = 0;
+    let ended = client.transact(1, |tx: &mut Transaction<'_, R>| -> Result<(), Halt> {
+        run = tx.id().run();
+        Err(Halt::Abandon)
+    });
+    let mut at = 0;
+    if let Some(mut view) = client.view() {
+        if view.get(&Key::new(KEYS[0]).ok()?).is_ok() {
+            at = view.at().micros();
+        }
+    }
+    drop(client);
+    drop(clients);
+    match ended {
+        Ok(Ended::Aborted) => Some((run, at)),
+        _ => None,
+    }
+}
+
+// The same of a store over the disks, with them.
+fn opened<R: Threads + Wait + time::Clock + Sync + Abort>(
+    rt: &R,
+    alloc: Global,
+    disks: Vec<SimDisk>,
+) -> ((u64, u64), Vec<SimDisk>) {
+    let store = Store::open(rt, alloc, disks, options_of(rt, alloc, 10_000_000));
+    let store = store.ok().expect(rt, "a store");
+    let served = store.serve(|clients: Vec<Client<'_, R>>| seen(clients));
+    let (seen, disks) = served.ok().expect(rt, "a service");
+    (seen.expect(rt, "a client"), disks)
+}
+
+// It fails where a store's ids begin anew, or its clock does, which the logs are ten seconds ahead of.
+#[test]
+fn stores_go_on_from_their_logs(rt: HostRuntime) {
+    let row = Row {
+        name: "no call",
+        shard: 2,
+        call: 0,
+        commits: true,
+    };
+    let disks = disks_of(&rt, rt.alloc(), &row);
+    let ((first, at), disks) = opened(&rt, rt.alloc(), disks);
+    let ((second, later), disks) = opened(&rt, rt.alloc(), disks);
+    drop(disks);
+    assert!(rt; (first, second) == (1, 2));
+    assert!(rt; at > 0 && later >= at.saturating_add(9_000_000));
+}
+
+// It fails where the shard is not named that is refused.
+#[test]
+fn refused_shards_are_named(rt: HostRuntime) {
+    let alloc = rt.alloc();
+    let mut disks = vec![in alloc; formatted(&rt, alloc)]
+        .ok()
+        .expect(&rt, "memory");
+    disks.push(SimDisk::new(alloc)).ok().expect(&rt, "memory");
+    let unopened = match Store::open(&rt, alloc, disks, options_of(&rt, alloc, 0)) {
+        Ok(store) => {
+            drop(store);
+            rt.panic("a store over no log")
+        }
+        Err(unopened) => unopened,
+    };
+    let named = Unopened {
+        shard: ShardNo::new(1),
+        fault: Fault::NotALog,
+    };
+    assert!(rt; unopened == named);
+    let text = format!(in alloc; "{unopened}").ok().expect(&rt, "memory");
+    let same = text.as_str() == "shard 1: 12 NotALog";
+    drop(text);
+    assert!(rt; same);
+}
