@@ -164,6 +164,38 @@ impl<'s, R: Wait + time::Clock + Abort> Caller<'s, R> {
         let ends = ends_of(self.wire.finish(tx, Err(Halt::Abandon)));
         told(self.rt, ends == Ends::Aborted, "a late refusal", 0);
     }
+
+    // Once a read has ended, the row's rows are taken.
+    fn wait_for_rows(&mut self, row: &Row) {
+        if row.rows > 0 {
+            self.read();
+        }
+    }
+
+    // A late refusal, where the row has one.
+    fn hear_late(&mut self, network: &Network, row: &Row) {
+        if row.late {
+            self.be_late(network);
+        }
+    }
+
+    // A transaction that reads ends as the row says.
+    fn read_as(&mut self, row: &Row) {
+        let start = Instant::now(self.rt).ok().expect(self.rt, "a clock");
+        let ends = self.read();
+        let soon = ends_soon(self.rt, start, ends, row.reads);
+        told(self.rt, soon, row.name, 2);
+    }
+
+    // So does one that writes, where one does.
+    fn write_as(&mut self, row: &Row) {
+        if let Some(wanted) = row.writes {
+            let start = Instant::now(self.rt).ok().expect(self.rt, "a clock");
+            let ends = self.write();
+            let soon = ends_soon(self.rt, start, ends, wanted);
+            told(self.rt, soon, row.name, 3);
+        }
+    }
 }
 
 // What the row says became of the node.
@@ -243,21 +275,10 @@ fn call<R: Wait + time::Clock + Abort>(
         drawer,
         run: Run::new(2).expect(rt, "a run"),
     };
-    // Till then the rows are taken.
-    if row.rows > 0 {
-        caller.read();
-    }
-    if row.late {
-        caller.be_late(network);
-    }
-    let start = Instant::now(rt).ok().expect(rt, "a clock");
-    let ends = caller.read();
-    told(rt, ends_soon(rt, start, ends, row.reads), row.name, 2);
-    if let Some(wanted) = row.writes {
-        let start = Instant::now(rt).ok().expect(rt, "a clock");
-        let ends = caller.write();
-        told(rt, ends_soon(rt, start, ends, wanted), row.name, 3);
-    }
+    caller.wait_for_rows(row);
+    caller.hear_late(network, row);
+    caller.read_as(row);
+    caller.write_as(row);
     drop(caller);
     drop(drawers);
     drop(ids);
