@@ -1,5 +1,6 @@
 //! A store is served while its clients work.
 ghost use Rattle.std.specs.Prelude.{◌≡◌, All, IfOk};
+ghost use Rattle.store.specs.Attempts.{IsFresh};
 ghost use Rattle.std.specs.Thread.{IsSync, IsSend};
 
 use crate::Options;
@@ -39,6 +40,8 @@ pub fn serve_nodes<
     work: F,
 ) -> Result<T, Fault>
     requires { F.IsAlwaysCallable work }
+    ensures { IfOk result (λ answer. (clients : _) × F.post work clients answer
+        × All (IsFresh epoch options.now.splits) clients.items) }
 {
     let made = shared_of(alloc, options, epoch, nodes.len(), viewers);
     let (shared, to_nodes, crew) = made?;
@@ -52,15 +55,13 @@ pub fn serve_nodes<
         from: last.micros(),
         reached: &reached,
     };
-    let answer = match served(rt, &shared, nodes, to_nodes, clock) {
+    match served(rt, &shared, nodes, to_nodes, clock) {
         Ok(served) => work_beside(rt, &shared, served, crew, clock, options.patience, work),
         Err(fault) => {
             drop(crew);
             Err(fault)
         }
-    };
-    drop(shared);
-    answer
+    }
 }
 
 // What clients share, the inboxes of the nodes, and what the clients are made of.
@@ -73,6 +74,8 @@ fn shared_of(
 ) -> Result<(Shared, Vec<Receiver<Letter>>, Crew), Fault>
     ensures drawers { IfOk result
         (λ made. All (λ drawer. drawer.source ≡ made.0.ids) made.2.drawers.items) }
+    ensures run { IfOk result (λ made. made.0.run ≡ epoch) }
+    ensures splits { IfOk result (λ made. made.0.splits ≡ options.now.splits) }
 {
     let clients = viewers.by_worker.len();
     let splits = options.splits.copy(alloc)?;
@@ -142,6 +145,8 @@ fn work_beside<
 ) -> Result<T, Fault>
     requires work { F.IsAlwaysCallable work }
     requires drawers { All (λ drawer. drawer.source ≡ shared.now.ids) crew.drawers.items }
+    ensures { IfOk result (λ answer. (clients : _) × F.post work clients answer
+        × All (IsFresh shared.now.run shared.now.splits) clients.items) }
 {
     thread::scope(
         thread::scope_env(),
@@ -150,6 +155,8 @@ fn work_beside<
             requires threads { IsSync R.row × IsSync N.row × IsSend P.row }
             requires work { F.IsAlwaysCallable work }
             requires drawers { All (λ drawer. drawer.source ≡ shared.now.ids) crew.drawers.items }
+            ensures { IfOk result (λ answer. (clients : _) × F.post work clients answer
+                × All (IsFresh shared.entry.now.run shared.entry.now.splits) clients.items) }
         {
             let answer = if start_in(scope, rt, served, &shared.stopped) {
                 work_with(rt, shared, crew, clock, patience, work)
@@ -180,6 +187,8 @@ fn work_with<
 ) -> Result<T, Fault>
     requires work { F.IsAlwaysCallable work }
     requires drawers { All (λ drawer. drawer.source ≡ shared.now.ids) crew.drawers.items }
+    ensures { IfOk result (λ answer. (clients : _) × F.post work clients answer
+        × All (IsFresh shared.now.run shared.now.splits) clients.items) }
 {
     let clients = clients_of(rt, shared, crew, clock, patience)?;
     Ok(work(clients))

@@ -1,6 +1,7 @@
 //! An open store.
-ghost use Rattle.std.specs.Prelude.{◌≡◌, ◌⊎◌, ◌<◌, ◌+◌, length, Err, IfErr, IfOk, IsOk};
+ghost use Rattle.std.specs.Prelude.{◌≡◌, ◌⊎◌, ◌<◌, ◌+◌, All, length, Err, IfErr, IfOk, IsOk};
 ghost use Rattle.drive.specs.Unopened.{IsFirst, IsLastIn, IsRunOver, unopened_for};
+ghost use Rattle.store.specs.Attempts.{IsFresh};
 
 use crate::Options;
 use crate::clients::Client;
@@ -98,7 +99,9 @@ impl<'r, R: Threads + Wait + time::Clock + Sync, D: Disk + Drop + Send> Store<'r
         work: F,
     ) -> Result<(T, Vec<D>), Fault>
         requires { F.IsAlwaysCallable work }
-        ensures { IfOk result (λ done. length done.1.items ≡ self.entry.shards) }
+        ensures disks { IfOk result (λ done. length done.1.items ≡ self.entry.shards) }
+        ensures clients { IfOk result (λ done. (clients : _) × F.post work clients done.0
+            × All (IsFresh self.entry.run self.entry.splits) clients.items) }
     {
         let Store {
             rt,

@@ -1,0 +1,18 @@
+use Rattle.std.proofs.Common.{◌∙◌}
+use Rattle.std.proofs.lemmas.Result.{IfOk-weaker}
+use Rattle.store.proofs.serving.serve_nodes.Goals as goal
+
+-- the clients are of the run and the splits that they share
+pub returns-in-Ok : goal.returns-in-Ok
+returns-in-Ok g c =
+    IfOk-weaker c.work_beside.result _ _
+    (λ answer worked. (
+      worked.0,
+      worked.1,
+      λ k d lt. (
+        (worked.2 k d lt).0 ∙ c.in_ok-shared.ensures.run,
+        (worked.2 k d lt).1 ∙ c.in_ok-shared.ensures.splits,
+        (worked.2 k d lt).2,
+      ),
+    ))
+    c.work_beside.ensures

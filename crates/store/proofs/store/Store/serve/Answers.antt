@@ -1,0 +1,16 @@
+use Rattle.std.proofs.Common.{◌∙◌, ap}
+use Rattle.store.specs.Standing.{Standing}
+use Rattle.store.proofs.store.Store.serve.Goals as goal
+
+-- the clients are of the run and the splits of the store
+pub returns-in_ok-closed-in-Ok-clause-clients : goal.returns-in_ok-closed-in-Ok-clause-clients
+returns-in_ok-closed-in-Ok-clause-clients g c =
+    let worked = c.in-Ok.ensures in (
+      worked.0,
+      worked.1,
+      λ k d lt. (
+        (worked.2 k d lt).0 ∙ ap (λ (s : Standing). s.run) c.self.view_is,
+        (worked.2 k d lt).1 ∙ ap (λ (s : Standing). s.splits) c.self.view_is,
+        (worked.2 k d lt).2,
+      ),
+    )
