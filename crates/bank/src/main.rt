@@ -21,25 +21,6 @@ use store::{Client, Fault, Options, Reason, Splits, Store, Unopened, UnopenedIn}
 /// How many tellers there are, beside one auditor.
 const TELLERS: u64 = 3;
 
-/// Why a bank does nothing more: its store is not opened, or a call was refused.
-#[derive(Clone, Copy)]
-enum Failure {
-    Unopened(Unopened),
-    Refused(Fault),
-}
-
-impl From<Unopened> for Failure {
-    fn from(unopened: Unopened) -> Failure {
-        Failure::Unopened(unopened)
-    }
-}
-
-impl From<Fault> for Failure {
-    fn from(fault: Fault) -> Failure {
-        Failure::Refused(fault)
-    }
-}
-
 fn main(rt: HostRuntime) -> ExitCode {
     let (folder, transfers) = match words(&rt) {
         Ok(words) => words,
@@ -51,8 +32,10 @@ fn main(rt: HostRuntime) -> ExitCode {
     let done = serve(&rt, rt.alloc(), folder.as_str(), transfers);
     let status = match done {
         Ok(did) => tell(&rt, did),
-        Err(failure) => {
-            complain(&rt, folder.as_str(), failure);
+        Err(unopened) => {
+            let folder = folder.as_str();
+            let refused = UnopenedIn { folder, unopened };
+            let _ = writeln!(rt.stderr(), "bank: {refused}");
             ExitCode::from(2)
         }
     };
@@ -81,19 +64,6 @@ fn tell(rt: &HostRuntime, did: Did) -> ExitCode {
     }
 }
 
-// Says why nothing more is done.
-fn complain(rt: &HostRuntime, folder: &str, failure: Failure) {
-    match failure {
-        Failure::Unopened(unopened) => {
-            let unopened = UnopenedIn { folder, unopened };
-            let _ = writeln!(rt.stderr(), "bank: {unopened}");
-        }
-        Failure::Refused(fault) => {
-            let _ = writeln!(rt.stderr(), "bank: {fault}");
-        }
-    }
-}
-
 // `bank FOLDER TRANSFERS`: each teller tries so many transfers, and the auditor adds up as often.
 fn words(rt: &HostRuntime) -> Result<(String, u32), Fault> {
     let Ok(mut words) = env::args(rt) else {
@@ -113,7 +83,7 @@ fn serve<R: rt::Files<File = File> + RandomSource + Threads + Wait + time::Clock
     alloc: Global,
     folder: &str,
     transfers: u32,
-) -> Result<Did, Failure> {
+) -> Result<Did, Unopened> {
     let splits = Splits::new(alloc, &[key_of(ACCOUNTS / 2)?])?;
     let store = Store::open_folder(rt, alloc, folder, Options::new(splits, TELLERS + 1))?;
     let (did, disks) = store.serve(|clients: Vec<Client<'_, R>>| work(
