@@ -22,12 +22,9 @@ use store::{Client, Fault, Options, Reason, Splits, Store, Unopened, UnopenedIn}
 const TELLERS: u64 = 3;
 
 fn main(rt: HostRuntime) -> ExitCode {
-    let (folder, transfers) = match words(&rt) {
-        Ok(words) => words,
-        Err(fault) => {
-            let _ = writeln!(rt.stderr(), "bank: {fault}");
-            return ExitCode::from(2);
-        }
+    let Some((folder, transfers)) = words(&rt) else {
+        let _ = writeln!(rt.stderr(), "bank: {}", Fault::BadRequest(Reason::Command));
+        return ExitCode::from(2);
     };
     let done = serve(&rt, rt.alloc(), folder.as_str(), transfers);
     let status = match done {
@@ -65,17 +62,13 @@ fn tell(rt: &HostRuntime, did: Did) -> ExitCode {
 }
 
 // `bank FOLDER TRANSFERS`: each teller tries so many transfers, and the auditor adds up as often.
-fn words(rt: &HostRuntime) -> Result<(String, u32), Fault> {
-    let Ok(mut words) = env::args(rt) else {
-        return Err(Fault::BadRequest(Reason::Command));
-    };
-    let (Some(_), Some(folder), Some(count)) = (words.next(), words.next(), words.next()) else {
-        return Err(Fault::BadRequest(Reason::Command));
-    };
-    let Ok(transfers) = count.as_str().parse::<u32>() else {
-        return Err(Fault::BadRequest(Reason::Command));
-    };
-    Ok((folder, transfers))
+fn words(rt: &HostRuntime) -> Option<(String, u32)> {
+    let mut words = env::args(rt).ok()?;
+    drop(words.next());
+    let folder = words.next()?;
+    let count = words.next()?;
+    let transfers = count.as_str().parse::<u32>().ok()?;
+    Some((folder, transfers))
 }
 
 fn serve<R: rt::Files<File = File> + RandomSource + Threads + Wait + time::Clock + Sync>(
