@@ -81,6 +81,7 @@ def plain(text):
     text = re.sub(written, r"(&self, \2: &mut shim::fmt::Formatter<'_>)", text)
     text = re.sub(r"vec!\[in (\w+); ([^;\]]*); ([^;\]]*)\]", r"Vec::from_elem(\1, \2, \3)", text)
     text = re.sub(r"fn clone\(&self\) -> Result<Self, AllocError> \{\s*Ok\(\*self\)", "fn clone(&self) -> Self { *self", text)
+    text = re.sub(r"fn clone\(&self\) -> Result<Self, AllocError> \{\s*Ok\((\w+ \{.*?\})\)\s*\}", r"fn clone(&self) -> Self { \1 }", text, flags=re.S)
     text = text.replace("BuildHasherDefault::new()", "BuildHasherDefault::default()")
     text = re.sub(r"format!\(in \w+; ([^)]*)\)", r"shim::said(format!(\1))", text)
     text = re.sub(r": Drop\b(?=[,>])", "", text)

@@ -39,7 +39,9 @@ build_drives() {
     for crate in progress output settings tickets; do
         library "$crate" "$here/standins/$crate.rs" "$to"
     done
-    for crate in session letters workers desk node inspection drive; do
+    for crate in session letters client workers desk node inspection drive; do
+        # Earlier revisions have no client of its own.
+        [ -d "$tree/crates/$crate" ] || continue
         python3 "$here/plain.py" "$tree/crates/$crate/src" "$to/$crate"
         case $crate in
         inspection) echo 'use shim::prelude::*; mod judged; pub use judged::judge;' >"$to/$crate/lib.rs" ;;
@@ -55,6 +57,10 @@ build_drives() {
     link drives "$to" $(externs "$to") -L "$to" -A warnings
     # shellcheck disable=SC2046
     link holding "$to" $(externs "$to") -L "$to" -A warnings
+    # Earlier revisions have no horizon.
+    grep -q 'fn keep_for' "$tree/crates/desk/src/desk.rt" || return 0
+    # shellcheck disable=SC2046
+    link forgetting "$to" $(externs "$to") -L "$to" -A warnings
 }
 
 # The programs over the crates of a tree.
@@ -74,8 +80,9 @@ build() {
         inspect) [ -d "$tree/crates/inspector" ] || continue ;;
         viewing) [ -f "$tree/crates/board/src/publisher.rt" ] || continue ;;
         esac
-        # shellcheck disable=SC2046
-        link "$program" "$to" $(externs "$to") -L "$to"
+        if grep -q 'fn horizon' "$tree/crates/board/src/publisher.rt" 2>/dev/null; then horizons='--cfg horizons'; else horizons=; fi
+        # shellcheck disable=SC2046,SC2086
+        link "$program" "$to" $(externs "$to") -L "$to" $horizons
     done
 }
 
@@ -117,6 +124,7 @@ for place in here $revisions; do
         "$made/$place/drives" memory,files 1,2,4 1,4,16,64 1000 100000
         "$made/$place/drives" slow 1,2 1,4,16 100 100000
         "$made/$place/holding"
+        [ ! -x "$made/$place/forgetting" ] || "$made/$place/forgetting"
     fi
 done
 if [ "$timed" ]; then

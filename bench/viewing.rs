@@ -12,6 +12,16 @@ use units::{Install, Key, Seen, ShardNo, Splits, Stamp, Value};
 const LOOKS: u64 = 500_000;
 const ROUNDS: u64 = 50;
 
+/// A board; earlier revisions have none with a horizon.
+#[cfg(horizons)]
+macro_rules! begun {
+    ($($first:expr),*; $($rest:expr),*) => { start($($first),*, Stamp::zero(), $($rest),*) };
+}
+#[cfg(not(horizons))]
+macro_rules! begun {
+    ($($first:expr),*; $($rest:expr),*) => { start($($first),*, $($rest),*) };
+}
+
 #[repr(C)]
 struct Timespec {
     seconds: i64,
@@ -64,15 +74,7 @@ fn board(count: u64, viewers: usize) -> (Publisher<Waiting>, List<Viewer>) {
     }
     let splits = Splits::new(Global, &[]).unwrap();
     let began = cpu();
-    let made = start(
-        Waiting,
-        Global,
-        &installs,
-        Stamp::new(count).unwrap(),
-        splits,
-        ShardNo::new(0).unwrap(),
-        viewers,
-    );
+    let made = begun!(Waiting, Global, &installs, Stamp::new(count).unwrap(); splits, ShardNo::new(0).unwrap(), viewers);
     tell(&format!("making a board, {count} versions"), cpu() - began, 1);
     made.ok().unwrap()
 }

@@ -94,6 +94,8 @@ def logs_it(event, record, votes):
         return kind == "opened"
     if words[0] == "advance":
         return kind == "ceiling"
+    if words[0] == "forget":
+        return kind == "horizon" and record[1] == words[2]
     if words[0] == "settle":
         return kind == "outcome" and record[1] == words[2]
     if words[0] == "resume":

@@ -1,10 +1,10 @@
 -- What a contract sees of a copy of a board, and what both copies have in common.
-use Rattle.std.specs.Prelude.{◌≡◌, ℕ, Bool, true, false, List, [], ◌∷◌, ◌++◌, length, drop, Result, MatchResult}
+use Rattle.std.specs.Prelude.{◌≡◌, ℕ, Bool, true, false, List, [], ◌∷◌, ◌++◌, length, drop, max, Result, MatchResult}
 use mathlib.Core.List.{IsPrefix}
 use Rattle.units.specs.declared.fault.Fault.{Fault}
 use Rattle.units.specs.declared.fault.Fault.TheVariants.{Memory}
 use Rattle.units.specs.declared.writes.Install.{Install}
-use Rattle.versions.specs.Places.{SameValues}
+use Rattle.versions.specs.Places.{SameFrom}
 use Rattle.board.specs.declared.entry.BoardEntry.{BoardEntry}
 use Rattle.board.specs.declared.change.BoardChange.{BoardChange}
 use Rattle.board.specs.declared.change.BoardChange.TheVariants.{Prepare, Commit}
@@ -58,6 +58,10 @@ is_quiet (Commit ∷ cs) = false
 abbrev pub pending_of : Page → List BoardChange → List BoardEntry
 pending_of page changes = drop (length page.list) page.ahead ++ newly_prepared changes
 
--- one more version answers in order as it does at the end of the log
+-- one more version answers in order as it does at the end of the log, from each horizon up
 abbrev pub AddsVersion : List Install → List Install → Install → Type 0
-AddsVersion old new install = (log : List Install) → SameValues old log → SameValues new (log ++ install ∷ [])
+AddsVersion old new install = (horizon : ℕ) (log : List Install) → SameFrom horizon old log → SameFrom horizon new (log ++ install ∷ [])
+
+-- the versions answer from the later of two horizons up as they did from the first
+abbrev pub Forgets : List Install → List Install → ℕ → ℕ → Type 0
+Forgets old new before horizon = (log : List Install) → SameFrom before old log → SameFrom (max before horizon) new log

@@ -1,11 +1,9 @@
 //! One of the two copies of a board.
 ghost use Rattle.std.specs.Prelude.{◌≡◌, true, false, Some, [], ◌∷◌, ◌++◌, length, IsTrue, MatchResult, IfOk, IfErr, OnOk};
 ghost use mathlib.Core.List.{IsPrefix};
-ghost use Rattle.board.specs.Board.{safe_on, has_safe, first_entries, is_board};
-ghost use Rattle.units.specs.Looks.{value_seen, buffer_filled};
+ghost use Rattle.board.specs.Board.{safe_on, has_safe, horizon_entries, first_entries, is_board};
 ghost use Rattle.board.specs.Look.{look_answer, look_buffer};
-ghost use Rattle.board.specs.State.{AddsVersion, Takes};
-ghost use Rattle.units.specs.Versions.{at_time};
+ghost use Rattle.board.specs.State.{AddsVersion, Forgets, Takes};
 
 use crate::change::BoardChange;
 use crate::entry::{BoardEntry, copy_install};
@@ -14,8 +12,8 @@ use growing::{Beginning, Growing};
 use left_right::Absorb;
 use std::alloc::{AllocError, Global};
 use std::marker::Model;
-use units::{Fault, Install, Key, Seen, Stamp, put_in_front};
-use versions::{Versions, place_does_not_matter};
+use units::{Fault, Install, Key, Seen, Stamp, may_look, show};
+use versions::{Versions, forgotten_is_not_missed, place_does_not_matter};
 
 /// What readers see. The list of entries itself exists in proofs alone.
 #[derive(Drop)]
@@ -24,17 +22,20 @@ pub struct BoardCopy {
     // The list with the entries that are prepared.
     ahead: Growing<BoardEntry>,
     second: bool,
-    // The versions of that list. Those that are only prepared are above each timestamp at which it is looked.
+    // The versions of that list, without those that the horizon of what is shown lets go. Those that are only prepared are above
+    // each timestamp at which it is looked.
     versions: Versions,
     safe: Stamp,
     prepared_safe: Stamp,
+    horizon: Stamp,
+    prepared_horizon: Stamp,
 }
 
 impl Model for BoardCopy {
     ghost use Rattle.std.specs.Prelude.{◌≡◌, length};
     ghost use mathlib.Core.List.{IsPrefix};
-    ghost use Rattle.versions.specs.Places.{SameValues};
-    ghost use Rattle.board.specs.Board.{versions_on, safe_on};
+    ghost use Rattle.versions.specs.Places.{SameFrom};
+    ghost use Rattle.board.specs.Board.{versions_on, safe_on, horizon_on};
     ghost use Rattle.board.specs.State.{Page};
 
     ghost Value = { Page };
@@ -47,8 +48,10 @@ impl Model for BoardCopy {
     } };
 
     ghost invariant = { λ s. (s.second ≡ s.list.second) × IsPrefix s.list.entries s.ahead.entries
-        × SameValues s.versions.installs (versions_on s.ahead.entries)
-        × (s.safe ≡ safe_on s.list.entries) × (s.prepared_safe ≡ safe_on s.ahead.entries) };
+        × SameFrom (horizon_on s.list.entries) s.versions.installs (versions_on s.ahead.entries)
+        × (s.safe ≡ safe_on s.list.entries) × (s.prepared_safe ≡ safe_on s.ahead.entries)
+        × (s.horizon ≡ horizon_on s.list.entries)
+        × (s.prepared_horizon ≡ horizon_on s.ahead.entries) };
 }
 
 impl Absorb<BoardChange> for BoardCopy {
@@ -85,6 +88,8 @@ impl BoardCopy {
         requires { (list.entries ≡ []) × (ahead.entries ≡ []) × (list.second ≡ second) }
         ensures { result ≡ record { board = list.names; second = second; list = []; ahead = [] } }
     {
+        place_does_not_matter();
+        forgotten_is_not_missed();
         BoardCopy {
             list,
             ahead,
@@ -92,6 +97,8 @@ impl BoardCopy {
             versions: Versions::none(alloc),
             safe: Stamp::zero(),
             prepared_safe: Stamp::zero(),
+            horizon: Stamp::zero(),
+            prepared_horizon: Stamp::zero(),
         }
     }
 
@@ -109,48 +116,62 @@ impl BoardCopy {
                 self.prepared_safe = *at;
                 self.ahead.add(entry);
             }
+            BoardEntry::Horizon(at) => {
+                self.prepared_horizon = self.prepared_horizon.later(*at);
+                self.ahead.add(entry);
+            }
         }
         Ok(())
     }
 
-    /// Shows what is prepared. This takes no memory.
+    /// Shows what is prepared, and lets the versions go that are below its horizon. This takes no memory.
     pub(crate) fn commit(&mut self)
         ensures { self.new ≡ record self.old { list = self.old.ahead } }
     {
+        forget(&mut self.versions, self.horizon, self.prepared_horizon);
         self.safe = self.prepared_safe;
+        self.horizon = self.prepared_horizon;
         self.list.follow(&self.ahead);
     }
 
-    /// Adds copies of the installs, and then the safe timestamp.
-    pub(crate) fn open(mut self, installs: &[Install], safe: Stamp) -> Result<BoardCopy, Fault>
+    /// Adds copies of the installs, then the horizon where it is above 0, and then the safe timestamp.
+    pub(crate) fn open(
+        mut self,
+        installs: &[Install],
+        safe: Stamp,
+        horizon: Stamp,
+    ) -> Result<BoardCopy, Fault>
         requires { self.ahead ≡ [] }
         ensures list { IfOk result (λ s.
             s ≡ record self {
-              list = first_entries installs.now safe;
+              list = first_entries installs.now safe horizon;
               ahead = first_entries
-                  installs.now safe;
+                  installs.now safe horizon;
             }) }
         ensures memory { IfErr result (λ fault. fault ≡ Fault.Memory) }
     {
-        if !self.fill(installs, safe) {
+        if !self.fill(installs, safe, horizon) {
             drop(self);
             return Err(Fault::Memory);
         }
         Ok(self)
     }
 
-    // Adds copies of the installs, and then the safe timestamp. It says whether there was the memory.
-    fn fill(&mut self, installs: &[Install], safe: Stamp) -> bool
+    // Adds copies of the installs, the horizon and the safe timestamp. It says whether there was the memory.
+    fn fill(&mut self, installs: &[Install], safe: Stamp, horizon: Stamp) -> bool
         requires { self.old.ahead ≡ [] }
         ensures { IsTrue result → self.new ≡ record self.old {
-          list = first_entries installs.now safe;
-          ahead = first_entries installs.now safe;
+          list = first_entries installs.now safe horizon;
+          ahead = first_entries installs.now safe horizon;
         } }
     {
         for install in installs {
             if !self.prepare_copy(install) {
                 return false;
             }
+        }
+        if !self.prepare_horizon(horizon) {
+            return false;
         }
         if self.prepare(&BoardEntry::Safe(safe)).is_err() {
             return false;
@@ -172,6 +193,18 @@ impl BoardCopy {
         let taken = self.prepare(&entry).is_ok();
         drop(entry);
         taken
+    }
+
+    // Prepares a horizon, where it is above 0. It says whether there was the memory.
+    fn prepare_horizon(&mut self, horizon: Stamp) -> bool
+        ensures { IsTrue result → self.new ≡ record self.old {
+          ahead = self.old.ahead ++ horizon_entries horizon;
+        } }
+    {
+        if horizon.micros() == 0 {
+            return true;
+        }
+        self.prepare(&BoardEntry::Horizon(horizon)).is_ok()
     }
 
     pub(crate) fn is_second(&self) -> bool
@@ -224,13 +257,8 @@ impl BoardCopy {
             (length buffer.old) }
         ensures buffer { buffer.new ≡ look_buffer home.now self.now.list key.now at buffer.old }
     {
-        if !home.has(key) {
-            return Err(Fault::Stranger);
-        }
-        if self.safe.micros() < at.micros() {
-            return Err(Fault::NotYet);
-        }
-        read(&self.versions, key, at, buffer)
+        may_look(home.has(key), self.horizon, self.safe, at)?;
+        show(self.versions.at(key, at), buffer)
     }
 }
 
@@ -241,7 +269,7 @@ fn add_version(versions: &mut Versions, install: &Install) -> Result<(), Fault>
     ensures refused { IfErr result
         (λ fault. (fault ≡ Fault.Memory) × (versions.new.installs ≡ versions.old.installs)) }
 {
-    place_does_not_matter();
+    forgotten_is_not_missed();
     let Ok(()) = versions.reserve(1) else {
         return Err(Fault::Memory);
     };
@@ -256,15 +284,12 @@ fn add_version(versions: &mut Versions, install: &Install) -> Result<(), Fault>
     Ok(())
 }
 
-// Puts the value of a key at a timestamp at the front of a buffer.
-fn read(versions: &Versions, key: &Key, at: Stamp, buffer: &mut [u8]) -> Result<Seen, Fault>
-    ensures answer { result ≡ value_seen (at_time versions.now.installs key.now at)
-        (length buffer.old) }
-    ensures buffer { buffer.new ≡ buffer_filled
-        (at_time versions.now.installs key.now at) buffer.old }
+// Forgets the versions below a horizon, where it is above the one before. It takes no memory.
+fn forget(versions: &mut Versions, before: Stamp, horizon: Stamp)
+    ensures { Forgets versions.old.installs versions.new.installs before horizon }
 {
-    match versions.at(key, at) {
-        None => Ok(Seen::Absent),
-        Some(value) => put_in_front(value.as_bytes(), buffer),
+    forgotten_is_not_missed();
+    if before < horizon {
+        versions.forget(horizon);
     }
 }

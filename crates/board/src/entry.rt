@@ -3,11 +3,12 @@ ghost use Rattle.std.specs.Prelude.{◌≡◌, IfOk, IfErr};
 
 use units::{Fault, Install, Stamp};
 
-/// An entry of a board: a version, or a timestamp up to which looks are answered from then on.
+/// An entry of a board: a version, a timestamp up to which looks are answered from then on, or one below which none is answered any more.
 #[derive(Drop)]
 pub enum BoardEntry {
     Installed(Install),
     Safe(Stamp),
+    Horizon(Stamp),
 }
 
 /// An equal version, which shares its value.

@@ -75,41 +75,48 @@ fn viewers(
     Ok(viewers)
 }
 
-/// A board with these installs and this safe timestamp, for the keys of one shard, with so many viewers.
+/// A board with these installs, this safe timestamp and this horizon, for the keys of one shard, with so many viewers. Its list begins
+/// with the installs; then comes the horizon, where it is above 0, and then the safe timestamp.
 pub fn start<R: Wait + Drop>(
     rt: R,
     alloc: Global,
     installs: &[Install],
     safe: Stamp,
+    horizon: Stamp,
     splits: Splits,
     shard: ShardNo,
     n: usize,
 ) -> Result<(Publisher<R>, Vec<Viewer>), Fault>
-    requires { is_board (first_entries installs.now safe) ≡ true }
+    requires { is_board (first_entries installs.now safe horizon) ≡ true }
     ensures publisher { IfOk result
-        (λ r. (r.0.published ≡ first_entries installs.now safe) × (r.0.pending ≡ [])) }
+        (λ r. (r.0.published ≡ first_entries installs.now safe horizon) × (r.0.pending ≡ [])) }
     ensures viewers { IfOk result
-        (λ r. AreViewers n (new_viewer r.0.board (first_entries installs.now safe)
+        (λ r. AreViewers n (new_viewer r.0.board (first_entries installs.now safe horizon)
         (record { splits = splits; shard = shard })) r.1.items) }
     ensures many { (n ≡ 0) ⊎ (64 < n) → result ≡ Err (Fault.BadRequest Reason.Many) }
     ensures refused { (0 < n) × (n ≤ 64) → IfErr result (λ e. e ≡ Fault.Memory) }
 {
     check_viewers(n)?;
     let home = Home { splits, shard };
-    make(rt, alloc, installs, safe, home, n)
+    make(rt, alloc, installs, safe, horizon, home, n)
 }
 
-fn copies(alloc: Global, installs: &[Install], safe: Stamp) -> Result<(BoardCopy, BoardCopy), Fault>
+fn copies(
+    alloc: Global,
+    installs: &[Install],
+    safe: Stamp,
+    horizon: Stamp,
+) -> Result<(BoardCopy, BoardCopy), Fault>
     ensures memory { IfErr result (λ fault. fault ≡ Fault.Memory) }
-    ensures first { IfOk result (λ c. HasList c.0 (first_entries installs.now safe)) }
-    ensures second { IfOk result (λ c. HasList c.1 (first_entries installs.now safe)) }
+    ensures first { IfOk result (λ c. HasList c.0 (first_entries installs.now safe horizon)) }
+    ensures second { IfOk result (λ c. HasList c.1 (first_entries installs.now safe horizon)) }
     ensures board { IfOk result (λ c. c.1.board ≡ c.0.board) }
     ensures sides { IfOk result (λ c. (c.0.second ≡ false) × (c.1.second ≡ true)) }
 {
     let (first, second) = Growing::twins();
     let (one, other) = Growing::twins();
-    let first = BoardCopy::new(alloc, first, one, false).open(installs, safe)?;
-    let second = BoardCopy::new(alloc, second, other, true).open(installs, safe)?;
+    let first = BoardCopy::new(alloc, first, one, false).open(installs, safe, horizon)?;
+    let second = BoardCopy::new(alloc, second, other, true).open(installs, safe, horizon)?;
     Ok((first, second))
 }
 
@@ -118,19 +125,20 @@ fn make<R: Wait + Drop>(
     alloc: Global,
     installs: &[Install],
     safe: Stamp,
+    horizon: Stamp,
     home: Home,
     n: usize,
 ) -> Result<(Publisher<R>, Vec<Viewer>), Fault>
-    requires lawful { is_board (first_entries installs.now safe) ≡ true }
+    requires lawful { is_board (first_entries installs.now safe horizon) ≡ true }
     requires count { (0 < n) × (n ≤ 64) }
     ensures memory { IfErr result (λ fault. fault ≡ Fault.Memory) }
     ensures publisher { IfOk result
-        (λ r. (r.0.published ≡ first_entries installs.now safe) × (r.0.pending ≡ [])) }
+        (λ r. (r.0.published ≡ first_entries installs.now safe horizon) × (r.0.pending ≡ [])) }
     ensures viewers { IfOk result (λ r.
-        AreViewers n (new_viewer r.0.board (first_entries installs.now safe) home) r.1.items) }
+        AreViewers n (new_viewer r.0.board (first_entries installs.now safe horizon) home) r.1.items) }
 {
     let home = Arc::new(alloc, home)?;
-    let (first, second) = copies(alloc, installs, safe)?;
+    let (first, second) = copies(alloc, installs, safe, horizon)?;
     let told = Told::of(false, first.so_far(), second.so_far(), first.safe());
     let writer = Writer::new(alloc, first, second, n)?;
     let (mut writer, shown) = begin(&rt, writer);

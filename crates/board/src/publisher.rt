@@ -74,6 +74,15 @@ impl<R: Wait + Drop> Publisher<R> {
         self.add(BoardEntry::Safe(at))
     }
 
+    /// Accepts a timestamp below which no look is answered any more. Once it is published, the copies forget the versions that no look
+    /// from it up needs.
+    pub fn horizon(&mut self, at: Stamp) -> Result<(), Fault>
+        requires { MayAccept self.old (BoardEntry.Horizon at) }
+        ensures { Takes self.old (accepting self.old (BoardEntry.Horizon at)) result self.new }
+    {
+        self.add(BoardEntry::Horizon(at))
+    }
+
     /// Shows viewers the accepted entries too, all at one step. It waits for viewers that still look at the former list.
     pub fn publish(&mut self) -> Result<Told, Fault>
         ensures { PublishesAll self.old result self.new }

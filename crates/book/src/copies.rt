@@ -15,6 +15,7 @@ pub(crate) fn copy_input(alloc: Global, input: &Input) -> Result<Input, Fault>
         Input::Resume => Ok(Input::Resume),
         Input::Settle(txn) => Ok(Input::Settle(*txn)),
         Input::Advance(to) => Ok(Input::Advance(*to)),
+        Input::Forget(at) => Ok(Input::Forget(*at)),
         Input::Nudge(txn) => Ok(Input::Nudge(*txn)),
     }
 }

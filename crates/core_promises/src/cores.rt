@@ -36,7 +36,7 @@ pub fn on<D: Disk>(
     core.on(alloc, now, input)
 }
 
-/// A look is answered exactly where its timestamp is safe, with the value at it.
+/// A look is answered exactly where its timestamp is safe and not below the horizon, with the value at it.
 pub fn look<D: Disk>(core: &Core<D>, key: &Key, at: Stamp, buffer: &mut [u8]) -> Result<Seen, Fault>
     ensures { IsLook (seen core.now) key.now at buffer.old buffer.new result }
 {

@@ -16,6 +16,8 @@ mod cores;
 #[cfg(test)]
 mod damaged;
 #[cfg(test)]
+mod forgetting;
+#[cfg(test)]
 mod given;
 #[cfg(test)]
 mod inboxes;

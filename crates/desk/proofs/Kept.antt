@@ -1,5 +1,5 @@
 -- A step of the core keeps its desk in step.
-use Rattle.std.proofs.Common.{◌≡◌, ℕ, ◌≤◌, List, ◌++◌, Result, Ok, Err, IfOk, IfErr, refl, ap, sym, subst, ◌∙◌, ◌⊎◌, inl, inr, arith}
+use Rattle.std.proofs.Common.{◌≡◌, ℕ, ◌≤◌, Option, Some, None, List, ◌++◌, Result, Ok, Err, IfOk, IfErr, refl, ap, sym, subst, ◌∙◌, ◌⊎◌, inl, inr, arith}
 use Rattle.std.specs.Prelude.{IsFalse}
 use Rattle.std.proofs.Math.Logic.{∥∥₁_elim, ∥∥₁_map}
 use Rattle.std.proofs.Props.{props}
@@ -8,7 +8,8 @@ use Rattle.truetime.specs.Interval.{Interval}
 use Rattle.units.specs.declared.fault.Fault.{Fault}
 use Rattle.message.specs.declared.message.Envelope.{Envelope}
 use Rattle.message.specs.declared.message.Input.{Input}
-use Rattle.record.specs.Facts.{Facts}
+use Rattle.record.specs.Facts.{Facts, learn}
+use Rattle.record.specs.declared.record.Record.{Record}
 use Rattle.protocol.specs.Rows.{Memory, safe}
 use Rattle.units.specs.Limits.{most_rows}
 use Rattle.protocol.specs.Plan.{Plan, Planned, start_of_step, carried}
@@ -21,6 +22,18 @@ use Rattle.protocol.specs.Showable.{IsShowable, WritesAscend, KeepsShowable, Ste
 use Rattle.desk.specs.InStep.{InStep}
 use Rattle.desk.proofs.InStep.{count_kept, same_kept, lawful_kept}
 use Rattle.protocol.proofs.Serves.{grows}
+
+-- a record does not lower the horizon
+horizon_rises : (facts : Facts) (logged : Option Record) → facts.horizon ≤ (facts_after facts logged).horizon
+unfolding learn
+horizon_rises facts None = omega arith
+horizon_rises facts (Some (Record.Opened epoch)) = omega arith
+horizon_rises facts (Some (Record.Ceiling at)) = omega arith
+horizon_rises facts (Some (Record.Horizon at)) = omega arith
+horizon_rises facts (Some (Record.Prepare p)) = omega arith
+horizon_rises facts (Some (Record.Commit c)) = omega arith
+horizon_rises facts (Some (Record.Abort t)) = omega arith
+horizon_rises facts (Some (Record.Outcome t outcome)) = omega arith
 
 module _ {D : Type 0} (file : D → File) (old new : CoreView D) (now : Interval) (i : Input) (law : StepKeepsShowable) (limit : IsInLimit i)
     (ordered : WritesAscend i)
@@ -46,11 +59,11 @@ module _ {D : Type 0} (file : D → File) (old new : CoreView D) (now : Interval
       → ∥ KeepsShowable old.facts old.memory p.logged (carried p old.memory) ∥₁
   serves p e = ∥∥₁_map sound (λ s. law most_rows old.setup old.facts old.memory now i p limit ordered s orderly e)
 
-  in_step_after : (handed : ℕ) (es : List BoardEntry) → InStep old.facts.installs (safe old.memory) handed es → Went → InStep new.facts.installs
-      (safe new.memory) handed es
+  in_step_after : (handed : ℕ) (es : List BoardEntry) → InStep old.facts.installs (safe old.memory) handed old.facts.horizon es → Went
+      → InStep new.facts.installs (safe new.memory) handed new.facts.horizon es
   in_step_after handed es step (inl same) =
-      subst (λ (f : Facts). InStep f.installs (safe new.memory) handed es) (sym same.0)
-      (subst (λ (m : Memory). InStep old.facts.installs (safe m) handed es) (sym same.1) step)
+      subst (λ (f : Facts). InStep f.installs (safe new.memory) handed f.horizon es) (sym same.0)
+      (subst (λ (m : Memory). InStep old.facts.installs (safe m) handed old.facts.horizon es) (sym same.1) step)
   in_step_after handed es step (inr w) =
       let s = serves w.0 w.1 in
       let news = added old.facts w.0.logged in
@@ -62,9 +75,10 @@ module _ {D : Type 0} (file : D → File) (old new : CoreView D) (now : Interval
         lawful = lawful_kept old.facts.installs news new.facts.installs handed es behind step.count step.same (safe old.memory) step.lawful step.safe
             (∥∥₁_elim s (hlevel props) (λ x. x.above)) (∥∥₁_elim s (hlevel props) (λ x. x.order));
         safe = omega (arith, step.safe, up);
+        horizon = omega (arith, step.horizon, horizon_rises old.facts w.0.logged, ap (λ (f : Facts). f.horizon) w.2);
       }
 
   pub kept_in_step : (result : Result (List Envelope) Fault) (handed : ℕ) (es : List BoardEntry) → IfOk result
       (λ out. IsFalse old.stopped × IsFalse new.stopped × IsDone (step_of old now i) old new out) → IfErr result (StandsAsBefore file old new)
-      → InStep old.facts.installs (safe_at old) handed es → InStep new.facts.installs (safe_at new) handed es
+      → InStep old.facts.installs (safe_at old) handed old.facts.horizon es → InStep new.facts.installs (safe_at new) handed new.facts.horizon es
   kept_in_step result handed es done kept step = in_step_after handed es step (went result done kept)

@@ -1,5 +1,5 @@
 -- What a desk keeps of its core and its board.
-use Rattle.std.specs.Prelude.{◌≡◌, ◌⊎◌, ℕ, ◌<◌, ◌≤◌, IsTrue, All, List, [], ◌∷◌, ◌++◌, map, take, drop, length, Option, Result, Ok, Err}
+use Rattle.std.specs.Prelude.{◌≡◌, ◌⊎◌, ℕ, ◌<◌, ◌≤◌, ◌-◌, min, IsTrue, All, List, [], ◌∷◌, ◌++◌, map, take, drop, length, Option, Result, Ok, Err, IsOk}
 use Rattle.units.specs.declared.fault.Fault.{Fault}
 use Rattle.units.specs.declared.fault.Fault.TheVariants.{Memory as WantsMemory, BadRequest}
 use Rattle.units.specs.declared.fault.Reason.TheVariants.{Many}
@@ -17,22 +17,23 @@ use Rattle.shard.specs.Look.{safe_at}
 use Rattle.board.specs.declared.entry.BoardEntry.{BoardEntry}
 use Rattle.board.specs.declared.entry.BoardEntry.TheVariants.{Installed, Safe}
 use Rattle.board.specs.declared.home.Home.{Home}
-use Rattle.board.specs.Board.{is_board, versions_on, safe_on}
+use Rattle.board.specs.Board.{is_board, versions_on, safe_on, horizon_on}
 use Rattle.board.specs.Views.{Publishing, Published, Viewing}
 
 -- the versions as entries of a board
 abbrev pub as_entries : List Install → List BoardEntry
 as_entries installs = map (λ i. Installed i) installs
 
--- The board was handed the first versions of the core, and may be handed the others; its served time is at most the core's.
-pub record InStep (installs : List Install) (served handed : ℕ) (entries : List BoardEntry) : Type 0 where
+-- The board was handed the first versions of the core, and may be handed the others; its served time and its horizon are at most the core's.
+pub record InStep (installs : List Install) (served handed from : ℕ) (entries : List BoardEntry) : Type 0 where
   pub count : handed ≤ length installs
   pub same : versions_on entries ≡ take handed installs
   pub lawful : IsTrue (is_board (entries ++ as_entries (drop handed installs)))
   pub safe : safe_on entries ≤ served
+  pub horizon : horizon_on entries ≤ from
 
 abbrev pub IsInStep : {D : Type 0} → CoreView D → ℕ → Publishing → Type 0
-IsInStep core handed p = InStep core.facts.installs (safe_at core) handed (p.published ++ p.pending)
+IsInStep core handed p = InStep core.facts.installs (safe_at core) handed core.facts.horizon (p.published ++ p.pending)
 
 -- the board shows these entries, and none is pending
 abbrev pub IsNewBoard : Publishing → List BoardEntry → Type 0
@@ -73,21 +74,31 @@ pub record DeskView (D : Type 0) : Type 0 where
 abbrev pub EndsSafe : List BoardEntry → ℕ → Type 0
 EndsSafe entries t = (before : List BoardEntry) × (entries ≡ before ++ Safe t ∷ [])
 
--- The board shows these versions, in order, and then this served time. The news is of that list.
-pub record ShowsAll (versions : List Install) (served : ℕ) (old new : Publishing) (news : Published) : Type 0 where
+-- The board shows these versions, in order, and this horizon, and then this served time. The news is of that list.
+pub record ShowsAll (versions : List Install) (served from : ℕ) (old new : Publishing) (news : Published) : Type 0 where
   pub installs : versions_on new.published ≡ versions
   pub ends : EndsSafe new.published served
+  pub horizon : horizon_on new.published ≡ from
   pub same : new.board ≡ old.board
   pub told : news ≡ record { board = old.board; list = new.published }
 
--- the board shows all versions of the core, and its served time
+-- the board shows all versions of the core, its horizon and its served time
 abbrev pub ShowsCore : {D : Type 0} → DeskView D → DeskView D → Published → Type 0
-ShowsCore old new news = ShowsAll old.core.facts.installs (safe_at old.core) old.board new.board news
+ShowsCore old new news = ShowsAll old.core.facts.installs (safe_at old.core) old.core.facts.horizon old.board new.board news
 
 -- the core's own refusal, or want of memory
 abbrev pub WhyNot : Result (List Envelope) Fault → Fault → Type 0
 WhyNot (Ok out) fault = fault ≡ WantsMemory
 WhyNot (Err own) fault = fault ≡ own
+
+-- the horizon that keeps so many microseconds: as far behind a reading, and no later than what is served
+abbrev pub horizon_for : ℕ → ℕ → ℕ → ℕ
+horizon_for served earliest micros = min served (earliest - micros)
+
+-- how an input ends, whatever it puts out
+abbrev pub IsEndOf : Result (List Envelope) Fault → Result (Unit {0}) Fault → Type 0
+IsEndOf (Ok out) result = IsOk result
+IsEndOf (Err fault) result = result ≡ Err fault
 
 module _ {D : Type 0} (keeps obeys : Type 0) (file : D → File) (clock : D → ℕ) (since : D → ℕ → List ℕ → Type 0) (failures : D → ℕ)
     (plan : D → FailurePlan) where
@@ -97,7 +108,7 @@ module _ {D : Type 0} (keeps obeys : Type 0) (file : D → File) (clock : D → 
     pub crowded : IsBookFull old.setup.book book → IsCrowded old new (step_of old now i) result
     pub entered : HasEntered book after now i result
 
-  -- The core took the advance, and its board shows all its versions, in order, and then its served time. The news is of that list.
+  -- The core took the advance, and its board shows all its versions, in order, its horizon, and then its served time. The news is of that list.
   pub record HasAdvanced (old new : DeskView D) (now : Interval) (to : ℕ) (news : Published) : Type 0 where
     pub out : List Envelope
     pub stepped : HasTaken old.core new.core old.book new.book now (Input.Advance to) (Ok out)
@@ -110,3 +121,17 @@ module _ {D : Type 0} (keeps obeys : Type 0) (file : D → File) (clock : D → 
     pub why : WhyNot result fault
     pub published : new.board.published ≡ old.board.published
     pub board : new.board.board ≡ old.board.board
+
+  -- The core took a horizon above its own, or refused it. The board stays.
+  pub record HasForgotten (old new : DeskView D) (now : Interval) (at : ℕ) (result : Result (Unit {0}) Fault) : Type 0 where
+    pub above : old.core.facts.horizon < at
+    pub taken : Result (List Envelope) Fault
+    pub stepped : HasTaken old.core new.core old.book new.book now (Input.Forget at) taken
+    pub told : IsEndOf taken result
+    pub board : new.board ≡ old.board
+
+  -- The horizon that keeps so many microseconds is not above the core's, and nothing happened; or the core was asked for it.
+  abbrev pub HasKept : DeskView D → DeskView D → Interval → ℕ → Result (Unit {0}) Fault → Type 0
+  HasKept old new now micros result =
+      ((horizon_for (safe_at old.core) now.earliest micros ≤ old.core.facts.horizon) × (new ≡ old) × IsOk result)
+      ⊎ HasForgotten old new now (horizon_for (safe_at old.core) now.earliest micros) result

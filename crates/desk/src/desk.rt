@@ -1,9 +1,10 @@
 //! The core of a shard, and the publisher of its board.
 ghost use Rattle.std.specs.Prelude.{◌≡◌, ◌<◌, ◌+◌, ◌++◌, true, length, IfOk, IfErr, OnOk};
 ghost use Rattle.std.specs.Option.{option_copied};
-ghost use Rattle.board.specs.Board.{first_entries, is_board};
+ghost use Rattle.board.specs.Board.{first_entries, horizon_on, is_board};
 ghost use Rattle.disk.specs.File.{surface};
 ghost use Rattle.desk.specs.InStep.{InStep, IsInStep, IsNewBoard, AreOnBoard, IsNoDesk, StillShows, ShowsAll, HasAdvanced, HasNotAdvanced, HasTaken};
+ghost use Rattle.desk.specs.InStep.{HasKept, horizon_for as horizon_kept};
 ghost use Rattle.desk.specs.Opening.{HasNoDesk, IsBegun};
 ghost use Rattle.book.specs.Books.{IsBookOf};
 ghost use Rattle.shard.specs.Booked.{stand_of};
@@ -23,14 +24,16 @@ use std::sync::Wait;
 use truetime::Reading;
 use units::{Fault, Install, Setup, Stamp};
 
-/// A core, the publisher of its board, and how many of its versions the board was handed: the first ones. The board's served
-/// time is at most the core's. The handle is for the publisher, which waits for viewers.
+/// A core, the publisher of its board, how many of its versions the board was handed, the first ones, and the horizon that it was
+/// told. The board's served time and its horizon are at most the core's. The handle is for the publisher, which waits for viewers.
 pub struct Desk<D: Disk + Drop, R: Wait + Drop> {
     alloc: Global,
     core: Core<D>,
     publisher: Publisher<R>,
     handed: usize,
+    told: Stamp,
     ghost in_step: { IsInStep (seen core) handed publisher },
+    ghost horizon: { horizon_on (publisher.published ++ publisher.pending) ≡ told },
 }
 
 impl<D: Disk + Drop, R: Wait + Drop> Drop for Desk<D, R> {
@@ -42,7 +45,7 @@ impl<D: Disk + Drop, R: Wait + Drop> Drop for Desk<D, R> {
 impl<D: Disk + Drop, R: Wait + Drop> Desk<D, R> {
     ghost use Rattle.desk.specs.Seen.{seen_desk};
 
-    /// A desk for a core, and so many viewers of its board, which shows the core's versions and served time.
+    /// A desk for a core, and so many viewers of its board, which shows the core's versions, its horizon and its served time.
     pub fn new(
         rt: R,
         alloc: Global,
@@ -54,7 +57,8 @@ impl<D: Disk + Drop, R: Wait + Drop> Desk<D, R> {
             × ((seen_desk made.0).book ≡ book_of core)) }
         ensures board { IfOk result (λ made.
             IsNewBoard (seen_desk made.0).board
-            (first_entries (seen core).facts.installs (safe_at (seen core)))) }
+            (first_entries (seen core).facts.installs (safe_at (seen core))
+            (seen core).facts.horizon)) }
         ensures viewers { IfOk result
             (λ made. AreOnBoard n (seen core).setup (seen_desk made.0).board made.1.items) }
         ensures refused { IfErr result
@@ -63,13 +67,23 @@ impl<D: Disk + Drop, R: Wait + Drop> Desk<D, R> {
     {
         core.is_sound();
         let handed = core.installs().len();
-        match board_of(rt, alloc, core.setup(), core.installs(), core.safe(), n) {
+        let told = core.horizon();
+        match board_of(
+            rt,
+            alloc,
+            core.setup(),
+            core.installs(),
+            core.safe(),
+            told,
+            n,
+        ) {
             Ok((publisher, viewers)) => Ok((
                 Desk {
                     alloc,
                     core,
                     publisher,
                     handed,
+                    told,
                 },
                 viewers,
             )),
@@ -95,7 +109,7 @@ impl<D: Disk + Drop, R: Wait + Drop> Desk<D, R> {
             disk setup.now (seen_desk made.0).book) }
         ensures board { IfOk result (λ made. IsNewBoard (seen_desk made.0).board
             (first_entries (seen_desk made.0).core.facts.installs
-            (safe_at (seen_desk made.0).core))) }
+            (safe_at (seen_desk made.0).core) (seen_desk made.0).core.facts.horizon)) }
         ensures viewers { IfOk result
             (λ made. AreOnBoard n setup.now (seen_desk made.0).board made.1.items) }
         ensures refused { IfErr result
@@ -131,8 +145,27 @@ impl<D: Disk + Drop, R: Wait + Drop> Desk<D, R> {
         self.core.on(self.alloc, now, input)
     }
 
-    /// Advances the core, and publishes its new versions and its served time. Where memory for the board is refused, the
-    /// core has advanced, and the board shows what it showed.
+    /// Asks the core for the horizon that keeps so many microseconds: as far behind the earliest of the reading, and no later than what
+    /// is served. Where that is above the core's horizon the core takes it as an input, and else nothing happens. The board stays: it is
+    /// told by the next advance.
+    pub fn keep_for(&mut self, now: &Reading, micros: u64) -> Result<(), Fault>
+        ensures { HasKept D.keeps_model D.obeys D.file D.clock D.since D.failures D.plan
+            (seen_desk self.old) (seen_desk self.new) now.now micros result }
+    {
+        let served = self.core.safe();
+        let at = horizon_for(served, now.earliest(), micros);
+        if at <= self.core.horizon() {
+            return Ok(());
+        }
+        let input = Input::Forget(at);
+        let taken = self.deliver(now, &input);
+        drop(input);
+        drop(taken?);
+        Ok(())
+    }
+
+    /// Advances the core, and publishes its new versions, its horizon where it was raised, and its served time. Where memory for the board
+    /// is refused, the core has advanced, and the board shows what it showed.
     pub fn advance(&mut self, now: &Reading, to: Stamp) -> Result<Told, Fault>
         ensures advanced { IfOk result
             (HasAdvanced D.keeps_model D.obeys D.file D.clock D.since D.failures D.plan
@@ -148,8 +181,10 @@ impl<D: Disk + Drop, R: Wait + Drop> Desk<D, R> {
         show(
             self.core.installs(),
             self.core.safe(),
+            self.core.horizon(),
             &mut self.publisher,
             &mut self.handed,
+            &mut self.told,
             self.alloc,
         )
     }
@@ -181,50 +216,68 @@ impl<D: Disk + Drop, R: Wait + Drop> Desk<D, R> {
             core,
             publisher,
             handed: _,
+            told: _,
         } = self;
         drop(publisher);
         core.stop()
     }
 }
 
-// The board of a shard that is set up so, with its versions and its served time, and so many viewers.
+// The horizon that keeps so many microseconds, by what is served and the earliest of a reading.
+fn horizon_for(served: Stamp, earliest: Stamp, micros: u64) -> Stamp
+    ensures { result ≡ horizon_kept served earliest micros }
+{
+    match Stamp::new(earliest.micros().saturating_sub(micros)) {
+        Ok(at) if at < served => at,
+        Ok(_) => served,
+        Err(_) => unreachable!(),
+    }
+}
+
+// The board of a shard that is set up so, with its versions, its served time and its horizon, and so many viewers.
 fn board_of<R: Wait + Drop>(
     rt: R,
     alloc: Global,
     setup: &Setup,
     installs: &[Install],
     safe: Stamp,
+    horizon: Stamp,
     n: usize,
 ) -> Result<(Publisher<R>, Vec<Viewer>), Fault>
-    requires { is_board (first_entries installs.now safe) ≡ true }
+    requires { is_board (first_entries installs.now safe horizon) ≡ true }
     ensures board { IfOk result
-        (λ made. IsNewBoard made.0 (first_entries installs.now safe)) }
+        (λ made. IsNewBoard made.0 (first_entries installs.now safe horizon)) }
     ensures viewers { IfOk result (λ made. AreOnBoard n setup.now made.0 made.1.items) }
     ensures refused { IfErr result (λ fault. IsNoDesk n fault) }
 {
     check_viewers(n)?;
     let splits = setup.splits.copy(alloc)?;
-    start(rt, alloc, installs, safe, splits, setup.shard, n)
+    start(rt, alloc, installs, safe, horizon, splits, setup.shard, n)
 }
 
-// Hands the board the versions that it lacks and the served time, and publishes them.
+// Hands the board the versions that it lacks, the horizon where it was raised, and the served time, and publishes them.
 fn show<R: Wait + Drop>(
     installs: &[Install],
     safe: Stamp,
+    horizon: Stamp,
     publisher: &mut Publisher<R>,
     handed: &mut usize,
+    told: &mut Stamp,
     alloc: Global,
 ) -> Result<Told, Fault>
-    requires { InStep installs.now safe handed.old
+    requires step { InStep installs.now safe handed.old horizon
         (publisher.old.published ++ publisher.old.pending) }
-    ensures step { InStep installs.now safe handed.new
+    requires told { horizon_on (publisher.old.published ++ publisher.old.pending) ≡ told.old }
+    ensures step { InStep installs.now safe handed.new horizon
         (publisher.new.published ++ publisher.new.pending) }
+    ensures told { horizon_on (publisher.new.published ++ publisher.new.pending) ≡ told.new }
     ensures shown { IfOk result
-        (λ told. ShowsAll installs.now safe publisher.old publisher.new told) }
+        (λ news. ShowsAll installs.now safe horizon publisher.old publisher.new news) }
     ensures refused { IfErr result
         (λ fault. (fault ≡ Fault.Memory) × StillShows publisher.old publisher.new) }
 {
-    hand_over(installs, safe, publisher, handed, alloc)?;
+    hand_over(installs, safe, horizon, publisher, handed, alloc)?;
+    hand_horizon(installs, safe, horizon, publisher, *handed, told)?;
     publisher.safe(safe)?;
     publisher.publish()
 }
@@ -233,20 +286,23 @@ fn show<R: Wait + Drop>(
 fn hand_over<R: Wait + Drop>(
     installs: &[Install],
     safe: Stamp,
+    horizon: Stamp,
     publisher: &mut Publisher<R>,
     handed: &mut usize,
     alloc: Global,
 ) -> Result<(), Fault>
-    requires { InStep installs.now safe handed.old
+    requires { InStep installs.now safe handed.old horizon
         (publisher.old.published ++ publisher.old.pending) }
-    ensures step { InStep installs.now safe handed.new
+    ensures step { InStep installs.now safe handed.new horizon
         (publisher.new.published ++ publisher.new.pending) }
+    ensures horizon { horizon_on (publisher.new.published ++ publisher.new.pending)
+        ≡ horizon_on (publisher.old.published ++ publisher.old.pending) }
     ensures published { StillShows publisher.old publisher.new }
     ensures all { OnOk result (handed.new ≡ length installs.now) }
     ensures memory { IfErr result (λ fault. fault ≡ Fault.Memory) }
 {
     while *handed < installs.len() {
-        hand_one(installs, safe, publisher, handed, alloc)?;
+        hand_one(installs, safe, horizon, publisher, handed, alloc)?;
     }
     Ok(())
 }
@@ -255,15 +311,18 @@ fn hand_over<R: Wait + Drop>(
 fn hand_one<R: Wait + Drop>(
     installs: &[Install],
     safe: Stamp,
+    horizon: Stamp,
     publisher: &mut Publisher<R>,
     handed: &mut usize,
     alloc: Global,
 ) -> Result<(), Fault>
-    requires step { InStep installs.now safe handed.old
+    requires step { InStep installs.now safe handed.old horizon
         (publisher.old.published ++ publisher.old.pending) }
     requires left { handed.old < length installs.now }
-    ensures step { InStep installs.now safe handed.new
+    ensures step { InStep installs.now safe handed.new horizon
         (publisher.new.published ++ publisher.new.pending) }
+    ensures horizon { horizon_on (publisher.new.published ++ publisher.new.pending)
+        ≡ horizon_on (publisher.old.published ++ publisher.old.pending) }
     ensures published { StillShows publisher.old publisher.new }
     ensures count { OnOk result (handed.new ≡ handed.old + 1) }
     ensures memory { IfErr result (λ fault. fault ≡ Fault.Memory) }
@@ -271,5 +330,33 @@ fn hand_one<R: Wait + Drop>(
     let install = copy_install(&installs[*handed])?;
     publisher.install(install)?;
     *handed += 1;
+    Ok(())
+}
+
+// Hands the board, which has all versions, the horizon where it is above the one that the board was told.
+fn hand_horizon<R: Wait + Drop>(
+    installs: &[Install],
+    safe: Stamp,
+    horizon: Stamp,
+    publisher: &mut Publisher<R>,
+    handed: usize,
+    told: &mut Stamp,
+) -> Result<(), Fault>
+    requires step { InStep installs.now safe handed horizon
+        (publisher.old.published ++ publisher.old.pending) }
+    requires all { handed ≡ length installs.now }
+    requires told { horizon_on (publisher.old.published ++ publisher.old.pending) ≡ told.old }
+    ensures step { InStep installs.now safe handed horizon
+        (publisher.new.published ++ publisher.new.pending) }
+    ensures told { horizon_on (publisher.new.published ++ publisher.new.pending) ≡ told.new }
+    ensures published { StillShows publisher.old publisher.new }
+    ensures raised { OnOk result (told.new ≡ horizon) }
+    ensures memory { IfErr result (λ fault. fault ≡ Fault.Memory) }
+{
+    if *told >= horizon {
+        return Ok(());
+    }
+    publisher.horizon(horizon)?;
+    *told = horizon;
     Ok(())
 }

@@ -2,7 +2,7 @@
 //! are up, and then it happens.
 ghost use Rattle.std.specs.Prelude.{◌<◌, ◌-◌, ◌^◌};
 
-use crate::sight::{OTHER, Sent, Sight, push_sent, seen_of};
+use crate::sight::{OTHER, Seen, Sent, Sight, push_sent, seen_of};
 use crate::steps::{Does, FIRST, Step, Stop, event};
 use disk::Fate;
 use lives::Run;
@@ -214,6 +214,25 @@ impl Drawn {
         self.left = self.below(4);
     }
 
+    // A time around what is served: mostly one that was served for a while.
+    fn forget_upto(&mut self, safe: u64) {
+        self.step.does = Does::Forget;
+        self.step.at = if self.below(3) == 0 {
+            safe.saturating_add(4).saturating_sub(self.below(8))
+        } else {
+            safe.saturating_sub(self.below(200))
+        };
+    }
+
+    // A shard forgets what is below such a time. At once some of its keys are looked at then.
+    fn forget(&mut self, sight: &Sight<'_>) {
+        let shard = self.shard();
+        self.now(shard, Does::Forget);
+        self.forget_upto(sight.shards[shard as usize % 3].safe);
+        self.coming = Does::Look;
+        self.left = self.below(3);
+    }
+
     // A look at a shard, or at one of its views.
     fn look(&mut self, views: Option<&Sight<'_>>) {
         let shard = self.shard();
@@ -257,19 +276,20 @@ impl Drawn {
     }
 
     // What a shard does where a call of it fails, or where it crashes.
-    fn act(&mut self, sight: &Sight<'_>, shard: u8, decided: u64) {
+    fn act(&mut self, sight: &Sight<'_>, shard: u8, seen: Seen) {
         self.now(shard, Does::Resume);
-        match self.below(4) {
+        match self.below(5) {
             0 => {
                 self.step.does = Does::Advance;
                 self.step.at = self.step.latest;
             }
             1 => {
-                if decided > 0 {
+                if seen.decided > 0 {
                     self.step.does = Does::Settle;
-                    self.step.txn = decided;
+                    self.step.txn = seen.decided;
                 }
             }
+            2 => self.forget_upto(seen.safe),
             _ => {
                 if let Some(number) = sight.next_for(shard, self.next) {
                     self.step.does = Does::Take;
@@ -286,7 +306,7 @@ impl Drawn {
         if seen.is_down {
             return self.open(shard);
         }
-        self.act(sight, shard, seen.decided);
+        self.act(sight, shard, seen);
         match self.below(5) {
             0 => self.step.does = Does::Crash,
             1 | 2 => self.stop(false),
@@ -315,7 +335,8 @@ impl Drawn {
             80..=83 => self.look(Some(sight)),
             84..=88 => self.advance(),
             89..=91 => self.nudge(sight),
-            92..=98 => self.serve(0, 0, Does::Resume),
+            92..=95 => self.serve(0, 0, Does::Resume),
+            96..=98 => self.forget(sight),
             _ => self.quit(),
         }
     }

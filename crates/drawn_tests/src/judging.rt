@@ -73,7 +73,7 @@ fn untrue(told: &[Told], one: &Told, last: u64) -> &'static str {
     let decided = decision(told, one.txn);
     let at = decided.at;
     let (is_true, name) = match one.kind {
-        Kind::Part | Kind::Write => (true, ""),
+        Kind::Part | Kind::Write | Kind::Horizon => (true, ""),
         Kind::Commit => (one.at == at && one.coordinator == one.shard, "a decision"),
         Kind::Prepare => {
             let is_kept = one.at <= at && one.coordinator == decided.coordinator;

@@ -42,11 +42,16 @@ fn rests(does: Does, standing: Standing) -> bool {
             Standing::Down => true,
             _ => false,
         },
-        Does::Deliver | Does::Take | Does::Resume | Does::Settle | Does::Advance | Does::Nudge =>
-            match standing {
-                Standing::Up => false,
-                _ => true,
-            },
+        Does::Deliver
+        | Does::Take
+        | Does::Resume
+        | Does::Settle
+        | Does::Advance
+        | Does::Nudge
+        | Does::Forget => match standing {
+            Standing::Up => false,
+            _ => true,
+        },
         _ => false,
     }
 }
@@ -92,6 +97,40 @@ fn behind(standing: Standing, step: &Step, said: Said, totals: &mut Totals) -> O
     }
 }
 
+// What a shard has surely forgotten, and what it has at most.
+#[derive(Clone, Copy)]
+struct Forgotten {
+    sure: u64,
+    most: u64,
+}
+
+// Whether the reply is due by what is forgotten. What a shard was asked to forget is surely so where that is done, and it may be where the
+// shard stopped. A look below what is surely so shows nothing, and only one below what may be is too old.
+fn agrees(forgotten: &mut Forgotten, step: &Step, reply: &Reply, totals: &mut Totals) -> bool {
+    match (step.does, reply) {
+        (Does::Forget, Reply::Done) => {
+            forgotten.sure = forgotten.sure.max(step.at);
+            forgotten.most = forgotten.most.max(step.at);
+            true
+        }
+        (Does::Forget, Reply::Crashed | Reply::Refused(Fault::Device)) => {
+            forgotten.most = forgotten.most.max(step.at);
+            true
+        }
+        (Does::Forget, Reply::Refused(Fault::NotYet)) => {
+            totals.early = totals.early.saturating_add(1);
+            step.at > forgotten.sure
+        }
+        (Does::Look, Reply::Shows(_)) => forgotten.sure <= step.at,
+        (Does::Look | Does::View, Reply::Refused(Fault::TooOld)) => {
+            totals.old = totals.old.saturating_add(1);
+            step.at < forgotten.most
+        }
+        (_, Reply::Refused(Fault::TooOld)) => false,
+        _ => true,
+    }
+}
+
 // The shard that a message goes to.
 fn receiver(report: &Report, number: u64) -> u8 {
     match report.bag.nth(number) {
@@ -100,9 +139,10 @@ fn receiver(report: &Report, number: u64) -> u8 {
     }
 }
 
-/// There is a reply to each event, and each is one that is due.
+/// There is a reply to each event, and each is one that is due by which shards are up, and by what they have forgotten.
 pub fn are_due(report: &Report, steps: &[Step], totals: &mut Totals) -> bool {
     let mut standings = [Standing::Up; 3];
+    let mut all_forgotten = [Forgotten { sure: 0, most: 0 }; 3];
     for (step, reply) in steps.iter().zip(&report.replies) {
         let shard = match step.does {
             Does::Deliver => receiver(report, step.number),
@@ -116,6 +156,11 @@ pub fn are_due(report: &Report, steps: &[Step], totals: &mut Totals) -> bool {
         match behind(*standing, step, said_by(reply), totals) {
             Some(next) => *standing = next,
             None => return false,
+        }
+        if let Some(forgotten) = all_forgotten.get_mut(step.shard as usize) {
+            if !agrees(forgotten, step, reply, totals) {
+                return false;
+            }
         }
     }
     report.replies.len() == steps.len()

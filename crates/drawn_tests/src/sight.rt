@@ -36,13 +36,15 @@ pub fn sent_of(envelope: &Envelope) -> Sent {
     sent
 }
 
-/// A shard: how many views it made, and the first transaction that it has decided to commit and not settled, or 0.
+/// A shard: how many views it made, the first transaction that it has decided to commit and not settled, or 0, and the time that it serves,
+/// or 0 while it is down.
 #[derive(Clone, Copy)]
 pub struct Seen {
     pub is_up: bool,
     pub is_down: bool,
     pub views: u64,
     pub decided: u64,
+    pub safe: u64,
 }
 
 /// A run: its messages, and its shards.
@@ -93,12 +95,14 @@ fn seen_at(shards: &[RunShard], number: usize) -> Seen {
         is_down: false,
         views: 0,
         decided: 0,
+        safe: 0,
     };
     if let Some(shard) = shards.get(number) {
         seen.is_up = shard.is_up();
         seen.is_down = shard.is_down();
         seen.views = shard.views();
         if let Life::Up(core) = &shard.life {
+            seen.safe = core.safe().micros();
             if let Some((txn, _)) = core.decided(0) {
                 seen.decided = txn.number();
             }

@@ -24,6 +24,7 @@ pub enum Does {
     Settle,
     Advance,
     Nudge,
+    Forget,
     Open,
 }
 
@@ -73,6 +74,7 @@ fn doing(step: &Step, txn: TxnId, at: Stamp, now: Reading) -> Doing {
         Does::Settle => Doing::Settle(txn, now),
         Does::Advance => Doing::Advance(at, now),
         Does::Nudge => Doing::Nudge(txn, now),
+        Does::Forget => Doing::Forget(at, now),
         Does::Open => Doing::Open,
         _ => Doing::Resume(now),
     }

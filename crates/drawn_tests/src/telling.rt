@@ -6,7 +6,7 @@ use std::alloc::Global;
 use units::{Line, Parts, ShardNo, Stamp, TxnId, Value, Writes};
 
 /// What a row tells of: a record of a log, a part of a decision that is not its coordinator, a write of a decision or of a
-/// promise, a message on how a transaction ended, or a line.
+/// promise, a horizon, a message on how a transaction ended, or a line.
 #[derive(Clone, Copy)]
 pub enum Kind {
     Commit,
@@ -14,6 +14,7 @@ pub enum Kind {
     Write,
     Prepare,
     Outcome,
+    Horizon,
     Message,
     Begin,
     Ack,
@@ -145,6 +146,10 @@ fn put_record(told: &mut Vec<Told>, shard: usize, item: &Record) -> bool {
             }
         }
         Record::Abort { txn } => one.txn = number_of(*txn),
+        Record::Horizon { at } => {
+            one.kind = Kind::Horizon;
+            one.at = at.micros();
+        }
         Record::Outcome { txn, outcome } => {
             one.txn = number_of(*txn);
             one.at = end_of(*outcome);
@@ -153,17 +158,26 @@ fn put_record(told: &mut Vec<Told>, shard: usize, item: &Record) -> bool {
     put(told, one)
 }
 
-// The records of a log, whose openings are to be numbered from 1.
+// The records of a log, whose openings are to be numbered from 1. Its horizons are to rise, and what comes behind one is above it.
 fn put_log(told: &mut Vec<Told>, shard: usize, log: &[Record]) -> bool {
     let mut last: u64 = 0;
+    let mut horizon: u64 = 0;
     for item in log {
-        if let Record::Opened { epoch } = item {
-            last = last.saturating_add(1);
-            if epoch.number() != last {
-                return false;
+        let rises = match item {
+            Record::Opened { epoch } => {
+                last = last.saturating_add(1);
+                epoch.number() == last
             }
-        }
-        if !put_record(told, shard, item) {
+            Record::Horizon { at } => {
+                let before = horizon;
+                horizon = at.micros();
+                horizon > before
+            }
+            Record::Prepare(promise) => promise.at.micros() > horizon,
+            Record::Commit(committed) => committed.at.micros() > horizon,
+            Record::Ceiling { .. } | Record::Abort { .. } | Record::Outcome { .. } => true,
+        };
+        if !rises || !put_record(told, shard, item) {
             return false;
         }
     }

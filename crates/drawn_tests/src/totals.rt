@@ -1,14 +1,17 @@
 //! What drawn lists and their reports have, counted, so that they are not empty.
 use crate::telling::{Kind, Told};
 
-/// Lines of some kinds, values in those of reads and looks, and stops of shards: crashes, failures of calls, and accepted
-/// openings.
+/// Lines of some kinds, values in those of reads and looks, horizons, what was asked for and refused as too early of these, looks that were
+/// too old, and stops of shards: crashes, failures of calls, and accepted openings.
 #[derive(Clone, Copy)]
 pub struct Totals {
     pub acknowledged: u64,
     pub read: u64,
     pub looked: u64,
     pub valued: u64,
+    pub forgotten: u64,
+    pub early: u64,
+    pub old: u64,
     pub crashed: u64,
     pub failed: u64,
     pub opened: u64,
@@ -22,19 +25,23 @@ impl Totals {
             read: 0,
             looked: 0,
             valued: 0,
+            forgotten: 0,
+            early: 0,
+            old: 0,
             crashed: 0,
             failed: 0,
             opened: 0,
         }
     }
 
-    /// Counts the lines among rows.
+    /// Counts the lines and the horizons among rows.
     pub fn count(&mut self, told: &[Told]) {
         for one in told {
             let count = match one.kind {
                 Kind::Ack => &mut self.acknowledged,
                 Kind::Read => &mut self.read,
                 Kind::Look => &mut self.looked,
+                Kind::Horizon => &mut self.forgotten,
                 _ => continue,
             };
             *count = count.saturating_add(1);
@@ -51,6 +58,9 @@ impl Totals {
             (self.read, 10, "reads"),
             (self.looked, 300, "looks"),
             (self.valued, 100, "values"),
+            (self.forgotten, 50, "horizons"),
+            (self.early, 20, "horizons that come too early"),
+            (self.old, 50, "looks that are too old"),
             (self.crashed, 100, "crashes"),
             (self.failed, 30, "failing calls"),
             (self.opened, 100, "openings"),

@@ -8,6 +8,8 @@ mod drives;
 #[cfg(test)]
 mod folder;
 #[cfg(test)]
+mod forgetting;
+#[cfg(test)]
 mod gates;
 #[cfg(test)]
 mod kept;

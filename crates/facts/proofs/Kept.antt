@@ -16,7 +16,7 @@ use Rattle.record.specs.Records.{Ended, prepared_of, committed_of, ended_of, epo
 use Rattle.record.specs.declared.record.Committed.{Committed}
 use Rattle.record.specs.declared.record.Prepared.{Prepared}
 use Rattle.record.specs.declared.record.Record.{Record}
-use Rattle.record.specs.declared.record.Record.TheVariants.{Opened, Ceiling, Prepare, Commit, Abort, Outcome}
+use Rattle.record.specs.declared.record.Record.TheVariants.{Opened, Ceiling, Prepare, Commit, Abort, Outcome, Horizon}
 use Rattle.record.proofs.Sound.{Sound, sound_empty, sound_more, made, new_facts, prepare_new, commit_new, outcome_follows, opened_follows}
 use Rattle.record.proofs.Sound.{prepared_more, committed_more, ended_more, single}
 use Rattle.record.proofs.LearnAgrees.{learns}
@@ -45,6 +45,7 @@ made_fresh : (shard : ℕ) (log : List Record) (r : Record) (t : Id) → follows
 unfolding made
 made_fresh shard log (Opened e) t h there = cc
 made_fresh shard log (Ceiling at) t h there = cc
+made_fresh shard log (Horizon at) t h there = cc
 made_fresh shard log (Prepare p) t h there =
     let same : p.txn ≡ t = same_id-is p.txn t (sym (single (same_id p.txn t) p) ∙ (sym (or-false _) ∙ there)) in
     subst (λ v. made log v ≡ false) same ((new_facts log p.txn (prepare_new shard log p h)).1)
@@ -57,6 +58,7 @@ made_fresh shard log (Outcome u o) t h there = cc
 one_single : (r : Record) (t : Id) → (is_there (prepared_of (r ∷ []) t) && is_there (committed_of (r ∷ []) t)) ≡ false
 one_single (Opened e) t = refl
 one_single (Ceiling at) t = refl
+one_single (Horizon at) t = refl
 one_single (Prepare p) t = and-false _
 one_single (Commit c) t = refl
 one_single (Abort u) t = refl
@@ -124,6 +126,7 @@ settles_by : (shard : ℕ) (log : List Record) (r : Record) → Kept log → fol
 unfolding made
 settles_by shard log (Opened e) k h t = plain _ _ (k.settles t)
 settles_by shard log (Ceiling at) k h t = plain _ _ (k.settles t)
+settles_by shard log (Horizon at) k h t = plain _ _ (k.settles t)
 settles_by shard log (Prepare p) k h t = plain _ _ (k.settles t)
 settles_by shard log (Commit c) k h t = decided (same_id c.txn t) (committed_of log t) (ended_of log t) c (k.settles t)
     (λ same. let m : made log t ≡ false = subst (λ v. made log v ≡ false) (same_id-is c.txn t same) ((new_facts log c.txn (commit_new shard log c h)).1) in
@@ -153,6 +156,10 @@ begun_other log r e h b = sym h ∙ e ∙ b
 pub begins_ceiling : (log : List Record) (at : ℕ) → begins log (Ceiling at) ≡ is_begun log
 begins_ceiling [] at = refl
 begins_ceiling (q ∷ qs) at = refl
+
+pub begins_horizon : (log : List Record) (at : ℕ) → begins log (Horizon at) ≡ is_begun log
+begins_horizon [] at = refl
+begins_horizon (q ∷ qs) at = refl
 
 pub begins_prepare : (log : List Record) (p : Prepared) → begins log (Prepare p) ≡ is_begun log
 begins_prepare [] p = refl
@@ -185,6 +192,7 @@ begun_more shard log r k b h = is_begun_more log r ∙ by_kind r b h ∙ ap (λ 
     by_kind : (q : Record) → begins log q ≡ true → follows shard log q ≡ true → true ≡ nat_lt 0 (learn (facts_of log) q).epoch
     by_kind (Opened e) b h = above_none (epoch_of log) ∙ ap (λ n. nat_lt 0 n) (sym (eqb-true _ _ (opened_follows shard log e h)))
     by_kind (Ceiling at) b h = begun_other log (Ceiling at) (begins_ceiling log at) b k.begun
+    by_kind (Horizon at) b h = begun_other log (Horizon at) (begins_horizon log at) b k.begun
     by_kind (Prepare p) b h = begun_other log (Prepare p) (begins_prepare log p) b k.begun
     by_kind (Commit c) b h = begun_other log (Commit c) (begins_commit log c) b k.begun
     by_kind (Abort t) b h = begun_other log (Abort t) (begins_abort log t) b k.begun

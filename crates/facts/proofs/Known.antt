@@ -14,14 +14,14 @@ use Rattle.record.specs.Records.{committed_of, is_aborted, ended_of, epoch_of, s
 use Rattle.record.specs.declared.record.Committed.{Committed}
 use Rattle.record.specs.declared.record.Prepared.{Prepared}
 use Rattle.record.specs.declared.record.Record.{Record}
-use Rattle.record.specs.declared.record.Record.TheVariants.{Opened, Ceiling, Prepare, Commit, Abort, Outcome}
+use Rattle.record.specs.declared.record.Record.TheVariants.{Opened, Ceiling, Prepare, Commit, Abort, Outcome, Horizon}
 use Rattle.record.proofs.Sound.{made}
 use Rattle.record.proofs.LearnAgrees.{learns, followed_more}
 use Rattle.record.proofs.Statuses.{recorded_is}
 use Rattle.facts.specs.Laws.{FollowsAsKnown, LearntAsFollowed, SaysOfRecords, SaysOf, learnt_from}
 use Rattle.facts.specs.Readers.{standing_promise, standing_decision, has_abort, outcome_in}
 use Rattle.facts.specs.Rules.{is_unrecorded, allows, follows_facts}
-use Rattle.facts.proofs.Kept.{Kept, Settles, kept_empty, kept_more, kept_followed, append_one, begins_ceiling, begins_prepare, begins_commit}
+use Rattle.facts.proofs.Kept.{Kept, Settles, kept_empty, kept_more, kept_followed, append_one, begins_ceiling, begins_horizon, begins_prepare, begins_commit}
 use Rattle.facts.proofs.Kept.{begins_abort, begins_outcome}
 
 -- ---- the rules of one id
@@ -83,6 +83,7 @@ known_next : (shard : ℕ) (log : List Record) (r : Record) → Kept log → (be
 unfolding follows follows_facts facts_of
 known_next shard log (Opened epoch) k = ap (λ b. b && nat_eq epoch (epoch_of log + 1)) (begins_opened log epoch)
 known_next shard log (Ceiling at) k = two _ _ _ _ (begins_ceiling log at ∙ k.begun) refl
+known_next shard log (Horizon at) k = two _ _ _ _ (begins_horizon log at ∙ k.begun) refl
 known_next shard log (Prepare p) k = two _ _ _ _ (begins_prepare log p ∙ k.begun)
     (ap (λ b. nat_lt 0 p.at && b && nat_lt p.coordinator shard) (new_known log p.txn))
 known_next shard log (Commit c) k = two _ _ _ _ (begins_commit log c ∙ k.begun)

@@ -4,7 +4,7 @@ use Rattle.units.specs.Lists.{head, when}
 use Rattle.record.specs.Facts.{Facts, recorded}
 use Rattle.record.specs.Records.{Status, Unrecorded, StandsPrepared, StandsDecided}
 use Rattle.record.specs.declared.record.Record.{Record}
-use Rattle.record.specs.declared.record.Record.TheVariants.{Opened, Ceiling, Prepare, Commit, Abort, Outcome}
+use Rattle.record.specs.declared.record.Record.TheVariants.{Opened, Ceiling, Prepare, Commit, Abort, Outcome, Horizon}
 
 -- there is no promise, decision or abort
 abbrev pub is_unrecorded : Status → Bool
@@ -22,6 +22,7 @@ allows _ _ = false
 abbrev pub id_follows : ℕ → Facts → Record → Bool
 id_follows shard facts (Opened epoch) = true
 id_follows shard facts (Ceiling at) = true
+id_follows shard facts (Horizon at) = nat_lt facts.horizon at && nat_le at facts.floor
 id_follows shard facts (Prepare p) = nat_lt 0 p.at && is_unrecorded (recorded facts p.txn) && nat_lt p.coordinator shard
 id_follows shard facts (Commit c) = nat_lt 0 c.at && is_unrecorded (recorded facts c.txn) && when (nat_eq shard) (head c.parts)
 id_follows shard facts (Abort t) = is_unrecorded (recorded facts t)
@@ -31,6 +32,7 @@ id_follows shard facts (Outcome t outcome) = allows (recorded facts t) outcome
 unfoldable pub follows_facts : ℕ → Facts → Record → Bool
 follows_facts shard facts (Opened epoch) = nat_eq epoch (facts.epoch + 1)
 follows_facts shard facts (Ceiling at) = nat_lt 0 facts.epoch && id_follows shard facts (Ceiling at)
+follows_facts shard facts (Horizon at) = nat_lt 0 facts.epoch && id_follows shard facts (Horizon at)
 follows_facts shard facts (Prepare p) = nat_lt 0 facts.epoch && id_follows shard facts (Prepare p)
 follows_facts shard facts (Commit c) = nat_lt 0 facts.epoch && id_follows shard facts (Commit c)
 follows_facts shard facts (Abort t) = nat_lt 0 facts.epoch && id_follows shard facts (Abort t)

@@ -15,8 +15,8 @@ use std::alloc::Global;
 use std::marker::Model;
 use units::{Fault, Install, ShardNo, Stamp, TxnId};
 
-/// What a shard's log determines: the epoch, the greatest timestamp, how each transaction stands, and the versions in the
-/// log's order. It learns the records one by one, in the order of the log. A look-up goes by the id's hash.
+/// What a shard's log determines: the epoch, the greatest timestamp, how each transaction stands, the versions in the
+/// log's order, and the horizon. It learns the records one by one, in the order of the log. A look-up goes by the id's hash.
 pub struct Facts {
     shard: ShardNo,
     epoch: u64,
@@ -24,6 +24,7 @@ pub struct Facts {
     // In the order in which the transactions came.
     statuses: IndexMap<TxnId, Status>,
     installs: Vec<Install>,
+    horizon: Stamp,
 }
 
 impl Drop for Facts {
@@ -34,6 +35,7 @@ impl Drop for Facts {
             floor: _,
             statuses: _,
             installs: _,
+            horizon: _,
         } = self;
     }
 }
@@ -50,7 +52,7 @@ impl Model for Facts {
     ghost view = { λ f. record {
       shard = f.shard;
       facts = facts_with f.epoch f.floor
-          (shown_entries (by_id f.statuses.entries)) f.installs.items;
+          (shown_entries (by_id f.statuses.entries)) f.installs.items f.horizon;
       room = room_for (spare f.statuses) (vec_capacity f.installs - vec_len f.installs);
     } };
 
@@ -69,6 +71,7 @@ impl Facts {
             floor: Stamp::zero(),
             statuses: IndexMap::new(alloc),
             installs: Vec::new(alloc),
+            horizon: Stamp::zero(),
         }
     }
 
@@ -105,6 +108,13 @@ impl Facts {
         ensures { result ≡ self.now.facts.floor }
     {
         self.floor
+    }
+
+    /// The horizon, below which no value is read: 0 where there is none.
+    pub fn horizon(&self) -> Stamp
+        ensures { result ≡ self.now.facts.horizon }
+    {
+        self.horizon
     }
 
     /// How a transaction stands, where it has a record.
@@ -171,6 +181,7 @@ impl Facts {
             }
             Record::Abort { txn } => self.epoch > 0 && self.is_new(*txn),
             Record::Outcome { txn, outcome } => { self.epoch > 0 && self.allows(*txn, *outcome) }
+            Record::Horizon { at } => { self.epoch > 0 && self.horizon < *at && *at <= self.floor }
         }
     }
 
@@ -231,6 +242,7 @@ impl Facts {
             }
             Record::Abort { txn } => set(&mut self.statuses, txn, Status::Aborted),
             Record::Outcome { txn, outcome } => self.end(txn, outcome),
+            Record::Horizon { at } => self.horizon = self.horizon.later(at),
         }
     }
 

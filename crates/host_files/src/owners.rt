@@ -16,7 +16,8 @@ use units::{Fault, Key, Keys, Reason, Setup, Writes};
 const MOST_FRONT: u64 = 1 << 16;
 
 /// Why a record does not belong to the log of a shard: it names a key of another shard (`Stranger`), a shard that is not there
-/// (`settings`), or it stands in the log of another shard (`Damaged`). Openings, ceilings, aborts and outcomes name none.
+/// (`settings`), or it stands in the log of another shard (`Damaged`). Openings, ceilings, horizons, aborts and outcomes
+/// name none.
 pub fn misfit(setup: &Setup, item: &Record, offset: u64) -> Option<Fault>
     ensures { IfSome result IsFolderFault }
 {
@@ -36,7 +37,7 @@ pub fn misfit(setup: &Setup, item: &Record, offset: u64) -> Option<Fault>
             }
             stranger(setup, &committed.reads, &committed.writes)
         }
-        Record::Opened { .. } | Record::Ceiling { .. } => None,
+        Record::Opened { .. } | Record::Ceiling { .. } | Record::Horizon { .. } => None,
         Record::Abort { .. } | Record::Outcome { .. } => None,
     }
 }

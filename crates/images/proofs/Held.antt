@@ -1,5 +1,5 @@
 -- How what there is of a shard stands for a shard of the definitions.
-use Rattle.std.proofs.Common.{◌≡◌, inl, inr, ℕ, zero, suc, ◌+◌, true, false, nat_le, nat_lt, List, [], ◌∷◌, ◌++◌, Some, Ok, refl, sym, ap}
+use Rattle.std.proofs.Common.{◌≡◌, inl, inr, ℕ, zero, suc, true, false, nat_le, nat_lt, List, [], ◌∷◌, ◌++◌, Some, Ok, refl, sym, ap}
 use Rattle.std.proofs.Common.{◌∙◌, subst, arith}
 use Rattle.std.proofs.lemmas.Bool.Decides.{nat_tests}
 use Rattle.std.proofs.lemmas.List.{append-nil}

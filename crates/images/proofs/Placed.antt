@@ -1,5 +1,5 @@
 -- What an event leaves of the shards, and of what there is of them.
-use Rattle.std.proofs.Common.{◌≡◌, ◌≢◌, ◌⊎◌, inl, inr, ℕ, ◌+◌, ◌≤◌, Bool, true, false, cond, nat_le, nat_lt, IsTrue, List, [], ◌∷◌, ◌++◌, Option, Some, None}
+use Rattle.std.proofs.Common.{◌≡◌, ◌⊎◌, inl, inr, ℕ, ◌+◌, ◌≤◌, Bool, true, false, cond, nat_le, nat_lt, IsTrue, List, [], ◌∷◌, ◌++◌, Option, Some, None}
 use Rattle.std.proofs.Common.{slice_get, Result, Ok, Err, refl, sym, ap, ◌∙◌, subst}
 use Rattle.std.proofs.lemmas.Bool.{false≢true}
 use Rattle.units.specs.declared.fault.Fault.{Fault}
@@ -194,6 +194,8 @@ module _ {D : Type 0} (keeps obeys : Type 0) (file : D → File) (clock : D → 
         what_comes (Doing.Settle t now) (input_of bag (Doing.Settle t now)) old new a.result refl refl refl a.called a.own h
     answers_comes (Doing.Advance at now) old new a h =
         what_comes (Doing.Advance at now) (input_of bag (Doing.Advance at now)) old new a.result refl refl refl a.called a.own h
+    answers_comes (Doing.Forget at now) old new a h =
+        what_comes (Doing.Forget at now) (input_of bag (Doing.Forget at now)) old new a.result refl refl refl a.called a.own h
     answers_comes (Doing.Nudge t now) old new a h =
         what_comes (Doing.Nudge t now) (input_of bag (Doing.Nudge t now)) old new a.result refl refl refl a.called a.own h
 
@@ -213,6 +215,7 @@ module _ {D : Type 0} (keeps obeys : Type 0) (file : D → File) (clock : D → 
     goes_comes (Doing.Resume now) old new (inr idle) h = idle_comes (Doing.Resume now) old new refl refl idle.1 idle.2 h
     goes_comes (Doing.Settle t now) old new (inr idle) h = idle_comes (Doing.Settle t now) old new refl refl idle.1 idle.2 h
     goes_comes (Doing.Advance at now) old new (inr idle) h = idle_comes (Doing.Advance at now) old new refl refl idle.1 idle.2 h
+    goes_comes (Doing.Forget at now) old new (inr idle) h = idle_comes (Doing.Forget at now) old new refl refl idle.1 idle.2 h
     goes_comes (Doing.Nudge t now) old new (inr idle) h = idle_comes (Doing.Nudge t now) old new refl refl idle.1 idle.2 h
 
     -- ---- a call fails in it
@@ -301,6 +304,8 @@ module _ {D : Type 0} (keeps obeys : Type 0) (file : D → File) (clock : D → 
           what_fails (Doing.Settle t now) (input_of bag (Doing.Settle t now)) old new f.fault refl refl memory out does f.called f.failed f.read f.told h
       fails_lives (Doing.Advance at now) old new memory out does f h =
           what_fails (Doing.Advance at now) (input_of bag (Doing.Advance at now)) old new f.fault refl refl memory out does f.called f.failed f.read f.told h
+      fails_lives (Doing.Forget at now) old new memory out does f h =
+          what_fails (Doing.Forget at now) (input_of bag (Doing.Forget at now)) old new f.fault refl refl memory out does f.called f.failed f.read f.told h
       fails_lives (Doing.Nudge t now) old new memory out does f h =
           what_fails (Doing.Nudge t now) (input_of bag (Doing.Nudge t now)) old new f.fault refl refl memory out does f.called f.failed f.read f.told h
 
@@ -345,6 +350,7 @@ module _ {D : Type 0} (keeps obeys : Type 0) (file : D → File) (clock : D → 
     starves_lives (Doing.Resume now) old new k h = what_starves (input_of bag (Doing.Resume now)) old new k h
     starves_lives (Doing.Settle t now) old new k h = what_starves (input_of bag (Doing.Settle t now)) old new k h
     starves_lives (Doing.Advance at now) old new k h = what_starves (input_of bag (Doing.Advance at now)) old new k h
+    starves_lives (Doing.Forget at now) old new k h = what_starves (input_of bag (Doing.Forget at now)) old new k h
     starves_lives (Doing.Nudge t now) old new k h = what_starves (input_of bag (Doing.Nudge t now)) old new k h
 
     -- ---- a crash

@@ -1,5 +1,5 @@
 -- Whatever a crash leaves, some event of the run tells it.
-use Rattle.std.proofs.Common.{◌≡◌, ◌⊎◌, inl, inr, ℕ, ◌≤◌, ◌<◌, Bool, true, false, not, cond, ◌&&◌, nat_eq, nat_le, nat_lt, IsTrue, List, [], ◌∷◌, ◌++◌, length}
+use Rattle.std.proofs.Common.{◌≡◌, ◌⊎◌, inl, inr, ℕ, ◌≤◌, ◌<◌, Bool, true, false, not, ◌&&◌, nat_eq, nat_le, nat_lt, List, [], ◌∷◌, ◌++◌, length}
 use Rattle.std.proofs.Common.{Option, Some, None, slice_get, Ok, refl, sym, ap, ◌∙◌, subst, arith}
 use Rattle.std.proofs.lemmas.Bool.{and_from, and_parts, false≢true}
 use Rattle.std.proofs.lemmas.Bool.Decides.{nat_tests}
@@ -7,14 +7,12 @@ use Rattle.std.proofs.lemmas.List.{append-nil}
 use Rattle.std.proofs.lemmas.Option.{slice_get_within}
 use Rattle.units.specs.Lists.{when}
 use Rattle.units.specs.declared.fault.Fault.TheVariants.{Stopped}
-use Rattle.units.specs.declared.setup.Setup.{Setup}
 use Rattle.truetime.specs.Interval.{Interval}
 use Rattle.truetime.specs.Reading.{is_honest}
 use Rattle.disk.specs.declared.plan.FailurePlan.{FailurePlan}
 use Rattle.disk.specs.declared.plan.Fate.{Fate}
 use Rattle.disk.specs.File.{File, surface}
 use Rattle.disk.specs.Image.{MayLeave}
-use Rattle.gatelog.specs.Gates.{is_left}
 use Rattle.message.specs.declared.message.Address.{Address}
 use Rattle.message.specs.declared.message.Address.TheVariants.{Shard, Session}
 use Rattle.message.specs.declared.message.Envelope.{Envelope}
@@ -35,8 +33,8 @@ use Rattle.world.proofs.Untouched.{run_settings}
 use Rattle.lives.specs.Inputs.{goes_on}
 use Rattle.lives.proofs.Living.{asks_the_resting}
 use Rattle.law.proofs.Instants.{last_may}
-use Rattle.images.specs.Images.{AreElsewhere, Calls, CrashesAreTold, IsTold, IsUnderWay, Leads, LeavesImage, LeavesNow, Life, RestartsFrom, RestartsWith}
-use Rattle.images.specs.Images.{Turn, Turns, Up, Down, disk_of, events_of}
+use Rattle.images.specs.Images.{Calls, CrashesAreTold, IsTold, IsUnderWay, LeavesImage, Life, RestartsFrom, RestartsWith}
+use Rattle.images.specs.Images.{Up, Down, disk_of, events_of}
 use Rattle.images.proofs.Held.{LivesAs, LivesIn, ReadsAs, life_holds, sure_log}
 use Rattle.images.proofs.Placed.{no_input, some_shard}
 use Rattle.images.proofs.Turned.{HoldRun, MayLeaveHere, calls_read, holds}
@@ -273,6 +271,7 @@ module _ {D : Type 0} (keeps obeys : Type 0) (file : D → File) (clock : D → 
   may_be_in (Doing.Resume now) logged memory out does = crash_may (Doing.Resume now) logged memory out does refl
   may_be_in (Doing.Settle t now) logged memory out does = crash_may (Doing.Settle t now) logged memory out does refl
   may_be_in (Doing.Advance at now) logged memory out does = crash_may (Doing.Advance at now) logged memory out does refl
+  may_be_in (Doing.Forget at now) logged memory out does = crash_may (Doing.Forget at now) logged memory out does refl
   may_be_in (Doing.Nudge t now) logged memory out does = crash_may (Doing.Nudge t now) logged memory out does refl
 
   within_told : (after : Life D) (image : List ℕ) → IsUnderWay keeps obeys file clock since failures plan config es lives n after →

@@ -254,6 +254,8 @@ module _ {D : Type 0} (keeps obeys : Type 0) (file : D → File) (clock : D → 
         what_reads (Doing.Settle t now) (input_of w.bag (Doing.Settle t now)) old new result refl refl logged memory out does k h image left
     calls_read (Doing.Advance at now) old new result logged memory out does k h image left =
         what_reads (Doing.Advance at now) (input_of w.bag (Doing.Advance at now)) old new result refl refl logged memory out does k h image left
+    calls_read (Doing.Forget at now) old new result logged memory out does k h image left =
+        what_reads (Doing.Forget at now) (input_of w.bag (Doing.Forget at now)) old new result refl refl logged memory out does k h image left
     calls_read (Doing.Nudge t now) old new result logged memory out does k h image left =
         what_reads (Doing.Nudge t now) (input_of w.bag (Doing.Nudge t now)) old new result refl refl logged memory out does k h image left
 

@@ -9,7 +9,7 @@ use Rattle.record.specs.Records.{as_ended, is_aborted}
 use Rattle.record.specs.Whole.{Decision, fits_decision, is_promise_for, outcomes_fit, promises_of, turns_down}
 use Rattle.record.specs.declared.record.Prepared.{Prepared}
 use Rattle.record.specs.declared.record.Record.{Record}
-use Rattle.record.specs.declared.record.Record.TheVariants.{Opened, Ceiling, Prepare, Commit, Abort, Outcome}
+use Rattle.record.specs.declared.record.Record.TheVariants.{Opened, Ceiling, Prepare, Commit, Abort, Outcome, Horizon}
 use Rattle.inspector.specs.declared.whole.Stand.TheVariants.{Nothing, Otherwise, Promised}
 use Rattle.inspector.specs.Tallies.{all_fit, stand_of}
 
@@ -72,6 +72,7 @@ pub each_fits : (own part found : Bool) (t : Id) (d : Decision) (log : List Reco
 each_fits own part found t d [] = none_left own part found d
 each_fits own part found t d (Opened e ∷ log) = each_fits own part found t d log
 each_fits own part found t d (Ceiling a ∷ log) = each_fits own part found t d log
+each_fits own part found t d (Horizon a ∷ log) = each_fits own part found t d log
 each_fits own part found t d (Commit c ∷ log) = each_fits own part found t d log
 each_fits own part found t d (Prepare p ∷ log) = by_test (same_id p.txn t) (each_fits own part found t d log) (each_fits own part true t d log)
   where

@@ -7,7 +7,7 @@ use Rattle.record.specs.History.{by_shard}
 use Rattle.record.specs.Records.{as_committed}
 use Rattle.record.specs.Whole.{Decision, fits_decision, parts_exist}
 use Rattle.record.specs.declared.record.Record.{Record}
-use Rattle.record.specs.declared.record.Record.TheVariants.{Opened, Ceiling, Prepare, Commit, Abort, Outcome}
+use Rattle.record.specs.declared.record.Record.TheVariants.{Opened, Ceiling, Prepare, Commit, Abort, Outcome, Horizon}
 use Rattle.inspector.specs.declared.whole.Stand.{Stand}
 use Rattle.inspector.specs.declared.whole.Stand.TheVariants.{Nothing, Otherwise, Promised}
 use Rattle.inspector.specs.declared.whole.Tally.{Tally}
@@ -42,6 +42,7 @@ settled_tally never Again = false
 abbrev pub stand_of : Id → Decision → Record → Stand
 stand_of t d (Opened epoch) = Nothing
 stand_of t d (Ceiling at) = Nothing
+stand_of t d (Horizon at) = Nothing
 stand_of t d (Prepare p) = cond (same_id p.txn t) (Promised (nat_eq p.coordinator d.shard && nat_le p.at d.commit.at)) Nothing
 stand_of t d (Commit c) = Nothing
 stand_of t d (Abort u) = cond (same_id t u) Otherwise Nothing

@@ -69,7 +69,7 @@ fn id_of(item: &Record) -> Option<TxnId>
     ensures { result ≡ id_in item.now }
 {
     match item {
-        Record::Opened { .. } | Record::Ceiling { .. } => None,
+        Record::Opened { .. } | Record::Ceiling { .. } | Record::Horizon { .. } => None,
         Record::Prepare(prepared) => Some(prepared.txn),
         Record::Commit(committed) => Some(committed.txn),
         Record::Abort { txn } => Some(*txn),

@@ -200,7 +200,10 @@ fn stand_of(item: &Record, txn: TxnId, shard: usize, commit: &Committed) -> Stan
     ensures { result ≡ stand_of txn (record { shard = shard; commit = commit.now }) item.now }
 {
     match item {
-        Record::Opened { .. } | Record::Ceiling { .. } | Record::Commit(_) => Stand::Nothing,
+        Record::Opened { .. }
+        | Record::Ceiling { .. }
+        | Record::Horizon { .. }
+        | Record::Commit(_) => Stand::Nothing,
         Record::Prepare(prepared) => {
             if prepared.txn.is(txn) {
                 Stand::Promised(promise_fits(prepared, shard, commit))

@@ -20,7 +20,7 @@ use Rattle.record.specs.Records.{Ended, as_ended, as_committed, as_prepared, sta
 use Rattle.record.specs.declared.record.Committed.{Committed}
 use Rattle.record.specs.declared.record.Prepared.{Prepared}
 use Rattle.record.specs.declared.record.Record.{Record}
-use Rattle.record.specs.declared.record.Record.TheVariants.{Opened, Ceiling, Prepare, Commit, Abort, Outcome}
+use Rattle.record.specs.declared.record.Record.TheVariants.{Opened, Ceiling, Prepare, Commit, Abort, Outcome, Horizon}
 use Rattle.record.proofs.LearnAgrees.{learn_agrees, followed_more}
 use Rattle.record.proofs.Statuses.{recorded_is}
 use Rattle.law.specs.Among.{IsAmong}
@@ -172,6 +172,7 @@ abbrev pub installs_by : List Record → Record → List Install
 installs_by log (Outcome t o) = installs_at (recorded (facts_of log) t) o
 installs_by log (Record.Opened epoch) = []
 installs_by log (Record.Ceiling s) = []
+installs_by log (Record.Horizon s) = []
 installs_by log (Record.Prepare p) = []
 installs_by log (Record.Commit c) = []
 installs_by log (Record.Abort u) = []
@@ -184,6 +185,7 @@ installs_more shard log r h = ap (λ (f : Facts). f.installs) (learn_agrees shar
     by_kind : (q : Record) → (learn (facts_of log) q).installs ≡ installs_of log ++ installs_by log q
     by_kind (Opened epoch) = sym (append-nil (installs_of log))
     by_kind (Ceiling at) = sym (append-nil (installs_of log))
+    by_kind (Horizon at) = sym (append-nil (installs_of log))
     by_kind (Prepare p) = sym (append-nil (installs_of log))
     by_kind (Commit c) = sym (append-nil (installs_of log))
     by_kind (Abort t) = sym (append-nil (installs_of log))
@@ -204,6 +206,7 @@ pub new_from : (log : List Record) (r : Record) (i : Install) → IsAmong (insta
 unfolding status_of
 new_from log (Opened epoch) i h = absurd h
 new_from log (Ceiling at) i h = absurd h
+new_from log (Horizon at) i h = absurd h
 new_from log (Prepare p) i h = absurd h
 new_from log (Commit c) i h = absurd h
 new_from log (Abort t) i h = absurd h

@@ -127,6 +127,7 @@ module _ (w : World) (C : World → Type 0) (same : C w)
     refused_goes (Doing.Resume now) f = same
     refused_goes (Doing.Settle t now) f = same
     refused_goes (Doing.Advance at now) f = same
+    refused_goes (Doing.Forget at now) f = same
     refused_goes (Doing.Nudge t now) f = same
 
     did_goes : (doing : Doing) (st : Stepped) → effect (setup_of w.config n) w.bag s doing ≡ st → C (did w n s doing st).0

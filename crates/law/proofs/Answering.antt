@@ -20,7 +20,7 @@ use Rattle.record.specs.Records.{committed_of, prepared_of, ended_of, status_by,
 use Rattle.record.specs.declared.record.Committed.{Committed}
 use Rattle.record.specs.declared.record.Prepared.{Prepared}
 use Rattle.record.specs.declared.record.Record.{Record}
-use Rattle.record.specs.declared.record.Record.TheVariants.{Opened, Ceiling, Prepare, Commit, Abort, Outcome}
+use Rattle.record.specs.declared.record.Record.TheVariants.{Opened, Ceiling, Prepare, Commit, Abort, Outcome, Horizon}
 use Rattle.record.proofs.Statuses.{recorded_is}
 use Rattle.message.specs.declared.message.ReadAnswer.{ReadAnswer}
 use Rattle.protocol.specs.Plan.{Plan, Before, start_of_step, carried, after_change}
@@ -119,6 +119,7 @@ claimed_recorded log r t at ks ws h c e = by_parts (is_aborted log t) (committed
     none_logged (Commit p) j d hc hp = not_committed log t p hc j d.0
     none_logged (Opened y) j d hc hp = d
     none_logged (Ceiling y) j d hc hp = d
+    none_logged (Horizon y) j d hc hp = d
     none_logged (Abort y) j d hc hp = d
     none_logged (Outcome y z) j d hc hp = d
 

@@ -1,7 +1,7 @@
 -- What one act changes of what shards show and of the lines of looks and of acknowledgements; and that each session writes a
 -- key once.
 use Rattle.std.specs.List.{list_any}
-use Rattle.std.proofs.Common.{◌≡◌, ◌⊎◌, inl, inr, ℕ, ◌≤◌, Bool, true, false, not, cond, ◌&&◌, nat_eq, nat_le, List, [], ◌∷◌, ◌++◌, length, Option}
+use Rattle.std.proofs.Common.{◌≡◌, ◌⊎◌, inl, inr, ℕ, ◌≤◌, Bool, true, false, not, cond, ◌&&◌, nat_eq, nat_lt, nat_le, List, [], ◌∷◌, ◌++◌, length, Option}
 use Rattle.std.proofs.Common.{Some, None, slice_get, refl, sym, ap, subst, ◌∙◌, flat_map, filter, option_to_list}
 use Rattle.std.proofs.lemmas.Bool.{cases_eq, eqb-true, leb-true}
 use Rattle.std.proofs.lemmas.List.{append-nil}
@@ -12,7 +12,7 @@ use Rattle.units.specs.Keys.{Bytes, same_key, shard_of, has_key, writes_key, wri
 use Rattle.units.specs.Lists.{insert, replaced, when}
 use Rattle.units.specs.Versions.{at_time}
 use Rattle.units.specs.declared.fault.Fault.{Fault}
-use Rattle.units.specs.declared.fault.Fault.TheVariants.{NotYet, Stopped, Stranger}
+use Rattle.units.specs.declared.fault.Fault.TheVariants.{NotYet, Stopped, Stranger, TooOld}
 use Rattle.units.specs.declared.fault.Reason.{Reason}
 use Rattle.units.specs.declared.fault.Reason.TheVariants.{Many, Nothing, Again, Awaited, Doomed}
 use Rattle.units.specs.declared.line.Line.{Line}
@@ -463,16 +463,18 @@ module _ (w : World) (well : WellWorld w) (n : ℕ) (s : ShardNow) (there : slic
   noted_changes k at Reply.Crashed answer = unchanged w
 
   look_answers : (v : View) (k : Bytes) (at : ℕ) (x : Option Bytes) → ShowsView s v → look_view (setup_of w.config n) v k at ≡ Reply.Shows x → Looked w k at x
-  look_answers v k at x shows e = by_tests (nat_eq (shard_of w.config.splits k) n) refl (nat_le at v.safe) refl e
+  look_answers v k at x shows e = by_tests (nat_eq (shard_of w.config.splits k) n) refl (nat_lt at v.horizon) (nat_le at v.safe) refl e
     where
       shows_is : (a b : Option Bytes) → Reply.Shows a ≡ Reply.Shows b → a ≡ b
       shows_is a b f = cc
 
-      by_tests : (b : Bool) → nat_eq (shard_of w.config.splits k) n ≡ b → (c : Bool) → nat_le at v.safe ≡ c →
-          cond (not b) (Reply.Refused Stranger) (cond c (Reply.Shows (at_time v.installs k at)) (Reply.Refused NotYet)) ≡ Reply.Shows x → Looked w k at x
-      by_tests false own c low f = cc
-      by_tests true own false low f = cc
-      by_tests true own true low f = record {
+      by_tests : (b : Bool) → nat_eq (shard_of w.config.splits k) n ≡ b → (old c : Bool) → nat_le at v.safe ≡ c →
+          cond (not b) (Reply.Refused Stranger) (cond old (Reply.Refused TooOld) (cond c
+          (Reply.Shows (at_time v.installs k at)) (Reply.Refused NotYet))) ≡ Reply.Shows x → Looked w k at x
+      by_tests false own old c low f = cc
+      by_tests true own true c low f = cc
+      by_tests true own false false low f = cc
+      by_tests true own false true low f = record {
         shard = n;
         view = v;
         offers = record { shard = s; there = there; shows = shows };

@@ -8,7 +8,7 @@ use Rattle.record.specs.Records.{as_committed, as_prepared}
 use Rattle.record.specs.Whole.{Decision, decisions, promises_of}
 use Rattle.record.specs.declared.record.Committed.{Committed}
 use Rattle.record.specs.declared.record.Record.{Record}
-use Rattle.record.specs.declared.record.Record.TheVariants.{Opened, Ceiling, Prepare, Commit, Abort, Outcome}
+use Rattle.record.specs.declared.record.Record.TheVariants.{Opened, Ceiling, Prepare, Commit, Abort, Outcome, Horizon}
 use Rattle.law.specs.Among.{IsAmong}
 use Rattle.law.specs.Evidence.{Scene, Holds}
 use Rattle.law.specs.Left.{AreLeft}
@@ -29,6 +29,7 @@ commits_claimed : (t : Id) (log : List Record) → filter (λ c. same_id t c.txn
 commits_claimed t [] = refl
 commits_claimed t (Opened epoch ∷ rs) = commits_claimed t rs
 commits_claimed t (Ceiling at ∷ rs) = commits_claimed t rs
+commits_claimed t (Horizon at ∷ rs) = commits_claimed t rs
 commits_claimed t (Outcome u o ∷ rs) = commits_claimed t rs
 commits_claimed t (Prepare p ∷ rs) = commits_claimed t rs ∙ sym (skipped as_committed (same_id p.txn t) (Prepare p) (claims_of rs t) refl)
 commits_claimed t (Abort u ∷ rs) = commits_claimed t rs ∙ sym (skipped as_committed (same_id t u) (Abort u) (claims_of rs t) refl)
@@ -45,6 +46,7 @@ promises_claimed : (t : Id) (log : List Record) → promises_of log t ≡ gather
 promises_claimed t [] = refl
 promises_claimed t (Opened epoch ∷ rs) = promises_claimed t rs
 promises_claimed t (Ceiling at ∷ rs) = promises_claimed t rs
+promises_claimed t (Horizon at ∷ rs) = promises_claimed t rs
 promises_claimed t (Outcome u o ∷ rs) = promises_claimed t rs
 promises_claimed t (Commit c ∷ rs) = promises_claimed t rs ∙ sym (skipped as_prepared (same_id c.txn t) (Commit c) (claims_of rs t) refl)
 promises_claimed t (Abort u ∷ rs) = promises_claimed t rs ∙ sym (skipped as_prepared (same_id t u) (Abort u) (claims_of rs t) refl)

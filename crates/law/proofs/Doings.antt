@@ -127,6 +127,7 @@ given sc n (Doing.Take m now) h =
 given sc n (Doing.Resume now) h = let p = honest_given sc now h in (tt, p.0, p.1)
 given sc n (Doing.Settle t now) h = let p = honest_given sc now h in (tt, p.0, p.1)
 given sc n (Doing.Advance at now) h = let p = honest_given sc now (and_parts _ _ h).0 in (tt, p.0, p.1)
+given sc n (Doing.Forget at now) h = let p = honest_given sc now (and_parts _ _ h).0 in (tt, p.0, p.1)
 given sc n (Doing.Nudge t now) h = let p = honest_given sc now h in (tt, p.0, p.1)
 given sc n Doing.Open h = tt
 

@@ -11,12 +11,12 @@ use Rattle.protocol.specs.Cells.{commit_stamp, other_parts, still_stand, plan_re
 use Rattle.protocol.specs.Cells.{plan_prepare_now, plan_promise, plan_commit, plan_commit_fresh, plan_commit_now, plan_commit_granted, plan_decide}
 use Rattle.protocol.specs.Cells.{plan_abort, plan_vote, plan_count, plan_tell, plan_unpromised, plan_outcome, plan_abort_for, plan_give_up, plan_ask}
 use Rattle.protocol.specs.Cells.{plan_go_on, plan_resume, plan_resume_id, plan_resume_row, plan_settle, plan_advance, plan_nudge, to_read, answers}
-use Rattle.protocol.specs.Cells.{refuses, tells}
+use Rattle.protocol.specs.Cells.{refuses, tells, plan_forget}
 use Rattle.units.specs.Keys.{Bytes}
 use Rattle.units.specs.Locks.{exclusive, holds, ready}
 use Rattle.units.specs.Versions.{latest}
 use Rattle.units.specs.declared.fault.Fault.{Fault}
-use Rattle.units.specs.declared.fault.Fault.TheVariants.{TimeSpent, Stranger, Early, Future}
+use Rattle.units.specs.declared.fault.Fault.TheVariants.{TimeSpent, NotYet, Stranger, Early, Future}
 use Rattle.units.specs.declared.lock.Lock.{Lock}
 use Rattle.units.specs.declared.setup.Setup.{Setup}
 use Rattle.units.specs.declared.writes.Write.{Write}
@@ -35,11 +35,11 @@ use Rattle.message.specs.declared.message.Message.{Message}
 use Rattle.message.specs.declared.message.Prepare.{Prepare}
 use Rattle.message.specs.declared.message.ReadAnswer.{ReadAnswer}
 use Rattle.protocol.specs.Rows.{Row, Phase, Idle, WaitsRead, WaitsPrepare, WaitsCommit, Collecting, IsPrepared, IsDecided, Voted, Standing, IsUnknown}
-use Rattle.protocol.specs.Rows.{WasEnded, HasRow, WasAborted, WasSettled, WasClosed, standing, standing_by, claims, find_row, with_vote}
+use Rattle.protocol.specs.Rows.{WasEnded, HasRow, WasAborted, WasSettled, WasClosed, standing, standing_by, claims, find_row, safe, with_vote}
 use Rattle.protocol.specs.Step.{is_for, plan_message, plan_input}
 use Rattle.protocol.specs.Sound.{is_open}
 use Rattle.protocol.specs.Plan.{time_limit, Plan, Planned, Before, Change, Keeps, Puts, replies, ends, drops, puts, roomed, votes_of, in_way, opens}
-use Rattle.protocol.specs.Plan.{is_crowded, stands}
+use Rattle.protocol.specs.Plan.{is_crowded, idles, stands}
 use Rattle.law.specs.Among.{IsAmong}
 use Rattle.law.proofs.Members.{all_append}
 
@@ -141,6 +141,7 @@ module _ (t : Id) (k : Bytes) (e : ℕ) (b : Before) where
   LoggedFair (Some (Record.Commit c)) = Asked c.txn c.reads
   LoggedFair (Some (Record.Opened epoch)) = Unit {0}
   LoggedFair (Some (Record.Ceiling s)) = Unit {0}
+  LoggedFair (Some (Record.Horizon s)) = Unit {0}
   LoggedFair (Some (Record.Abort u)) = Unit {0}
   LoggedFair (Some (Record.Outcome u o)) = Unit {0}
   LoggedFair None = Unit {0}
@@ -490,6 +491,17 @@ module _ (t : Id) (k : Bytes) (e : ℕ) (b : Before) where
     nudging u (HasRow held (IsPrepared c p)) = replying (ask_to b.shard c u ∷ []) (tt, tt)
     nudging u _ = refusing Stranger
 
+    forgetting : (up : ℕ) → Fair (plan_forget b up)
+    unfolding plan_forget Fair
+    forgetting up = by_tests (nat_lt (safe b.memory) up) (nat_le up b.facts.horizon)
+      where
+        by_tests : (early known : Bool) →
+            Fair (cond early (Err NotYet) (cond known (Ok (idles b))
+            (Ok (record { wounded = []; change = Keeps; logged = Some (Record.Horizon up); last = b.memory.last; outbox = [] }))))
+        by_tests true known = tt
+        by_tests false true = record { change = tt; logged = tt; told = tt }
+        by_tests false false = record { change = tt; logged = tt; told = tt }
+
     resuming_row : (earliest : ℕ) (u : Id) (o : Option Row) → find_row b.memory.rows u ≡ o → Fair (plan_resume_row b earliest o)
     unfolding standing
     resuming_row earliest u None is = replying [] tt
@@ -521,4 +533,5 @@ module _ (t : Id) (k : Bytes) (e : ℕ) (b : Before) where
     fairly setup now Input.Resume given = resuming_id now.earliest (ready (claims b.memory.rows))
     fairly setup now (Input.Settle u) given = settling now.earliest u (stands b u)
     fairly setup now (Input.Advance up) given = advancing now.latest setup.stride up
+    fairly setup now (Input.Forget up) given = forgetting up
     fairly setup now (Input.Nudge u) given = nudging u (stands b u)

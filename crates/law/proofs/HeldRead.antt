@@ -39,7 +39,7 @@ use Rattle.protocol.proofs.PlanShapes.{shape_of}
 use Rattle.protocol.proofs.RowChanges.{row_as, find-with_row_same, find-with_row_other, find-without_row_same, find-without_row_other}
 use Rattle.protocol.proofs.RowChanges.{find-without_rows, find-without_rows_other, by_id-claims}
 use Rattle.protocol.proofs.Shapes.{Shape, Answers, IsEnd, IsAbort, IsClose, IsSettle, IsLock, IsWait, IsPromise, IsDecision, IsLooseOther}
-use Rattle.protocol.proofs.Shapes.{is_undecided, ShapeOf, Acts, IsAdvance}
+use Rattle.protocol.proofs.Shapes.{is_undecided, ShapeOf, Acts, IsAdvance, IsForget}
 use Rattle.protocol.proofs.StatusChanges.{Closing, closing, settling, installs_by, status_same, status_other}
 use Rattle.law.specs.Among.{IsAmong}
 use Rattle.law.proofs.Members.{all_among}
@@ -345,6 +345,8 @@ module _ (t : Id) (k : Bytes) (e : ℕ) (x : Option Bytes) where
   next_of : (b : Before) (i : Input) (p : Plan) → Sound b → ShapeOf b i p → HeldNext b p
   unfolding HeldNext carried after_change ended_by learn
   next_of b i p sound (Acts shape) = next b p sound shape
+  next_of b i p sound (IsForget at k2 served higher is) =
+      subst (HeldNext b) (sym is) (λ fair h. held_by_fate b _ _ refl h (Stays refl (λ g. g) refl (λ r found there opened. refl)))
   next_of b i p sound (IsAdvance stride at k2 is) = subst (HeldNext b) (sym is) (λ fair h. by_test (nat_lt b.facts.floor at) h)
     where
       by_test : (c : Bool) → Held b.facts b.memory → Held (facts_after b.facts (cond c (Some (Record.Ceiling (min (at + stride) time_limit))) None))
@@ -406,6 +408,8 @@ module _ (t : Id) (k : Bytes) (e : ℕ) (x : Option Bytes) where
   right_of : (b : Before) (i : Input) (p : Plan) → Sound b → ShapeOf b i p → ReadsRight b p
   unfolding ReadsRight
   right_of b i p sound (Acts shape) = right b p sound shape
+  right_of b i p sound (IsForget up k2 served higher is) = subst (ReadsRight b) (sym is) (λ fair h r at ks ws logged claims there. absurd
+      (subst (λ z. Claims z t at ks ws) (sym (same_record (Record.Horizon up) r logged)) claims))
   right_of b i p sound (IsAdvance stride up k2 is) = subst (ReadsRight b) (sym is) (λ fair h r at ks ws logged claims there. by_test
       (nat_lt b.facts.floor up) r at ks ws logged claims)
     where

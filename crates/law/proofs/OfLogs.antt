@@ -1,6 +1,5 @@
 -- The memory of a running shard is that of its log.
 use Rattle.std.proofs.Common.{◌≡◌, ℕ, List, Some, slice_get, refl, subst}
-use Rattle.units.specs.Ids.{Id}
 use Rattle.record.specs.Facts.{facts_of}
 use Rattle.record.specs.declared.record.Record.{Record}
 use Rattle.record.proofs.Statuses.{recorded_is}

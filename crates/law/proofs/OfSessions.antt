@@ -14,7 +14,7 @@ use Rattle.record.specs.Records.{as_prepared}
 use Rattle.record.specs.Accepted.{belongs}
 use Rattle.record.specs.declared.record.Prepared.{Prepared}
 use Rattle.record.specs.declared.record.Record.{Record}
-use Rattle.record.specs.declared.record.Record.TheVariants.{Opened, Ceiling, Prepare, Commit, Abort, Outcome}
+use Rattle.record.specs.declared.record.Record.TheVariants.{Opened, Ceiling, Prepare, Commit, Abort, Outcome, Horizon}
 use Rattle.message.specs.declared.message.Address.TheVariants.{Shard}
 use Rattle.message.specs.declared.message.Envelope.{Envelope}
 use Rattle.message.specs.declared.message.Message.{Message}
@@ -156,6 +156,7 @@ module _ (sc : Scene) (h : Holds sc) (logs : List (List Record)) (left : AreLeft
       (closing_set q.txn n _ _ wrote.0 (h.messages _ sent.sent) refl) wrote.2)
   at_home n (Opened e) w k wrote = absurd wrote
   at_home n (Ceiling e) w k wrote = absurd wrote
+  at_home n (Horizon e) w k wrote = absurd wrote
   at_home n (Abort e) w k wrote = absurd wrote
   at_home n (Outcome e q) w k wrote = absurd wrote
 

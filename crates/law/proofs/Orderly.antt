@@ -1,6 +1,6 @@
 -- A log whose records follow one another has of each id one promise, decision or abort at most.
 use Rattle.std.specs.List.{list_any}
-use Rattle.std.proofs.Common.{◌≡◌, ◌⊎◌, inl, inr, ℕ, Bool, true, false, cond, ◌||◌, List, [], ◌∷◌, ◌++◌, Option, Some, None, refl, sym, ap, subst}
+use Rattle.std.proofs.Common.{◌≡◌, ◌⊎◌, inl, inr, ℕ, Bool, true, false, cond, List, [], ◌∷◌, ◌++◌, Option, Some, None, refl, sym, ap, subst}
 use Rattle.std.proofs.Common.{◌∙◌, append_assoc, filter}
 use Rattle.std.proofs.lemmas.Bool.{and_parts, or_parts}
 use Rattle.std.proofs.lemmas.List.{append-nil}
@@ -13,7 +13,7 @@ use Rattle.record.specs.Records.{Ended, Status, Unrecorded, as_committed, as_pre
 use Rattle.record.specs.declared.record.Committed.{Committed}
 use Rattle.record.specs.declared.record.Prepared.{Prepared}
 use Rattle.record.specs.declared.record.Record.{Record}
-use Rattle.record.specs.declared.record.Record.TheVariants.{Opened, Ceiling, Prepare, Commit, Abort, Outcome}
+use Rattle.record.specs.declared.record.Record.TheVariants.{Opened, Ceiling, Prepare, Commit, Abort, Outcome, Horizon}
 use Rattle.law.specs.Among.{IsAmong}
 
 -- the record is a promise, a decision or an abort of the id
@@ -23,6 +23,7 @@ is_claim t (Commit c) = same_id c.txn t
 is_claim t (Abort u) = same_id t u
 is_claim t (Record.Opened epoch) = false
 is_claim t (Record.Ceiling s) = false
+is_claim t (Record.Horizon s) = false
 is_claim t (Record.Outcome u o) = false
 
 -- those of an id
@@ -49,6 +50,7 @@ none_of : (t : Id) (log : List Record) → is_aborted log t ≡ false → list_a
 none_of t [] a c p = refl
 none_of t (Opened epoch ∷ rs) a c p = none_of t rs a c p
 none_of t (Ceiling at ∷ rs) a c p = none_of t rs a c p
+none_of t (Horizon at ∷ rs) a c p = none_of t rs a c p
 none_of t (Prepare q ∷ rs) a c p = dropped (same_id q.txn t) (Prepare q) (claims_of rs t) (or_parts _ _ p).0 (none_of t rs a c (or_parts _ _ p).1)
 none_of t (Commit q ∷ rs) a c p = dropped (same_id q.txn t) (Commit q) (claims_of rs t) (or_parts _ _ c).0 (none_of t rs a (or_parts _ _ c).1 p)
 none_of t (Abort u ∷ rs) a c p = dropped (same_id t u) (Abort u) (claims_of rs t) (or_parts _ _ a).0 (none_of t rs (or_parts _ _ a).1 c p)
@@ -93,6 +95,7 @@ claims_new shard before (Commit c) t h k = subst (λ u. is_new before u ≡ true
 claims_new shard before (Abort u) t h k = subst (λ v. is_new before v ≡ true) (sym (same_id-is t u k)) h
 claims_new shard before (Opened epoch) t h k = cc
 claims_new shard before (Ceiling at) t h k = cc
+claims_new shard before (Horizon at) t h k = cc
 claims_new shard before (Outcome u o) t h k = cc
 
 one_more : (shard : ℕ) (before : List Record) (r : Record) (t : Id) → follows shard before r ≡ true → IsOne (claims_of before t) →

@@ -1,15 +1,13 @@
 -- The passes on which the law rests, each by itself.
-use Rattle.std.proofs.Common.{◌≡◌, inl, inr, ℕ, ◌<◌, true, nat_le, List, [], ◌∷◌, ◌++◌, Option, Some, None, slice_get, refl, sym, ap, subst, ◌∙◌, arith}
+use Rattle.std.proofs.Common.{◌≡◌, inl, inr, ℕ, true, nat_le, List, Option, Some, None, slice_get, refl, sym, ap, subst, ◌∙◌, arith}
 use Rattle.std.proofs.lemmas.Bool.{and_parts}
 use Rattle.units.specs.Ids.{Id}
 use Rattle.units.specs.Keys.{Bytes}
 use Rattle.units.specs.Locks.{holds}
 use Rattle.units.specs.declared.writes.Write.{Write}
 use Rattle.record.specs.Facts.{facts_of}
-use Rattle.record.specs.Installs.{installs_of}
-use Rattle.record.specs.declared.record.Committed.{Committed}
 use Rattle.record.specs.declared.record.Record.{Record}
-use Rattle.record.specs.declared.record.Record.TheVariants.{Opened, Ceiling, Prepare, Commit, Abort, Outcome}
+use Rattle.record.specs.declared.record.Record.TheVariants.{Opened, Ceiling, Prepare, Commit, Abort, Outcome, Horizon}
 use Rattle.message.specs.declared.message.Address.{Address}
 use Rattle.message.specs.declared.message.Address.TheVariants.{Shard}
 use Rattle.message.specs.declared.message.Envelope.{Envelope}
@@ -17,22 +15,21 @@ use Rattle.message.specs.declared.message.Input.{Input}
 use Rattle.message.specs.declared.message.Message.{Message}
 use Rattle.message.specs.declared.message.ReadAnswer.{ReadAnswer}
 use Rattle.protocol.specs.Rows.{Memory, Row, find_row}
-use Rattle.protocol.specs.Sound.{is_open}
-use Rattle.world.specs.Headline.{MayBeLeft, IsUnsure}
+use Rattle.world.specs.Headline.{MayBeLeft}
 use Rattle.world.specs.Lawful.{lawful, may_act}
-use Rattle.world.specs.World.{World, ShardNow, View, State, Unsure, Runs, IsStopped, IsDown, setup_of, start, run}
+use Rattle.world.specs.World.{World, View, State, Unsure, Runs, IsStopped, IsDown, setup_of, start, run}
 use Rattle.world.specs.declared.event.Config.{Config}
 use Rattle.world.specs.declared.event.Event.{Event}
 use Rattle.world.proofs.EveryRun.{always_well, is_steady, shard_with}
 use Rattle.world.proofs.Sounds.{SoundShard}
 use Rattle.law.specs.Among.{IsAmong}
-use Rattle.law.specs.Evidence.{Scene, Holds, HasOutcome, MessageEvidence, SaidBySome, VoteEvidence, log_at}
+use Rattle.law.specs.Evidence.{Scene, HasOutcome, MessageEvidence, SaidBySome, VoteEvidence, log_at}
 use Rattle.law.specs.Passes.{AllAreWhole, HasItsRecord, HeldReadsAreLatest, HeldWhileOpen, IsClaim, IsHeld, OutcomesHavePassed, PutOutIsLogged}
 use Rattle.law.specs.Passes.{ShardsAreOfTheirLogs, UndisturbedOnceLogged, WasTaken}
 use Rattle.law.proofs.Answering.{open_unrecorded}
 use Rattle.law.proofs.Every.{every_run_holds}
 use Rattle.law.proofs.Fair.{IsFairInput}
-use Rattle.law.proofs.HeldRead.{Held, HeldIs, Reads, IsLogged, WasGone}
+use Rattle.law.proofs.HeldRead.{HeldIs, Reads, IsLogged, WasGone}
 use Rattle.law.proofs.Homes.{log_in, outcome_stamp}
 use Rattle.law.proofs.Decisions.{log_in-is}
 use Rattle.law.proofs.Instants.{Moment, all_or_nothing, moment}
@@ -138,6 +135,7 @@ with_writes (Prepare p) t at ks c = (p.writes, (c.0, c.1, c.2, refl))
 with_writes (Commit p) t at ks c = (p.writes, (c.0, c.1, c.2, refl))
 with_writes (Opened x) t at ks c = absurd c
 with_writes (Ceiling x) t at ks c = absurd c
+with_writes (Horizon x) t at ks c = absurd c
 with_writes (Abort x) t at ks c = absurd c
 with_writes (Outcome x y) t at ks c = absurd c
 

@@ -22,7 +22,7 @@ use Rattle.record.proofs.LearnAgrees.{learn_agrees, followed_more}
 use Rattle.record.specs.declared.record.Committed.{Committed}
 use Rattle.record.specs.declared.record.Prepared.{Prepared}
 use Rattle.record.specs.declared.record.Record.{Record}
-use Rattle.record.specs.declared.record.Record.TheVariants.{Opened, Ceiling, Prepare, Commit, Abort, Outcome}
+use Rattle.record.specs.declared.record.Record.TheVariants.{Opened, Ceiling, Prepare, Commit, Abort, Outcome, Horizon}
 use Rattle.law.specs.Among.{IsAmong}
 use Rattle.law.proofs.Members.{among_left, among_cases}
 use Rattle.law.proofs.Picked.{any_of, gather_among}
@@ -44,6 +44,7 @@ IsAbove at (Prepare p) = at < p.at
 IsAbove at (Commit c) = at < c.at
 IsAbove at (Record.Opened epoch) = Unit {0}
 IsAbove at (Record.Ceiling s) = Unit {0}
+IsAbove at (Record.Horizon s) = Unit {0}
 IsAbove at (Record.Abort u) = Unit {0}
 IsAbove at (Record.Outcome u o) = Unit {0}
 
@@ -140,6 +141,7 @@ answer_stays shard log r k at h q =
     by_kind : (x : Record) → follows shard log x ≡ true → at_time (learn (facts_of log) x).installs k at ≡ at_time (installs_of log) k at
     by_kind (Opened epoch) e = refl
     by_kind (Ceiling s) e = refl
+    by_kind (Horizon s) e = refl
     by_kind (Prepare p) e = refl
     by_kind (Commit c) e = refl
     by_kind (Abort t) e = refl

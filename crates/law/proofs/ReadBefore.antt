@@ -25,11 +25,11 @@ use Rattle.record.specs.Accepted.{Accepted, taken, belongs, fits_beside, locks_s
 use Rattle.record.specs.History.{Txn, history, before, serial_before}
 use Rattle.record.specs.Installs.{installs_of}
 use Rattle.record.specs.Records.{Ended, Status, HasSettled, HasClosed, as_ended, id_in, ids_of, is_aborted, committed_of, prepared_of, ended_of}
-use Rattle.record.specs.Records.{status_by, status_of}
+use Rattle.record.specs.Records.{status_by, status_of, horizon_of}
 use Rattle.record.specs.declared.record.Committed.{Committed}
 use Rattle.record.specs.declared.record.Prepared.{Prepared}
 use Rattle.record.specs.declared.record.Record.{Record}
-use Rattle.record.specs.declared.record.Record.TheVariants.{Opened, Ceiling, Prepare, Commit, Abort, Outcome}
+use Rattle.record.specs.declared.record.Record.TheVariants.{Opened, Ceiling, Prepare, Commit, Abort, Outcome, Horizon}
 use Rattle.record.proofs.LearnAgrees.{accepted_follows}
 use Rattle.protocol.specs.Sound.{holds_alone, is_exclusive}
 use Rattle.protocol.proofs.RecordLocks.{holds_reads}
@@ -59,6 +59,7 @@ Claims (Prepare p) t at ks ws = (p.txn ≡ t) × (p.at ≡ at) × (p.reads ≡ k
 Claims (Commit c) t at ks ws = (c.txn ≡ t) × (c.at ≡ at) × (c.reads ≡ ks) × (c.writes ≡ ws)
 Claims (Record.Opened epoch) t at ks ws = ⊥
 Claims (Record.Ceiling s) t at ks ws = ⊥
+Claims (Record.Horizon s) t at ks ws = ⊥
 Claims (Record.Abort u) t at ks ws = ⊥
 Claims (Record.Outcome u o) t at ks ws = ⊥
 
@@ -205,6 +206,7 @@ stands_there log o (Commit p) t at ks ws h c none = by_parts (is_aborted log t) 
         ap (λ (z : Committed). Some (locks_of z.reads z.writes)) (sym same) ∙ ap (λ l. Some (locks_of l p.writes)) c.2 ∙ ap (λ l. Some (locks_of ks l)) c.3
 stands_there log o (Opened x) t at ks ws h c none = absurd c
 stands_there log o (Ceiling x) t at ks ws h c none = absurd c
+stands_there log o (Horizon x) t at ks ws h c none = absurd c
 stands_there log o (Abort x) t at ks ws h c none = absurd c
 stands_there log o (Outcome x y) t at ks ws h c none = absurd c
 
@@ -243,6 +245,7 @@ stamp_of_end log o (Commit p) t at ks ws s h c x is own = by_parts (is_aborted l
         ap (λ z. Some z) (sym (ap (λ (z : Committed). z.at) (one_decision log o p d h i.0 (i.1 ∙ sym c.0))) ∙ own p refl)
 stamp_of_end log o (Opened y) t at ks ws s h c x is own = absurd c
 stamp_of_end log o (Ceiling y) t at ks ws s h c x is own = absurd c
+stamp_of_end log o (Horizon y) t at ks ws s h c x is own = absurd c
 stamp_of_end log o (Abort y) t at ks ws s h c x is own = absurd c
 stamp_of_end log o (Outcome y z) t at ks ws s h c x is own = absurd c
 
@@ -251,6 +254,7 @@ claim_id (Prepare p) t at ks ws c = ap (λ u. Some u) c.0
 claim_id (Commit p) t at ks ws c = ap (λ u. Some u) c.0
 claim_id (Opened x) t at ks ws c = absurd c
 claim_id (Ceiling x) t at ks ws c = absurd c
+claim_id (Horizon x) t at ks ws c = absurd c
 claim_id (Abort x) t at ks ws c = absurd c
 claim_id (Outcome x y) t at ks ws c = absurd c
 
@@ -290,15 +294,18 @@ free_beside : (front : List Record) (q : Record) (t : Id) (at : ℕ) (ks : List 
     fits_beside front q ≡ true → list_any (clash (locks_of ks ws)) (locks_standing front) ≡ false
 unfolding fits_beside
 free_beside front (Prepare p) t at ks ws c e =
-    let a = and_parts (nat_lt (length (locks_standing front)) most_rows && not (list_any (clash (locks_of p.reads p.writes)) (locks_standing front))) _ e in
+    let a = and_parts (nat_lt (length (locks_standing front)) most_rows && not (list_any (clash (locks_of p.reads p.writes)) (locks_standing front))
+    && nat_lt (horizon_of front) p.at) _ e in
     subst (λ l. list_any (clash (locks_of ks l)) (locks_standing front) ≡ false) c.3 (subst
-    (λ l. list_any (clash (locks_of l p.writes)) (locks_standing front) ≡ false) c.2 (not_any _ (and_parts _ _ a.0).1))
+    (λ l. list_any (clash (locks_of l p.writes)) (locks_standing front) ≡ false) c.2 (not_any _ (and_parts _ _ (and_parts _ _ a.0).0).1))
 free_beside front (Commit p) t at ks ws c e =
-    let a = and_parts (nat_lt (length (locks_standing front)) most_rows && not (list_any (clash (locks_of p.reads p.writes)) (locks_standing front))) _ e in
+    let a = and_parts (nat_lt (length (locks_standing front)) most_rows && not (list_any (clash (locks_of p.reads p.writes)) (locks_standing front))
+    && nat_lt (horizon_of front) p.at) _ e in
     subst (λ l. list_any (clash (locks_of ks l)) (locks_standing front) ≡ false) c.3 (subst
-    (λ l. list_any (clash (locks_of l p.writes)) (locks_standing front) ≡ false) c.2 (not_any _ (and_parts _ _ a.0).1))
+    (λ l. list_any (clash (locks_of l p.writes)) (locks_standing front) ≡ false) c.2 (not_any _ (and_parts _ _ (and_parts _ _ a.0).0).1))
 free_beside front (Opened x) t at ks ws c e = absurd c
 free_beside front (Ceiling x) t at ks ws c e = absurd c
+free_beside front (Horizon x) t at ks ws c e = absurd c
 free_beside front (Abort x) t at ks ws c e = absurd c
 free_beside front (Outcome x y) t at ks ws c e = absurd c
 
@@ -326,6 +333,7 @@ claim_of_wrote (Prepare p) v w h = (p.at, p.reads, p.writes, (h.0, refl, refl, r
 claim_of_wrote (Commit c) v w h = (c.at, c.reads, c.writes, (h.0, refl, refl, refl), (let e = h.1 in omega (arith, e)), h.2)
 claim_of_wrote (Opened x) v w h = absurd h
 claim_of_wrote (Ceiling x) v w h = absurd h
+claim_of_wrote (Horizon x) v w h = absurd h
 claim_of_wrote (Abort x) v w h = absurd h
 claim_of_wrote (Outcome x y) v w h = absurd h
 
@@ -334,6 +342,7 @@ same_claim_id (Prepare p) t u at bt ks js ws vs a b = sym a.0 ∙ b.0
 same_claim_id (Commit c) t u at bt ks js ws vs a b = sym a.0 ∙ b.0
 same_claim_id (Opened x) t u at bt ks js ws vs a b = absurd a
 same_claim_id (Ceiling x) t u at bt ks js ws vs a b = absurd a
+same_claim_id (Horizon x) t u at bt ks js ws vs a b = absurd a
 same_claim_id (Abort x) t u at bt ks js ws vs a b = absurd a
 same_claim_id (Outcome x y) t u at bt ks js ws vs a b = absurd a
 

@@ -15,7 +15,7 @@ use Rattle.record.specs.Accepted.{belongs}
 use Rattle.record.specs.History.{Txn, history, before, find_txn}
 use Rattle.record.specs.Serially.{ReadsSerially}
 use Rattle.record.specs.declared.record.Record.{Record}
-use Rattle.record.specs.declared.record.Record.TheVariants.{Opened, Ceiling, Prepare, Commit, Abort, Outcome}
+use Rattle.record.specs.declared.record.Record.TheVariants.{Opened, Ceiling, Prepare, Commit, Abort, Outcome, Horizon}
 use Rattle.message.specs.ReadSet.{ReadSet}
 use Rattle.message.specs.declared.message.Address.TheVariants.{Shard}
 use Rattle.message.specs.declared.message.Envelope.{Envelope}
@@ -219,6 +219,7 @@ own_read config n (Commit p) t at ks ws k c b there = eqb-true _ _ (each_at (λ 
     (subst (λ l. IsAmong l k) (sym c.2) there))
 own_read config n (Opened y) t at ks ws k c b there = absurd c
 own_read config n (Ceiling y) t at ks ws k c b there = absurd c
+own_read config n (Horizon y) t at ks ws k c b there = absurd c
 own_read config n (Abort y) t at ks ws k c b there = absurd c
 own_read config n (Outcome y z) t at ks ws k c b there = absurd c
 

@@ -157,6 +157,12 @@ module _ (to : Address) (a : ReadAnswer) (x : Option Bytes) (holds : a.answer �
             (and_parts (is_honest time now) (nat_le at time_limit) may).1;
         fair = λ here. tt;
       }) same
+  doing_allowed w time n (Doing.Forget at now) within may p same =
+      given (setup_of w.config n) now (Input.Forget at) p (record {
+        limit = leb-true at time_limit
+            (and_parts (is_honest time now) (nat_le at time_limit) may).1;
+        fair = λ here. tt;
+      }) same
   doing_allowed w time n (Doing.Nudge u now) within may p same = given (setup_of w.config n) now (Input.Nudge u) p
       (record { limit = tt; fair = λ here. tt }) same
   doing_allowed w time n Doing.Open within may p same = cc

@@ -11,7 +11,7 @@ use Rattle.record.proofs.Statuses.{recorded_is}
 use Rattle.record.specs.declared.record.Committed.{Committed}
 use Rattle.record.specs.declared.record.Prepared.{Prepared}
 use Rattle.record.specs.declared.record.Record.{Record}
-use Rattle.record.specs.declared.record.Record.TheVariants.{Opened, Ceiling, Prepare, Commit, Abort, Outcome}
+use Rattle.record.specs.declared.record.Record.TheVariants.{Opened, Ceiling, Prepare, Commit, Abort, Outcome, Horizon}
 use Rattle.protocol.specs.Rows.{Row, IsPrepared, IsDecided, standing_row, rebuilt}
 use Rattle.law.specs.Among.{IsAmong}
 use Rattle.law.specs.Evidence.{Scene, RecordEvidence, StatusEvidence, PhaseEvidence, RowsEvidence, HasDecision, HasOutcome, WasTold}
@@ -62,6 +62,7 @@ prepare_is : (r : Record) (p : Prepared) → as_prepared r ≡ Some p → r ≡ 
 prepare_is (Prepare q) p e = cc
 prepare_is (Opened x) p e = cc
 prepare_is (Ceiling x) p e = cc
+prepare_is (Horizon x) p e = cc
 prepare_is (Commit x) p e = cc
 prepare_is (Abort x) p e = cc
 prepare_is (Outcome x y) p e = cc
@@ -70,6 +71,7 @@ commit_is : (r : Record) (c : Committed) → as_committed r ≡ Some c → r ≡
 commit_is (Commit q) c e = cc
 commit_is (Opened x) c e = cc
 commit_is (Ceiling x) c e = cc
+commit_is (Horizon x) c e = cc
 commit_is (Prepare x) c e = cc
 commit_is (Abort x) c e = cc
 commit_is (Outcome x y) c e = cc
@@ -78,6 +80,7 @@ abort_is : (r : Record) (t : Id) → as_aborted r ≡ Some t → r ≡ Abort t
 abort_is (Abort q) t e = cc
 abort_is (Opened x) t e = cc
 abort_is (Ceiling x) t e = cc
+abort_is (Horizon x) t e = cc
 abort_is (Prepare x) t e = cc
 abort_is (Commit x) t e = cc
 abort_is (Outcome x y) t e = cc
@@ -89,6 +92,7 @@ outcome_is (Outcome u o) x e = let same : record { txn = u; outcome = o } ≡ x 
     some_is a b l = cc
 outcome_is (Opened q) x e = cc
 outcome_is (Ceiling q) x e = cc
+outcome_is (Horizon q) x e = cc
 outcome_is (Prepare q) x e = cc
 outcome_is (Commit q) x e = cc
 outcome_is (Abort q) x e = cc

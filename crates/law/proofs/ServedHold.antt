@@ -1,11 +1,10 @@
 -- What was served stays below all that is logged later.
-use Rattle.std.proofs.Common.{◌≡◌, ◌⊎◌, inl, inr, ℕ, ◌+◌, ◌<◌, ◌≤◌, true, not, List, [], ◌∷◌, ◌++◌, length, Option, Some, None, slice_get, refl, sym, ap, subst}
+use Rattle.std.proofs.Common.{◌≡◌, inl, inr, ℕ, ◌+◌, ◌≤◌, true, not, List, [], ◌∷◌, ◌++◌, Some, None, slice_get, refl, sym, ap, subst}
 use Rattle.std.proofs.Common.{◌∙◌, arith, append_assoc}
 use Rattle.std.specs.Prelude.{Ok}
-use Rattle.std.proofs.lemmas.Bool.{cases_eq, and_parts}
+use Rattle.std.proofs.lemmas.Bool.{and_parts}
 use Rattle.std.proofs.lemmas.List.{append-nil}
 use Rattle.units.specs.Limits.{most_rows}
-use Rattle.units.specs.Ids.{Id}
 use Rattle.units.specs.Lists.{when}
 use Rattle.units.specs.declared.setup.Setup.{Setup}
 use Rattle.truetime.specs.Interval.{Interval}
@@ -13,23 +12,23 @@ use Rattle.record.specs.Accepted.{follows, followed, outcome_fits}
 use Rattle.record.specs.Facts.{Facts, facts_of, learn}
 use Rattle.record.specs.Records.{committed_of, prepared_of, ended_of}
 use Rattle.record.specs.declared.record.Record.{Record}
-use Rattle.record.specs.declared.record.Record.TheVariants.{Opened, Ceiling, Prepare, Commit, Abort, Outcome}
-use Rattle.record.proofs.LearnAgrees.{accepted_follows, learn_agrees, followed_more}
+use Rattle.record.specs.declared.record.Record.TheVariants.{Opened, Ceiling, Prepare, Commit, Abort, Outcome, Horizon}
+use Rattle.record.proofs.LearnAgrees.{learn_agrees, followed_more}
 use Rattle.message.specs.declared.message.Input.{Input}
 use Rattle.protocol.specs.Plan.{Plan, start_of_step}
 use Rattle.protocol.specs.Rows.{Memory, safe}
 use Rattle.protocol.specs.Step.{plan_input, facts_after, IsInLimit}
-use Rattle.world.specs.Headline.{MayBeLeft, MayLeaveLog, IsUnsure}
+use Rattle.world.specs.Headline.{MayLeaveLog, IsUnsure}
 use Rattle.world.specs.Lawful.{lawful, lawful_from, may_happen}
-use Rattle.world.specs.World.{World, ShardNow, State, Unsure, View, Runs, IsStopped, IsDown, setup_of, view_of, start, run, run_from, happens}
+use Rattle.world.specs.World.{World, ShardNow, State, Unsure, View, Runs, IsStopped, IsDown, setup_of, start, run, run_from, happens}
 use Rattle.world.specs.declared.event.Config.{Config}
 use Rattle.world.specs.declared.event.Event.{Event}
-use Rattle.world.proofs.EveryRun.{InLimit, WellShard, WellWorld, in_limit, shard_with}
+use Rattle.world.proofs.EveryRun.{InLimit, WellWorld, in_limit, shard_with}
 use Rattle.world.proofs.Openings.{opening_follows}
 use Rattle.world.proofs.Sounds.{ActAllowed, SoundShard, SoundWorld, acts_sound}
 use Rattle.law.specs.Among.{IsAmong}
-use Rattle.law.specs.Passes.{ComesAbove, IsAboveServed, IsOfItsLog, ServedIsBelow, ShowsView}
-use Rattle.law.proofs.Changed.{Changes, Offers}
+use Rattle.law.specs.Passes.{ComesAbove, IsAboveServed, IsOfItsLog, ServedIsBelow}
+use Rattle.law.proofs.Changed.{Offers}
 use Rattle.law.proofs.Instants.{lawful_front}
 use Rattle.law.proofs.Kept.{IsPresent, KeptShard, KeptView, Serves, Shows, present_is_kept, rises, safe_low, serves_keeps, serves_opens, shows_follows}
 use Rattle.law.proofs.Kept.{shows_logs, shows_opens}
@@ -51,6 +50,7 @@ comes_above shard log r at h q above = by_kind r (and_parts _ _ (and_parts _ _ (
     by_kind (Commit c) e high = high
     by_kind (Opened epoch) e high = tt
     by_kind (Ceiling s) e high = tt
+    by_kind (Horizon s) e high = tt
     by_kind (Abort t) e high = tt
     by_kind (Outcome t None) e high = tt
     by_kind (Outcome t (Some s)) e high =

@@ -1,5 +1,5 @@
 -- What happens at a shard, crashes and failures with it, keeps something behind all that there is.
-use Rattle.std.proofs.Common.{◌≡◌, inl, inr, ℕ, Bool, true, false, cond, nat_eq, nat_lt, List, [], ◌∷◌, ◌++◌, Option, Some, None, slice_get, refl}
+use Rattle.std.proofs.Common.{◌≡◌, inl, inr, ℕ, Bool, true, false, cond, nat_lt, List, [], ◌∷◌, ◌++◌, Option, Some, None, slice_get, refl}
 use Rattle.std.proofs.Common.{sym, ap, subst, ◌∙◌, arith, option_to_list}
 use Rattle.std.proofs.lemmas.List.{append-nil}
 use Rattle.units.specs.declared.fault.Fault.{Fault}
@@ -122,6 +122,7 @@ module _ (sc : Scene) (h : Holds sc) (steady : IsSteady sc.world) (present : sli
   wanted_evidence (Doing.Resume now) heard = running (input_of sc.world.bag (Doing.Resume now)) heard s.state refl
   wanted_evidence (Doing.Settle t now) heard = running (input_of sc.world.bag (Doing.Settle t now)) heard s.state refl
   wanted_evidence (Doing.Advance at now) heard = running (input_of sc.world.bag (Doing.Advance at now)) heard s.state refl
+  wanted_evidence (Doing.Forget at now) heard = running (input_of sc.world.bag (Doing.Forget at now)) heard s.state refl
   wanted_evidence (Doing.Nudge t now) heard = running (input_of sc.world.bag (Doing.Nudge t now)) heard s.state refl
 
   by_room : (gate : ℕ) (st : Stepped) → SteppedEvidence sc n (read_log s) st → SteppedEvidence sc n (read_log s) (where_room gate st)
@@ -226,6 +227,7 @@ module _ (sc : Scene) (h : Holds sc) (steady : IsSteady sc.world) (present : sli
   refused_holds (Doing.Resume now) f = h
   refused_holds (Doing.Settle t now) f = h
   refused_holds (Doing.Advance at now) f = h
+  refused_holds (Doing.Forget at now) f = h
   refused_holds (Doing.Nudge t now) f = h
 
   did_holds : (doing : Doing) (stepped : Stepped) → SteppedEvidence sc n (read_log s) stepped → AfterHolds sc (did sc.world n s doing stepped)
@@ -245,6 +247,7 @@ module _ (sc : Scene) (h : Holds sc) (steady : IsSteady sc.world) (present : sli
   refused_left_holds fate (Doing.Resume now) = left_holds fate
   refused_left_holds fate (Doing.Settle t now) = left_holds fate
   refused_left_holds fate (Doing.Advance at now) = left_holds fate
+  refused_left_holds fate (Doing.Forget at now) = left_holds fate
   refused_left_holds fate (Doing.Nudge t now) = left_holds fate
 
   crashed_in_holds : (call : ℕ) (fate : Fate) (doing : Doing) (stepped : Stepped) → SteppedEvidence sc n (read_log s) stepped →

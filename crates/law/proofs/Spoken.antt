@@ -57,6 +57,7 @@ away_fair k e (Input.Deliver (Message.Done r)) = tt
 away_fair k e Input.Resume = tt
 away_fair k e (Input.Settle u) = tt
 away_fair k e (Input.Advance up) = tt
+away_fair k e (Input.Forget up) = tt
 away_fair k e (Input.Nudge u) = tt
 
 -- each value in the outbox of a plan is told fairly
@@ -155,6 +156,8 @@ wanted_holds setup bag s (Doing.Settle t now) logged memory out to a x well e th
     step_holds setup s.log s.unsure s.state s.views (input_of bag (Doing.Settle t now)) (Doing.Settle t now) logged memory out to a x well e there holds
 wanted_holds setup bag s (Doing.Advance at now) logged memory out to a x well e there holds =
     step_holds setup s.log s.unsure s.state s.views (input_of bag (Doing.Advance at now)) (Doing.Advance at now) logged memory out to a x well e there holds
+wanted_holds setup bag s (Doing.Forget at now) logged memory out to a x well e there holds =
+    step_holds setup s.log s.unsure s.state s.views (input_of bag (Doing.Forget at now)) (Doing.Forget at now) logged memory out to a x well e there holds
 wanted_holds setup bag s (Doing.Nudge t now) logged memory out to a x well e there holds =
     step_holds setup s.log s.unsure s.state s.views (input_of bag (Doing.Nudge t now)) (Doing.Nudge t now) logged memory out to a x well e there holds
 

@@ -18,7 +18,7 @@ use Rattle.record.specs.Facts.{Facts, facts_of, learn, recorded, after_outcome}
 use Rattle.record.specs.Installs.{installs_of}
 use Rattle.record.specs.Records.{Status, StandsPrepared, StandsDecided, HasAborted}
 use Rattle.record.specs.declared.record.Record.{Record}
-use Rattle.record.specs.declared.record.Record.TheVariants.{Opened, Ceiling, Prepare, Commit, Abort, Outcome}
+use Rattle.record.specs.declared.record.Record.TheVariants.{Opened, Ceiling, Prepare, Commit, Abort, Outcome, Horizon}
 use Rattle.record.proofs.LearnAgrees.{accepted_follows}
 use Rattle.record.proofs.Statuses.{recorded_is}
 use Rattle.message.specs.declared.message.Input.{Input}
@@ -28,11 +28,11 @@ use Rattle.protocol.specs.Step.{plan_input, facts_after, IsInLimit}
 use Rattle.protocol.proofs.Agreement.{Sound, promise_of, decision_of}
 use Rattle.protocol.proofs.PlanShapes.{shape_of}
 use Rattle.protocol.proofs.RowChanges.{by_id-claims}
-use Rattle.protocol.proofs.Shapes.{Shape, Answers, IsEnd, IsAbort, IsClose, IsSettle, IsLock, IsWait, IsPromise, IsDecision, ShapeOf, Acts, IsAdvance}
+use Rattle.protocol.proofs.Shapes.{Shape, Answers, IsEnd, IsAbort, IsClose, IsSettle, IsLock, IsWait, IsPromise, IsDecision, ShapeOf, Acts, IsAdvance, IsForget}
 use Rattle.protocol.proofs.StatusChanges.{status_same, status_other}
 use Rattle.world.proofs.Openings.{opening_taken}
 use Rattle.law.proofs.Quiet.{IsAbove}
-use Rattle.law.proofs.Rising.{Rises, LoggedAbove, rising}
+use Rattle.law.proofs.Rising.{LoggedAbove, rising}
 use Rattle.law.proofs.Accepts.{each_at}
 use Rattle.law.proofs.ReadBefore.{Claims, IsAboveAll, IsStamped, end_stamp}
 use Rattle.world.proofs.EveryRun.{InLimit, IsWell, keeps, opens, fresh, fresh_taken, in_limit, limits, logs}
@@ -133,6 +133,7 @@ next b p sound (IsDecision u ended needs at ps rs ws out l is) = subst (EndsNext
 next_of : (b : Before) (i : Input) (p : Plan) → Sound b → ShapeOf b i p → EndsNext b p
 unfolding EndsNext learn
 next_of b i p sound (Acts shape) = next b p sound shape
+next_of b i p sound (IsForget at k served higher is) = subst (EndsNext b) (sym is) (λ h. h)
 next_of b i p sound (IsAdvance stride at k is) = subst (EndsNext b) (sym is) (λ h. by_test (nat_lt b.facts.floor at) h)
   where
     by_test : (c : Bool) → EndsBelow b.facts b.memory.last → EndsBelow (facts_after b.facts
@@ -177,6 +178,7 @@ claim_above (Prepare p) t at ks ws low c h = let e = c.1 in omega (arith, e, h)
 claim_above (Commit p) t at ks ws low c h = let e = c.1 in omega (arith, e, h)
 claim_above (Opened x) t at ks ws low c h = absurd c
 claim_above (Ceiling x) t at ks ws low c h = absurd c
+claim_above (Horizon x) t at ks ws low c h = absurd c
 claim_above (Abort x) t at ks ws low c h = absurd c
 claim_above (Outcome x y) t at ks ws low c h = absurd c
 

@@ -16,7 +16,7 @@ use Rattle.record.specs.Records.{as_prepared, committed_of, prepared_of}
 use Rattle.record.specs.declared.record.Committed.{Committed}
 use Rattle.record.specs.declared.record.Prepared.{Prepared}
 use Rattle.record.specs.declared.record.Record.{Record}
-use Rattle.record.specs.declared.record.Record.TheVariants.{Opened, Ceiling, Prepare, Commit, Abort, Outcome}
+use Rattle.record.specs.declared.record.Record.TheVariants.{Opened, Ceiling, Prepare, Commit, Abort, Outcome, Horizon}
 use Rattle.world.specs.World.{setup_of}
 use Rattle.world.specs.declared.event.Config.{Config}
 use Rattle.law.specs.Among.{IsAmong}
@@ -42,6 +42,7 @@ Wrote (Prepare p) x w = (p.txn ≡ x.txn) × (p.at ≤ x.at) × IsAmong p.writes
 Wrote (Commit c) x w = (c.txn ≡ x.txn) × (c.at ≡ x.at) × IsAmong c.writes w
 Wrote (Record.Opened epoch) x w = ⊥
 Wrote (Record.Ceiling s) x w = ⊥
+Wrote (Record.Horizon s) x w = ⊥
 Wrote (Record.Abort u) x w = ⊥
 Wrote (Record.Outcome u o) x w = ⊥
 
@@ -67,6 +68,7 @@ wrote_by log o (Prepare p) x w k wrote = by_value (committed_of log x.txn) refl 
         subst (λ (z : Prepared). IsAmong z.writes w) (one_promise log o p q k i.0 (i.1 ∙ sym wrote.0)) wrote.2
 wrote_by log o (Opened e) x w k wrote = absurd wrote
 wrote_by log o (Ceiling e) x w k wrote = absurd wrote
+wrote_by log o (Horizon e) x w k wrote = absurd wrote
 wrote_by log o (Abort e) x w k wrote = absurd wrote
 wrote_by log o (Outcome e q) x w k wrote = absurd wrote
 

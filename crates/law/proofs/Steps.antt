@@ -20,7 +20,7 @@ use Rattle.protocol.specs.Cells.{plan_resume, plan_resume_id, plan_resume_row}
 use Rattle.protocol.specs.Step.{is_for, plan_message, plan_input}
 use Rattle.law.specs.Evidence.{Scene, Sent, CommitAsked, BeganBy, PhaseEvidence, RowsEvidence, StatusEvidence}
 use Rattle.law.proofs.Moves.{PlannedEvidence, StandingEvidence, replying, refusing, choosing}
-use Rattle.law.proofs.Table.{reading, preparing, committing, voting, ending_by, giving_up, questioned, going_on, settling, advancing, nudging}
+use Rattle.law.proofs.Table.{reading, preparing, committing, voting, ending_by, giving_up, questioned, going_on, settling, advancing, nudging, forgetting}
 
 -- what a shard knows when it steps
 pub record Knows (sc : Scene) (log : List Record) (b : Before) (now : Interval) : Type 0 where
@@ -103,4 +103,5 @@ module _ (sc : Scene) (log : List Record) (b : Before) (now : Interval) (knows :
   planned setup Input.Resume heard = resuming
   planned setup (Input.Settle t) heard = settling sc log b now.earliest t knows.honest (stands b t) (stands_by_evidence t)
   planned setup (Input.Advance at) heard = advancing sc log b now.latest setup.stride at
+  planned setup (Input.Forget at) heard = forgetting sc log b at
   planned setup (Input.Nudge t) heard = nudging sc log b t (stands b t) (stands_by_evidence t)

@@ -1,5 +1,5 @@
 -- Each input in each standing is planned with evidence. The table is gone through once, here.
-use Rattle.std.proofs.Common.{◌≡◌, ◌⊎◌, inl, inr, ℕ, ◌+◌, ◌<◌, ◌≤◌, max, min, nat_eq, nat_lt, Bool, true, false, cond, ◌||◌, List, [], ◌∷◌, ◌++◌}
+use Rattle.std.proofs.Common.{◌≡◌, ◌⊎◌, inl, inr, ℕ, ◌+◌, ◌<◌, ◌≤◌, max, min, nat_eq, nat_lt, nat_le, Bool, true, false, cond, ◌||◌, List, [], ◌∷◌, ◌++◌}
 use Rattle.std.proofs.Common.{Option, Some, None, refl, sym, ap, subst, map, arith}
 use Rattle.std.specs.Prelude.{Ok, Err}
 use Rattle.std.specs.List.{AllByRecursion, list_any}
@@ -8,7 +8,7 @@ use Rattle.units.specs.Lists.{has, greatest}
 use Rattle.units.specs.Ids.{Id}
 use Rattle.units.specs.Keys.{Bytes}
 use Rattle.units.specs.Locks.{exclusive}
-use Rattle.units.specs.declared.fault.Fault.TheVariants.{TimeSpent, Stranger, Early, Future}
+use Rattle.units.specs.declared.fault.Fault.TheVariants.{TimeSpent, NotYet, Stranger, Early, Future}
 use Rattle.units.specs.declared.lock.Lock.{Lock}
 use Rattle.units.specs.declared.writes.Write.{Write}
 use Rattle.record.specs.declared.record.Record.{Record}
@@ -16,13 +16,13 @@ use Rattle.message.specs.declared.message.Message.{Message}
 use Rattle.message.specs.declared.message.Prepare.{Prepare}
 use Rattle.message.specs.declared.message.Commit.{Commit}
 use Rattle.protocol.specs.Rows.{Phase, Idle, WaitsRead, WaitsPrepare, WaitsCommit, Collecting, IsPrepared, IsDecided, Voted, Standing, IsUnknown}
-use Rattle.protocol.specs.Rows.{WasEnded, HasRow, WasAborted, WasSettled, WasClosed, with_vote}
+use Rattle.protocol.specs.Rows.{WasEnded, HasRow, WasAborted, WasSettled, WasClosed, safe, with_vote}
 use Rattle.protocol.specs.Outputs.{promise, decision, done_to, outcome_to, ask_to}
-use Rattle.protocol.specs.Plan.{time_limit, Before, puts, in_way, opens, is_crowded, Keeps}
+use Rattle.protocol.specs.Plan.{time_limit, Before, puts, in_way, opens, idles, is_crowded, Keeps}
 use Rattle.protocol.specs.Cells.{commit_stamp, other_parts, all_voted, is_outcome_for, plan_read, plan_read_now, plan_read_row, plan_prepare}
 use Rattle.protocol.specs.Cells.{plan_prepare_fresh, plan_prepare_now, plan_promise, plan_commit, plan_commit_fresh, plan_commit_now}
 use Rattle.protocol.specs.Cells.{plan_commit_granted, plan_decide, plan_abort, plan_vote, plan_count, plan_tell, plan_outcome, plan_give_up, plan_ask}
-use Rattle.protocol.specs.Cells.{plan_go_on, plan_settle, plan_advance, plan_nudge, tells, answers, to_read, refuses, raised, plan_abort_for}
+use Rattle.protocol.specs.Cells.{plan_go_on, plan_settle, plan_advance, plan_nudge, plan_forget, tells, answers, to_read, refuses, raised, plan_abort_for}
 use Rattle.law.specs.Among.{IsAmong}
 use Rattle.law.specs.Evidence.{Scene, Sent, PrepareAsked, CommitAsked, VotedYes, VoteBelow, HasPromise, HasDecision, HasOutcome, WasTold}
 use Rattle.law.specs.Evidence.{WasAsked, WasQuestioned, RecordEvidence, Remembers, PhaseEvidence, Told, AllTold}
@@ -397,3 +397,14 @@ module _ (sc : Scene) (log : List Record) (b : Before) where
   nudging t (HasRow held (IsPrepared c p)) e =
       replying sc log b (ask_to b.shard c t ∷ []) ((refl, record { coordinator = c; stamp = p; promised = e; receiver = refl }), tt)
   nudging t _ e = refusing sc log b Stranger
+
+  pub forgetting : (at : ℕ) → PlannedEvidence sc log b.shard (plan_forget b at)
+  unfolding plan_forget PlannedEvidence
+  forgetting at = by_tests (nat_lt (safe b.memory) at) (nat_le at b.facts.horizon)
+    where
+      by_tests : (early known : Bool) →
+          PlannedEvidence sc log b.shard (cond early (Err NotYet) (cond known (Ok (idles b))
+          (Ok (record { wounded = []; change = Keeps; logged = Some (Record.Horizon at); last = b.memory.last; outbox = [] }))))
+      by_tests true known = tt
+      by_tests false true = record { logged = tt; change = tt; told = tt }
+      by_tests false false = record { logged = tt; change = tt; told = tt }

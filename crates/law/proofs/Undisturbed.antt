@@ -1,24 +1,23 @@
 -- From where a transaction that read a key is logged on, no other version of the key is made before its outcome, nor one below its
 -- timestamp.
-use Rattle.std.proofs.Common.{◌≡◌, ◌⊎◌, inl, inr, ℕ, ◌<◌, ◌≤◌, Bool, true, false, not, ◌&&◌, ◌||◌, nat_eq, nat_le, List, [], ◌∷◌, ◌++◌, Option, Some, None}
+use Rattle.std.proofs.Common.{◌≡◌, ◌⊎◌, inl, inr, ℕ, ◌≤◌, Bool, true, false, not, ◌||◌, nat_le, List, [], ◌∷◌, ◌++◌, Option, Some, None}
 use Rattle.std.proofs.Common.{refl, sym, ap, subst, ◌∙◌, arith, append_assoc}
 use Rattle.std.proofs.lemmas.Bool.{leb-true, eqb-true, and_parts}
 use Rattle.std.proofs.lemmas.List.{append-nil}
-use Rattle.units.specs.Ids.{Id, same_id}
+use Rattle.units.specs.Ids.{Id}
 use Rattle.units.specs.Keys.{Bytes}
 use Rattle.units.specs.Lists.{when}
-use Rattle.units.specs.Locks.{clash, locks_of}
+use Rattle.units.specs.Locks.{locks_of}
 use Rattle.units.specs.declared.setup.Setup.{Setup}
 use Rattle.units.specs.declared.writes.Install.{Install}
 use Rattle.units.specs.declared.writes.Write.{Write}
-use Rattle.units.proofs.IdLaws.{same_id-is, same_id-refl}
-use Rattle.record.specs.Accepted.{Accepted, taken, follows, followed, outcome_fits}
+use Rattle.record.specs.Accepted.{Accepted, taken, follows, outcome_fits}
 use Rattle.record.specs.Installs.{installs_of, writes_by}
 use Rattle.record.specs.Records.{committed_of, prepared_of, ended_of}
 use Rattle.record.specs.declared.record.Committed.{Committed}
 use Rattle.record.specs.declared.record.Prepared.{Prepared}
 use Rattle.record.specs.declared.record.Record.{Record}
-use Rattle.record.specs.declared.record.Record.TheVariants.{Opened, Ceiling, Prepare, Commit, Abort, Outcome}
+use Rattle.record.specs.declared.record.Record.TheVariants.{Opened, Ceiling, Prepare, Commit, Abort, Outcome, Horizon}
 use Rattle.record.proofs.LearnAgrees.{accepted_follows}
 use Rattle.locks.proofs.Clashes.{clash_comm}
 use Rattle.law.specs.Among.{IsAmong}
@@ -26,8 +25,8 @@ use Rattle.law.specs.Passes.{IsPastEnd}
 use Rattle.law.proofs.Accepts.{IsNew, Place, each_taken, front_taken, installs_by, installs_more, new_from, place_of}
 use Rattle.law.proofs.Members.{among_cases, among_left, among_right}
 use Rattle.law.proofs.Orderly.{IsOrderly, orderly, decided_not_promised}
-use Rattle.law.proofs.Quiet.{HasEnd, not_ended}
-use Rattle.law.proofs.ReadBefore.{Claims, EndIs, IsStamped, Order, IsSame, IsEarlier, IsLater, ended_between, end_stamp, order, read_clashes, same_claim_id}
+use Rattle.law.proofs.Quiet.{not_ended}
+use Rattle.law.proofs.ReadBefore.{Claims, EndIs, IsStamped, Order, IsSame, IsEarlier, IsLater, ended_between, order, read_clashes, same_claim_id}
 use Rattle.law.proofs.ReadBefore.{stamp_of_end}
 use Rattle.law.proofs.Resolved.{committed_is, prepared_is}
 
@@ -214,6 +213,7 @@ module _ (setup : Setup) (log : List Record) (accepted : taken setup log ≡ Acc
       nothing (Commit x) c h2 = h2
       nothing (Opened x) c h2 = absurd c
       nothing (Ceiling x) c h2 = absurd c
+      nothing (Horizon x) c h2 = absurd c
       nothing (Abort x) c h2 = absurd c
       nothing (Outcome x y) c h2 = absurd c
 

@@ -1,6 +1,6 @@
 -- What stands behind each record, each row, each message and each line of a run: something that was put out, or something
 -- that was logged. Each of these facts stays true once it holds.
-use Rattle.std.specs.Prelude.{ℕ, ◌≡◌, ◌⊎◌, ◌<◌, ◌≤◌, Bool, true, false, List, [], ◌∷◌, slice_get, Option, Some, None}
+use Rattle.std.specs.Prelude.{ℕ, ◌≡◌, ◌⊎◌, ◌<◌, ◌≤◌, Bool, true, false, List, [], slice_get, Option, Some, None}
 use Rattle.std.specs.List.{AllByRecursion}
 use Rattle.units.specs.Lists.{has}
 use Rattle.units.specs.Ids.{Id}
@@ -139,6 +139,7 @@ pub record WasQuestioned (w : World) (n : ℕ) (t : Id) : Type 0 where
 abbrev pub RecordEvidence : Scene → List Record → ℕ → Record → Type 0
 RecordEvidence sc log n (Record.Opened epoch) = Unit {0}
 RecordEvidence sc log n (Record.Ceiling at) = Unit {0}
+RecordEvidence sc log n (Record.Horizon at) = Unit {0}
 RecordEvidence sc log n (Record.Prepare p) = PrepareAsked sc.world n p.txn p.coordinator p.reads p.writes
 RecordEvidence sc log n (Record.Commit c) = CommitEvidence sc n c
 RecordEvidence sc log n (Record.Abort t) = WasAsked sc.world n t ⊎ WasQuestioned sc.world n t

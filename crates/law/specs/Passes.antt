@@ -1,5 +1,5 @@
 -- What each event of a lawful run keeps, pass by pass: the law of the store rests on these six.
-use Rattle.std.specs.Prelude.{ℕ, ◌≡◌, ◌⊎◌, ◌<◌, ◌≤◌, Bool, true, IsTrue, List, [], ◌∷◌, ◌++◌, slice_get, Option, Some, None}
+use Rattle.std.specs.Prelude.{ℕ, ◌≡◌, ◌⊎◌, ◌<◌, ◌≤◌, IsTrue, List, ◌∷◌, ◌++◌, slice_get, Option, Some, None}
 use Rattle.units.specs.Ids.{Id}
 use Rattle.units.specs.Keys.{Bytes}
 use Rattle.units.specs.Locks.{holds}
@@ -9,7 +9,6 @@ use Rattle.record.specs.Facts.{facts_of, recorded}
 use Rattle.record.specs.Installs.{installs_of}
 use Rattle.record.specs.Records.{status_of}
 use Rattle.record.specs.Whole.{is_whole}
-use Rattle.record.specs.declared.record.Committed.{Committed}
 use Rattle.record.specs.declared.record.Record.{Record}
 use Rattle.message.specs.declared.message.Address.{Address}
 use Rattle.message.specs.declared.message.Answer.TheVariants.{Holds}
@@ -19,7 +18,6 @@ use Rattle.message.specs.declared.message.ReadAnswer.{ReadAnswer}
 use Rattle.protocol.specs.Rows.{Memory, Row, find_row}
 use Rattle.protocol.specs.Sound.{IsSound, is_open}
 use Rattle.session.specs.Sessions.{Client}
-use Rattle.session.specs.declared.answered.Answered.{Answered}
 use Rattle.world.specs.Headline.{MayBeLeft, IsUnsure}
 use Rattle.world.specs.Lawful.{lawful}
 use Rattle.world.specs.World.{World, ShardNow, View, State, Runs, IsStopped, IsDown, Nothing, view_of, run}
@@ -97,6 +95,7 @@ IsClaim (Record.Prepare p) t at ks = (p.txn ≡ t) × (p.at ≡ at) × (p.reads 
 IsClaim (Record.Commit c) t at ks = (c.txn ≡ t) × (c.at ≡ at) × (c.reads ≡ ks)
 IsClaim (Record.Opened epoch) t at ks = ⊥
 IsClaim (Record.Ceiling s) t at ks = ⊥
+IsClaim (Record.Horizon s) t at ks = ⊥
 IsClaim (Record.Abort u) t at ks = ⊥
 IsClaim (Record.Outcome u o) t at ks = ⊥
 

@@ -1,14 +1,15 @@
 -- The places of the versions, as a record is learnt.
-use Rattle.std.proofs.Common.{◌≡◌, ℕ, ◌+◌, Bool, true, [], ◌++◌, Some, None, length, refl, sym, ap, subst, ◌∙◌}
+use Rattle.std.proofs.Common.{◌≡◌, ℕ, ◌+◌, ◌≤◌, arith, max, Bool, true, List, [], ◌++◌, Some, None, length, refl, sym, ap, subst, ◌∙◌}
 use Rattle.std.proofs.lemmas.List.{append-nil, length-append, length-map}
 use Rattle.units.specs.Versions.{versions, above_versions}
 use Rattle.units.specs.Keys.{write_before}
 use Rattle.units.specs.Lists.{ascends}
+use Rattle.units.specs.declared.writes.Install.{Install}
 use Rattle.record.specs.Facts.{Facts, facts_of, learn, recorded, installs_at}
 use Rattle.record.specs.Installs.{installs_of}
 use Rattle.record.specs.Records.{Status, Unrecorded, StandsPrepared, StandsDecided, HasAborted, HasSettled, HasClosed}
 use Rattle.record.specs.declared.record.Record.{Record}
-use Rattle.record.specs.declared.record.Record.TheVariants.{Opened, Ceiling, Prepare, Commit, Abort, Outcome}
+use Rattle.record.specs.declared.record.Record.TheVariants.{Opened, Ceiling, Prepare, Commit, Abort, Outcome, Horizon}
 use Rattle.versions.specs.Headed.{Headed}
 use Rattle.versions.specs.Orders.{Orders, AreBehind}
 use Rattle.versions.proofs.Orders.{orders_more, behind_written}
@@ -21,6 +22,10 @@ is_up facts item = ascends write_before (writes_given facts item)
 pub no_installs : (facts_of []).installs ≡ []
 unfolding facts_of installs_of
 no_installs = refl
+
+pub no_horizon : (facts_of []).horizon ≡ 0
+unfolding facts_of
+no_horizon = refl
 
 -- an outcome at a timestamp installs the writes that stand
 installs_standing : (status : Status) (s : ℕ) → installs_at status (Some s) ≡ versions (writes_standing status) s
@@ -56,6 +61,7 @@ installs : (facts : Facts) (item : Record) → CanInstall facts item → Install
 unfolding learn
 installs facts (Opened e) can = nothing facts (Opened e) refl refl
 installs facts (Ceiling at) can = nothing facts (Ceiling at) refl refl
+installs facts (Horizon at) can = nothing facts (Horizon at) refl refl
 installs facts (Prepare p) can = nothing facts (Prepare p) refl refl
 installs facts (Commit c) can = nothing facts (Commit c) refl refl
 installs facts (Abort t) can = nothing facts (Abort t) refl refl
@@ -67,12 +73,56 @@ installs facts (Outcome t (Some s)) can = record {
   above = can;
 }
 
+-- ---- the horizon
+
+-- what is read from a horizon up is read from a later one up
+later_orders : (h n : ℕ) (t : List Install) (known : ℕ) (p : Headed) → h ≤ n → Orders h t known p → Orders n t known p
+later_orders h n t known p up o = record {
+  within = o.within;
+  few = o.few;
+  kept = o.kept;
+  headed = o.headed;
+  same = record {
+    now = o.same.now;
+    at = λ key at low. o.same.at key at (omega (arith, up, low));
+    above = o.same.above;
+  };
+}
+
+-- no record lowers it
+horizon_rises : (facts : Facts) (item : Record) → facts.horizon ≤ (learn facts item).horizon
+unfolding learn
+horizon_rises facts (Opened e) = omega arith
+horizon_rises facts (Ceiling at) = omega arith
+horizon_rises facts (Prepare p) = omega arith
+horizon_rises facts (Commit c) = omega arith
+horizon_rises facts (Abort t) = omega arith
+horizon_rises facts (Outcome t o) = omega arith
+horizon_rises facts (Horizon at) = omega arith
+
+pub risen_orders : (facts : Facts) (item : Record) (t : List Install) (known : ℕ) (p : Headed) → Orders facts.horizon t known p
+    → Orders (learn facts item).horizon t known p
+risen_orders facts item t known p o = later_orders facts.horizon (learn facts item).horizon t known p (horizon_rises facts item) o
+
+-- the places of a list are those of an equal one
+pub same_orders : (h : ℕ) (t u : List Install) (p : Headed) → u ≡ t → Orders h t (length t) p → Orders h u (length u) p
+same_orders h t u p same o = subst (λ v. Orders h v (length v) p) (sym same) o
+
+-- a horizon that is learnt installs nothing
+pub forgotten_installs : (facts : Facts) (at : ℕ) → (learn facts (Horizon at)).installs ≡ facts.installs
+unfolding learn
+forgotten_installs facts at = refl
+
+pub forgotten_horizon : (facts : Facts) (at : ℕ) → (learn facts (Horizon at)).horizon ≡ max facts.horizon at
+unfolding learn
+forgotten_horizon facts at = refl
+
 -- what is installed comes behind the versions whose places are known
 module _ (facts : Facts) (item : Record) (can : CanInstall facts item) where
-  pub still_orders : (p : Headed) → Orders 0 facts.installs (length facts.installs) p → Orders 0 (learn facts item).installs (length facts.installs) p
-  still_orders p o =
+  pub still_orders : (h : ℕ) (p : Headed) → Orders h facts.installs (length facts.installs) p → Orders h (learn facts item).installs (length facts.installs) p
+  still_orders h p o =
       let i = installs facts item can in
-      subst (λ t. Orders 0 t (length facts.installs) p) (sym i.all) (orders_more 0 facts.installs (versions (writes_given facts item) i.at) p o)
+      subst (λ t. Orders h t (length facts.installs) p) (sym i.all) (orders_more h facts.installs (versions (writes_given facts item) i.at) p o)
 
   pub are_behind : ascends write_before (writes_given facts item) ≡ true → AreBehind (learn facts item).installs (length facts.installs)
   are_behind up =

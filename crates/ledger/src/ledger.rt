@@ -1,5 +1,5 @@
 //! The facts of a log beside the versions by key.
-ghost use Rattle.std.specs.Prelude.{◌≡◌, ◌<◌, ◌≤◌, ◌^◌, [], length, IsTrue, IsOk, IfErr, OnOk};
+ghost use Rattle.std.specs.Prelude.{◌≡◌, ℕ, ◌<◌, ◌≤◌, ◌^◌, [], length, IsTrue, IsOk, IfErr, OnOk};
 ghost use Rattle.std.specs.Option.{option_copied};
 ghost use Rattle.units.specs.Keys.{write_before};
 ghost use Rattle.units.specs.Lists.{ascends};
@@ -49,7 +49,8 @@ impl Model for Ledger {
       room = room_for l.facts.room l.places.room;
     } };
 
-    ghost invariant = { λ l. Orders 0 l.facts.facts.installs (length l.facts.facts.installs) l.places };
+    ghost invariant = { λ l. Orders l.facts.facts.horizon l.facts.facts.installs
+        (length l.facts.facts.installs) l.places };
 }
 
 impl Ledger {
@@ -107,8 +108,16 @@ impl Ledger {
         self.places.latest(self.facts.installs(), key)
     }
 
-    /// The value that a key has at a timestamp: none where there is none or it was erased.
+    /// The horizon, below which no value is read: 0 where there is none.
+    pub fn horizon(&self) -> Stamp
+        ensures { result ≡ self.now.facts.horizon }
+    {
+        self.facts.horizon()
+    }
+
+    /// The value that a key has at a timestamp from the horizon up: none where there is none or it was erased.
     pub fn at(&self, key: &Key, at: Stamp) -> Option<&Value>
+        requires { self.now.facts.horizon ≤ at }
         ensures { option_copied result ≡ at_time self.now.facts.installs key.now at }
     {
         self.places.at(self.facts.installs(), key, at)
@@ -157,7 +166,8 @@ impl Ledger {
         Ok(())
     }
 
-    /// Learns the record that comes next in the log. It takes no memory: what an outcome installs is moved from what stands.
+    /// Learns the record that comes next in the log. It takes no memory: what an outcome installs is moved from what stands. A horizon lets
+    /// the places of the versions below it go, and leaves their room.
     pub fn learn(&mut self, item: Record)
         requires room { 1 ≤ self.old.room }
         requires follows { IsTrue (follows_facts self.old.shard self.old.facts item) }
@@ -165,10 +175,26 @@ impl Ledger {
         ensures facts { self.new.facts ≡ learn self.old.facts item }
         ensures shard { self.new.shard ≡ self.old.shard }
     {
+        if let Record::Horizon { at } = item {
+            self.forget(at);
+            return;
+        }
         self.ascend(&item);
         let known = self.facts.installs().len();
         self.facts.learn_next(item);
         self.places.follow(self.facts.installs(), known);
+    }
+
+    // Learns a horizon that comes next in the log.
+    fn forget(&mut self, at: Stamp)
+        requires room { 1 ≤ self.old.room }
+        requires follows { IsTrue
+            (follows_facts self.old.shard self.old.facts (Record.Horizon at)) }
+        ensures facts { self.new.facts ≡ learn self.old.facts (Record.Horizon at) }
+        ensures shard { self.new.shard ≡ self.old.shard }
+    {
+        self.facts.learn_next(Record::Horizon { at });
+        self.places.forget(self.facts.installs(), at);
     }
 
     // The writes that a record installs ascend by key, and are not many. It does nothing.
@@ -192,7 +218,7 @@ impl Ledger {
 
 // The timestamp is above all versions of the keys that are written.
 fn are_above(installs: &[Install], places: &Places, writes: &[Write], at: Stamp) -> bool
-    requires { Orders 0 installs.now (length installs.now) places.now }
+    requires { (horizon : ℕ) × Orders horizon installs.now (length installs.now) places.now }
     ensures { result ≡ above_versions installs.now at writes.now }
 {
     for write in writes {

@@ -52,6 +52,7 @@ module _ (s : ShardNow) (fate : Fate) (sure : IsSure s) where
   refused_is (Doing.Resume now) = refl
   refused_is (Doing.Settle t now) = refl
   refused_is (Doing.Advance at now) = refl
+  refused_is (Doing.Forget at now) = refl
   refused_is (Doing.Nudge t now) = refl
 
   -- a crash in a call of a doing is the doing with that call armed, and then a crash

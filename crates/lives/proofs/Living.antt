@@ -52,6 +52,7 @@ module _ (setup : Setup) (bag : List Envelope) (s : ShardNow) where
   goes_as (Doing.Resume now) g = refl
   goes_as (Doing.Settle t now) g = refl
   goes_as (Doing.Advance at now) g = refl
+  goes_as (Doing.Forget at now) g = refl
   goes_as (Doing.Nudge t now) g = refl
   goes_as Doing.Open g = absurd (false≢true g)
 
@@ -110,6 +111,7 @@ refused_same s (Doing.Take n now) g = refl
 refused_same s (Doing.Resume now) g = refl
 refused_same s (Doing.Settle t now) g = refl
 refused_same s (Doing.Advance at now) g = refl
+refused_same s (Doing.Forget at now) g = refl
 refused_same s (Doing.Nudge t now) g = refl
 refused_same s Doing.Open g = absurd (false≢true g)
 
@@ -153,6 +155,7 @@ is_open (Doing.Take n now) g = absurd (false≢true (sym g))
 is_open (Doing.Resume now) g = absurd (false≢true (sym g))
 is_open (Doing.Settle t now) g = absurd (false≢true (sym g))
 is_open (Doing.Advance at now) g = absurd (false≢true (sym g))
+is_open (Doing.Forget at now) g = absurd (false≢true (sym g))
 is_open (Doing.Nudge t now) g = absurd (false≢true (sym g))
 is_open Doing.Open g = refl
 

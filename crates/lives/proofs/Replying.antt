@@ -145,6 +145,7 @@ module _ (w : World) (old new : Run) (h : IsRun old w) where
   refused_is n s (Doing.Resume now) fault there = same_there n s fault there
   refused_is n s (Doing.Settle t now) fault there = same_there n s fault there
   refused_is n s (Doing.Advance at now) fault there = same_there n s fault there
+  refused_is n s (Doing.Forget at now) fault there = same_there n s fault there
   refused_is n s (Doing.Nudge t now) fault there = same_there n s fault there
   refused_is n s Doing.Open fault there = by_state s.state
     where

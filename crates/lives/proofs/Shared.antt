@@ -8,7 +8,7 @@ use Rattle.std.proofs.lemmas.List.{append-nil, drop-drop, take-append-drop}
 use Rattle.std.proofs.lemmas.List.Elements.{filter-append}
 use Rattle.units.specs.Keys.{Bytes, shard_of}
 use Rattle.units.specs.Versions.{at_time, latest}
-use Rattle.units.specs.declared.fault.Fault.TheVariants.{NotYet, Stranger}
+use Rattle.units.specs.declared.fault.Fault.TheVariants.{NotYet, Stranger, TooOld}
 use Rattle.units.specs.declared.setup.Setup.{Setup}
 use Rattle.units.specs.declared.writes.Install.{Install}
 use Rattle.protocol.specs.Rows.{Memory}
@@ -53,12 +53,20 @@ one_of p (x ∷ vs) (suc n) v h there = one_of p vs n v (and_parts _ _ h).1 ther
 at_most : (a b : ℕ) → a ≤ b → nat_le a b ≡ true
 at_most a b h = grind (arith, nat_tests)
 
+not_below : (a b : ℕ) → a ≤ b → nat_lt b a ≡ false
+not_below a b h = grind (arith, nat_tests)
+
+-- a look, by its three tests
+abbrev by_tests : Bool → Bool → Bool → Reply → Reply
+by_tests here old served shows =
+    cond (not here) (Reply.Refused Stranger) (cond old (Reply.Refused TooOld) (cond served shows (Reply.Refused NotYet)))
+
 pub by_core : (setup : Setup) (s : ShardNow) (core : CoreView SimDisk) (is : List Install) (from high : ℕ) (vs : List CodeView) (n : ℕ) (v : CodeView)
     (here : Bool) (k : Bytes) (at : ℕ) → IsCoreIn setup s core s.state → ShowsLog is from s s.state →
-    list_all (is_apart is high) vs ≡ true → slice_get vs n ≡ Some v → v.from ≡ from → at ≤ v.safe → at ≤ safe_at core →
-    here ≡ nat_eq (shard_of setup.splits k) setup.shard →
-    look_core core k at ≡ look_at here (take v.count (drop v.from is)) v.safe k at
-by_core setup s core is from high vs n v here k at lives shows apart there same low served is_here = by_state s.state lives shows
+    list_all (is_apart is high) vs ≡ true → slice_get vs n ≡ Some v → v.from ≡ from → (v.horizon ≤ at) × (at ≤ v.safe) →
+    (core.facts.horizon ≤ at) × (at ≤ safe_at core) → here ≡ nat_eq (shard_of setup.splits k) setup.shard →
+    look_core core k at ≡ look_at here (take v.count (drop v.from is)) v.horizon v.safe k at
+by_core setup s core is from high vs n v here k at lives shows apart there same was now is_here = by_state s.state lives shows
   where
     later : list_all (is_above v.safe) (drop v.count (drop v.from is)) ≡ true
     later = ap (list_all (is_above v.safe)) (drop-drop v.count v.from is)
@@ -66,20 +74,22 @@ by_core setup s core is from high vs n v here k at lives shows apart there same 
 
     value : at_time (drop v.from is) k at ≡ at_time (take v.count (drop v.from is)) k at
     value = ap (λ l. at_time l k at) (sym (take-append-drop v.count (drop v.from is)))
-        ∙ earlier v.safe at (take v.count (drop v.from is)) (drop v.count (drop v.from is)) k low later
+        ∙ earlier v.safe at (take v.count (drop v.from is)) (drop v.count (drop v.from is)) k was.1 later
 
     of_core : (m : Memory) → IsCoreOf setup s m core → drop from is ≡ (facts_of s.log).installs →
-        look_core core k at ≡ look_at here (take v.count (drop v.from is)) v.safe k at
+        look_core core k at ≡ look_at here (take v.count (drop v.from is)) v.horizon v.safe k at
     of_core m c shown =
         let all : at_time core.facts.installs k at ≡ at_time (take v.count (drop v.from is)) k at =
         ap (λ l. at_time l k at) ((λ i. (c.knows i).installs) ∙ sym shown ∙ ap (λ f. drop f is) (sym same)) ∙ value in
         let owns : nat_eq (shard_of core.setup.splits k) core.setup.shard ≡ here =
         (λ i. nat_eq (shard_of (c.setup_is i).splits k) (c.setup_is i).shard) ∙ sym is_here in
-        let both : nat_le at (safe_at core) ≡ nat_le at v.safe = at_most at (safe_at core) served ∙ sym (at_most at v.safe low) in
-        λ i. cond (not (owns i)) (Reply.Refused Stranger) (cond (both i) (Reply.Shows (all i)) (Reply.Refused NotYet))
+        let serve : nat_le at (safe_at core) ≡ nat_le at v.safe = at_most at (safe_at core) now.1 ∙ sym (at_most at v.safe was.1) in
+        let forget : nat_lt at core.facts.horizon ≡ nat_lt at v.horizon =
+        not_below core.facts.horizon at now.0 ∙ sym (not_below v.horizon at was.0) in
+        λ i. by_tests (owns i) (forget i) (serve i) (Reply.Shows (all i))
 
     by_state : (st : State) → IsCoreIn setup s core st → ShowsLog is from s st →
-        look_core core k at ≡ look_at here (take v.count (drop v.from is)) v.safe k at
+        look_core core k at ≡ look_at here (take v.count (drop v.from is)) v.horizon v.safe k at
     by_state (Runs m) c shown = of_core m c.core_of shown.1
     by_state (IsStopped m) c shown = of_core m c.core_of shown.1
     by_state IsDown c shown = absurd c

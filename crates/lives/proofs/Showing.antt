@@ -66,7 +66,7 @@ still_shown is more (v ∷ vs) h =
     ap (take v.count) (drop-append-le v.from is more (omega (arith, counted is v p.0)))
     ∙ take-append-le v.count (drop v.from is) more (omega (arith, counted is v p.0, length-drop v.from is)) in
     let rest : map (shown_view (is ++ more)) vs ≡ map (shown_view is) vs = still_shown is more vs p.1 in
-    λ i. record { installs = front i; safe = v.safe } ∷ rest i
+    λ i. record { installs = front i; safe = v.safe; horizon = v.horizon } ∷ rest i
 
 within_more : (is : List Install) (vs ws : List CodeView) → list_all (is_within is) vs ≡ true → list_all (is_within is) ws ≡ true →
     list_all (is_within is) (vs ++ ws) ≡ true
@@ -111,6 +111,7 @@ unfolding learn
 added facts None = ([], sym (append-nil facts.installs))
 added facts (Some (Record.Opened epoch)) = ([], sym (append-nil facts.installs))
 added facts (Some (Record.Ceiling at)) = ([], sym (append-nil facts.installs))
+added facts (Some (Record.Horizon at)) = ([], sym (append-nil facts.installs))
 added facts (Some (Record.Prepare p)) = ([], sym (append-nil facts.installs))
 added facts (Some (Record.Commit c)) = ([], sym (append-nil facts.installs))
 added facts (Some (Record.Abort t)) = ([], sym (append-nil facts.installs))
@@ -149,7 +150,7 @@ shown_now is from core log memory same facts kept =
     let all : take (length core.facts.installs) (drop from is) ≡ (facts_of log).installs =
     ap (take (length core.facts.installs)) same ∙ take_all (length core.facts.installs) core.facts.installs (omega arith)
     ∙ ap (λ (f : Facts). f.installs) facts in
-    λ i. record { installs = all i; safe = safe (kept i) }
+    λ i. record { installs = all i; safe = safe (kept i); horizon = (facts i).horizon }
 
 -- ---- what lives of a shard, with other views
 
@@ -231,6 +232,7 @@ module _ (setup : Setup) (bag : List Envelope) (s : ShardNow) (call : Option ℕ
   refused_stands (Doing.Resume now) l = as_it_was l
   refused_stands (Doing.Settle t now) l = as_it_was l
   refused_stands (Doing.Advance at now) l = as_it_was l
+  refused_stands (Doing.Forget at now) l = as_it_was l
   refused_stands (Doing.Nudge t now) l = as_it_was l
   refused_stands Doing.Open l = by_state s.state l
     where
@@ -462,6 +464,7 @@ module _ (setup : Setup) (bag : List Envelope) (s : ShardNow) (call : Option ℕ
       by_doing (Doing.Resume now) = refl
       by_doing (Doing.Settle t now) = refl
       by_doing (Doing.Advance at now) = refl
+      by_doing (Doing.Forget at now) = refl
       by_doing (Doing.Nudge t now) = refl
       by_doing Doing.Open = by_state s.state
         where
@@ -562,9 +565,9 @@ crash_in_so setup bag s call fate doing old mid new answer (Ok reply) h kept car
 -- a look at a view by all versions
 pub looked_at : (setup : Setup) (is : List Install) (vs : List CodeView) (views : List View) (n : ℕ) (v : CodeView) (here : Bool) (k : Bytes) (at : ℕ)
     → map (shown_view is) vs ≡ views → slice_get vs n ≡ Some v → here ≡ nat_eq (shard_of setup.splits k) setup.shard
-    → look_at here (take v.count (drop v.from is)) v.safe k at ≡ look_at_view setup (slice_get views n) k at
+    → look_at here (take v.count (drop v.from is)) v.horizon v.safe k at ≡ look_at_view setup (slice_get views n) k at
 looked_at setup is vs views n v here k at same there is_here =
-    ap (λ b. look_at b (take v.count (drop v.from is)) v.safe k at) is_here
+    ap (λ b. look_at b (take v.count (drop v.from is)) v.horizon v.safe k at) is_here
     ∙ sym (ap (λ o. look_at_view setup o k at) (ap (λ l. slice_get l n) (sym same) ∙ slice_get-map (shown_view is) vs n
     ∙ ap (option_map (shown_view is)) there))
 
@@ -580,7 +583,8 @@ pub looked : (setup : Setup) (s : ShardNow) (core : CoreView SimDisk) (k : Bytes
 looked setup s core k at h = by_state s.state h
   where
     of_core : (m : Kept) → IsCoreOf setup s m core → look_core core k at ≡ look_view setup (view_of (facts_of s.log) m) k at
-    of_core m c = λ i. look_at (nat_eq (shard_of (c.setup_is i).splits k) (c.setup_is i).shard) (c.knows i).installs (safe (c.memory i)) k at
+    of_core m c = λ i. look_at (nat_eq (shard_of (c.setup_is i).splits k) (c.setup_is i).shard) (c.knows i).installs (c.knows i).horizon
+        (safe (c.memory i)) k at
 
     by_state : (st : State) → IsCoreIn setup s core st
         → look_core core k at

@@ -28,7 +28,7 @@ use Rattle.lives.specs.declared.view.View.{View as CodeView}
 
 -- a view, by all versions that its shard ever showed
 abbrev pub shown_view : List Install → CodeView → View
-shown_view installs v = record { installs = take v.count (drop v.from installs); safe = v.safe }
+shown_view installs v = record { installs = take v.count (drop v.from installs); safe = v.safe; horizon = v.horizon }
 
 -- all of its versions are among these
 abbrev pub is_within : List Install → CodeView → Bool
@@ -91,7 +91,7 @@ pub record BeginsAt (doing : Doing) (from : ℕ) (installs shown : List Install)
 
 -- what a core shows now, as a view
 abbrev pub view_now : ℕ → CoreView SimDisk → CodeView
-view_now from core = record { from = from; count = length core.facts.installs; safe = safe_at core }
+view_now from core = record { from = from; count = length core.facts.installs; safe = safe_at core; horizon = core.facts.horizon }
 
 -- what the core shows more than before is kept, and the view that the doing makes
 pub record HasNoted (doing : Doing) (core : CoreView SimDisk) (old new : RunShard) : Type 0 where

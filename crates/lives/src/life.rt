@@ -204,6 +204,7 @@ fn input_of(alloc: Global, bag: &[Envelope], doing: &Doing) -> Result<(Reading, 
         Doing::Settle(txn, now) => Ok((*now, Input::Settle(*txn))),
         Doing::Advance(at, now) => Ok((*now, Input::Advance(*at))),
         Doing::Nudge(txn, now) => Ok((*now, Input::Nudge(*txn))),
+        Doing::Forget(at, now) => Ok((*now, Input::Forget(*at))),
         Doing::Open => unreachable!(),
     }
 }

@@ -210,8 +210,8 @@ impl RunShard {
         }
     }
 
-    // A look at one of its views. Where its core has the view's versions, and what came since is above what the view serves, it is the core
-    // that is looked at, which finds a version by halves.
+    // A look at one of its views. Where its core has the view's versions, what came since is above what the view serves, and the core has
+    // not forgotten the time since, it is the core that is looked at, which finds a version by halves.
     fn look_at_view(
         &self,
         alloc: Global,
@@ -224,11 +224,13 @@ impl RunShard {
             → slice_get self.now.views.items n ≡ Some view
             → is_here ≡ nat_eq (shard_of setup.splits key.now) setup.shard
             → IfOk result (λ reply. reply ≡ look_at is_here
-            (take view.count (drop view.from self.now.installs.items)) view.safe key.now at) }
+            (take view.count (drop view.from self.now.installs.items)) view.horizon view.safe
+            key.now at) }
         ensures memory { IfErr result (λ fault. fault ≡ Fault.Memory) }
     {
         if let Life::Up(core) = &self.life {
-            if self.rises && view.from == self.from && at <= view.safe && at <= core.safe() {
+            let now = View::of(core, self.from);
+            if self.rises && view.from == self.from && view.serves(at) && now.serves(at) {
                 return look_at_core(alloc, core, key, at);
             }
         }
@@ -351,6 +353,7 @@ fn makes_view(doing: &Doing) -> bool
 {
     match doing {
         Doing::Open | Doing::Advance(_, _) => true,
-        _ => false,
+        Doing::Take(_, _) | Doing::Resume(_) | Doing::Settle(_, _) => false,
+        Doing::Nudge(_, _) | Doing::Forget(_, _) => false,
     }
 }

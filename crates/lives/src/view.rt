@@ -1,5 +1,5 @@
 //! What a shard shows at one moment.
-ghost use Rattle.std.specs.Prelude.{◌≡◌, true, IfOk, IfErr, length, take, drop};
+ghost use Rattle.std.specs.Prelude.{◌≡◌, ◌≤◌, true, IfOk, IfErr, length, take, drop};
 ghost use Rattle.std.specs.List.{list_all};
 ghost use Rattle.std.specs.Option.{option_copied};
 ghost use Rattle.units.specs.Versions.{at_time};
@@ -10,16 +10,17 @@ ghost use Rattle.lives.specs.Shows.{view_now};
 
 use shard::Core;
 use simdisk::SimDisk;
-use units::{Fault, Install, Key, Stamp, Value, copy_value};
+use units::{Fault, Install, Key, Stamp, Value, copy_value, may_look};
 use world::Reply;
 
-/// A moment of a shard: where the versions of its core begin among all that the shard ever showed, how many there were, and
-/// the time that was served. No version is ever taken back, so a view outlives its core.
+/// A moment of a shard: where the versions of its core begin among all that the shard ever showed, how many there were, the
+/// time that was served, and the horizon. No version is ever taken back, so a view outlives its core.
 #[derive(Clone, Copy)]
 pub struct View {
     pub from: usize,
     pub count: usize,
     pub safe: Stamp,
+    pub horizon: Stamp,
 }
 
 impl View {
@@ -31,7 +32,15 @@ impl View {
             from,
             count: core.installs().len(),
             safe: core.safe(),
+            horizon: core.horizon(),
         }
+    }
+
+    /// It serves a time, and has not forgotten it.
+    pub fn serves(&self, at: Stamp) -> bool
+        ensures { result ≡ true → (self.now.horizon ≤ at) × (at ≤ self.now.safe) }
+    {
+        self.horizon <= at && at <= self.safe
     }
 
     /// A look at it, by all versions of the shard, where the key belongs to the shard or not.
@@ -44,14 +53,11 @@ impl View {
     ) -> Result<Reply, Fault>
         ensures shown { IfOk result
             (λ reply. reply ≡ look_at is_here
-            (take self.count (drop self.from installs.now)) self.safe key.now at) }
+            (take self.count (drop self.from installs.now)) self.horizon self.safe key.now at) }
         ensures memory { IfErr result (λ fault. fault ≡ Fault.Memory) }
     {
-        if !is_here {
-            return Ok(Reply::Refused(Fault::Stranger));
-        }
-        if at.micros() > self.safe.micros() {
-            return Ok(Reply::Refused(Fault::NotYet));
+        if let Err(fault) = may_look(is_here, self.horizon, self.safe, at) {
+            return Ok(Reply::Refused(fault));
         }
         let installs = behind(installs, self.from);
         let count = self.count.min(installs.len());

@@ -3,12 +3,14 @@
 #![tactic(auto)]
 
 mod boards;
+mod forgetting;
 mod locking;
 mod reading;
 mod serving;
 mod verdicts;
 
 pub use boards::{install, look};
+pub use forgetting::forget;
 pub use locking::shared_and_exclusive;
 pub use reading::decode;
 pub use serving::needed;

@@ -1,1 +1,2 @@
+mod Boards
 pub mod Claims

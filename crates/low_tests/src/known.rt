@@ -64,6 +64,7 @@ const UNKNOWN: Known = Known {
 struct Determined {
     epoch: u64,
     floor: u64,
+    horizon: u64,
     installs: &'static [(u64, u8)],
     known: &'static [Known],
 }
@@ -80,7 +81,7 @@ const PROMISE: Line = Line::Prepare(1, 5, b'a', 0);
 
 const DECISION: Line = Line::Commit(1, 5, b'a', 2);
 
-pub static CASES: [Named<Case>; 14] = [
+pub static CASES: [Named<Case>; 18] = [
     Named {
         what: "a decision",
         row: Case {
@@ -90,6 +91,7 @@ pub static CASES: [Named<Case>; 14] = [
             determined: Some(Determined {
                 epoch: 1,
                 floor: 111,
+                horizon: 0,
                 installs: &[],
                 known: &[Known {
                     number: 1,
@@ -112,6 +114,7 @@ pub static CASES: [Named<Case>; 14] = [
             determined: Some(Determined {
                 epoch: 1,
                 floor: 111,
+                horizon: 0,
                 installs: &[(111, b'a')],
                 known: &[Known {
                     number: 1,
@@ -140,6 +143,7 @@ pub static CASES: [Named<Case>; 14] = [
             determined: Some(Determined {
                 epoch: 2,
                 floor: 300,
+                horizon: 0,
                 installs: &[(250, b'a')],
                 known: &[
                     Known {
@@ -173,6 +177,7 @@ pub static CASES: [Named<Case>; 14] = [
             determined: Some(Determined {
                 epoch: 1,
                 floor: 300,
+                horizon: 0,
                 installs: &[],
                 known: &[
                     Known {
@@ -221,6 +226,7 @@ pub static CASES: [Named<Case>; 14] = [
             determined: Some(Determined {
                 epoch: 1,
                 floor: 200,
+                horizon: 0,
                 installs: &[],
                 known: &[
                     Known {
@@ -242,7 +248,12 @@ pub static CASES: [Named<Case>; 14] = [
         row: Case {
             shard: 0,
             lines: &[],
-            refused: &[Line::Opened(2), Line::Abort(1), Line::Ceiling(5)],
+            refused: &[
+                Line::Opened(2),
+                Line::Abort(1),
+                Line::Ceiling(5),
+                Line::Horizon(0),
+            ],
             determined: None,
         },
     },
@@ -262,6 +273,86 @@ pub static CASES: [Named<Case>; 14] = [
             lines: &[Line::Opened(1), Line::Opened(2)],
             refused: &[Line::Opened(4)],
             determined: None,
+        },
+    },
+    // A horizon is above 0, and nothing was assigned.
+    Named {
+        what: "a horizon behind an opening",
+        row: Case {
+            shard: 0,
+            lines: &[Line::Opened(1)],
+            refused: &[Line::Horizon(0), Line::Horizon(1)],
+            determined: None,
+        },
+    },
+    // A horizon rises, and is not above the greatest timestamp, which it does not raise.
+    Named {
+        what: "behind a horizon",
+        row: Case {
+            shard: 0,
+            lines: &[Line::Opened(1), Line::Ceiling(300), Line::Horizon(200)],
+            refused: &[
+                Line::Horizon(0),
+                Line::Horizon(199),
+                Line::Horizon(200),
+                Line::Horizon(301),
+            ],
+            determined: Some(Determined {
+                epoch: 1,
+                floor: 300,
+                horizon: 200,
+                installs: &[],
+                known: &[],
+            }),
+        },
+    },
+    Named {
+        what: "behind a horizon at the greatest timestamp",
+        row: Case {
+            shard: 0,
+            lines: &[
+                Line::Opened(1),
+                Line::Ceiling(300),
+                Line::Horizon(1),
+                Line::Horizon(300),
+                Line::Opened(2),
+            ],
+            refused: &[Line::Horizon(300), Line::Horizon(301)],
+            determined: Some(Determined {
+                epoch: 2,
+                floor: 300,
+                horizon: 300,
+                installs: &[],
+                known: &[],
+            }),
+        },
+    },
+    // The versions of a log are all those that it installs, whatever its horizon.
+    Named {
+        what: "versions behind a horizon",
+        row: Case {
+            shard: 0,
+            lines: &[
+                Line::Opened(1),
+                Line::Commit(1, 5, b'a', 1),
+                Line::Committed(1, 5),
+                Line::Commit(2, 9, b'a', 1),
+                Line::Committed(2, 9),
+                Line::Horizon(9),
+            ],
+            refused: &[],
+            determined: Some(Determined {
+                epoch: 1,
+                floor: 9,
+                horizon: 9,
+                installs: &[(5, b'a'), (9, b'a')],
+                known: &[Known {
+                    number: 1,
+                    outcome: Some(Some(5)),
+                    settled: true,
+                    ..UNKNOWN
+                }],
+            }),
         },
     },
     // A timestamp 0, a coordinator that is not below the shard, a least part that is another shard, an end of nothing.
@@ -401,7 +492,8 @@ fn are_installs(installs: &[Install], rows: &[(u64, u8)]) -> bool {
 }
 
 fn is_determined(facts: &Facts, row: &Determined) -> bool {
-    (facts.epoch(), facts.floor().micros()) == (row.epoch, row.floor)
+    let (floor, horizon) = (facts.floor().micros(), facts.horizon().micros());
+    (facts.epoch(), floor, horizon) == (row.epoch, row.floor, row.horizon)
         && are_installs(facts.installs(), row.installs)
         && are_known(facts, row.known)
 }

@@ -60,9 +60,12 @@ fn prepare(alloc: Global, ledger: &mut Ledger) -> bool {
 
 // What the key `a` holds before, at and after the outcome, and what the ledger has of its records.
 fn is_settled(ledger: &Ledger) -> bool {
-    let key = key(b'a');
-    let before = byte(ledger.at(&key, stamp(119)));
-    let at = byte(ledger.at(&key, stamp(120)));
+    let (key, early, late) = (key(b'a'), stamp(119), stamp(120));
+    if early < ledger.horizon() || late < ledger.horizon() {
+        return false;
+    }
+    let before = byte(ledger.at(&key, early));
+    let at = byte(ledger.at(&key, late));
     let (floor, shard) = (ledger.floor().micros(), ledger.shard().number());
     [before, at, byte(ledger.latest(&key))] == [None, Some(b'1'), Some(b'1')]
         && (ledger.installs().len(), floor, ledger.epoch(), shard) == (1, 120, 1, 1)

@@ -28,13 +28,14 @@ fn setup(alloc: Global, number: u8) -> Option<Setup> {
 }
 
 // What a log leaves: the first that is prepared and the first that is decided, each by its number and timestamp (0 where there
-// is none), the greatest timestamp, the safe time, the epoch, and how many versions there are.
+// is none), the greatest timestamp, the safe time, the horizon, the epoch, and how many versions there are.
 #[derive(Clone, Copy, PartialEq, Eq)]
 struct Shown {
     prepared: (u64, u64),
     decided: (u64, u64),
     last: u64,
     safe: u64,
+    horizon: u64,
     epoch: u64,
     installs: usize,
 }
@@ -44,6 +45,7 @@ const NOTHING: Shown = Shown {
     decided: (0, 0),
     last: 0,
     safe: 0,
+    horizon: 0,
     epoch: 1,
     installs: 0,
 };
@@ -61,6 +63,7 @@ fn seen(state: &State) -> Shown {
         decided: standing(state.nth_decided(0)),
         last: state.last().micros(),
         safe: state.safe().micros(),
+        horizon: state.horizon().micros(),
         epoch: state.epoch().number(),
         installs: state.installs().len(),
     }
@@ -76,7 +79,7 @@ pub struct Reopened {
     left: Rebuilt,
 }
 
-pub static REOPENED: [Named<Reopened>; 13] = [
+pub static REOPENED: [Named<Reopened>; 23] = [
     Named {
         what: "a promise stands",
         row: Reopened {
@@ -218,6 +221,179 @@ pub static REOPENED: [Named<Reopened>; 13] = [
             promises: 0,
             left: Err(Fault::Damaged {
                 offset: FIRST_GATE + 87,
+            }),
+        },
+    },
+    // The greatest horizon counts.
+    Named {
+        what: "two horizons",
+        row: Reopened {
+            shard: 1,
+            lines: &[
+                Line::Opened(1),
+                Line::Ceiling(200),
+                Line::Horizon(100),
+                Line::Horizon(150),
+                Line::Opened(2),
+            ],
+            promises: 0,
+            left: Ok(Some(Shown {
+                last: 200,
+                safe: 200,
+                horizon: 150,
+                epoch: 2,
+                ..NOTHING
+            })),
+        },
+    },
+    Named {
+        what: "a horizon is not above the former",
+        row: Reopened {
+            shard: 1,
+            lines: &[
+                Line::Opened(1),
+                Line::Ceiling(200),
+                Line::Horizon(150),
+                Line::Horizon(150),
+            ],
+            promises: 0,
+            left: Err(Fault::Damaged {
+                offset: FIRST_GATE + 42,
+            }),
+        },
+    },
+    Named {
+        what: "a horizon is above the greatest timestamp",
+        row: Reopened {
+            shard: 1,
+            lines: &[Line::Opened(1), Line::Ceiling(200), Line::Horizon(201)],
+            promises: 0,
+            left: Err(Fault::Damaged {
+                offset: FIRST_GATE + 28,
+            }),
+        },
+    },
+    Named {
+        what: "a horizon below what stands",
+        row: Reopened {
+            shard: 1,
+            lines: &[
+                Line::Opened(1),
+                Line::Prepare(2, 200, b'z', 0),
+                Line::Horizon(199),
+            ],
+            promises: 0,
+            left: Ok(Some(Shown {
+                prepared: (2, 200),
+                last: 200,
+                safe: 199,
+                horizon: 199,
+                ..NOTHING
+            })),
+        },
+    },
+    Named {
+        what: "a horizon is not below a promise that stands",
+        row: Reopened {
+            shard: 1,
+            lines: &[
+                Line::Opened(1),
+                Line::Prepare(2, 200, b'z', 0),
+                Line::Horizon(200),
+            ],
+            promises: 0,
+            left: Err(Fault::Damaged {
+                offset: FIRST_GATE + 55,
+            }),
+        },
+    },
+    Named {
+        what: "a horizon is not below a decision that stands",
+        row: Reopened {
+            shard: 0,
+            lines: &[
+                Line::Opened(1),
+                Line::Commit(1, 111, b'a', 1),
+                Line::Horizon(111),
+            ],
+            promises: 0,
+            left: Err(Fault::Damaged {
+                offset: FIRST_GATE + 56,
+            }),
+        },
+    },
+    // What is settled does not stand, and its version stays in the log.
+    Named {
+        what: "a horizon at what was settled",
+        row: Reopened {
+            shard: 0,
+            lines: &[
+                Line::Opened(1),
+                Line::Commit(1, 111, b'a', 1),
+                Line::Committed(1, 111),
+                Line::Commit(2, 222, b'a', 1),
+                Line::Committed(2, 222),
+                Line::Horizon(222),
+            ],
+            promises: 0,
+            left: Ok(Some(Shown {
+                last: 222,
+                safe: 222,
+                horizon: 222,
+                installs: 2,
+                ..NOTHING
+            })),
+        },
+    },
+    Named {
+        what: "a promise above an earlier horizon",
+        row: Reopened {
+            shard: 1,
+            lines: &[
+                Line::Opened(1),
+                Line::Ceiling(200),
+                Line::Horizon(150),
+                Line::Prepare(2, 151, b'z', 0),
+            ],
+            promises: 0,
+            left: Ok(Some(Shown {
+                prepared: (2, 151),
+                last: 200,
+                safe: 150,
+                horizon: 150,
+                ..NOTHING
+            })),
+        },
+    },
+    Named {
+        what: "a promise is not above an earlier horizon",
+        row: Reopened {
+            shard: 1,
+            lines: &[
+                Line::Opened(1),
+                Line::Ceiling(200),
+                Line::Horizon(150),
+                Line::Prepare(2, 150, b'z', 0),
+            ],
+            promises: 0,
+            left: Err(Fault::Damaged {
+                offset: FIRST_GATE + 42,
+            }),
+        },
+    },
+    Named {
+        what: "a decision is not above an earlier horizon",
+        row: Reopened {
+            shard: 0,
+            lines: &[
+                Line::Opened(1),
+                Line::Ceiling(200),
+                Line::Horizon(150),
+                Line::Commit(1, 150, b'a', 1),
+            ],
+            promises: 0,
+            left: Err(Fault::Damaged {
+                offset: FIRST_GATE + 42,
             }),
         },
     },

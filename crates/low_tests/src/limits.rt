@@ -2,7 +2,7 @@
 use crate::checks::is_printed;
 use crate::text_logs::{key_of, keys_of, txn_of};
 use std::alloc::Global;
-use texts::Text;
+use texts::{Text, number};
 use units::{Epoch, Fault, Key, Reason, Run, ShardNo, Splits, Stamp, Value};
 
 struct Printed {
@@ -10,7 +10,7 @@ struct Printed {
     text: &'static str,
 }
 
-static PRINTED: [Printed; 5] = [
+static PRINTED: [Printed; 6] = [
     Printed {
         fault: Fault::BadRequest(Reason::Stamp),
         text: "7 BadRequest(stamp)",
@@ -30,6 +30,10 @@ static PRINTED: [Printed; 5] = [
     Printed {
         fault: Fault::Stranger,
         text: "14 Stranger",
+    },
+    Printed {
+        fault: Fault::TooOld,
+        text: "15 TooOld",
     },
 ];
 
@@ -203,10 +207,19 @@ fn go_by_bytes(alloc: Global) -> bool {
         && are_listed(alloc, "b,a", "-")
 }
 
+// The number of a fault stands first in its text.
+fn is_numbered(row: &Printed) -> bool {
+    let word = match row.text.split_once(' ') {
+        Some((word, _)) => word,
+        None => row.text,
+    };
+    number(word) == Ok(u64::from(row.fault.number()))
+}
+
 /// The first row that is wrong.
 pub fn wrong(alloc: Global) -> &'static str {
     for row in &PRINTED {
-        if !is_printed(alloc, &row.fault, row.text) {
+        if !is_printed(alloc, &row.fault, row.text) || !is_numbered(row) {
             return row.text;
         }
     }

@@ -18,6 +18,7 @@ pub enum Line {
     /// The number and the timestamp.
     Committed(u16, u64),
     Aborted(u16),
+    Horizon(u64),
 }
 
 fn one_write(alloc: Global, key: Key) -> Option<Writes> {
@@ -90,6 +91,7 @@ pub fn record_of(alloc: Global, line: Line) -> Option<Record> {
             txn: id(number),
             outcome: None,
         }),
+        Line::Horizon(at) => Some(Record::Horizon { at: stamp(at) }),
     }
 }
 

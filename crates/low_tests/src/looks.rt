@@ -1,6 +1,6 @@
 //! What viewers are answered, by a publisher beside them.
 ghost use Rattle.std.specs.Prelude.{◌≡◌, [], ◌∷◌, IfOk};
-ghost use Rattle.board.specs.declared.entry.BoardEntry.TheVariants.{Safe};
+ghost use Rattle.board.specs.declared.entry.BoardEntry.TheVariants.{Horizon, Safe};
 
 use board::{Publisher, Snapshot, Viewer, start};
 use made::{key, stamp};
@@ -122,7 +122,7 @@ fn new_board<R: Wait + Drop>(
     match Splits::new(alloc, &[key(b'm')]) {
         Ok(splits) => {
             let shard = splits.shard_of(&key(b'a'));
-            start(rt, alloc, &[], stamp(5), splits, shard, viewers)
+            start(rt, alloc, &[], stamp(5), stamp(0), splits, shard, viewers)
         }
         Err(fault) => Err(fault),
     }
@@ -249,6 +249,119 @@ static AT_THE_END: [Look; 1] = [Look {
     answer: Err(Fault::Stopped),
 }];
 
+// A board that begins with a horizon at 3, served up to 5.
+static FROM_3: [Look; 4] = [
+    Look {
+        key: b'a',
+        at: 2,
+        room: 3,
+        answer: Err(Fault::TooOld),
+    },
+    Look {
+        key: b'a',
+        at: 3,
+        room: 3,
+        answer: Ok(Seen::Absent),
+    },
+    Look {
+        key: b'a',
+        at: 6,
+        room: 3,
+        answer: Err(Fault::NotYet),
+    },
+    Look {
+        key: b'm',
+        at: 2,
+        room: 3,
+        answer: Err(Fault::Stranger),
+    },
+];
+
+// The same with the value from 7 on, served up to 9, and a horizon at 8.
+static FROM_8: [Look; 5] = [
+    Look {
+        key: b'a',
+        at: 7,
+        room: 3,
+        answer: Err(Fault::TooOld),
+    },
+    Look {
+        key: b'a',
+        at: 7,
+        room: 2,
+        answer: Err(Fault::TooOld),
+    },
+    Look {
+        key: b'a',
+        at: 8,
+        room: 3,
+        answer: Ok(Seen::Value(3)),
+    },
+    Look {
+        key: b'a',
+        at: 8,
+        room: 2,
+        answer: Err(Fault::Room),
+    },
+    Look {
+        key: b'a',
+        at: 10,
+        room: 3,
+        answer: Err(Fault::NotYet),
+    },
+];
+
+#[tactic(auto, unfolding(board::specs::Board::may_follow))]
+fn board_from_3<R: Wait + Drop>(rt: R, alloc: Global) -> Result<(Publisher<R>, Vec<Viewer>), Fault>
+    ensures { IfOk result
+        (λ made. (made.0.published ≡ Horizon 3 ∷ Safe 5 ∷ []) × (made.0.pending ≡ [])) }
+{
+    match Splits::new(alloc, &[key(b'm')]) {
+        Ok(splits) => {
+            let shard = splits.shard_of(&key(b'a'));
+            start(rt, alloc, &[], stamp(5), stamp(3), splits, shard, 2)
+        }
+        Err(fault) => Err(fault),
+    }
+}
+
+// Accepts the value `xyz` of `a` from 7 on, that 9 is served, and a horizon at 8.
+#[tactic(auto, unfolding(board::specs::Board::may_follow))]
+fn accepts_from_8<R: Wait + Drop>(publisher: &mut Publisher<R>, alloc: Global) -> bool
+    requires first { publisher.old.published ≡ Horizon 3 ∷ Safe 5 ∷ [] }
+    requires none { publisher.old.pending ≡ [] }
+{
+    let Ok(value) = Value::new(alloc, b"xyz") else {
+        return false;
+    };
+    let install = Install {
+        key: key(b'a'),
+        at: stamp(7),
+        value: Some(value),
+    };
+    publisher.install(install).is_ok()
+        && publisher.safe(stamp(9)).is_ok()
+        && publisher.horizon(stamp(8)).is_ok()
+}
+
+// Looks are too old below the horizon that the board began with, and once another is published below that.
+fn forgets<R: Wait + Drop>(rt: R, alloc: Global) -> bool {
+    match board_from_3(rt, alloc) {
+        Ok((mut publisher, mut viewers)) => {
+            let forgets = sees(&mut viewers, 0, &FROM_3)
+                && accepts_from_8(&mut publisher, alloc)
+                && sees(&mut viewers, 0, &FROM_3)
+                && publishes(&mut publisher)
+                && sees(&mut viewers, 0, &FROM_8)
+                && sees(&mut viewers, 1, &FROM_8);
+            drop(publisher);
+            drop(viewers);
+            forgets
+        }
+        Err(_) => false,
+    }
+}
+
 // How many viewers a board has that is asked for so many.
 struct Board {
     name: &'static str,
@@ -312,6 +425,9 @@ pub fn wrong<R: Threads + Wait + Sync>(rt: &R, alloc: Global) -> &'static str {
         if !is_so(rt, alloc, row) {
             return row.name;
         }
+    }
+    if !forgets(rt, alloc) {
+        return "a horizon";
     }
     ""
 }

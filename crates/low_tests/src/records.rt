@@ -15,6 +15,8 @@ commit 1.2 200 0,1,15 a -
 abort 3.9
 outcome 1.1 committed 111
 outcome 1.2 aborted
+horizon 0
+horizon 200
 ";
 
 // How many lines a text has, or else which of them is refused. A value may be empty of bytes only where there is none.
@@ -106,7 +108,7 @@ fn is_read(alloc: Global, row: &Row) -> bool {
 /// The first row that is wrong.
 pub fn wrong(alloc: Global) -> &'static str {
     let mut log = Vec::new(alloc);
-    let printed = reads(alloc, RECORDS, &mut log) && log.len() == 9;
+    let printed = reads(alloc, RECORDS, &mut log) && log.len() == 11;
     drop(log);
     if !printed {
         return "a record of each kind";

@@ -39,7 +39,7 @@ const READS: &[u8] = &[
     0x61, 1, 0x62, 0, 0,
 ];
 
-pub static VECTORS: [Named<Vector>; 6] = [
+pub static VECTORS: [Named<Vector>; 7] = [
     Named {
         what: "an opening",
         row: Vector {
@@ -82,6 +82,13 @@ pub static VECTORS: [Named<Vector>; 6] = [
             bytes: OUTCOME,
         },
     },
+    Named {
+        what: "a horizon",
+        row: Vector {
+            line: Line::Horizon(200),
+            bytes: &[7, 0, 0, 0, 0, 0, 0, 0, 0xc8],
+        },
+    },
 ];
 
 fn copy_is_spelled(alloc: Global, item: &Record, bytes: &[u8]) -> bool {
@@ -121,7 +128,7 @@ pub struct Read {
     is_record: bool,
 }
 
-pub static READ: [Named<Read>; 15] = [
+pub static READ: [Named<Read>; 21] = [
     Named {
         what: "no byte",
         row: Read {
@@ -137,9 +144,9 @@ pub static READ: [Named<Read>; 15] = [
         },
     },
     Named {
-        what: "kind 7",
+        what: "kind 8",
         row: Read {
-            bytes: &[7, 0, 0, 0, 0, 0, 0, 0, 1],
+            bytes: &[8, 0, 0, 0, 0, 0, 0, 0, 1],
             is_record: false,
         },
     },
@@ -186,6 +193,48 @@ pub static READ: [Named<Read>; 15] = [
         row: Read {
             bytes: &[2, 0x3f, 255, 255, 255, 255, 255, 255, 255],
             is_record: true,
+        },
+    },
+    Named {
+        what: "a horizon at 0",
+        row: Read {
+            bytes: &[7, 0, 0, 0, 0, 0, 0, 0, 0],
+            is_record: true,
+        },
+    },
+    Named {
+        what: "a horizon at the last stamp",
+        row: Read {
+            bytes: &[7, 0x3f, 255, 255, 255, 255, 255, 255, 255],
+            is_record: true,
+        },
+    },
+    Named {
+        what: "a horizon at 2^62",
+        row: Read {
+            bytes: &[7, 0x40, 0, 0, 0, 0, 0, 0, 0],
+            is_record: false,
+        },
+    },
+    Named {
+        what: "a horizon with a byte left over",
+        row: Read {
+            bytes: &[7, 0, 0, 0, 0, 0, 0, 0, 0xc8, 0],
+            is_record: false,
+        },
+    },
+    Named {
+        what: "a horizon with a byte too few",
+        row: Read {
+            bytes: &[7, 0, 0, 0, 0, 0, 0, 0xc8],
+            is_record: false,
+        },
+    },
+    Named {
+        what: "a horizon of its kind alone",
+        row: Read {
+            bytes: &[7],
+            is_record: false,
         },
     },
     Named {

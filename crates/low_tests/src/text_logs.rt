@@ -42,6 +42,7 @@ pub fn record_of(alloc: Global, line: &str) -> Record {
             epoch: Epoch::new(first).unwrap_or(Epoch::first()),
         },
         "ceiling" => Record::Ceiling { at: stamp(first) },
+        "horizon" => Record::Horizon { at: stamp(first) },
         "prepare" => Record::Prepare(Prepared {
             txn,
             coordinator: shard((second % 16) as u8),

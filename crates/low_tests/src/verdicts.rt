@@ -20,6 +20,12 @@ const ONE_SHARD: &[&str] = &[
     "opened 1\n",
 ];
 
+// The same with horizons, on which no verdict depends.
+const FORGOTTEN: &[&str] = &[
+    "opened 1\ncommit 1.1 111 0 - a=1\noutcome 1.1 committed 111\nhorizon 111\n",
+    "opened 1\nceiling 200\nhorizon 150\n",
+];
+
 // A commit of two shards.
 const TWO_SHARDS: &[&str] = &[
     "opened 1\ncommit 1.2 200 0,1 - a=1\noutcome 1.2 committed 200\n",
@@ -37,7 +43,7 @@ const VERSIONS: &[&str] = &[
     "opened 1\ncommit 1.3 30 0 - a=3\ncommit 1.1 10 0 - a=1,b=1\ncommit 1.2 20 0 - a!\n",
 ];
 
-static CASES: [Case; 24] = [
+static CASES: [Case; 27] = [
     Case {
         name: "a whole report",
         logs: ONE_SHARD,
@@ -54,6 +60,24 @@ static CASES: [Case; 24] = [
         name: "a look before",
         logs: ONE_SHARD,
         lines: "look a 110 none\nlook a 111 =1\n",
+        verdict: "yes",
+    },
+    Case {
+        name: "a look below a horizon",
+        logs: FORGOTTEN,
+        lines: "look a 110 none\nlook a 111 =1\n",
+        verdict: "yes",
+    },
+    Case {
+        name: "a look below a horizon sees what came later",
+        logs: FORGOTTEN,
+        lines: "look a 111 =1\nlook a 110 =1\n",
+        verdict: "no read 1",
+    },
+    Case {
+        name: "a horizon in a whole report",
+        logs: FORGOTTEN,
+        lines: "begin 1.1 0\nack 1.1 111 5\n",
         verdict: "yes",
     },
     Case {

@@ -10,7 +10,7 @@ use Rattle.units.specs.Locks.{wounded, with_locks}
 use Rattle.units.specs.declared.lock.Lock.{Lock}
 use Rattle.units.proofs.ByIdLaws.{by_id-keep, first_none, without_none}
 use Rattle.record.specs.declared.record.Record.{Record}
-use Rattle.record.specs.declared.record.Record.TheVariants.{Opened, Ceiling, Prepare, Commit, Abort, Outcome}
+use Rattle.record.specs.declared.record.Record.TheVariants.{Opened, Ceiling, Prepare, Commit, Abort, Outcome, Horizon}
 use Rattle.safetime.specs.Safe.{lifted}
 use Rattle.protocol.specs.Rows.{Row, Memory, Phase, Idle, WaitsRead, WaitsPrepare, WaitsCommit, Collecting, IsPrepared, IsDecided, claims, find_row}
 use Rattle.protocol.specs.Rows.{without_row, held_stamp, held_by, with_vote, held_in, without_rows}
@@ -311,6 +311,7 @@ can_stand rows t (Abort u) may dated idle = absurd may
 can_stand rows t (Outcome u outcome) may dated idle = absurd may
 can_stand rows t (Opened e) may dated idle = absurd may
 can_stand rows t (Ceiling at) may dated idle = absurd may
+can_stand rows t (Horizon at) may dated idle = absurd may
 
 -- nor does who waits
 pub wait_holds_none : (w : Wait) → held_stamp (phase_of_wait (Some w)) ≡ None

@@ -3,7 +3,7 @@ use Rattle.std.proofs.Common.{◌≡◌, ℕ, ◌<◌, ◌≤◌, true, Option, 
 use Rattle.std.proofs.lemmas.Bool.Decides.{nat_tests}
 use Rattle.record.specs.Facts.{Facts, learn}
 use Rattle.record.specs.declared.record.Record.{Record}
-use Rattle.record.specs.declared.record.Record.TheVariants.{Opened, Ceiling, Prepare, Commit, Abort, Outcome}
+use Rattle.record.specs.declared.record.Record.TheVariants.{Opened, Ceiling, Prepare, Commit, Abort, Outcome, Horizon}
 use Rattle.facts.specs.Rules.{follows_facts}
 use Rattle.protocol.specs.Rows.{Memory, without_rows}
 use Rattle.protocol.specs.Plan.{carried, after_change, ended_by, with_ids}
@@ -21,12 +21,14 @@ dated shard facts (Some (Abort t)) follows = tt
 dated shard facts (Some (Outcome t outcome)) follows = tt
 dated shard facts (Some (Opened e)) follows = tt
 dated shard facts (Some (Ceiling at)) follows = tt
+dated shard facts (Some (Horizon at)) follows = tt
 
 -- a log that was opened stays so
 pub stays_opened : (shard : ℕ) (facts : Facts) (r : Record) → 0 < facts.epoch → follows_facts shard facts r ≡ true → 0 < (learn facts r).epoch
 unfolding follows_facts learn
 stays_opened shard facts (Opened e) opened follows = grind (arith, nat_tests)
 stays_opened shard facts (Ceiling at) opened follows = opened
+stays_opened shard facts (Horizon at) opened follows = opened
 stays_opened shard facts (Prepare p) opened follows = opened
 stays_opened shard facts (Commit c) opened follows = opened
 stays_opened shard facts (Abort t) opened follows = opened

@@ -40,6 +40,7 @@ Asks rows t us needs opens =
 abbrev pub IsServing : Option Record → Type 0
 IsServing None = Unit {0}
 IsServing (Some (Record.Ceiling at)) = Unit {0}
+IsServing (Some (Record.Horizon at)) = Unit {0}
 IsServing (Some (Record.Opened epoch)) = Unit {0}
 IsServing (Some (Record.Prepare p)) = ⊥
 IsServing (Some (Record.Commit c)) = ⊥
@@ -53,6 +54,7 @@ MayDrop rows t (Some (Record.Outcome u o)) = (u ≡ t) × (has_phase may_close r
 MayDrop rows t None = ⊥
 MayDrop rows t (Some (Record.Opened epoch)) = ⊥
 MayDrop rows t (Some (Record.Ceiling at)) = ⊥
+MayDrop rows t (Some (Record.Horizon at)) = ⊥
 MayDrop rows t (Some (Record.Prepare p)) = ⊥
 MayDrop rows t (Some (Record.Commit c)) = ⊥
 
@@ -63,6 +65,7 @@ MayStand t (Some (Record.Commit c)) = c.txn ≡ t
 MayStand t None = ⊥
 MayStand t (Some (Record.Opened epoch)) = ⊥
 MayStand t (Some (Record.Ceiling at)) = ⊥
+MayStand t (Some (Record.Horizon at)) = ⊥
 MayStand t (Some (Record.Abort u)) = ⊥
 MayStand t (Some (Record.Outcome u o)) = ⊥
 
@@ -72,6 +75,7 @@ IsDecision t (Some (Record.Commit c)) = c.txn ≡ t
 IsDecision t None = ⊥
 IsDecision t (Some (Record.Opened epoch)) = ⊥
 IsDecision t (Some (Record.Ceiling at)) = ⊥
+IsDecision t (Some (Record.Horizon at)) = ⊥
 IsDecision t (Some (Record.Prepare p)) = ⊥
 IsDecision t (Some (Record.Abort u)) = ⊥
 IsDecision t (Some (Record.Outcome u o)) = ⊥
@@ -169,6 +173,7 @@ CanStand rows t (Record.Prepare p) = (p.txn ≡ t) × (has_phase is_idle rows t 
 CanStand rows t (Record.Commit c) = (c.txn ≡ t) × (has_phase may_decide rows t ≡ true) × (0 < c.at)
 CanStand rows t (Record.Opened epoch) = ⊥
 CanStand rows t (Record.Ceiling at) = ⊥
+CanStand rows t (Record.Horizon at) = ⊥
 CanStand rows t (Record.Abort u) = ⊥
 CanStand rows t (Record.Outcome u o) = ⊥
 
@@ -179,6 +184,7 @@ IsDated (Some (Record.Commit c)) = 0 < c.at
 IsDated None = Unit {0}
 IsDated (Some (Record.Opened epoch)) = Unit {0}
 IsDated (Some (Record.Ceiling at)) = Unit {0}
+IsDated (Some (Record.Horizon at)) = Unit {0}
 IsDated (Some (Record.Abort u)) = Unit {0}
 IsDated (Some (Record.Outcome u o)) = Unit {0}
 

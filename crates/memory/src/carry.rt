@@ -294,7 +294,7 @@ fn stand(rows: &mut Rows, times: &mut SafeTime, txn: TxnId, logged: Logged) -> R
             times.hold(committed.at);
             rows.decide(txn, logged)
         }
-        Record::Opened { .. } | Record::Ceiling { .. } => unreachable!(),
+        Record::Opened { .. } | Record::Ceiling { .. } | Record::Horizon { .. } => unreachable!(),
         Record::Abort { .. } | Record::Outcome { .. } => unreachable!(),
     }
 }

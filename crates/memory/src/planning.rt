@@ -123,7 +123,7 @@ impl State {
         }
     }
 
-    /// The served time is raised, under a ceiling that is logged where it has to be.
+    /// The served time is raised, or stays; a ceiling or a horizon is logged, where one is given.
     pub fn serves(&self, alloc: Global, ceiling: Option<Record>, last: Stamp) -> Step
         requires ceiling { IsServing ceiling }
         requires last { self.now.memory.last ≤ last }

@@ -98,6 +98,13 @@ impl State {
         self.times.safe()
     }
 
+    /// The horizon, below which no value is read: 0 where there is none.
+    pub fn horizon(&self) -> Stamp
+        ensures { result ≡ self.now.facts.horizon }
+    {
+        self.ledger.horizon()
+    }
+
     /// The versions, in the log's order.
     pub fn installs(&self) -> &[Install]
         ensures { result.now ≡ self.now.facts.installs }
@@ -112,8 +119,9 @@ impl State {
         self.ledger.latest(key)
     }
 
-    /// The value of a key at a timestamp.
+    /// The value of a key at a timestamp from the horizon up.
     pub fn value_at(&self, key: &Key, at: Stamp) -> Option<&Value>
+        requires { self.now.facts.horizon ≤ at }
         ensures { option_copied result ≡ at_time self.now.facts.installs key.now at }
     {
         self.ledger.at(key, at)

@@ -229,13 +229,19 @@ pub enum Input {
     Advance(Stamp),
     /// A prepared transaction's coordinator is asked how it ended.
     Nudge(TxnId),
+    /// No value below this time is read any more.
+    Forget(Stamp),
 }
 
 impl Drop for Input {
     fn drop(self) {
         match self {
             Input::Deliver(message) => drop(message),
-            Input::Resume | Input::Settle(_) | Input::Advance(_) | Input::Nudge(_) => {}
+            Input::Resume
+            | Input::Settle(_)
+            | Input::Advance(_)
+            | Input::Nudge(_)
+            | Input::Forget(_) => {}
         }
     }
 }

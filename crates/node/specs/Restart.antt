@@ -40,11 +40,11 @@ told_of setup None = setup
 
 module _ {D : Type 0} (keeps obeys : Type 0) (file : D → File) (clock : D → ℕ) (since : D → ℕ → List ℕ → Type 0) (failures : D → ℕ)
     (plan : D → FailurePlan) where
-  -- the log of a disk was taken up, and a new board shows the versions of its core and then its served time
+  -- the log of a disk was taken up, and a new board shows the versions of its core, its horizon and then its served time
   pub record HasReopened (disk : D) (setup : Setup) (n : ℕ) (desk : DeskView D) (views : List Viewing) : Type 0 where
     pub opened : HasOpened keeps obeys file clock since failures plan disk setup desk.core
     pub book : IsBegun keeps obeys file clock since failures plan disk setup desk.book
-    pub board : IsNewBoard desk.board (first_entries desk.core.facts.installs (safe_at desk.core))
+    pub board : IsNewBoard desk.board (first_entries desk.core.facts.installs (safe_at desk.core) desk.core.facts.horizon)
     pub viewers : AreOnBoard n setup desk.board views
 
   -- what was stopped is served again

@@ -22,7 +22,7 @@ use Rattle.shard.specs.On.{CoreView}
 use Rattle.shard.specs.Look.{safe_at}
 use Rattle.board.specs.Board.{first_entries, safe_on}
 use Rattle.board.specs.Views.{Published, Viewing}
-use Rattle.desk.specs.InStep.{HasTaken, HasAdvanced, HasNotAdvanced, IsNewBoard, AreOnBoard}
+use Rattle.desk.specs.InStep.{HasTaken, HasAdvanced, HasNotAdvanced, HasKept, IsNewBoard, AreOnBoard}
 use Rattle.node.specs.Restart.{PlaceView, Serving, Resting}
 
 -- what the shard is told, and the place
@@ -37,7 +37,7 @@ IsUnder under P = IsSomeAnd under.place P
 -- a desk of this core, with its book, and so many viewers of its new board
 abbrev pub IsDeskOf : {D : Type 0} → PlaceView D → CoreView D → Option BookView → ℕ → List Viewing → Type 0
 IsDeskOf (Serving desk) core book n viewers =
-    (desk.core ≡ core) × (desk.book ≡ book) × IsNewBoard desk.board (first_entries core.facts.installs (safe_at core))
+    (desk.core ≡ core) × (desk.book ≡ book) × IsNewBoard desk.board (first_entries core.facts.installs (safe_at core) core.facts.horizon)
     × AreOnBoard n core.setup desk.board viewers
 IsDeskOf (Resting disk) core book n viewers = ⊥
 
@@ -93,3 +93,9 @@ module _ {D : Type 0} (keeps obeys : Type 0) (file : D → File) (clock : D → 
   -- the desk was to advance to the latest of the reading, and did not, or its board does not show it
   abbrev pub HasNotKeptUp : PlaceView D → PlaceView D → Interval → Type 0
   HasNotKeptUp old new now = (fault : Fault) × HasNotAdvancedIn old new now now.latest fault
+
+  -- the desk was asked for the horizon that keeps so many microseconds
+  abbrev pub HasKeptIn : PlaceView D → PlaceView D → Interval → ℕ → Result (Unit {0}) Fault → Type 0
+  HasKeptIn (Serving old) (Serving new) now micros result = HasKept keeps obeys file clock since failures plan old new now micros result
+  HasKeptIn (Resting old) (Resting new) now micros result = (new ≡ old) × (result ≡ Err Stopped)
+  HasKeptIn _ _ now micros result = ⊥

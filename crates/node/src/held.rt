@@ -4,7 +4,7 @@ ghost use Rattle.board.specs.Board.{first_entries};
 ghost use Rattle.desk.specs.InStep.{IsNoDesk};
 ghost use Rattle.node.specs.Restart.{AreOnNewBoard, HasRestarted, HasNotRestarted, is_at_rest, disk_of_place, told_of};
 ghost use Rattle.node.specs.Seen.{seen_place};
-ghost use Rattle.node.specs.Under.{IsDeskOf, IsUnder, IsEarliestIn, Became, HasDelivered, HasAdvancedIn, HasNotAdvancedIn, HasKeptUp, HasNotKeptUp};
+ghost use Rattle.node.specs.Under.{IsDeskOf, IsUnder, IsEarliestIn, Became, HasDelivered, HasAdvancedIn, HasNotAdvancedIn, HasKeptUp, HasNotKeptUp, HasKeptIn};
 ghost use Rattle.node.specs.Under.{is_ready_in, due_in, versions_in};
 ghost use Rattle.shard.specs.Core.{seen, book_of};
 ghost use Rattle.shard.specs.Look.{safe_at};
@@ -46,7 +46,8 @@ impl<D: Disk + Drop, R: Wait + Drop> Held<D, R> {
             (λ place. IsDeskOf place (seen core) (book_of core) n made.1.items)) }
         ensures viewers { IfOk result (λ made. length made.1.items ≡ n) }
         ensures board { IfOk result (λ made. AreOnNewBoard n (seen core).setup
-            (first_entries (seen core).facts.installs (safe_at (seen core))) made.1.items) }
+            (first_entries (seen core).facts.installs (safe_at (seen core))
+            (seen core).facts.horizon) made.1.items) }
         ensures refused { IfErr result
             (λ refused. IsNoDesk n refused.0 × (seen refused.1 ≡ seen core)
             × (book_of refused.1 ≡ book_of core)) }
@@ -109,6 +110,18 @@ impl<D: Disk + Drop, R: Wait + Drop> Held<D, R> {
         match self.advance(now, now.latest()) {
             Ok(told) => Some(told.safe()),
             Err(_) => None,
+        }
+    }
+
+    /// Asks the core for the horizon that keeps so many microseconds. A disk alone is refused as a core that is stopped.
+    pub fn keep_for(&mut self, now: &Reading, micros: u64) -> Result<(), Fault>
+        ensures { Became (seen_held self.old) (seen_held self.new)
+            (λ old. λ new. HasKeptIn D.keeps_model D.obeys D.file D.clock D.since D.failures D.plan
+            old new now.now micros result) }
+    {
+        match &mut self.place {
+            Some(Place::Serving(desk)) => desk.keep_for(now, micros),
+            Some(Place::Resting(_)) | None => Err(Fault::Stopped),
         }
     }
 

@@ -44,7 +44,8 @@ impl<D: Disk + Drop, R: Wait + Drop> Node<D, R> {
     ) -> Result<(Node<D, R>, Vec<Viewer>), (Fault, Core<D>)>
         ensures viewers { IfOk result (λ made. length made.1.items ≡ n) }
         ensures board { IfOk result (λ made. AreOnNewBoard n (seen core).setup
-            (first_entries (seen core).facts.installs (safe_at (seen core))) made.1.items) }
+            (first_entries (seen core).facts.installs (safe_at (seen core))
+            (seen core).facts.horizon) made.1.items) }
         ensures refused { IfErr result
             (λ refused. IsNoDesk n refused.0 × (seen refused.1 ≡ seen core)
             × (book_of refused.1 ≡ book_of core)) }
@@ -72,6 +73,12 @@ impl<D: Disk + Drop, R: Wait + Drop> Node<D, R> {
     /// Advances the core and publishes its board, under the lock.
     pub fn advance<W: Wait>(&self, rt: &W, now: &Reading, to: Stamp) -> Result<Told, Fault> {
         self.held.lock(rt).advance(now, to)
+    }
+
+    /// Asks the core for the horizon that keeps so many microseconds behind a reading, under the lock. The board is told by the next
+    /// advance. A service that wants the past for a while calls it now and then; an idle node does not.
+    pub fn keep_for<W: Wait>(&self, rt: &W, now: &Reading, micros: u64) -> Result<(), Fault> {
+        self.held.lock(rt).keep_for(now, micros)
     }
 
     /// Opens the disk of a node that was stopped again, with a new board and so many viewers. A node that is not stopped is

@@ -1,5 +1,5 @@
 -- A run of some events and of one more.
-use Rattle.std.proofs.Common.{◌≡◌, ◌⊎◌, inl, inr, ℕ, suc, ◌+◌, ◌<◌, ◌≤◌, ◌^◌, Bool, true, false, ◌&&◌, cond, nat_le, List, [], ◌∷◌, ◌++◌, length}
+use Rattle.std.proofs.Common.{◌≡◌, ◌⊎◌, inl, inr, ℕ, suc, ◌+◌, ◌<◌, Bool, true, false, ◌&&◌, cond, List, [], ◌∷◌, ◌++◌, length}
 use Rattle.std.proofs.Common.{take, drop, get_or, Some, Result, Ok, Err, IfOk, refl, sym, ap, ◌∙◌, subst, arith}
 use Rattle.std.proofs.lemmas.Bool.{and_parts}
 use Rattle.std.proofs.Math.Seq.{drop-cons}
@@ -7,13 +7,13 @@ use Rattle.std.proofs.lemmas.List.{length-take-le, take-append-drop, take_more, 
 use Rattle.units.specs.declared.fault.Fault.{Fault}
 use Rattle.units.specs.declared.fault.Fault.TheVariants.{Memory, BadRequest}
 use Rattle.units.specs.declared.fault.Reason.TheVariants.{Unlawful}
-use Rattle.world.specs.World.{World, acts, happens, replies_of_run, replies_from, run, run_from, start}
-use Rattle.world.specs.Lawful.{first_unlawful_from, lawful, lawful_from, may_act, may_happen}
+use Rattle.world.specs.World.{World, happens, replies_of_run, replies_from, run, run_from, start}
+use Rattle.world.specs.Lawful.{first_unlawful_from, lawful, lawful_from, may_happen}
 use Rattle.world.specs.Steady.{IsSteady}
-use Rattle.lives.specs.Runs.{ComesAfter, IsRun, TakesEvent}
+use Rattle.lives.specs.Runs.{IsRun, TakesEvent}
 use Rattle.playing.specs.Reports.{IsNoReport, IsReport, IsUnlawful, Plays, Reports, counts_from, counts_of_run}
 use Rattle.world.proofs.EveryRun.{is_steady}
-use Rattle.world.proofs.Untouched.{counts_one, same_event}
+use Rattle.world.proofs.Untouched.{counts_one}
 use Rattle.world.specs.declared.event.Config.{Config}
 use Rattle.world.specs.declared.event.Event.{Event}
 use Rattle.world.specs.declared.event.Reply.{Reply}

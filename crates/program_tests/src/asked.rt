@@ -1,7 +1,7 @@
 //! Commands that ask the system for files.
 use crate::given::{Asked, File};
 
-pub static FILES: [File<'static>; 22] = [
+pub static FILES: [File<'static>; 23] = [
     File {
         path: "empty",
         bytes: b"",
@@ -90,6 +90,13 @@ pub static FILES: [File<'static>; 22] = [
             \xa5\0\0\0\x09\x02\0\0\0\0\0\0\x01,\
             \xa5\0\0\0\x09\x01\0\0\0\0\0\0\0\x02\0",
     },
+    // Opened 1; Ceiling 300; Horizon 200.
+    File {
+        path: "forgotten.log",
+        bytes: b"SPNLOG01\xa5\0\0\0\x09\x01\0\0\0\0\0\0\0\x01\
+            \xa5\0\0\0\x09\x02\0\0\0\0\0\0\x01,\
+            \xa5\0\0\0\x09\x07\0\0\0\0\0\0\0\xc8\0",
+    },
     File {
         path: "good.settings",
         bytes: b"shards = 2\nsplits = [\"k0005\"]\nstride = 1000\nepsilon = 100\nworkers = 4\ntransactions = 50\nkeys = 10\n",
@@ -108,7 +115,7 @@ pub static FILES: [File<'static>; 22] = [
     },
 ];
 
-pub static ASKED: [Asked; 55] = [
+pub static ASKED: [Asked; 58] = [
     Asked {
         text: "format new.log",
         words: &["format", "new.log"],
@@ -161,6 +168,13 @@ pub static ASKED: [Asked; 55] = [
     Asked {
         text: "inspect empty done.log",
         words: &["inspect", "empty", "done.log"],
+        printed: "yes\n",
+        refused: "",
+        status: 0,
+    },
+    Asked {
+        text: "inspect empty forgotten.log",
+        words: &["inspect", "empty", "forgotten.log"],
         printed: "yes\n",
         refused: "",
         status: 0,
@@ -422,6 +436,13 @@ pub static ASKED: [Asked; 55] = [
         status: 0,
     },
     Asked {
+        text: "dump forgotten.log",
+        words: &["dump", "forgotten.log"],
+        printed: "8 opened 1\n22 ceiling 300\n36 horizon 200\nclosed at 50\n",
+        refused: "",
+        status: 0,
+    },
+    Asked {
         text: "dump promised.log",
         words: &["dump", "promised.log"],
         printed: "8 opened 1\n22 prepare 1.2 0 200 - -\nclosed at 57\n",
@@ -503,6 +524,7 @@ prepare 0
 commit 1
 abort 0
 outcome 1
+horizon 0
 keys 1
 versions 1
 epoch 1
@@ -524,6 +546,7 @@ prepare 1
 commit 0
 abort 0
 outcome 0
+horizon 0
 keys 0
 versions 0
 epoch 1
@@ -539,6 +562,7 @@ prepare 0
 commit 1
 abort 0
 outcome 1
+horizon 0
 keys 1
 versions 1
 epoch 1
@@ -553,9 +577,32 @@ prepare 1
 commit 1
 abort 0
 outcome 1
+horizon 0
 keys 1
 versions 1
 in doubt 1
+",
+        refused: "",
+        status: 0,
+    },
+    Asked {
+        text: "stats forgotten.log",
+        words: &["stats", "forgotten.log"],
+        printed: "log forgotten.log
+bytes 51
+records 3
+opened 1
+ceiling 1
+prepare 0
+commit 0
+abort 0
+outcome 0
+horizon 1
+keys 0
+versions 0
+epoch 1
+floor 300
+in doubt 0
 ",
         refused: "",
         status: 0,

@@ -1,7 +1,7 @@
 //! Runs of which a part counts most: a promise, an outcome that comes twice, a question, a vote that comes first.
 use crate::comparing::Case;
 
-pub static CASES: [Case; 10] = [
+pub static CASES: [Case; 12] = [
     // A promise at 200 holds the served time of its shard below it.
     Case {
         name: "a promise holds the served time",
@@ -355,6 +355,141 @@ begin 1.1 0
 ack 1.1 111 4
 look a 0 none
 look a 130 =1
+verdict yes
+",
+    },
+    // A horizon is below what stands, and rises; each look tells first whose its key is. What an earlier view shows it shows on, and a
+    // version at the horizon or before it is what is shown there.
+    Case {
+        name: "horizons",
+        schedule: "shards 2
+split m
+stride 0
+100 begin 1.1
+100 write 1.1 a 1
+100 close 1.1
+105 deliver 0 100 110
+115 settle 0 1.1 112 121
+120 begin 1.2
+120 write 1.2 a 2
+120 close 1.2
+125 deliver 2 120 130
+126 forget 0 131 120 130
+126 forget 0 120 120 130
+127 look 0 a 119
+127 look 0 a 120
+127 look 0 a 131
+127 look 0 z 0
+128 forget 0 120 120 130
+128 forget 0 119 120 130
+135 settle 0 1.2 132 140
+136 look 0 a 119
+136 look 0 a 131
+137 advance 0 137 130 140
+138 forget 0 131 130 140
+139 look 0 a 130
+139 look 0 a 131
+139 view 0 0 a 0
+140 view 0 1 a 119
+140 view 0 1 a 120
+141 advance 0 141 130 150
+142 view 0 2 a 130
+142 view 0 2 a 131
+143 forget 1 1 140 150
+",
+        report: "event 9 refused 9 NotYet
+event 11 refused 15 TooOld
+event 12 =1
+event 13 refused 9 NotYet
+event 14 refused 14 Stranger
+event 18 refused 15 TooOld
+event 19 =2
+event 22 refused 15 TooOld
+event 23 =2
+event 24 none
+event 25 refused 15 TooOld
+event 26 =1
+event 28 refused 15 TooOld
+event 29 =2
+event 30 refused 9 NotYet
+put 0 shard 0 commit 1.1 0 0 - a=1
+put 1 session 1.1 done 1.1 committed 111
+put 2 shard 0 commit 1.2 0 0 - a=2
+put 3 session 1.2 done 1.2 committed 131
+log 0
+opened 1
+commit 1.1 111 0 - a=1
+outcome 1.1 committed 111
+commit 1.2 131 0 - a=2
+horizon 120
+outcome 1.2 committed 131
+ceiling 137
+horizon 131
+ceiling 141
+log 1
+opened 1
+lines
+begin 1.1 0
+ack 1.1 111 4
+begin 1.2 5
+look a 120 =1
+ack 1.2 131 17
+look a 131 =2
+look a 131 =2
+look a 0 none
+look a 120 =1
+look a 131 =2
+verdict yes
+",
+    },
+    // A horizon is below a promise that stands, and the promise is above it; its outcome is above it too.
+    Case {
+        name: "a horizon beside a promise",
+        schedule: "shards 2
+split m
+stride 0
+100 begin 1.2
+100 write 1.2 a 1
+100 write 1.2 z 2
+100 close 1.2
+105 deliver 0 100 110
+205 deliver 1 200 210
+206 forget 1 200 200 210
+206 forget 1 199 200 210
+207 look 1 z 198
+207 look 1 z 199
+208 deliver 2 200 210
+215 settle 0 1.2 201 230
+216 deliver 4 210 220
+217 forget 1 200 210 220
+218 look 1 z 199
+218 look 1 z 200
+",
+        report: "event 6 refused 9 NotYet
+event 8 refused 15 TooOld
+event 9 none
+event 14 refused 15 TooOld
+event 15 =2
+put 0 shard 0 commit 1.2 0,1 0 - a=1
+put 1 shard 1 prepare 1.2 0 0 - z=2
+put 2 shard 0 vote 1 1.2 yes 200
+put 3 session 1.2 done 1.2 committed 200
+put 4 shard 1 outcome 0 1.2 committed 200
+log 0
+opened 1
+commit 1.2 200 0,1 - a=1
+outcome 1.2 committed 200
+log 1
+opened 1
+prepare 1.2 0 200 - z=2
+horizon 199
+outcome 1.2 committed 200
+horizon 200
+lines
+begin 1.2 0
+look z 199 none
+ack 1.2 200 11
+look z 200 =2
 verdict yes
 ",
     },

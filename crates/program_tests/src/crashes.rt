@@ -1,7 +1,7 @@
 //! Runs with crashes, failing calls and openings.
 use crate::comparing::Case;
 
-pub static CRASHES: [Case; 7] = [
+pub static CRASHES: [Case; 9] = [
     // A ceiling is above the time that was served before the crash. What is promised behind the opening is above the ceiling. A
     // view is answered while its shard is down.
     Case {
@@ -305,6 +305,124 @@ log 1
 opened 1
 lines
 look a 0 none
+verdict yes
+",
+    },
+    // A horizon outlives crashes, and a shard that its device stopped keeps it.
+    Case {
+        name: "a horizon and a crash",
+        schedule: "shards 1
+stride 0
+100 begin 1.1
+100 write 1.1 a 1
+100 close 1.1
+105 deliver 0 100 110
+115 settle 0 1.1 112 121
+116 forget 0 111 112 121
+117 crash 0
+118 look 0 a 111
+118 forget 0 111 112 121
+119 open 0
+120 look 0 a 110
+120 look 0 a 111
+120 view 0 0 a 0
+120 view 0 1 a 110
+120 view 0 1 a 111
+121 fail 0 0 resume 0 115 125
+122 fail 0 3 advance 0 122 115 125
+123 look 0 a 110
+123 look 0 a 111
+124 forget 0 111 115 125
+",
+        report: "event 6 crashed
+event 7 refused 3 Stopped
+event 8 refused 3 Stopped
+event 10 refused 15 TooOld
+event 11 =1
+event 12 none
+event 13 refused 15 TooOld
+event 14 =1
+event 16 refused 2 Device
+event 17 refused 15 TooOld
+event 18 =1
+event 19 refused 3 Stopped
+put 0 shard 0 commit 1.1 0 0 - a=1
+put 1 session 1.1 done 1.1 committed 111
+log 0
+opened 1
+commit 1.1 111 0 - a=1
+outcome 1.1 committed 111
+horizon 111
+opened 2
+ceiling 122
+lines
+begin 1.1 0
+ack 1.1 111 4
+look a 111 =1
+look a 0 none
+look a 111 =1
+look a 111 =1
+verdict yes
+",
+    },
+    // Horizons that are cut short. The first is lost; the second is kept, since its gate is whole. The third fails behind the gate: the
+    // shard answers as before until it is opened. A horizon that is not above the former makes no call, so none of its calls fails, and a
+    // crash in one comes behind it.
+    Case {
+        name: "horizons that are cut short",
+        schedule: "shards 1
+stride 0
+100 advance 0 100 90 110
+101 crash 0 1 new forget 0 50 90 110
+102 open 0
+103 look 0 a 49
+104 crash 0 2 new forget 0 50 90 110
+105 open 0
+106 look 0 a 49
+106 look 0 a 50
+107 fail 0 3 forget 0 60 90 110
+108 look 0 a 59
+109 open 0
+110 look 0 a 59
+110 look 0 a 60
+111 fail 0 0 forget 0 60 105 115
+112 crash 0 0 new forget 0 60 105 115
+113 open 0
+114 fail 0 0 forget 0 70 110 120
+115 look 0 a 69
+116 open 0
+117 look 0 a 69
+",
+        report: "event 1 crashed
+event 3 none
+event 4 crashed
+event 6 refused 15 TooOld
+event 7 none
+event 8 refused 2 Device
+event 9 none
+event 11 refused 15 TooOld
+event 12 none
+event 14 crashed
+event 16 refused 2 Device
+event 17 none
+event 19 none
+log 0
+opened 1
+ceiling 100
+opened 2
+horizon 50
+opened 3
+horizon 60
+opened 4
+opened 5
+opened 6
+lines
+look a 49 none
+look a 50 none
+look a 59 none
+look a 60 none
+look a 69 none
+look a 69 none
 verdict yes
 ",
     },

@@ -14,6 +14,8 @@ mod each_call;
 #[cfg(test)]
 mod given;
 #[cfg(test)]
+mod horizons;
+#[cfg(test)]
 mod of_keys;
 #[cfg(test)]
 mod of_logs;

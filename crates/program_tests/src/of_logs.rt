@@ -3,7 +3,7 @@ use crate::given::{File, stats};
 use std::alloc::Global;
 use units::Fault;
 
-static FILES: [File<'static>; 10] = [
+static FILES: [File<'static>; 12] = [
     // The worked log of one commit: Opened 1; Commit 1.1 at 111 by shard 0, with a=1; its outcome.
     File {
         path: "one.log",
@@ -67,6 +67,22 @@ static FILES: [File<'static>; 10] = [
         bytes: b"SPNLOG01\xa5\0\0\0\x09\x01\0\0\0\0\0\0\0\x01\
             \xa5\0\0\0\x1a\x06\0\0\0\0\0\0\0\x01\0\0\0\0\0\0\0\x01\x01\0\0\0\0\0\0\0o\0",
     },
+    // Opened 1; Commit 1.1 at 111 by shard 0, with a=1; its outcome; Ceiling 300; Horizon 111; Horizon 300.
+    File {
+        path: "forgotten.log",
+        bytes: b"SPNLOG01\xa5\0\0\0\x09\x01\0\0\0\0\0\0\0\x01\
+            \xa5\0\0\0\x25\x04\0\0\0\0\0\0\0\x01\0\0\0\0\0\0\0\x01\0\0\0\0\0\0\0o\0\x01\0\0\0\x01\x01a\x01\0\x011\
+            \xa5\0\0\0\x1a\x06\0\0\0\0\0\0\0\x01\0\0\0\0\0\0\0\x01\x01\0\0\0\0\0\0\0o\
+            \xa5\0\0\0\x09\x02\0\0\0\0\0\0\x01\x2c\
+            \xa5\0\0\0\x09\x07\0\0\0\0\0\0\0o\
+            \xa5\0\0\0\x09\x07\0\0\0\0\0\0\x01\x2c\0",
+    },
+    // Opened 1; Horizon 1.
+    File {
+        path: "early.log",
+        bytes: b"SPNLOG01\xa5\0\0\0\x09\x01\0\0\0\0\0\0\0\x01\
+            \xa5\0\0\0\x09\x07\0\0\0\0\0\0\0\x01\0",
+    },
     // Opened 1; Commit 1.2 at 200 by shard 0; Commit 1.3 at 300 by shard 1.
     File {
         path: "mixed.log",
@@ -84,44 +100,51 @@ struct Row {
     refused: Option<Fault>,
 }
 
-static ROWS: [Row; 11] = [
+static ROWS: [Row; 13] = [
     Row {
         name: "one commit",
         logs: &["one.log"],
         told: "log one.log\nbytes 96\nrecords 3\nopened 1\nceiling 0\nprepare 0\ncommit 1\nabort 0\noutcome 1\n\
-            keys 1\nversions 1\nepoch 1\nfloor 111\nin doubt 0\n",
+            horizon 0\nkeys 1\nversions 1\nepoch 1\nfloor 111\nin doubt 0\n",
         refused: None,
     },
     Row {
         name: "two shards",
         logs: &["two-0.log", "two-1.log"],
         told: "log two-0.log\nbytes 209\nrecords 6\nopened 1\nceiling 0\nprepare 0\ncommit 3\nabort 0\noutcome 2\n\
-            keys 1\nversions 2\nepoch 1\nfloor 400\nin doubt 1\ndecided 1.4 400\n\
+            horizon 0\nkeys 1\nversions 2\nepoch 1\nfloor 400\nin doubt 1\ndecided 1.4 400\n\
             log two-1.log\nbytes 200\nrecords 6\nopened 1\nceiling 0\nprepare 3\ncommit 0\nabort 0\noutcome 2\n\
-            keys 1\nversions 1\nepoch 1\nfloor 510\nin doubt 1\npromised 1.5 500\n\
+            horizon 0\nkeys 1\nversions 1\nepoch 1\nfloor 510\nin doubt 1\npromised 1.5 500\n\
             all 2\nbytes 409\nrecords 12\nopened 2\nceiling 0\nprepare 3\ncommit 3\nabort 0\noutcome 4\n\
-            keys 2\nversions 3\nin doubt 2\n",
+            horizon 0\nkeys 2\nversions 3\nin doubt 2\n",
         refused: None,
     },
     Row {
-        name: "each kind but two, and what a crash left",
+        name: "each kind but three, and what a crash left",
         logs: &["kinds.log"],
         told: "log kinds.log\nbytes 118\nrecords 5\nopened 2\nceiling 1\nprepare 0\ncommit 1\nabort 1\noutcome 0\n\
-            keys 0\nversions 0\nepoch 2\nfloor 300\nin doubt 1\ndecided 1.2 200\n",
+            horizon 0\nkeys 0\nversions 0\nepoch 2\nfloor 300\nin doubt 1\ndecided 1.2 200\n",
         refused: None,
     },
     Row {
         name: "two keys, of which one is erased, at a shard that is not the first",
         logs: &["keys.log"],
         told: "log keys.log\nbytes 99\nrecords 3\nopened 1\nceiling 0\nprepare 0\ncommit 1\nabort 0\noutcome 1\n\
-            keys 2\nversions 2\nepoch 1\nfloor 100\nin doubt 0\n",
+            horizon 0\nkeys 2\nversions 2\nepoch 1\nfloor 100\nin doubt 0\n",
+        refused: None,
+    },
+    Row {
+        name: "a version below two horizons",
+        logs: &["forgotten.log"],
+        told: "log forgotten.log\nbytes 138\nrecords 6\nopened 1\nceiling 1\nprepare 0\ncommit 1\nabort 0\noutcome 1\n\
+            horizon 2\nkeys 1\nversions 1\nepoch 1\nfloor 300\nin doubt 0\n",
         refused: None,
     },
     Row {
         name: "no record",
         logs: &["bare.log"],
         told: "log bare.log\nbytes 9\nrecords 0\nopened 0\nceiling 0\nprepare 0\ncommit 0\nabort 0\noutcome 0\n\
-            keys 0\nversions 0\nepoch 0\nfloor 0\nin doubt 0\n",
+            horizon 0\nkeys 0\nversions 0\nepoch 0\nfloor 0\nin doubt 0\n",
         refused: None,
     },
     Row {
@@ -139,6 +162,12 @@ static ROWS: [Row; 11] = [
     Row {
         name: "an outcome that nobody promised",
         logs: &["unpromised.log"],
+        told: "",
+        refused: Some(Fault::Damaged { offset: 22 }),
+    },
+    Row {
+        name: "a horizon above the greatest timestamp",
+        logs: &["early.log"],
         told: "",
         refused: Some(Fault::Damaged { offset: 22 }),
     },

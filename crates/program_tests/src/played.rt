@@ -11,7 +11,7 @@ struct Played {
     status: u8,
 }
 
-static PLAYED: [Played; 17] = [
+static PLAYED: [Played; 19] = [
     Played {
         name: "a commit at one shard",
         bytes: b"shards 2
@@ -201,6 +201,46 @@ verdict yes
 ",
         refused: "",
         status: 0,
+    },
+    Played {
+        name: "a horizon",
+        bytes: b"shards 1
+stride 0
+100 advance 0 100 100 110
+101 forget 0 101 100 110
+102 forget 0 90 100 110
+103 forget 0 90 100 110
+104 look 0 a 89
+105 look 0 a 90
+106 look 0 a 101
+107 view 0 1 a 89
+",
+        printed: "event 0 ok
+event 1 refused 9 NotYet
+event 2 ok
+event 3 ok
+event 4 refused 15 TooOld
+event 5 none
+event 6 refused 9 NotYet
+event 7 none
+log 0
+opened 1
+ceiling 100
+horizon 90
+lines
+look a 90 none
+look a 89 none
+verdict yes
+",
+        refused: "",
+        status: 0,
+    },
+    Played {
+        name: "a horizon with a reading without the true time",
+        bytes: b"shards 1\nstride 0\n100 advance 0 100 100 110\n100 forget 0 50 101 110\n",
+        printed: "",
+        refused: "fault: 7 BadRequest(unlawful 1)\n",
+        status: 2,
     },
     Played {
         name: "no events",

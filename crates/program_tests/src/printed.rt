@@ -184,16 +184,6 @@ pub fn wrong_answer(alloc: Global) -> &'static str {
             return row.text;
         }
     }
-    for row in &ASKED {
-        if !comes_to(alloc, &FILES, row, AMPLE) {
-            return row.text;
-        }
-    }
-    for row in &of_keys::ASKED {
-        if !comes_to(alloc, &of_keys::FILES, row, AMPLE) {
-            return row.text;
-        }
-    }
     for row in &ASKING_HELP {
         if !comes_to(alloc, &[], row, BEGINNING) {
             return row.text;
@@ -202,6 +192,26 @@ pub fn wrong_answer(alloc: Global) -> &'static str {
     for row in &FAILING {
         if !comes_to(alloc, &[], &row.asked, row.writes) {
             return row.asked.text;
+        }
+    }
+    ""
+}
+
+/// The first command over files that does not come to what its row says.
+pub fn wrong_on_files(alloc: Global) -> &'static str {
+    for row in &ASKED {
+        if !comes_to(alloc, &FILES, row, AMPLE) {
+            return row.text;
+        }
+    }
+    ""
+}
+
+/// The first command over the logs of keys that does not come to what its row says.
+pub fn wrong_of_keys(alloc: Global) -> &'static str {
+    for row in &of_keys::ASKED {
+        if !comes_to(alloc, &of_keys::FILES, row, AMPLE) {
+            return row.text;
         }
     }
     ""

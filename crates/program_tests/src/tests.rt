@@ -1,11 +1,12 @@
 //! The tests, each of some areas.
 use crate::cases::CASES;
 use crate::crashes::CRASHES;
+use crate::horizons::HORIZONS;
 use crate::stops::FAILED;
 use crate::whole_schedules::SCHEDULES;
 use crate::{
-    comparing, each_call, of_logs, outside, places, played, printed, schedule_texts, stops,
-    unlawful,
+    comparing, each_call, horizons, of_logs, outside, places, played, printed, schedule_texts,
+    stops, unlawful,
 };
 use std::process::Abort;
 
@@ -19,6 +20,8 @@ fn check(rt: &impl Abort, area: &str, wrong: &str) {
 fn answers(rt: HostRuntime) {
     let alloc = rt.alloc();
     check(&rt, "commands", printed::wrong_answer(alloc));
+    check(&rt, "commands over files", printed::wrong_on_files(alloc));
+    check(&rt, "commands over keys", printed::wrong_of_keys(alloc));
     check(&rt, "words", printed::wrong_words(alloc));
     check(&rt, "numbers of logs", of_logs::wrong(alloc));
     check(&rt, "files that are played", played::wrong(alloc));
@@ -27,6 +30,7 @@ fn answers(rt: HostRuntime) {
     }
     check(&rt, "crashes in calls", stops::wrong(alloc));
     check(&rt, "stops in each call", each_call::wrong(alloc));
+    check(&rt, "stops at horizons", horizons::wrong(alloc));
     check(&rt, "texts", schedule_texts::wrong(alloc));
     check(&rt, "lists", unlawful::wrong(alloc));
     check(&rt, "outside", outside::wrong(alloc));
@@ -39,4 +43,5 @@ fn whole_runs(rt: HostRuntime) {
     check(&rt, "runs", comparing::wrong(alloc, &CASES));
     check(&rt, "crashes", comparing::wrong(alloc, &CRASHES));
     check(&rt, "failing calls", comparing::wrong(alloc, &FAILED));
+    check(&rt, "horizons", comparing::wrong(alloc, &HORIZONS));
 }

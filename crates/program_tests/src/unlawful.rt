@@ -13,7 +13,7 @@ struct List {
     first: Option<u64>,
 }
 
-static LISTS: [List; 29] = [
+static LISTS: [List; 32] = [
     List {
         name: "a message that was not put out",
         schedule: "shards 2
@@ -89,6 +89,36 @@ stride 0
 100 view 0 1 a 0
 ",
         first: Some(1),
+    },
+    List {
+        name: "a view of a horizon, which makes none",
+        schedule: "shards 2
+split m
+stride 0
+100 advance 0 100 90 110
+100 view 0 1 a 60
+100 forget 0 50 90 110
+100 view 0 2 a 60
+",
+        first: Some(3),
+    },
+    List {
+        name: "a horizon of a shard that does not exist",
+        schedule: "shards 2
+split m
+stride 0
+100 forget 2 0 90 110
+",
+        first: Some(0),
+    },
+    List {
+        name: "a failing call in a horizon with a reading above the true time",
+        schedule: "shards 2
+split m
+stride 0
+100 fail 0 0 forget 0 0 101 110
+",
+        first: Some(0),
     },
     List {
         name: "a view of a shard that does not exist",
@@ -285,6 +315,9 @@ stride 0
 100 fail 0 2 open 0
 100 open 0
 100 fail 0 1 advance 0 100 90 110
+100 forget 0 0 90 110
+100 open 0
+100 crash 0 0 old forget 0 0 90 110
 100 open 0
 ",
         first: None,

@@ -47,6 +47,7 @@ ascending_fits = record {
   aborted = λ t. refl;
   outcomes = λ t outcome. refl;
   ceilings = λ at. refl;
+  horizons = λ at. refl;
 }
 
 brought : (m : Message) → WritesAscend (Input.Deliver m) → Brings in_order m
@@ -98,6 +99,7 @@ unfolding learn
 entries_after facts None known up all = all
 entries_after facts (Some (Record.Opened epoch)) known up all = all
 entries_after facts (Some (Record.Ceiling at)) known up all = all
+entries_after facts (Some (Record.Horizon at)) known up all = all
 entries_after facts (Some (Record.Prepare p)) known up all = ascends-with_status facts.entries p.txn (StandsPrepared p) up all
 entries_after facts (Some (Record.Commit c)) known up all = ascends-with_status facts.entries c.txn (StandsDecided c) up all
 entries_after facts (Some (Record.Abort t)) known up all = ascends-with_status facts.entries t HasAborted refl all

@@ -7,7 +7,7 @@ use Rattle.units.specs.Ids.{Id, same_id}
 use Rattle.units.specs.Keys.{Bytes}
 use Rattle.units.specs.Locks.{ready}
 use Rattle.units.specs.declared.fault.Fault.{Fault}
-use Rattle.units.specs.declared.fault.Fault.TheVariants.{TimeSpent, Future, Early, Stranger}
+use Rattle.units.specs.declared.fault.Fault.TheVariants.{TimeSpent, Future, NotYet, Early, Stranger}
 use Rattle.units.specs.declared.lock.Lock.{Lock}
 use Rattle.units.specs.declared.setup.Setup.{Setup}
 use Rattle.units.specs.declared.writes.Write.{Write}
@@ -25,7 +25,7 @@ use Rattle.protocol.specs.Refusals.{is_own}
 use Rattle.protocol.specs.Rows.{Memory, Row, Phase, Idle, WaitsRead, WaitsPrepare, WaitsCommit, Collecting, IsPrepared, IsDecided, Voted, Standing}
 use Rattle.protocol.specs.Rows.{IsUnknown, WasEnded, HasRow, WasAborted, WasSettled, WasClosed, claims, find_row, with_vote, without_row, without_rows}
 use Rattle.protocol.specs.Plan.{Before, Change, Keeps, Ends, Drops, Puts, Plan, Planned, carried, after_change, is_crowded, opens, roomed, stands}
-use Rattle.protocol.specs.Cells.{commit_stamp, other_parts, plan_abort, plan_advance, plan_ask, plan_commit, plan_commit_fresh, plan_commit_granted}
+use Rattle.protocol.specs.Cells.{commit_stamp, other_parts, plan_abort, plan_advance, plan_ask, plan_commit, plan_commit_fresh, plan_forget, plan_commit_granted}
 use Rattle.protocol.specs.Cells.{plan_commit_now, plan_count, plan_decide, plan_give_up, plan_go_on, plan_nudge, plan_outcome, plan_prepare}
 use Rattle.protocol.specs.Cells.{plan_prepare_fresh, plan_prepare_now, plan_promise, plan_read, plan_read_now, plan_read_row, plan_resume}
 use Rattle.protocol.specs.Cells.{plan_resume_id, plan_resume_row, plan_settle, plan_tell, plan_unpromised, plan_vote, to_read}
@@ -48,6 +48,7 @@ pub record Fits (P : List Bytes → List Write → Bool) (named : Phase → Bool
   pub aborted : (t : Id) → noted (Record.Abort t) ≡ true
   pub outcomes : (t : Id) (outcome : Option ℕ) → noted (Record.Outcome t outcome) ≡ true
   pub ceilings : (at : ℕ) → noted (Record.Ceiling at) ≡ true
+  pub horizons : (at : ℕ) → noted (Record.Horizon at) ≡ true
 
 -- so of what a message brings
 abbrev pub Brings : (List Bytes → List Write → Bool) → Message → Type 0
@@ -322,6 +323,10 @@ module _ (P : List Bytes → List Write → Bool) (named : Phase → Bool) (note
   walk_nudge b t (HasRow held (IsPrepared c p)) = told _ refl refl
   walk_nudge b t _ = refused Stranger refl
 
+  walk_forget : (b : Before) (at : ℕ) → Told (plan_forget b at)
+  unfolding plan_forget
+  walk_forget b at = told_cond _ _ _ (refused NotYet refl) (told_cond _ _ _ (told _ refl refl) (told _ refl (fits.horizons at)))
+
   -- ---- all inputs
 
   walk_message : (b : Before) (now : Interval) (m : Message) → all_told b.memory.rows ≡ true → Brings P m → Told (plan_message b now m)
@@ -347,6 +352,7 @@ module _ (P : List Bytes → List Write → Bool) (named : Phase → Bool) (note
   walked setup b now Input.Resume rows brought = walk_resume b now.earliest rows
   walked setup b now (Input.Settle t) rows brought = walk_settle b now.earliest t _
   walked setup b now (Input.Advance at) rows brought = walk_advance b now.latest setup.stride at
+  walked setup b now (Input.Forget at) rows brought = walk_forget b at
   walked setup b now (Input.Nudge t) rows brought = walk_nudge b t _
 
   -- ---- the rows after a plan

@@ -1,9 +1,9 @@
 -- What a step logs fits beside what the log holds: after it the log's rows are a lawful table still, and no more than the
 -- rows in memory.
-use Rattle.std.proofs.Common.{◌≡◌, ℕ, suc, ◌<◌, ◌≤◌, Bool, true, false, nat_lt, List, [], ◌∷◌, map, length, Option, Some, None, refl, sym, ap}
+use Rattle.std.proofs.Common.{◌≡◌, ℕ, suc, ◌<◌, ◌≤◌, ◌-◌, Bool, true, false, nat_le, nat_lt, List, [], ◌∷◌, map, length, Option, Some, None, refl, sym, ap}
 use Rattle.std.proofs.Common.{subst, ◌∙◌, arith}
 use Rattle.std.specs.Prelude.{IsTrue, Ok, Err, cond}
-use Rattle.std.specs.List.{AllByRecursion, list_any}
+use Rattle.std.specs.List.{AllByRecursion, list_all, list_any}
 use Rattle.std.proofs.lemmas.Bool.{false≢true, and_from, and_parts, lt-ltb, not_from_false}
 use Rattle.units.specs.Limits.{most_rows}
 use Rattle.units.specs.Lists.{follow, gather}
@@ -12,7 +12,7 @@ use Rattle.units.specs.ById.{find_member}
 use Rattle.units.specs.Keys.{Bytes}
 use Rattle.units.specs.Locks.{clash, locks_of}
 use Rattle.units.specs.Versions.{above_versions}
-use Rattle.units.specs.declared.fault.Fault.TheVariants.{Future}
+use Rattle.units.specs.declared.fault.Fault.TheVariants.{Future, NotYet}
 use Rattle.units.specs.declared.lock.Lock.{Lock}
 use Rattle.units.specs.declared.setup.Setup.{Setup}
 use Rattle.units.specs.declared.writes.Install.{Install}
@@ -21,11 +21,11 @@ use Rattle.units.proofs.ByIdLaws.{first_none, found_has, has-without_other}
 use Rattle.units.proofs.IdLaws.{same_id_comm}
 use Rattle.units.proofs.ListLaws.{all_gives}
 use Rattle.truetime.specs.Interval.{Interval}
-use Rattle.record.specs.Accepted.{fits_beside, may_stand, locks_standing, standing_locks}
+use Rattle.record.specs.Accepted.{fits_beside, may_stand, locks_standing, stamps_standing, standing_locks, standing_stamp}
 use Rattle.record.specs.Facts.{TxnStatus, Facts, facts_of, learn, or_unrecorded, recorded, with_status}
 use Rattle.record.specs.Installs.{installs_of, writes_by}
 use Rattle.record.specs.Records.{Ended, Status, Unrecorded, StandsPrepared, StandsDecided, HasAborted, HasSettled, HasClosed, status_by, status_of}
-use Rattle.record.specs.Records.{ids_of, is_aborted, committed_of, prepared_of, ended_of}
+use Rattle.record.specs.Records.{horizon_of, ids_of, is_aborted, committed_of, prepared_of, ended_of}
 use Rattle.record.specs.declared.record.Committed.{Committed}
 use Rattle.record.specs.declared.record.Prepared.{Prepared}
 use Rattle.record.specs.declared.record.Record.{Record}
@@ -33,18 +33,21 @@ use Rattle.record.proofs.Statuses.{recorded_is}
 use Rattle.facts.specs.Rules.{allows, follows_facts, is_unrecorded}
 use Rattle.message.specs.declared.message.Input.{Input}
 use Rattle.protocol.specs.FitsBeside.{LoggedFitsBeside}
-use Rattle.protocol.specs.Rows.{Memory, Row, IsPrepared, IsDecided, find_row, standing_row, without_row}
-use Rattle.protocol.specs.Plan.{Keeps, Plan, Planned, start_of_step, carried}
-use Rattle.protocol.specs.Cells.{plan_advance}
+use Rattle.protocol.specs.Rows.{Memory, Phase, Row, IsPrepared, IsDecided, find_row, held_stamp, safe, standing_row, without_row}
+use Rattle.protocol.specs.Plan.{Before, Keeps, Plan, Planned, start_of_step, carried}
+use Rattle.protocol.specs.Cells.{plan_advance, plan_forget}
 use Rattle.protocol.specs.Step.{plan_input, facts_after, IsInLimit}
-use Rattle.protocol.specs.Sound.{Agrees, IsSound, writes_standing}
+use Rattle.protocol.specs.Sound.{Agrees, IsSound, StandsBy, writes_standing}
 use Rattle.protocol.proofs.AboveVersions.{rows_apart}
 use Rattle.protocol.proofs.Follows.{logged_follows}
 use Rattle.protocol.proofs.InstallsAbove.{installs_above}
 use Rattle.protocol.proofs.OpenedRows.{find-gather}
-use Rattle.protocol.proofs.OpeningSound.{Backed, entries_own, opened_backed, opened_lawful, opened_up}
+use Rattle.protocol.proofs.OpeningSound.{Backed, entries_own, opened_backed, opened_lawful, opened_over, opened_up, row_over}
+use Rattle.protocol.proofs.PlanShapes.{shape_of}
 use Rattle.protocol.proofs.RowChanges.{by_id-claims, find_each}
 use Rattle.protocol.proofs.RowCounts.{has_row, no_more, shorter-without_row}
+use Rattle.protocol.proofs.Serves.{AllOver, Over}
+use Rattle.protocol.proofs.Shapes.{Shape, Answers, IsEnd, IsAbort, IsClose, IsSettle, IsLock, IsWait, IsPromise, IsDecision, ShapeOf, Acts, IsAdvance, IsForget}
 use Rattle.protocol.proofs.StatusChanges.{entry_other, entry_same, status_same}
 use Rattle.protocol.proofs.StepSound.{step_keeps_sound}
 use Rattle.protocol.proofs.WithinLimit.{stays_within}
@@ -176,13 +179,18 @@ pub installs_are : (log : List Record) → (facts_of log).installs ≡ installs_
 unfolding facts_of
 installs_are log = refl
 
+pub horizon_is : (log : List Record) → (facts_of log).horizon ≡ horizon_of log
+unfolding facts_of
+horizon_is log = refl
+
 -- so it stands beside what the log holds
 stands_beside : (shard : ℕ) (log : List Record) (after : Facts) (m later : Memory) (t : Id) (s : Status) (at : ℕ) (rs : List Bytes) (ws : List Write)
     (new : Row)
     → IsSound shard (facts_of log) m → IsSound shard after later → length later.rows ≤ most_rows
     → after.entries ≡ with_status (facts_of log).entries t s → standing_row (record { txn = t; status = s }) ≡ Some new → new.held ≡ locks_of rs ws
-    → recorded (facts_of log) t ≡ Unrecorded → IsTrue (above_versions (facts_of log).installs at ws) → may_stand log at rs ws ≡ true
-stands_beside shard log after m later t s at rs ws new sound next room put held locks fresh above =
+    → recorded (facts_of log) t ≡ Unrecorded → (facts_of log).horizon < at → IsTrue (above_versions (facts_of log).installs at ws)
+    → may_stand log at rs ws ≡ true
+stands_beside shard log after m later t s at rs ws new sound next room put held locks fresh high above =
     let small : length (log_rows (facts_of log)) < most_rows = few shard (facts_of log) after m later t s new sound next put held fresh room in
     let count : length (locks_standing log) ≡ length (log_rows (facts_of log)) = ap length (standing_is log) ∙ length-held (log_rows (facts_of log)) in
     let free : list_any (clash (locks_of rs ws)) (locks_standing log) ≡ false =
@@ -190,7 +198,8 @@ stands_beside shard log after m later t s at rs ws new sound next room put held 
     ∙ none_clashes (locks_of rs ws) (log_rows (facts_of log))
     (subst (λ ls. AllByRecursion (λ (r : Row). clash ls r.held ≡ false) (log_rows (facts_of log))) locks
     (clear shard (facts_of log) after m later t s new sound next put held fresh)) in
-    and_from _ _ (and_from _ _ (ap (λ n. nat_lt n most_rows) count ∙ lt-ltb _ _ small) (not_from_false _ free))
+    and_from _ _ (and_from _ _ (and_from _ _ (ap (λ n. nat_lt n most_rows) count ∙ lt-ltb _ _ small) (not_from_false _ free))
+    (ap (λ n. nat_lt n at) (sym (horizon_is log)) ∙ lt-ltb _ _ high))
     (subst (λ is. IsTrue (above_versions is at ws)) (installs_are log) above)
 
 -- ---- the records
@@ -214,6 +223,22 @@ above_decision : (installs : List Install) (last : ℕ) (c : Committed) (o : Opt
 above_decision installs last c (Some r) a = a.above
 above_decision installs last c None a = absurd a
 
+-- what stands is above each time that is served
+above_served : (installs : List Install) (h : ℕ) (m : Memory) (t u : Id) (r : Row) (phase : Phase) (at : ℕ) (rs : List Bytes) (ws : List Write)
+    → h ≤ safe m → find_row m.rows t ≡ Some r → StandsBy installs m.last r phase u at rs ws → held_stamp phase ≡ Some at → h < at
+above_served installs h m t u r phase at rs ws low found a stamp =
+    let over : safe m ≤ at - 1 = subst (Over (safe m)) stamp (row_over m t r phase found a.phase) in omega (arith, low, over, a.above_zero)
+
+promise_above : (installs : List Install) (h : ℕ) (m : Memory) (t : Id) (p : Prepared) (o : Option Row) → h ≤ safe m → find_row m.rows t ≡ o →
+    Agrees installs m.last (StandsPrepared p) o → h < p.at
+promise_above installs h m t p (Some r) low found a = above_served installs h m t p.txn r _ p.at p.reads p.writes low found a refl
+promise_above installs h m t p None low found a = absurd a
+
+decision_above : (installs : List Install) (h : ℕ) (m : Memory) (t : Id) (c : Committed) (o : Option Row) → h ≤ safe m → find_row m.rows t ≡ o →
+    Agrees installs m.last (StandsDecided c) o → h < c.at
+decision_above installs h m t c (Some r) low found a = above_served installs h m t c.txn r _ c.at c.reads c.writes low found a refl
+decision_above installs h m t c None low found a = absurd a
+
 fits_prepare : (shard : ℕ) (log : List Record) (m later : Memory) (p : Prepared) → IsSound shard (facts_of log) m →
     IsSound shard (learn (facts_of log) (Record.Prepare p)) later
     → length later.rows ≤ most_rows → follows_facts shard (facts_of log) (Record.Prepare p) ≡ true → fits_beside log (Record.Prepare p) ≡ true
@@ -223,9 +248,13 @@ fits_prepare shard log m later p sound next room follows =
     unrecorded_is (recorded (facts_of log) p.txn) (and_parts _ _ (and_parts _ _ (and_parts _ _ follows).1).0).1 in
     stands_beside shard log (learn (facts_of log) (Record.Prepare p)) m later p.txn (StandsPrepared p) p.at p.reads p.writes
     (record { txn = p.txn; held = locks_of p.reads p.writes; phase = IsPrepared p.coordinator p.at }) sound next room refl refl refl fresh
-    (above_promise (facts_of log).installs later.last p (find_row later.rows p.txn)
-    (subst (λ s. Agrees (facts_of log).installs later.last s (find_row later.rows p.txn))
-    (status_same (facts_of log).entries p.txn (StandsPrepared p)) (next.agrees p.txn)))
+    (promise_above (facts_of log).installs (facts_of log).horizon later p.txn p (find_row later.rows p.txn) next.horizon refl agrees)
+    (above_promise (facts_of log).installs later.last p (find_row later.rows p.txn) agrees)
+  where
+    agrees : Agrees (facts_of log).installs later.last (StandsPrepared p) (find_row later.rows p.txn)
+    agrees =
+        subst (λ s. Agrees (facts_of log).installs later.last s (find_row later.rows p.txn))
+        (status_same (facts_of log).entries p.txn (StandsPrepared p)) (next.agrees p.txn)
 
 fits_commit : (shard : ℕ) (log : List Record) (m later : Memory) (c : Committed) → IsSound shard (facts_of log) m →
     IsSound shard (learn (facts_of log) (Record.Commit c)) later
@@ -236,9 +265,88 @@ fits_commit shard log m later c sound next room follows =
     unrecorded_is (recorded (facts_of log) c.txn) (and_parts _ _ (and_parts _ _ (and_parts _ _ follows).1).0).1 in
     stands_beside shard log (learn (facts_of log) (Record.Commit c)) m later c.txn (StandsDecided c) c.at c.reads c.writes
     (record { txn = c.txn; held = locks_of c.reads c.writes; phase = IsDecided c.at c.parts }) sound next room refl refl refl fresh
-    (above_decision (facts_of log).installs later.last c (find_row later.rows c.txn)
-    (subst (λ s. Agrees (facts_of log).installs later.last s (find_row later.rows c.txn))
-    (status_same (facts_of log).entries c.txn (StandsDecided c)) (next.agrees c.txn)))
+    (decision_above (facts_of log).installs (facts_of log).horizon later c.txn c (find_row later.rows c.txn) next.horizon refl agrees)
+    (above_decision (facts_of log).installs later.last c (find_row later.rows c.txn) agrees)
+  where
+    agrees : Agrees (facts_of log).installs later.last (StandsDecided c) (find_row later.rows c.txn)
+    agrees =
+        subst (λ s. Agrees (facts_of log).installs later.last s (find_row later.rows c.txn))
+        (status_same (facts_of log).entries c.txn (StandsDecided c)) (next.agrees c.txn)
+
+-- ---- a horizon
+
+-- the timestamps that stand are those of the log's rows
+stamps_of_rows : (es : List TxnStatus) → gather (λ e. standing_stamp e.status) es ≡ gather (λ r. held_stamp r.phase) (gather standing_row es)
+stamps_of_rows [] = refl
+stamps_of_rows (e ∷ es) = by_status e.status (stamps_of_rows es)
+  where
+    by_status : (s : Status) → gather (λ e. standing_stamp e.status) es ≡ gather (λ r. held_stamp r.phase) (gather standing_row es)
+        → gather (λ e. standing_stamp e.status) (record { txn = e.txn; status = s } ∷ es) ≡
+        gather (λ r. held_stamp r.phase) (gather standing_row (record { txn = e.txn; status = s } ∷ es))
+    by_status (StandsPrepared p) k = ap (λ l. p.at ∷ l) k
+    by_status (StandsDecided c) k = ap (λ l. c.at ∷ l) k
+    by_status Unrecorded k = k
+    by_status HasAborted k = k
+    by_status (HasSettled at ps) k = k
+    by_status (HasClosed c o) k = k
+
+pub stamps_are : (log : List Record) → stamps_standing log ≡ gather (λ r. held_stamp r.phase) (log_rows (facts_of log))
+unfolding facts_of
+stamps_are log =
+    gather-map (λ (e : TxnStatus). standing_stamp e.status) (λ t. record { txn = t; status = status_of log t }) (ids_of log)
+    ∙ stamps_of_rows (facts_of log).entries
+
+all_above : (at : ℕ) (rows : List Row) → 0 < at → AllOver at rows → list_all (nat_lt at) (gather (λ r. held_stamp r.phase) rows) ≡ true
+all_above at [] up over = refl
+all_above at (r ∷ rs) up over = by_phase (held_stamp r.phase) over.0 (all_above at rs up over.1)
+  where
+    by_phase : (o : Option ℕ) → Over at o → list_all (nat_lt at) (gather (λ q. held_stamp q.phase) rs) ≡ true
+        → list_all (nat_lt at) (elim o [ None ↦ gather (λ q. held_stamp q.phase) rs | Some y ↦ y ∷ gather (λ q. held_stamp q.phase) rs ]) ≡ true
+    by_phase None one rest = rest
+    by_phase (Some s) one rest = (let a : at ≤ s - 1 = one in and_from _ _ (lt-ltb at s (omega (arith, a, up))) rest)
+
+fits_horizon : (shard : ℕ) (log : List Record) (m : Memory) (at : ℕ) → IsSound shard (facts_of log) m → at ≤ safe m → (facts_of log).horizon < at →
+    fits_beside log (Record.Horizon at) ≡ true
+unfolding fits_beside
+fits_horizon shard log m at sound low high =
+    ap (list_all (nat_lt at)) (stamps_are log)
+    ∙ all_above at (log_rows (facts_of log)) (omega (arith, high)) (opened_over shard (facts_of log) m sound at low)
+
+-- a horizon that is logged was served, and is above the former one
+abbrev Forgets : Before → Option Record → Type 0
+Forgets b None = Unit {0}
+Forgets b (Some (Record.Horizon at)) = (at ≤ safe b.memory) × (b.facts.horizon < at)
+Forgets b (Some (Record.Ceiling at)) = Unit {0}
+Forgets b (Some (Record.Opened epoch)) = Unit {0}
+Forgets b (Some (Record.Prepare p)) = Unit {0}
+Forgets b (Some (Record.Commit c)) = Unit {0}
+Forgets b (Some (Record.Abort t)) = Unit {0}
+Forgets b (Some (Record.Outcome t outcome)) = Unit {0}
+
+ForgetsBy : Before → Plan → Type 0
+ForgetsBy b p = Forgets b p.logged
+
+forgets : (b : Before) (p : Plan) → Shape b p → ForgetsBy b p
+unfolding ForgetsBy
+forgets b p (Answers out e) = subst (ForgetsBy b) (sym e) tt
+forgets b p (IsEnd t out s e) = subst (ForgetsBy b) (sym e) tt
+forgets b p (IsAbort t out fresh e) = subst (ForgetsBy b) (sym e) tt
+forgets b p (IsClose t n c at held outcome out found k e) = subst (ForgetsBy b) (sym e) tt
+forgets b p (IsSettle t at ps held out found e) = subst (ForgetsBy b) (sym e) tt
+forgets b p (IsLock t ended needs phase out l e) = subst (ForgetsBy b) (sym e) tt
+forgets b p (IsWait t needs phase out w e) = subst (ForgetsBy b) (sym e) tt
+forgets b p (IsPromise t ended c at rs ws out l e) = subst (ForgetsBy b) (sym e) tt
+forgets b p (IsDecision t ended needs at ps rs ws out l e) = subst (ForgetsBy b) (sym e) tt
+
+forgets_ceiling : (b : Before) (high : Bool) (n : ℕ) → Forgets b (cond high (Some (Record.Ceiling n)) None)
+forgets_ceiling b true n = tt
+forgets_ceiling b false n = tt
+
+forgets_of : (b : Before) (i : Input) (p : Plan) → ShapeOf b i p → ForgetsBy b p
+unfolding ForgetsBy
+forgets_of b i p (Acts shape) = forgets b p shape
+forgets_of b i p (IsAdvance stride at k e) = subst (ForgetsBy b) (sym e) (forgets_ceiling b (nat_lt b.facts.floor at) _)
+forgets_of b i p (IsForget at k low high e) = subst (ForgetsBy b) (sym e) (low, high)
 
 -- the writes of what an outcome ends
 pub writes_are : (a : Bool) (c : Option Committed) (p : Option Prepared) (e : Option Ended) (s : ℕ) → allows (status_by a c p e) (Some s) ≡ true
@@ -262,9 +370,10 @@ fits_outcome shard log t s follows above =
 
 -- ---- a step
 
--- the record is a ceiling
+-- the record is a ceiling or a horizon
 abbrev is_ceiling : Record → Bool
 is_ceiling (Record.Ceiling at) = true
+is_ceiling (Record.Horizon at) = true
 is_ceiling (Record.Opened epoch) = false
 is_ceiling (Record.Prepare p) = false
 is_ceiling (Record.Commit c) = false
@@ -288,22 +397,50 @@ advance_logs false false n last p r e logged =
     let same : None ≡ Some r = ap (λ (q : Plan). q.logged) is ∙ logged in
     cc
 
+-- the plan of a horizon
+abbrev forgotten : Bool → Bool → (at last : ℕ) → Planned
+forgotten late known at last =
+    cond late (Err NotYet) (cond known (Ok (record { wounded = []; change = Keeps; logged = None; last = last; outbox = [] }))
+    (Ok (record { wounded = []; change = Keeps; logged = Some (Record.Horizon at); last = last; outbox = [] })))
+
+forget_logs : (late known : Bool) (at last : ℕ) (p : Plan) (r : Record) → forgotten late known at last ≡ Ok p → p.logged ≡ Some r → is_ceiling r ≡ true
+forget_logs true known at last p r e logged = cc
+forget_logs false true at last p r e logged =
+    let is : record { wounded = []; change = Keeps; logged = None; last = last; outbox = [] } ≡ p = cc in
+    let same : None ≡ Some r = ap (λ (q : Plan). q.logged) is ∙ logged in
+    cc
+forget_logs false false at last p r e logged =
+    let is : record { wounded = []; change = Keeps; logged = Some (Record.Horizon at); last = last; outbox = [] } ≡ p = cc in
+    let same : Some (Record.Horizon at) ≡ Some r = ap (λ (q : Plan). q.logged) is ∙ logged in
+    let it : Record.Horizon at ≡ r = cc in
+    subst (λ q. is_ceiling q ≡ true) it refl
+
 -- an input by which a step logs anything else names no timestamp
 limit_of : (rows : ℕ) (setup : Setup) (f : Facts) (m : Memory) (now : Interval) (i : Input) (p : Plan) (r : Record) →
     plan_input setup (start_of_step rows setup f m) now i ≡ Ok p
     → p.logged ≡ Some r → is_ceiling r ≡ false → IsInLimit i
-unfolding plan_input plan_advance
+unfolding plan_input plan_advance plan_forget
 limit_of rows setup f m now (Input.Advance at) p r e logged k =
     absurd (false≢true (sym k ∙ advance_logs (nat_lt now.latest at) (nat_lt f.floor at) _ _ p r e logged))
+limit_of rows setup f m now (Input.Forget at) p r e logged k =
+    absurd (false≢true (sym k ∙ forget_logs (nat_lt (safe m) at) (nat_le at f.horizon) at m.last p r e logged))
 limit_of rows setup f m now (Input.Deliver x) p r e logged k = tt
 limit_of rows setup f m now Input.Resume p r e logged k = tt
 limit_of rows setup f m now (Input.Settle t) p r e logged k = tt
 limit_of rows setup f m now (Input.Nudge t) p r e logged k = tt
 
 pub logged_fits_beside : LoggedFitsBeside
-unfolding fits_beside
+unfolding fits_beside ForgetsBy
 logged_fits_beside setup log memory now i p r sound few e logged = by_record r logged
   where
+    b : Before
+    b = start_of_step most_rows setup (facts_of log) memory
+
+    served : (q : Record) → p.logged ≡ Some q → Forgets b (Some q)
+    served q k =
+        subst (Forgets b) k
+        (forgets_of b i p (shape_of most_rows setup (facts_of log) memory now i p (by_id-claims memory.rows sound.table.order) e))
+
     room : length (carried p memory).rows ≤ most_rows
     room = stays_within most_rows setup (facts_of log) memory now i p (by_id-claims memory.rows sound.table.order) few e
 
@@ -318,6 +455,8 @@ logged_fits_beside setup log memory now i p r sound few e logged = by_record r l
     by_record : (q : Record) → p.logged ≡ Some q → fits_beside log q ≡ true
     by_record (Record.Opened epoch) k = refl
     by_record (Record.Ceiling at) k = refl
+    by_record (Record.Horizon at) k =
+        let was = served (Record.Horizon at) k in fits_horizon setup.shard log memory at sound was.0 was.1
     by_record (Record.Prepare x) k = fits_prepare setup.shard log memory (carried p memory) x sound (next (Record.Prepare x) k refl) room
         (follows (Record.Prepare x) k)
     by_record (Record.Commit c) k = fits_commit setup.shard log memory (carried p memory) c sound (next (Record.Commit c) k refl) room

@@ -1,5 +1,5 @@
 -- What a step logs may come next.
-use Rattle.std.proofs.Common.{◌≡◌, ℕ, ◌<◌, Bool, true, false, cond, ◌&&◌, nat_lt, nat_le, nat_eq, List, Option, Some, None, refl, sym, ap, subst, ◌∙◌, arith}
+use Rattle.std.proofs.Common.{◌≡◌, ℕ, ◌<◌, ◌≤◌, Bool, true, false, cond, ◌&&◌, nat_lt, nat_le, nat_eq, List, Option, Some, None, refl, sym, ap, subst, ◌∙◌, arith}
 use Rattle.std.specs.Prelude.{IsTrue}
 use Rattle.std.proofs.lemmas.Bool.{and_from, eq-eqb, lt-ltb, le-leb}
 use Rattle.units.specs.Ids.{Id}
@@ -9,13 +9,14 @@ use Rattle.record.specs.declared.record.Prepared.{Prepared}
 use Rattle.record.specs.declared.record.Record.{Record}
 use Rattle.facts.specs.Rules.{allows, is_unrecorded, follows_facts}
 use Rattle.message.specs.declared.message.Input.{Input}
-use Rattle.protocol.specs.Rows.{IsPrepared, IsDecided, find_row}
+use Rattle.protocol.specs.Rows.{IsPrepared, IsDecided, find_row, safe}
 use Rattle.protocol.specs.Plan.{Plan, Before, start_of_step, stands}
 use Rattle.protocol.specs.Cells.{is_outcome_for, ceiling_for}
 use Rattle.protocol.specs.Sound.{LoggedFollows}
 use Rattle.protocol.proofs.RowChanges.{row_as, by_id-claims}
 use Rattle.protocol.proofs.PlanShapes.{shape_of}
-use Rattle.protocol.proofs.Shapes.{Shape, Answers, IsEnd, IsAbort, IsClose, IsSettle, IsLock, IsWait, IsPromise, IsDecision, ShapeOf, Acts, IsAdvance}
+use Rattle.protocol.proofs.Shapes.{Shape, Answers, IsEnd, IsAbort, IsClose, IsSettle, IsLock, IsWait, IsPromise, IsDecision, ShapeOf, Acts, IsAdvance, IsForget}
+use Rattle.protocol.proofs.Serves.{safe_last}
 use Rattle.protocol.proofs.Shapes.{is_undecided}
 use Rattle.protocol.proofs.Agreement.{Sound, unrecorded, PromiseOf, promise_of, DecisionOf, decision_of, not_below}
 
@@ -86,10 +87,18 @@ follows_ceiling b stride at sound = by_test (nat_lt b.facts.floor at) _
     by_test true n = and_from _ _ (opened b sound) refl
     by_test false n = tt
 
+follows_horizon : (b : Before) (at : ℕ) → Sound b → at ≤ safe b.memory → b.facts.horizon < at
+    → IsTrue (follows_facts b.shard b.facts (Record.Horizon at))
+unfolding follows_facts
+follows_horizon b at sound low high =
+    let below : at ≤ b.facts.floor = omega (arith, low, safe_last b.memory, sound.under) in
+    and_from _ _ (opened b sound) (and_from _ _ (lt-ltb b.facts.horizon at high) (le-leb at b.facts.floor below))
+
 follows_of : (b : Before) (i : Input) (p : Plan) → Sound b → ShapeOf b i p → Follows b p
 unfolding Follows
 follows_of b i p sound (Acts shape) = follows b p sound shape
 follows_of b i p sound (IsAdvance stride at k e) = subst (Follows b) (sym e) (follows_ceiling b stride at sound)
+follows_of b i p sound (IsForget at k low high e) = subst (Follows b) (sym e) (follows_horizon b at sound low high)
 
 pub logged_follows : LoggedFollows
 unfolding Follows

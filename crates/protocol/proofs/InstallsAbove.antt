@@ -14,7 +14,7 @@ use Rattle.protocol.specs.Sound.{writes_standing, InstallsAbove}
 use Rattle.protocol.proofs.Agreement.{Sound, PromiseOf, promise_of, DecisionOf, decision_of, not_below}
 use Rattle.protocol.proofs.PlanShapes.{shape_of}
 use Rattle.protocol.proofs.RowChanges.{row_as, by_id-claims}
-use Rattle.protocol.proofs.Shapes.{Shape, Answers, IsEnd, IsAbort, IsClose, IsSettle, IsLock, IsWait, IsPromise, IsDecision, ShapeOf, Acts, IsAdvance}
+use Rattle.protocol.proofs.Shapes.{Shape, Answers, IsEnd, IsAbort, IsClose, IsSettle, IsLock, IsWait, IsPromise, IsDecision, ShapeOf, Acts, IsAdvance, IsForget}
 use Rattle.protocol.proofs.AboveVersions.{above_later}
 
 -- what is installed by a record that is logged is above
@@ -23,6 +23,7 @@ LogAbove b (Some (Record.Outcome t (Some s))) = IsTrue (above_versions b.facts.i
 LogAbove b (Some (Record.Outcome t None)) = Unit {0}
 LogAbove b (Some (Record.Opened epoch)) = Unit {0}
 LogAbove b (Some (Record.Ceiling at)) = Unit {0}
+LogAbove b (Some (Record.Horizon at)) = Unit {0}
 LogAbove b (Some (Record.Prepare p)) = Unit {0}
 LogAbove b (Some (Record.Commit c)) = Unit {0}
 LogAbove b (Some (Record.Abort t)) = Unit {0}
@@ -69,6 +70,7 @@ above_of : (b : Before) (i : Input) (p : Plan) → Sound b → ShapeOf b i p →
 unfolding Above
 above_of b i p sound (Acts shape) = above b p sound shape
 above_of b i p sound (IsAdvance stride at k e) = subst (Above b) (sym e) (above_ceiling b _ stride at refl)
+above_of b i p sound (IsForget at k low high e) = subst (Above b) (sym e) tt
 
 pub installs_above : InstallsAbove
 unfolding Above

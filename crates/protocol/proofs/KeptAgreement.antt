@@ -30,7 +30,7 @@ use Rattle.protocol.proofs.KeptFacts.{raised_up}
 use Rattle.protocol.proofs.Choices.{undecided_of_loose}
 use Rattle.protocol.proofs.RowChanges.{row_as, find-with_row_same, find-with_row_other, find-without_row_same, find-without_row_other, find-without_rows}
 use Rattle.protocol.proofs.StatusChanges.{Closing, closing, settling, installs_by, status_in, status_same, status_other}
-use Rattle.protocol.proofs.Shapes.{Shape, Answers, IsEnd, IsAbort, IsClose, IsSettle, IsLock, IsWait, IsPromise, IsDecision, ShapeOf, Acts, IsAdvance}
+use Rattle.protocol.proofs.Shapes.{Shape, Answers, IsEnd, IsAbort, IsClose, IsSettle, IsLock, IsWait, IsPromise, IsDecision, ShapeOf, Acts, IsAdvance, IsForget}
 use Rattle.protocol.proofs.Shapes.{IsLooseOther, is_undecided, granted_to}
 
 -- each transaction's record and its row agree
@@ -257,8 +257,15 @@ unfolding learn
 later_agrees b later true at sound h v = left_agrees b v v [] b.facts.installs later sound tt h (λ r at ws e k a. a)
 later_agrees b later false at sound h v = left_agrees b v v [] b.facts.installs later sound tt h (λ r at ws e k a. a)
 
+-- and before a horizon
+forgotten_agrees : (b : Before) (at : ℕ) → Sound b
+    → AllAgree (learn b.facts (Record.Horizon at)).installs b.memory.last (learn b.facts (Record.Horizon at)).entries b.memory.rows
+unfolding learn
+forgotten_agrees b at sound v = left_agrees b v v [] b.facts.installs b.memory.last sound tt (omega arith) (λ r at ws e k a. a)
+
 pub agreeing_of : (b : Before) (i : Input) (p : Plan) → Sound b → ShapeOf b i p → KeepsAgreement b p
 unfolding KeepsAgreement carried after_change
 agreeing_of b i p sound (Acts shape) = agreeing b p sound shape
 agreeing_of b i p sound (IsAdvance stride at k e) =
     subst (KeepsAgreement b) (sym e) (later_agrees b (max b.memory.last at) (nat_lt b.facts.floor at) _ sound (le-max_left b.memory.last at))
+agreeing_of b i p sound (IsForget at k low high e) = subst (KeepsAgreement b) (sym e) (forgotten_agrees b at sound)

@@ -23,7 +23,7 @@ use Rattle.protocol.specs.Step.{facts_after, IsInLimit}
 use Rattle.protocol.proofs.AboveVersions.{each_append, each_gives}
 use Rattle.protocol.proofs.Agreement.{Sound, decision_of, DecisionOf}
 use Rattle.protocol.proofs.StatusChanges.{Closing, closing, settling, installs_by, by_id-status, ascends-with_id, ascends-with_ids}
-use Rattle.protocol.proofs.Shapes.{Shape, Answers, IsEnd, IsAbort, IsClose, IsSettle, IsLock, IsWait, IsPromise, IsDecision, ShapeOf, Acts, IsAdvance}
+use Rattle.protocol.proofs.Shapes.{Shape, Answers, IsEnd, IsAbort, IsClose, IsSettle, IsLock, IsWait, IsPromise, IsDecision, ShapeOf, Acts, IsAdvance, IsForget}
 
 under_ceiling : (last floor at stride : ℕ) → last ≤ floor → at ≤ 2 ^ 62 - 1 → max last at ≤ max floor (min (at + stride) (2 ^ 62 - 1))
 under_ceiling last floor at stride h fits = omega (arith, h, fits)
@@ -196,8 +196,23 @@ kept_ceiling b stride at rest false sound fits e same others =
       installed = covered_later b.memory.last _ b.facts.installs (le-max_left b.memory.last at) sound.installed;
     })
 
+-- ---- a horizon
+
+kept_horizon : (b : Before) (at : ℕ) (rest : Memory) → Sound b → rest.last ≡ b.memory.last → rest.ended ≡ b.memory.ended
+    → KeptFacts (learn b.facts (Record.Horizon at)) rest
+unfolding learn
+kept_horizon b at rest sound same others =
+    other_rows _ (record { last = b.memory.last; rows = []; ended = b.memory.ended }) rest (sym same) (sym others) (record {
+      opened = sound.opened;
+      entries = sound.entries;
+      ended = sound.ended;
+      under = sound.under;
+      installed = sound.installed;
+    })
+
 pub kept_facts_of : (b : Before) (i : Input) (p : Plan) → IsInLimit i → Sound b → ShapeOf b i p → KeepsFacts b p
 unfolding KeepsFacts carried ended_by
 kept_facts_of b i p fits sound (Acts shape) = kept_facts b p sound shape
 kept_facts_of b i p fits sound (IsAdvance stride at k e) =
     subst (KeepsFacts b) (sym e) (kept_ceiling b stride at _ (nat_lt b.facts.floor at) sound (subst IsInLimit k fits) refl refl refl)
+kept_facts_of b i p fits sound (IsForget at k low high e) = subst (KeepsFacts b) (sym e) (kept_horizon b at _ sound refl refl)

@@ -24,7 +24,7 @@ use Rattle.protocol.proofs.ClaimsBeside.{IsBeside, OwnApart, Firms, all_both, la
 use Rattle.protocol.proofs.InWay.{stands_at}
 use Rattle.protocol.proofs.RowChanges.{row_as, find-without_rows_other}
 use Rattle.protocol.proofs.RowTable.{with_row-is, claims-with_row, claims-without_row}
-use Rattle.protocol.proofs.Shapes.{Shape, Answers, IsEnd, IsAbort, IsClose, IsSettle, IsLock, IsWait, IsPromise, IsDecision, ShapeOf, Acts, IsAdvance}
+use Rattle.protocol.proofs.Shapes.{Shape, Answers, IsEnd, IsAbort, IsClose, IsSettle, IsLock, IsWait, IsPromise, IsDecision, ShapeOf, Acts, IsAdvance, IsForget}
 use Rattle.protocol.proofs.Shapes.{IsLooseOther, IsCleared, is_loose}
 use Rattle.protocol.proofs.Choices.{others_gone}
 
@@ -117,6 +117,7 @@ pub kept_table_of : (b : Before) (i : Input) (p : Plan) → Sound b → ShapeOf 
 unfolding KeepsTable carried after_change
 kept_table_of b i p sound (Acts shape) = kept_table b p sound shape
 kept_table_of b i p sound (IsAdvance stride at k e) = subst (KeepsTable b) (sym e) sound.table
+kept_table_of b i p sound (IsForget at k low high e) = subst (KeepsTable b) (sym e) sound.table
 
 -- ---- rows that fit the shard
 
@@ -160,3 +161,4 @@ pub kept_fit_of : (b : Before) (i : Input) (p : Plan) → Sound b → ShapeOf b 
 unfolding KeepsFit carried after_change
 kept_fit_of b i p sound (Acts shape) = kept_fit b p sound shape
 kept_fit_of b i p sound (IsAdvance stride at k e) = subst (KeepsFit b) (sym e) sound.fit
+kept_fit_of b i p sound (IsForget at k low high e) = subst (KeepsFit b) (sym e) sound.fit

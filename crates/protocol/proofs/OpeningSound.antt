@@ -20,7 +20,8 @@ use Rattle.locks.proofs.Pairs.{HoldsByKey, LockPair, WaitPair, from_pairs}
 use Rattle.locks.proofs.TableLaws.{all_of_any}
 use Rattle.record.specs.Records.{Status, Unrecorded, StandsPrepared, StandsDecided, HasAborted, HasSettled, HasClosed}
 use Rattle.record.specs.Facts.{TxnStatus, Facts, learn, or_unrecorded, recorded}
-use Rattle.protocol.specs.Rows.{Memory, Row, Phase, IsPrepared, IsDecided, claim_of, claims, find_row, rebuilt, standing_row}
+use Rattle.record.specs.declared.record.Record.{Record}
+use Rattle.protocol.specs.Rows.{Memory, Row, Phase, IsPrepared, IsDecided, claim_of, claims, find_row, held_stamp, rebuilt, safe, standing_row}
 use Rattle.protocol.specs.Sound.{Agrees, IsSound, OpeningKeepsSound, StandsBy, fits, holds_writes}
 use Rattle.protocol.proofs.AboveVersions.{rows_apart}
 use Rattle.protocol.proofs.InWay.{holds_exclusive}
@@ -29,6 +30,7 @@ use Rattle.protocol.proofs.OpenedRows.{IsOwn, all-gather, by_id-gather, find-gat
 use Rattle.protocol.proofs.RecordLocks.{holds_reads, record_free}
 use Rattle.protocol.proofs.RowChanges.{find_members}
 use Rattle.protocol.proofs.RowTable.{claims-by_id}
+use Rattle.protocol.proofs.Serves.{AllOver, Over, over_less, safe_last, safe_over, under_safe}
 
 -- an entry agrees with the row that its id had before the crash
 abbrev Known : Facts → Memory → TxnStatus → Type 0
@@ -61,6 +63,7 @@ record Left (facts : Facts) (memory : Memory) (e : TxnStatus) (r : Row) : Type 0
   backed : Backed memory r
   agrees : (last : ℕ) → memory.last ≤ last → Agrees facts.installs last e.status (Some r)
   fit : (shard : ℕ) → fits shard r ≡ true
+  over : Over (safe memory) (held_stamp r.phase)
 
 backed_by : (memory : Memory) (last : ℕ) (installs : List Install) (t : Id) (q : Row) (phase : Phase) (u : Id) (at : ℕ) (rs : List Bytes)
     (ws : List Write) (r : Row)
@@ -88,6 +91,13 @@ stands_again installs last later q r phase u at rs ws h a phased own locks =
       above = a.above;
     }
 
+-- what is served is below the timestamp of each row
+pub row_over : (memory : Memory) (t : Id) (q : Row) (phase : Phase) → find_row memory.rows t ≡ Some q → q.phase ≡ phase →
+    Over (safe memory) (held_stamp phase)
+row_over memory t q phase found phased =
+    subst (λ p. Over (safe memory) (held_stamp p)) phased
+    (found_all (λ (r : Row). Over (safe memory) (held_stamp r.phase)) (λ (r : Row). r.txn) memory.rows t q (safe_over memory) found)
+
 left_by : (facts : Facts) (memory : Memory) (t : Id) (s : Status) (o : Option Row) (r : Row) → find_row memory.rows t ≡ o →
     Agrees facts.installs memory.last s o
     → standing_row (record { txn = t; status = s }) ≡ Some r → Left facts memory (record { txn = t; status = s }) r
@@ -99,6 +109,7 @@ left_by facts memory t (StandsPrepared p) (Some q) r found a e =
       backed = backed_by memory memory.last facts.installs t q _ p.txn p.at p.reads p.writes _ found a mine refl refl;
       agrees = λ last h. stands_again facts.installs memory.last last q _ _ p.txn p.at p.reads p.writes h a refl refl refl;
       fit = λ shard. refl;
+      over = row_over memory t q _ found a.phase;
     })
 left_by facts memory t (StandsDecided c) (Some q) r found a e =
     let is : record { txn = c.txn; held = locks_of c.reads c.writes; phase = IsDecided c.at c.parts } ≡ r = cc in
@@ -108,6 +119,7 @@ left_by facts memory t (StandsDecided c) (Some q) r found a e =
       backed = backed_by memory memory.last facts.installs t q _ c.txn c.at c.reads c.writes _ found a mine refl refl;
       agrees = λ last h. stands_again facts.installs memory.last last q _ _ c.txn c.at c.reads c.writes h a refl refl refl;
       fit = λ shard. refl;
+      over = row_over memory t q _ found a.phase;
     })
 left_by facts memory t (StandsPrepared p) None r found a e = absurd a
 left_by facts memory t (StandsDecided c) None r found a e = absurd a
@@ -187,6 +199,11 @@ module _ (shard : ℕ) (facts : Facts) (memory : Memory) (sound : IsSound shard 
   pub opened_lawful : IsLawfulTable (claims (gather standing_row facts.entries))
   opened_lawful = lawful_again memory (gather standing_row facts.entries) sound.table opened_up opened_backed
 
+  -- what was served is below the timestamp of each
+  pub opened_over : (n : ℕ) → n ≤ safe memory → AllOver n (gather standing_row facts.entries)
+  opened_over n low = all-gather (Known facts memory) (λ r. Over n (held_stamp r.phase))
+      (λ e r k a. over_less n (safe memory) (held_stamp r.phase) low (left_of facts memory e r k a).over) facts.entries known
+
   opened_fit : IsTrue (list_all (fits shard) (gather standing_row facts.entries))
   opened_fit =
       each_of_all (fits shard) (gather standing_row facts.entries)
@@ -208,4 +225,6 @@ opening_keeps_sound shard facts memory sound = record {
   installed = covered_later memory.last facts.floor facts.installs sound.under sound.installed;
   fit = opened_fit shard facts memory sound;
   agrees = opened_agrees shard facts memory sound;
+  horizon = under_safe facts.horizon (rebuilt (learn facts (Record.Opened (facts.epoch + 1)))) (omega (arith, sound.horizon, safe_last memory, sound.under))
+      (opened_over shard facts memory sound facts.horizon sound.horizon);
 }

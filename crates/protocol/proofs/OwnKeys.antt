@@ -32,6 +32,7 @@ module _ (setup : Setup) where
     aborted = λ t. refl;
     outcomes = λ t outcome. refl;
     ceilings = λ at. refl;
+    horizons = λ at. refl;
   }
 
   -- a message for this shard names its keys alone

@@ -1,15 +1,16 @@
 -- Each plan of a step has one of the shapes.
 use Rattle.std.specs.List.{list_all}
-use Rattle.std.proofs.Common.{refl, sym, subst, ap, ◌∙◌}
-use Rattle.std.specs.Prelude.{ℕ, ◌≡◌, max, Bool, true, false, cond, ◌&&◌, nat_eq, nat_lt, List, [], Option, Some, None, Ok, Err}
+use Rattle.std.proofs.Common.{refl, sym, subst, ap, ◌∙◌, ltb-false, leb-false}
+use Rattle.std.specs.Prelude.{ℕ, ◌≡◌, max, Bool, true, false, cond, ◌&&◌, nat_eq, nat_lt, nat_le, List, [], Option, Some, None, Ok, Err}
 use Rattle.std.proofs.lemmas.Bool.{and_parts}
 use Rattle.units.specs.Lists.{head, when}
 use Rattle.units.specs.Ids.{Id}
 use Rattle.units.specs.ById.{IsById}
 use Rattle.units.specs.Locks.{exclusive, holds, ready, is_free}
-use Rattle.units.specs.declared.fault.Fault.TheVariants.{Future}
+use Rattle.units.specs.declared.fault.Fault.TheVariants.{Future, NotYet}
 use Rattle.units.specs.declared.lock.Lock.{Lock}
 use Rattle.units.specs.declared.setup.Setup.{Setup}
+use Rattle.record.specs.declared.record.Record.{Record}
 use Rattle.units.proofs.IdLaws.{same_id-is}
 use Rattle.units.proofs.ByIdLaws.{found_is}
 use Rattle.truetime.specs.Interval.{Interval}
@@ -17,13 +18,13 @@ use Rattle.record.specs.Facts.{Facts}
 use Rattle.message.specs.declared.message.Message.{Message}
 use Rattle.message.specs.declared.message.Input.{Input}
 use Rattle.protocol.specs.Rows.{Memory, Row, Phase, Idle, WaitsRead, WaitsPrepare, WaitsCommit, Collecting, IsPrepared, IsDecided, Standing, HasRow}
-use Rattle.protocol.specs.Rows.{claims, find_row, needs_of}
-use Rattle.protocol.specs.Plan.{Plan, Planned, Keeps, Before, start_of_step, stands}
+use Rattle.protocol.specs.Rows.{claims, find_row, needs_of, safe}
+use Rattle.protocol.specs.Plan.{idles, Plan, Planned, Keeps, Before, start_of_step, stands}
 use Rattle.protocol.specs.Cells.{other_parts, ceiling_for, to_read, plan_go_on, plan_resume_row, plan_resume_id, plan_resume, plan_settle}
-use Rattle.protocol.specs.Cells.{plan_advance, plan_nudge}
+use Rattle.protocol.specs.Cells.{plan_advance, plan_nudge, plan_forget}
 use Rattle.protocol.specs.Step.{is_for, plan_message, plan_input}
 use Rattle.protocol.proofs.InWay.{row_at, stands_at, room_at, free_when_ready}
-use Rattle.protocol.proofs.Shapes.{Shaped, IsSettle, IsLock, ShapeOf, Acts, IsAdvance, ShapedBy, is_undecided, is_loose, reads_held, all_fit}
+use Rattle.protocol.proofs.Shapes.{Shaped, Answers, IsSettle, IsLock, ShapeOf, Acts, IsAdvance, IsForget, ShapedBy, is_undecided, is_loose, reads_held, all_fit}
 use Rattle.protocol.proofs.Choices.{Ascends, planned, refused, shaped_cond, shaped_err, shaped_idle, shaped_reply, fits_at, clear, held_at}
 use Rattle.protocol.proofs.RequestShapes.{shaped_read, shaped_promise, shaped_prepare, shaped_granted, shaped_commit}
 use Rattle.protocol.proofs.AnswerShapes.{shaped_vote, shaped_outcome, shaped_give_up, shaped_ask}
@@ -118,6 +119,17 @@ shaped_advance b latest stride at = by_test (nat_lt latest at)
     by_test true = tt
     by_test false = IsAdvance stride at refl refl
 
+shaped_forget : (b : Before) (at : ℕ) → ShapedBy b (Input.Forget at) (plan_forget b at)
+unfolding plan_forget ShapedBy
+shaped_forget b at = by_tests (nat_lt (safe b.memory) at) refl (nat_le at b.facts.horizon) refl
+  where
+    by_tests : (late : Bool) → nat_lt (safe b.memory) at ≡ late → (known : Bool) → nat_le at b.facts.horizon ≡ known →
+        ShapedBy b (Input.Forget at) (cond late (Err NotYet) (cond known (Ok (idles b))
+        (Ok (record { wounded = []; change = Keeps; logged = Some (Record.Horizon at); last = b.memory.last; outbox = [] }))))
+    by_tests true k known h = tt
+    by_tests false k true h = Acts (Answers [] refl)
+    by_tests false k false h = IsForget at refl (ltb-false (safe b.memory) at k) (leb-false at b.facts.horizon h) refl
+
 shaped_input : (rows : ℕ) (setup : Setup) (facts : Facts) (memory : Memory) (now : Interval) (i : Input) → IsById (λ r. r.txn) memory.rows
     → ShapedBy (start_of_step rows setup facts memory) i (plan_input setup (start_of_step rows setup facts memory) now i)
 unfolding plan_input
@@ -128,6 +140,7 @@ shaped_input rows setup facts memory now Input.Resume up = acts _ Input.Resume _
 shaped_input rows setup facts memory now (Input.Settle t) up = acts _ (Input.Settle t) _ (shaped_settle
     (start_of_step rows setup facts memory) now.earliest t _ refl)
 shaped_input rows setup facts memory now (Input.Advance at) up = shaped_advance (start_of_step rows setup facts memory) now.latest setup.stride at
+shaped_input rows setup facts memory now (Input.Forget at) up = shaped_forget (start_of_step rows setup facts memory) at
 shaped_input rows setup facts memory now (Input.Nudge t) up = acts _ (Input.Nudge t) _ (shaped_nudge (start_of_step rows setup facts memory) t _ refl)
 
 -- each plan of a step has a shape

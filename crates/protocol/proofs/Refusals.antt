@@ -36,6 +36,7 @@ any_fits = record {
   aborted = λ t. refl;
   outcomes = λ t outcome. refl;
   ceilings = λ at. refl;
+  horizons = λ at. refl;
 }
 
 any_rows : (rows : List Row) → list_all (λ (r : Row). any_phase r.phase) rows ≡ true

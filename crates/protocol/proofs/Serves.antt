@@ -31,18 +31,18 @@ use Rattle.protocol.proofs.AboveVersions.{above_later}
 use Rattle.protocol.proofs.KeptFacts.{raised_up}
 use Rattle.protocol.proofs.RowChanges.{row_as}
 use Rattle.protocol.proofs.RowTable.{with_row-is}
-use Rattle.protocol.proofs.Shapes.{Shape, Answers, IsEnd, IsAbort, IsClose, IsSettle, IsLock, IsWait, IsPromise, IsDecision, ShapeOf, Acts, IsAdvance}
+use Rattle.protocol.proofs.Shapes.{Shape, Answers, IsEnd, IsAbort, IsClose, IsSettle, IsLock, IsWait, IsPromise, IsDecision, ShapeOf, Acts, IsAdvance, IsForget}
 use Rattle.protocol.specs.Showable.{rises_by_key, added}
 use Rattle.protocol.proofs.Rising.{rise_one, rise_none}
 
 -- ---- the served time by its bounds
 
 -- what holds the served time is above a number
-abbrev Over : ℕ → Option ℕ → Type 0
+abbrev pub Over : ℕ → Option ℕ → Type 0
 Over n None = Unit {0}
 Over n (Some s) = n ≤ s - 1
 
-abbrev AllOver : ℕ → List Row → Type 0
+abbrev pub AllOver : ℕ → List Row → Type 0
 AllOver n rows = AllByRecursion (λ r. Over n (held_stamp r.phase)) rows
 
 under_least : (n last : ℕ) (rows : List Row) → n ≤ last → AllOver n rows → n ≤ least_with last (map (λ s. s - 1) (gather (λ r. held_stamp r.phase) rows))
@@ -58,7 +58,7 @@ least_under : (last : ℕ) (xs : List ℕ) → least_with last xs ≤ last
 least_under last [] = omega arith
 least_under last (x ∷ xs) = omega (arith, least_under last xs)
 
-over_less : (n m : ℕ) (o : Option ℕ) → n ≤ m → Over m o → Over n o
+pub over_less : (n m : ℕ) (o : Option ℕ) → n ≤ m → Over m o → Over n o
 over_less n m None low over = tt
 over_less n m (Some s) low over = (let a : m ≤ s - 1 = over in omega (arith, low, a))
 
@@ -81,15 +81,15 @@ all_over : (n last : ℕ) (rows : List Row) → n ≤ least_with last (holds_of 
 all_over n last [] low = tt
 all_over n last (r ∷ rows) low = (over_first n last rows (held_stamp r.phase) low, all_over n last rows (over_rest n last rows (held_stamp r.phase) low))
 
-safe_last : (m : Memory) → safe m ≤ m.last
+pub safe_last : (m : Memory) → safe m ≤ m.last
 unfolding safe
 safe_last m = least_under m.last _
 
-safe_over : (m : Memory) → AllOver (safe m) m.rows
+pub safe_over : (m : Memory) → AllOver (safe m) m.rows
 unfolding safe
 safe_over m = all_over (safe m) m.last m.rows (omega arith)
 
-under_safe : (n : ℕ) (m : Memory) → n ≤ m.last → AllOver n m.rows → n ≤ safe m
+pub under_safe : (n : ℕ) (m : Memory) → n ≤ m.last → AllOver n m.rows → n ≤ safe m
 unfolding safe
 under_safe n m low all = under_least n m.last m.rows low all
 
@@ -159,6 +159,47 @@ rises b p (IsDecision t ended needs at ps rs ws out l e) = subst (Rises b) (sym 
 pub rises_of : (b : Before) (i : Input) (p : Plan) → ShapeOf b i p → Rises b p
 rises_of b i p (Acts shape) = rises b p shape
 rises_of b i p (IsAdvance stride at k e) = subst (Rises b) (sym e) (rises_by b _ (omega arith) tt)
+rises_of b i p (IsForget at k low high e) = subst (Rises b) (sym e) (rises_by b _ (omega arith) tt)
+
+-- ---- the horizon stays at or below it
+
+Below : Before → Plan → Type 0
+Below b p = (facts_after b.facts p.logged).horizon ≤ safe b.memory
+
+below : (b : Before) (p : Plan) → Sound b → Shape b p → Below b p
+unfolding Below learn
+below b p sound (Answers out e) = subst (Below b) (sym e) sound.horizon
+below b p sound (IsEnd t out s e) = subst (Below b) (sym e) sound.horizon
+below b p sound (IsAbort t out s e) = subst (Below b) (sym e) sound.horizon
+below b p sound (IsClose t n c at held outcome out found k e) = subst (Below b) (sym e) sound.horizon
+below b p sound (IsSettle t at ps held out found e) = subst (Below b) (sym e) sound.horizon
+below b p sound (IsLock t ended needs phase out l e) = subst (Below b) (sym e) sound.horizon
+below b p sound (IsWait t needs phase out w e) = subst (Below b) (sym e) sound.horizon
+below b p sound (IsPromise t ended c at rs ws out l e) = subst (Below b) (sym e) sound.horizon
+below b p sound (IsDecision t ended needs at ps rs ws out l e) = subst (Below b) (sym e) sound.horizon
+
+below_ceiling : (b : Before) (high : Bool) (n : ℕ) → Sound b → (facts_after b.facts (cond high (Some (Record.Ceiling n)) None)).horizon ≤ safe b.memory
+unfolding learn
+below_ceiling b true n sound = sound.horizon
+below_ceiling b false n sound = sound.horizon
+
+below_horizon : (b : Before) (at : ℕ) → Sound b → at ≤ safe b.memory → (learn b.facts (Record.Horizon at)).horizon ≤ safe b.memory
+unfolding learn
+below_horizon b at sound low = omega (arith, low, sound.horizon)
+
+below_of : (b : Before) (i : Input) (p : Plan) → Sound b → ShapeOf b i p → Below b p
+unfolding Below
+below_of b i p sound (Acts shape) = below b p sound shape
+below_of b i p sound (IsAdvance stride at k e) = subst (Below b) (sym e) (below_ceiling b (nat_lt b.facts.floor at) _ sound)
+below_of b i p sound (IsForget at k low high e) = subst (Below b) (sym e) (below_horizon b at sound low)
+
+-- after a step it is below what is served then
+pub kept_horizon_of : (b : Before) (i : Input) (p : Plan) → Sound b → ShapeOf b i p → (facts_after b.facts p.logged).horizon ≤ safe (carried p b.memory)
+unfolding Below
+kept_horizon_of b i p sound shape =
+    let before : (facts_after b.facts p.logged).horizon ≤ safe b.memory = below_of b i p sound shape in
+    let up : safe b.memory ≤ safe (carried p b.memory) = rises_of b i p shape in
+    omega (arith, before, up)
 
 -- ---- what is installed
 
@@ -276,6 +317,7 @@ pub adds_of : (b : Before) (i : Input) (p : Plan) → Sound b → Ascend b → S
 unfolding AddsBy
 adds_of b i p sound up (Acts shape) = adds b p sound up shape
 adds_of b i p sound up (IsAdvance stride at k e) = subst (AddsBy b) (sym e) (adds_ceiling b (nat_lt b.facts.floor at) _ refl)
+adds_of b i p sound up (IsForget at k low high e) = subst (AddsBy b) (sym e) (adds_none b)
 
 -- ---- the versions stay, and new ones come behind them
 
@@ -284,6 +326,7 @@ unfolding learn
 grows facts None = sym (append-nil facts.installs)
 grows facts (Some (Record.Opened epoch)) = sym (append-nil facts.installs)
 grows facts (Some (Record.Ceiling at)) = sym (append-nil facts.installs)
+grows facts (Some (Record.Horizon at)) = sym (append-nil facts.installs)
 grows facts (Some (Record.Prepare p)) = sym (append-nil facts.installs)
 grows facts (Some (Record.Commit c)) = sym (append-nil facts.installs)
 grows facts (Some (Record.Abort t)) = sym (append-nil facts.installs)

@@ -1,5 +1,5 @@
 -- The few shapes that the plan of a step can have, with what each of them promises of the state that it is made from.
-use Rattle.std.specs.Prelude.{ℕ, ◌≡◌, ◌<◌, Bool, true, false, not, ◌||◌, max, List, [], Option, Some, None, Ok, Err}
+use Rattle.std.specs.Prelude.{ℕ, ◌≡◌, ◌<◌, ◌≤◌, Bool, true, false, not, ◌||◌, max, List, [], Option, Some, None, Ok, Err}
 use Rattle.std.specs.List.{AllByRecursion, list_all}
 use Rattle.units.specs.Lists.{head, when}
 use Rattle.std.specs.Prelude.{nat_eq, nat_lt}
@@ -12,7 +12,7 @@ use Rattle.record.specs.declared.record.Record.{Record}
 use Rattle.message.specs.declared.message.Envelope.{Envelope}
 use Rattle.message.specs.declared.message.Input.{Input}
 use Rattle.protocol.specs.Rows.{Row, Phase, IsPrepared, IsDecided, Standing, IsUnknown, WasEnded, HasRow, claims, find_row, is_firm, needs_of}
-use Rattle.protocol.specs.Rows.{held_in, without_rows}
+use Rattle.protocol.specs.Rows.{held_in, safe, without_rows}
 use Rattle.protocol.specs.Outputs.{promise, decision}
 use Rattle.protocol.specs.Plan.{Plan, Planned, Before, Keeps, stands, replies, ends, drops, puts, in_way, is_crowded}
 use Rattle.protocol.specs.Cells.{is_outcome_for, raised, ceiling_for}
@@ -113,11 +113,14 @@ pub data Shape (b : Before) (p : Plan) : Type 0 where
       → IsResolved b t ended needs at ps rs ws
       → p ≡ puts b ended t needs (IsDecided at ps) (Some (decision t at ps rs ws)) (max b.memory.last at) out → Shape b p
 
--- the shape of the plan of an input: served time alone is advanced, or it is one of those above
+-- the shape of the plan of an input: served time alone is advanced, a horizon is logged, or it is one of those above
 pub data ShapeOf (b : Before) (i : Input) (p : Plan) : Type 0 where
   Acts : Shape b p → ShapeOf b i p
   IsAdvance : (stride at : ℕ) → i ≡ Input.Advance at
       → p ≡ record { wounded = []; change = Keeps; logged = ceiling_for b.facts.floor stride at; last = max b.memory.last at; outbox = [] }
+      → ShapeOf b i p
+  IsForget : (at : ℕ) → i ≡ Input.Forget at → at ≤ safe b.memory → b.facts.horizon < at
+      → p ≡ record { wounded = []; change = Keeps; logged = Some (Record.Horizon at); last = b.memory.last; outbox = [] }
       → ShapeOf b i p
 
 -- where a plan is not refused, it has a shape

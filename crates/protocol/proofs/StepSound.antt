@@ -11,6 +11,7 @@ use Rattle.protocol.proofs.KeptFacts.{KeepsFacts, kept_facts_of}
 use Rattle.protocol.proofs.KeptRows.{KeepsFit, KeepsTable, kept_fit_of, kept_table_of}
 use Rattle.protocol.proofs.PlanShapes.{shape_of}
 use Rattle.protocol.proofs.RowChanges.{by_id-claims}
+use Rattle.protocol.proofs.Serves.{kept_horizon_of}
 use Rattle.protocol.proofs.Shapes.{ShapeOf}
 
 kept : (b : Before) (i : Input) (p : Plan) → IsInLimit i → Sound b → ShapeOf b i p → IsSound b.shard (facts_after b.facts p.logged) (carried p b.memory)
@@ -25,6 +26,7 @@ kept b i p fits sound shape =
       installed = known.installed;
       fit = kept_fit_of b i p sound shape;
       agrees = agreeing_of b i p sound shape;
+      horizon = kept_horizon_of b i p sound shape;
     }
 
 pub step_keeps_sound : StepKeepsSound
@@ -43,4 +45,5 @@ fresh_is_sound shard = record {
   installed = refl;
   fit = refl;
   agrees = λ t. tt;
+  horizon = omega arith;
 }

@@ -66,6 +66,7 @@ added_rises : (shard : ℕ) (log : List Record) (r : Record) → follows_facts s
     → each_ascends (facts_of log).entries ≡ true → rises_by_key (facts_of log).installs (added (facts_of log) (Some r)) ≡ true
 added_rises shard log (Record.Opened epoch) follows fits up = rise_none (facts_of log).installs
 added_rises shard log (Record.Ceiling at) follows fits up = rise_none (facts_of log).installs
+added_rises shard log (Record.Horizon at) follows fits up = rise_none (facts_of log).installs
 added_rises shard log (Record.Prepare p) follows fits up = rise_none (facts_of log).installs
 added_rises shard log (Record.Commit c) follows fits up = rise_none (facts_of log).installs
 added_rises shard log (Record.Abort t) follows fits up = rise_none (facts_of log).installs

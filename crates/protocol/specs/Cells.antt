@@ -9,10 +9,10 @@ use Rattle.units.specs.Keys.{Bytes}
 use Rattle.units.specs.Locks.{holds, ready, exclusive}
 use Rattle.units.specs.Versions.{latest}
 use Rattle.protocol.specs.Rows.{Row, Phase, Idle, WaitsRead, WaitsPrepare, WaitsCommit, Collecting, IsPrepared, IsDecided, Voted, Standing, IsUnknown}
-use Rattle.protocol.specs.Rows.{WasEnded, HasRow, WasAborted, WasSettled, WasClosed, claims, find_row, with_vote}
+use Rattle.protocol.specs.Rows.{WasEnded, HasRow, WasAborted, WasSettled, WasClosed, claims, find_row, safe, with_vote}
 use Rattle.protocol.specs.Outputs.{promise, decision, vote_to, answer_to, done_to, outcome_to, ask_to}
 use Rattle.protocol.specs.Plan.{Keeps, Plan, Planned, Before, in_way, opens, is_crowded, replies, idles, ends, drops, puts, roomed, time_limit, timed}
-use Rattle.units.specs.declared.fault.Fault.TheVariants.{Future, Early, Stranger}
+use Rattle.units.specs.declared.fault.Fault.TheVariants.{Future, NotYet, Early, Stranger}
 use Rattle.units.specs.declared.lock.Lock.{Lock}
 use Rattle.units.specs.declared.lock.Mode.TheVariants.{Shared}
 use Rattle.units.specs.declared.writes.Write.{Write}
@@ -278,7 +278,7 @@ plan_resume_id b earliest (Some t) = plan_resume_row b earliest (find_row b.memo
 unfoldable pub plan_resume : Before → ℕ → Planned
 plan_resume b earliest = plan_resume_id b earliest (ready (claims b.memory.rows))
 
--- ---- settle, advance, nudge
+-- ---- settle, advance, nudge, forget
 
 -- settling, by the standing of the transaction: only once the timestamp has surely passed
 unfoldable pub plan_settle : Before → ℕ → Id → Standing → Planned
@@ -302,3 +302,10 @@ plan_advance b latest stride at =
 unfoldable pub plan_nudge : Before → Id → Standing → Planned
 plan_nudge b t (HasRow held (IsPrepared c p)) = Ok (replies b (ask_to b.shard c t ∷ []))
 plan_nudge b t _ = Err Stranger
+
+-- a horizon: nothing above what is served is forgotten, and what is forgotten stays so
+unfoldable pub plan_forget : Before → ℕ → Planned
+plan_forget b at =
+    cond (nat_lt (safe b.memory) at) (Err NotYet)
+    (cond (nat_le at b.facts.horizon) (Ok (idles b))
+    (Ok (record { wounded = []; change = Keeps; logged = Some (Record.Horizon at); last = b.memory.last; outbox = [] })))

@@ -20,7 +20,7 @@ use Rattle.record.specs.Facts.{Facts, facts_of, learn, recorded}
 use Rattle.record.specs.declared.record.Record.{Record}
 use Rattle.facts.specs.Rules.{follows_facts}
 use Rattle.message.specs.declared.message.Input.{Input}
-use Rattle.protocol.specs.Rows.{Memory, Row, Phase, WaitsPrepare, WaitsCommit, Collecting, IsPrepared, IsDecided, claims, find_row, rebuilt}
+use Rattle.protocol.specs.Rows.{Memory, Row, Phase, WaitsPrepare, WaitsCommit, Collecting, IsPrepared, IsDecided, claims, find_row, rebuilt, safe}
 use Rattle.protocol.specs.Plan.{Plan, start_of_step, carried}
 use Rattle.protocol.specs.Step.{facts_after, IsInLimit, plan_input}
 
@@ -89,6 +89,8 @@ pub record IsSound (shard : ℕ) (facts : Facts) (memory : Memory) : Type 0 wher
   pub installed : IsTrue (list_all (λ i. nat_le i.at memory.last) facts.installs)
   pub fit : IsTrue (list_all (fits shard) memory.rows)
   pub agrees : (t : Id) → Agrees facts.installs memory.last (recorded facts t) (find_row memory.rows t)
+  -- what is forgotten was served, so each promise and decision that stands is above it
+  pub horizon : facts.horizon ≤ safe memory
 
 -- a shard that starts with one opening in its log and nothing in memory
 abbrev pub FreshIsSound : Type 0

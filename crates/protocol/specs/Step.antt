@@ -9,7 +9,7 @@ use Rattle.record.specs.Facts.{Facts, learn}
 use Rattle.protocol.specs.Rows.{Memory}
 use Rattle.protocol.specs.Plan.{Planned, Before, start_of_step, stands, carried}
 use Rattle.protocol.specs.Cells.{plan_read, plan_prepare, plan_commit, plan_vote, plan_outcome, plan_give_up, plan_ask, plan_resume, plan_settle}
-use Rattle.protocol.specs.Cells.{plan_advance, plan_nudge}
+use Rattle.protocol.specs.Cells.{plan_advance, plan_nudge, plan_forget}
 use Rattle.units.specs.declared.fault.Fault.{Fault}
 use Rattle.units.specs.declared.fault.Fault.TheVariants.{Stranger}
 use Rattle.units.specs.declared.setup.Setup.{Setup}
@@ -46,6 +46,7 @@ plan_input setup b now Input.Resume = plan_resume b now.earliest
 plan_input setup b now (Input.Settle t) = plan_settle b now.earliest t (stands b t)
 plan_input setup b now (Input.Advance at) = plan_advance b now.latest setup.stride at
 plan_input setup b now (Input.Nudge t) = plan_nudge b t (stands b t)
+plan_input setup b now (Input.Forget at) = plan_forget b at
 
 -- what a step answers: a refusal, or the record that it logs, the memory after it and the messages that it puts out
 pub data Stepped : Type 0 where
@@ -73,4 +74,5 @@ facts_after facts (Some r) = learn facts r
 -- the timestamp that an input names is within the limit
 abbrev pub IsInLimit : Input → Type 0
 IsInLimit (Input.Advance at) = at ≤ 2 ^ 62 - 1
+IsInLimit (Input.Forget at) = at ≤ 2 ^ 62 - 1
 IsInLimit _ = Unit {0}

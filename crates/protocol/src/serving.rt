@@ -48,8 +48,8 @@ pub fn writes_ascend(input: &Input)
         Input::Deliver(Message::Commit(commit)) => {
             let _ = commit.writes.as_slice();
         }
-        Input::Advance(to) => {
-            let _ = to.micros();
+        Input::Advance(at) | Input::Forget(at) => {
+            let _ = at.micros();
         }
         _ => {}
     }

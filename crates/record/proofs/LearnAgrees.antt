@@ -19,11 +19,11 @@ use Rattle.record.specs.Facts.{Facts, TxnStatus, facts_of, learn, with_status, a
 use Rattle.record.specs.FactLaws.{LearnAgrees, LearntAgrees, AcceptedFollows, learnt}
 use Rattle.record.specs.Installs.{installs_of, installed_by, writes_by}
 use Rattle.record.specs.Records.{Ended, Status, Unrecorded, StandsPrepared, StandsDecided, HasAborted, HasSettled, HasClosed, as_opened, as_ended}
-use Rattle.record.specs.Records.{stamp_in, id_in, ids_of, epoch_of, floor_of, prepared_of, committed_of, is_aborted, ended_of, status_by, status_of}
+use Rattle.record.specs.Records.{stamp_in, as_horizon, id_in, ids_of, epoch_of, floor_of, horizon_of, prepared_of, committed_of, is_aborted, ended_of, status_by, status_of}
 use Rattle.record.specs.declared.record.Committed.{Committed}
 use Rattle.record.specs.declared.record.Prepared.{Prepared}
 use Rattle.record.specs.declared.record.Record.{Record}
-use Rattle.record.specs.declared.record.Record.TheVariants.{Opened, Ceiling, Prepare, Commit, Abort, Outcome}
+use Rattle.record.specs.declared.record.Record.TheVariants.{Opened, Ceiling, Prepare, Commit, Abort, Outcome, Horizon}
 use Rattle.record.proofs.Sound.{Sound, sound_empty, sound_more, made, new_facts, prepare_new, commit_new, outcome_follows, opened_follows}
 use Rattle.record.proofs.Sound.{committed_more, prepared_more, outcome_made}
 use Rattle.record.proofs.Statuses.{status_more, status_same, recorded_is, entries_by, entries_with, or_none}
@@ -42,6 +42,7 @@ max_next n e h = omega (arith, h)
 epoch_after : ℕ → Record → ℕ
 epoch_after n (Opened e) = e
 epoch_after n (Ceiling at) = n
+epoch_after n (Horizon at) = n
 epoch_after n (Prepare p) = n
 epoch_after n (Commit c) = n
 epoch_after n (Abort t) = n
@@ -55,18 +56,27 @@ epoch_more shard log r h =
     by_kind : (q : Record) → follows shard log q ≡ true → max (epoch_of log) (greatest (gather as_opened (q ∷ []))) ≡ epoch_after (epoch_of log) q
     by_kind (Opened e) k = max_next (epoch_of log) e (eqb-true _ _ (opened_follows shard log e k))
     by_kind (Ceiling at) k = max_none _
+    by_kind (Horizon at) k = max_none _
     by_kind (Prepare p) k = max_none _
     by_kind (Commit c) k = max_none _
     by_kind (Abort t) k = max_none _
     by_kind (Outcome t o) k = max_none _
 
-floor_more : (log : List Record) (r : Record) → floor_of (log ++ r ∷ []) ≡ or_floor (floor_of log) (stamp_in r)
-floor_more log r =
-    ap greatest (gather_append stamp_in log (r ∷ [])) ∙ greatest_append (gather stamp_in log) (gather stamp_in (r ∷ [])) ∙ by_stamp (stamp_in r)
+-- the greatest of what the records hold, with one record more
+greatest_more : (of : Record → Option ℕ) (log : List Record) (r : Record) →
+    greatest (gather of (log ++ r ∷ [])) ≡ or_floor (greatest (gather of log)) (of r)
+greatest_more of log r = ap greatest (gather_append of log (r ∷ [])) ∙ greatest_append (gather of log) (gather of (r ∷ [])) ∙ by_stamp (of r)
   where
-    by_stamp : (o : Option ℕ) → max (floor_of log) (greatest (elim o as (λ q. List ℕ) [ None ↦ [] | Some s ↦ s ∷ [] ])) ≡ or_floor (floor_of log) o
+    by_stamp : (o : Option ℕ) →
+        max (greatest (gather of log)) (greatest (elim o as (λ q. List ℕ) [ None ↦ [] | Some s ↦ s ∷ [] ])) ≡ or_floor (greatest (gather of log)) o
     by_stamp None = max_none _
     by_stamp (Some s) = max_one _ s
+
+floor_more : (log : List Record) (r : Record) → floor_of (log ++ r ∷ []) ≡ or_floor (floor_of log) (stamp_in r)
+floor_more log r = greatest_more stamp_in log r
+
+horizon_more : (log : List Record) (r : Record) → horizon_of (log ++ r ∷ []) ≡ or_floor (horizon_of log) (as_horizon r)
+horizon_more log r = greatest_more as_horizon log r
 
 -- ---- the entries
 
@@ -202,6 +212,7 @@ single_none : (shard : ℕ) (log : List Record) (r : Record) (t : Id) → follow
     (committed_of (r ∷ []) t ≡ None) × (prepared_of (r ∷ []) t ≡ None)
 single_none shard log (Opened e) t h m = (refl, refl)
 single_none shard log (Ceiling at) t h m = (refl, refl)
+single_none shard log (Horizon at) t h m = (refl, refl)
 single_none shard log (Prepare p) t h m = (
   refl,
   no_single (same_id p.txn t) p (λ e. sym (subst (λ v. made log v ≡ false) (same_id-is p.txn t e)
@@ -281,9 +292,8 @@ installs_change shard log t o s h none m =
 
 -- ---- all facts
 
-same_facts : (e f : ℕ) (es : List TxnStatus) (is : List Install) (g h : ℕ) (gs : List TxnStatus) (js : List Install) → e ≡ g → f ≡ h → es ≡ gs → is ≡ js →
-    (let x : Facts = record { epoch = e; floor = f; entries = es; installs = is } in x) ≡ record { epoch = g; floor = h; entries = gs; installs = js }
-same_facts e f es is g h gs js p q r s = λ i. record { epoch = p i; floor = q i; entries = r i; installs = s i }
+same_facts : (a b : Facts) → a.epoch ≡ b.epoch → a.floor ≡ b.floor → a.entries ≡ b.entries → a.installs ≡ b.installs → a.horizon ≡ b.horizon → a ≡ b
+same_facts a b p q r s t = λ i. record { epoch = p i; floor = q i; entries = r i; installs = s i; horizon = t i }
 
 not_false : (b : Bool) → not b ≡ true → b ≡ false
 not_false true e = cc
@@ -292,32 +302,35 @@ not_false false e = refl
 pub learns : (shard : ℕ) (log : List Record) (r : Record) → Sound log → follows shard log r ≡ true → facts_of (log ++ r ∷ []) ≡ learn (facts_of log) r
 unfolding facts_of learn entries entries_by epoch_after
 learns shard log (Opened e) s h =
-    same_facts _ _ _ _ _ _ _ _ (epoch_more shard log (Opened e) h) (floor_more log (Opened e)) (entries_stay log (Opened e) refl)
-    (installs_stay shard log (Opened e) s h refl)
+    same_facts _ _ (epoch_more shard log (Opened e) h) (floor_more log (Opened e)) (entries_stay log (Opened e) refl)
+    (installs_stay shard log (Opened e) s h refl) (horizon_more log (Opened e))
 learns shard log (Ceiling at) s h =
-    same_facts _ _ _ _ _ _ _ _ (epoch_more shard log (Ceiling at) h) (floor_more log (Ceiling at)) (entries_stay log (Ceiling at) refl)
-    (installs_stay shard log (Ceiling at) s h refl)
+    same_facts _ _ (epoch_more shard log (Ceiling at) h) (floor_more log (Ceiling at)) (entries_stay log (Ceiling at) refl)
+    (installs_stay shard log (Ceiling at) s h refl) (horizon_more log (Ceiling at))
+learns shard log (Horizon at) s h =
+    same_facts _ _ (epoch_more shard log (Horizon at) h) (floor_more log (Horizon at)) (entries_stay log (Horizon at) refl)
+    (installs_stay shard log (Horizon at) s h refl) (horizon_more log (Horizon at))
 learns shard log (Prepare p) s h =
-    same_facts _ _ _ _ _ _ _ _ (epoch_more shard log (Prepare p) h) (floor_more log (Prepare p))
+    same_facts _ _ (epoch_more shard log (Prepare p) h) (floor_more log (Prepare p))
     (entries_change log (Prepare p) p.txn (StandsPrepared p) refl
     (prepared_status log p (new_untouched log p.txn s (new_facts log p.txn (prepare_new shard log p h)))))
-    (installs_stay shard log (Prepare p) s h refl)
+    (installs_stay shard log (Prepare p) s h refl) (horizon_more log (Prepare p))
 learns shard log (Commit c) s h =
-    same_facts _ _ _ _ _ _ _ _ (epoch_more shard log (Commit c) h) (floor_more log (Commit c))
+    same_facts _ _ (epoch_more shard log (Commit c) h) (floor_more log (Commit c))
     (entries_change log (Commit c) c.txn (StandsDecided c) refl
     (decided_status log c (new_untouched log c.txn s (new_facts log c.txn (commit_new shard log c h)))))
-    (installs_stay shard log (Commit c) s h refl)
+    (installs_stay shard log (Commit c) s h refl) (horizon_more log (Commit c))
 learns shard log (Abort t) s h =
-    same_facts _ _ _ _ _ _ _ _ (epoch_more shard log (Abort t) h) (floor_more log (Abort t))
+    same_facts _ _ (epoch_more shard log (Abort t) h) (floor_more log (Abort t))
     (entries_change log (Abort t) t HasAborted refl (aborted_status log t))
-    (installs_stay shard log (Abort t) s h refl)
+    (installs_stay shard log (Abort t) s h refl) (horizon_more log (Abort t))
 learns shard log (Outcome t o) s h =
     let none : ended_of log t ≡ None = is_none _ (not_false _ ((outcome_follows shard log t o h).0)) in
     let m : made log t ≡ true = outcome_made log t o ((outcome_follows shard log t o h).1) in
-    same_facts _ _ _ _ _ _ _ _ (epoch_more shard log (Outcome t o) h) (floor_more log (Outcome t o))
+    same_facts _ _ (epoch_more shard log (Outcome t o) h) (floor_more log (Outcome t o))
     (entries_change log (Outcome t o) t _ refl (ended_status log t o none) ∙ ap (λ x. with_status (entries log) t (after_outcome x o))
     (sym (recorded_is log t)))
-    (installs_change shard log t o s h none m ∙ ap (λ x. installs_of log ++ installs_at x o) (sym (recorded_is log t)))
+    (installs_change shard log t o s h none m ∙ ap (λ x. installs_of log ++ installs_at x o) (sym (recorded_is log t))) (horizon_more log (Outcome t o))
 
 -- ---- whole lists
 

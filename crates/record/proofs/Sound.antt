@@ -15,7 +15,7 @@ use Rattle.record.specs.Records.{status_by, status_of, epoch_of}
 use Rattle.record.specs.declared.record.Committed.{Committed}
 use Rattle.record.specs.declared.record.Prepared.{Prepared}
 use Rattle.record.specs.declared.record.Record.{Record}
-use Rattle.record.specs.declared.record.Record.TheVariants.{Opened, Ceiling, Prepare, Commit, Abort, Outcome}
+use Rattle.record.specs.declared.record.Record.TheVariants.{Opened, Ceiling, Prepare, Commit, Abort, Outcome, Horizon}
 
 -- ---- one more record
 
@@ -123,6 +123,7 @@ single false x = refl
 ended_made : (shard : ℕ) (log : List Record) (r : Record) (t : Id) → follows shard log r ≡ true → is_there (ended_of (r ∷ []) t) ≡ true → made log t ≡ true
 ended_made shard log (Opened e) t h there = cc
 ended_made shard log (Ceiling at) t h there = cc
+ended_made shard log (Horizon at) t h there = cc
 ended_made shard log (Prepare p) t h there = cc
 ended_made shard log (Commit c) t h there = cc
 ended_made shard log (Abort u) t h there = cc
@@ -136,6 +137,7 @@ aborted_unmade : (shard : ℕ) (log : List Record) (r : Record) (t : Id) → fol
 unfolding made
 aborted_unmade shard log (Opened e) t h there = cc
 aborted_unmade shard log (Ceiling at) t h there = cc
+aborted_unmade shard log (Horizon at) t h there = cc
 aborted_unmade shard log (Prepare p) t h there = cc
 aborted_unmade shard log (Commit c) t h there = cc
 aborted_unmade shard log (Abort u) t h there =
@@ -148,6 +150,7 @@ made_unaborted : (shard : ℕ) (log : List Record) (r : Record) (t : Id) → fol
 unfolding made
 made_unaborted shard log (Opened e) t h there = cc
 made_unaborted shard log (Ceiling at) t h there = cc
+made_unaborted shard log (Horizon at) t h there = cc
 made_unaborted shard log (Prepare p) t h there =
     let same : p.txn ≡ t = same_id-is p.txn t (sym (single (same_id p.txn t) p) ∙ (sym (or-false _) ∙ there)) in
     subst (λ v. is_aborted log v ≡ false) same ((new_facts log p.txn (prepare_new shard log p h)).0)

@@ -14,7 +14,7 @@ use Rattle.record.specs.Records.{Ended, Status, Unrecorded, id_in, ids_of, prepa
 use Rattle.record.specs.declared.record.Committed.{Committed}
 use Rattle.record.specs.declared.record.Prepared.{Prepared}
 use Rattle.record.specs.declared.record.Record.{Record}
-use Rattle.record.specs.declared.record.Record.TheVariants.{Opened, Ceiling, Prepare, Commit, Abort, Outcome}
+use Rattle.record.specs.declared.record.Record.TheVariants.{Opened, Ceiling, Prepare, Commit, Abort, Outcome, Horizon}
 use Rattle.record.proofs.Sound.{aborted_more, prepared_more, committed_more, ended_more}
 
 -- the status from the parts of the log and those of the record
@@ -68,6 +68,7 @@ status_same log r t apart = status_more log r t ∙ by_kind r apart
         ≡ status_by (is_aborted log t) (committed_of log t) (prepared_of log t) (ended_of log t)
     by_kind (Opened e) h = as_before _ _ _ _ _ _ _ _ refl refl refl refl
     by_kind (Ceiling at) h = as_before _ _ _ _ _ _ _ _ refl refl refl refl
+    by_kind (Horizon at) h = as_before _ _ _ _ _ _ _ _ refl refl refl refl
     by_kind (Prepare p) h = as_before _ _ _ _ _ _ _ _ refl refl (no_single (same_id p.txn t) p (apart_single t p.txn h)) refl
     by_kind (Commit c) h = as_before _ _ _ _ _ _ _ _ refl (no_single (same_id c.txn t) c (apart_single t c.txn h)) refl refl
     by_kind (Abort u) h = as_before _ _ _ _ _ _ _ _ h refl refl refl
@@ -83,6 +84,7 @@ none_aborted : (t : Id) (log : List Record) → list_any (same_id t) (gather id_
 none_aborted t [] e = refl
 none_aborted t (Opened epoch ∷ rs) e = none_aborted t rs e
 none_aborted t (Ceiling at ∷ rs) e = none_aborted t rs e
+none_aborted t (Horizon at ∷ rs) e = none_aborted t rs e
 none_aborted t (Prepare p ∷ rs) e = none_aborted t rs ((or_parts _ _ e).1)
 none_aborted t (Commit c ∷ rs) e = none_aborted t rs ((or_parts _ _ e).1)
 none_aborted t (Abort u ∷ rs) e = ap (λ b. b || is_aborted rs t) ((or_parts _ _ e).0) ∙ none_aborted t rs ((or_parts _ _ e).1)
@@ -92,6 +94,7 @@ none_prepared : (t : Id) (log : List Record) → list_any (same_id t) (gather id
 none_prepared t [] e = refl
 none_prepared t (Opened epoch ∷ rs) e = none_prepared t rs e
 none_prepared t (Ceiling at ∷ rs) e = none_prepared t rs e
+none_prepared t (Horizon at ∷ rs) e = none_prepared t rs e
 none_prepared t (Prepare p ∷ rs) e =
     not_first (same_id p.txn t) p _ (same_id_comm p.txn t ∙ (or_parts _ _ e).0) (none_prepared t rs ((or_parts _ _ e).1))
 none_prepared t (Commit c ∷ rs) e = none_prepared t rs ((or_parts _ _ e).1)
@@ -102,6 +105,7 @@ none_committed : (t : Id) (log : List Record) → list_any (same_id t) (gather i
 none_committed t [] e = refl
 none_committed t (Opened epoch ∷ rs) e = none_committed t rs e
 none_committed t (Ceiling at ∷ rs) e = none_committed t rs e
+none_committed t (Horizon at ∷ rs) e = none_committed t rs e
 none_committed t (Prepare p ∷ rs) e = none_committed t rs ((or_parts _ _ e).1)
 none_committed t (Commit c ∷ rs) e =
     not_first (same_id c.txn t) c _ (same_id_comm c.txn t ∙ (or_parts _ _ e).0) (none_committed t rs ((or_parts _ _ e).1))

@@ -6,7 +6,7 @@ use Rattle.units.specs.Limits.{most_rows}
 use Rattle.units.specs.Lists.{gather, head, when}
 use Rattle.units.specs.Ids.{Id}
 use Rattle.units.specs.Keys.{Bytes, shard_of}
-use Rattle.record.specs.Records.{Status, Unrecorded, StandsPrepared, StandsDecided, status_of, prepared_of, committed_of, ended_of, epoch_of, ids_of, as_opened}
+use Rattle.record.specs.Records.{Status, Unrecorded, StandsPrepared, StandsDecided, status_of, prepared_of, committed_of, ended_of, epoch_of, floor_of, horizon_of, ids_of, as_opened}
 use Rattle.record.specs.declared.record.Prepared.{Prepared}
 use Rattle.record.specs.declared.record.Committed.{Committed}
 use Rattle.record.specs.Installs.{installs_of, writes_by}
@@ -16,7 +16,7 @@ use Rattle.units.specs.declared.lock.Lock.{Lock}
 use Rattle.units.specs.declared.setup.Setup.{Setup}
 use Rattle.units.specs.declared.writes.Write.{Write}
 use Rattle.record.specs.declared.record.Record.{Record}
-use Rattle.record.specs.declared.record.Record.TheVariants.{Opened, Ceiling, Prepare, Commit, Abort, Outcome}
+use Rattle.record.specs.declared.record.Record.TheVariants.{Opened, Ceiling, Prepare, Commit, Abort, Outcome, Horizon}
 
 -- no promise, decision or abort of the id stands in the log
 abbrev pub is_new : List Record → Id → Bool
@@ -27,10 +27,11 @@ abbrev pub outcome_fits : Option Prepared → Option Committed → Option ℕ �
 outcome_fits p c (Some s) = when (λ x. nat_le x.at s) p || when (λ x. nat_eq x.at s) c
 outcome_fits p c None = when (λ x. true) p
 
--- the rules of one id, and of the openings
+-- the rules of one id, of the openings, and of a horizon: it rises, and stays below what was assigned
 unfoldable pub follows : ℕ → List Record → Record → Bool
 follows shard before (Opened epoch) = nat_eq epoch (epoch_of before + 1)
 follows shard before (Ceiling at) = true
+follows shard before (Horizon at) = nat_lt (horizon_of before) at && nat_le at (floor_of before)
 follows shard before (Prepare p) = nat_lt 0 p.at && is_new before p.txn && nat_lt p.coordinator shard
 follows shard before (Commit c) = nat_lt 0 c.at && is_new before c.txn && when (nat_eq shard) (head c.parts)
 follows shard before (Abort t) = is_new before t
@@ -47,17 +48,29 @@ standing_locks _ = None
 abbrev pub locks_standing : List Record → List (List Lock)
 locks_standing log = gather (λ t. standing_locks (status_of log t)) (ids_of log)
 
--- a new promise or decision: room among the rows, no lock in the way, and above the versions of what it writes
+-- the timestamp of a promise or decision that stands
+abbrev pub standing_stamp : Status → Option ℕ
+standing_stamp (StandsPrepared p) = Some p.at
+standing_stamp (StandsDecided c) = Some c.at
+standing_stamp _ = None
+
+-- the timestamps of all of them
+abbrev pub stamps_standing : List Record → List ℕ
+stamps_standing log = gather (λ t. standing_stamp (status_of log t)) (ids_of log)
+
+-- a new promise or decision: room among the rows, no lock in the way, above the horizon, and above the versions of what it writes
 abbrev pub may_stand : List Record → ℕ → List Bytes → List Write → Bool
 may_stand before at reads writes =
     nat_lt (length (locks_standing before)) most_rows
     && not (list_any (clash (locks_of reads writes)) (locks_standing before))
+    && nat_lt (horizon_of before) at
     && above_versions (installs_of before) at writes
 
--- the rules of rows, locks and versions
+-- the rules of rows, locks, versions and the horizon, which stays below each promise and decision that stands
 unfoldable pub fits_beside : List Record → Record → Bool
 fits_beside before (Opened epoch) = true
 fits_beside before (Ceiling at) = true
+fits_beside before (Horizon at) = list_all (nat_lt at) (stamps_standing before)
 fits_beside before (Prepare p) = may_stand before p.at p.reads p.writes
 fits_beside before (Commit c) = may_stand before c.at c.reads c.writes
 fits_beside before (Abort t) = true
@@ -89,6 +102,7 @@ keys_belong setup reads writes =
 unfoldable pub belongs : Setup → Record → Bool
 belongs setup (Opened epoch) = true
 belongs setup (Ceiling at) = true
+belongs setup (Horizon at) = true
 belongs setup (Prepare p) = keys_belong setup p.reads p.writes
 belongs setup (Commit c) = keys_belong setup c.reads c.writes
 belongs setup (Abort t) = true

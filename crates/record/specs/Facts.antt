@@ -3,33 +3,35 @@ use Rattle.std.specs.Prelude.{ℕ, cond, max, List, [], ◌∷◌, ◌++◌, map
 use Rattle.units.specs.Lists.{first}
 use Rattle.units.specs.Ids.{Id, same_id, older}
 use Rattle.record.specs.Records.{Status, Unrecorded, StandsPrepared, StandsDecided, HasAborted, HasSettled, HasClosed, status_of, ids_of, epoch_of}
-use Rattle.record.specs.Records.{floor_of, stamp_in}
+use Rattle.record.specs.Records.{floor_of, horizon_of, stamp_in}
 use Rattle.record.specs.Installs.{installs_of}
 use Rattle.units.specs.Versions.{versions}
 use Rattle.units.specs.declared.writes.Install.{Install}
 use Rattle.record.specs.declared.record.Record.{Record}
-use Rattle.record.specs.declared.record.Record.TheVariants.{Opened, Ceiling, Prepare, Commit, Abort, Outcome}
+use Rattle.record.specs.declared.record.Record.TheVariants.{Opened, Ceiling, Prepare, Commit, Abort, Outcome, Horizon}
 
 -- an id and its status
 pub record TxnStatus : Type 0 where
   pub txn : Id
   pub status : Status
 
--- the epoch, the greatest timestamp, the status of each id that has a record (ascending by id), and the versions in the
--- log's order
+-- the epoch, the greatest timestamp, the status of each id that has a record (ascending by id), the versions in the
+-- log's order, and the horizon, below which no value is read
 pub record Facts : Type 0 where
   pub epoch : ℕ
   pub floor : ℕ
   pub entries : List TxnStatus
   pub installs : List Install
+  pub horizon : ℕ
 
 -- facts, by their parts
-abbrev pub facts_with : ℕ → ℕ → List TxnStatus → List Install → Facts
-facts_with epoch floor entries installs = record { epoch = epoch; floor = floor; entries = entries; installs = installs }
+abbrev pub facts_with : ℕ → ℕ → List TxnStatus → List Install → ℕ → Facts
+facts_with epoch floor entries installs horizon =
+    record { epoch = epoch; floor = floor; entries = entries; installs = installs; horizon = horizon }
 
 -- the facts before any record
 abbrev pub no_facts : Facts
-no_facts = facts_with 0 0 [] []
+no_facts = facts_with 0 0 [] [] 0
 
 -- the facts of a log, read from the set of its records
 unfoldable pub facts_of : List Record → Facts
@@ -39,6 +41,7 @@ facts_of log =
       floor = floor_of log;
       entries = map (λ t. record { txn = t; status = status_of log t }) (ids_of log);
       installs = installs_of log;
+      horizon = horizon_of log;
     }
 
 -- the status of an id
@@ -78,10 +81,11 @@ abbrev pub or_floor : ℕ → Option ℕ → ℕ
 or_floor floor None = floor
 or_floor floor (Some at) = max floor at
 
--- the statuses, the epoch and the versions after one more record
+-- the statuses, the epoch, the versions and the horizon after one more record
 abbrev pub with_record_noted : Facts → Record → Facts
 with_record_noted facts (Opened epoch) = record facts { epoch = epoch }
 with_record_noted facts (Ceiling at) = facts
+with_record_noted facts (Horizon at) = record facts { horizon = max facts.horizon at }
 with_record_noted facts (Prepare p) = set_status facts p.txn (StandsPrepared p)
 with_record_noted facts (Commit c) = set_status facts c.txn (StandsDecided c)
 with_record_noted facts (Abort t) = set_status facts t HasAborted

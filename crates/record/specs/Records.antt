@@ -6,7 +6,7 @@ use Rattle.units.specs.Ids.{Id, same_id, ids_once}
 use Rattle.record.specs.declared.record.Committed.{Committed}
 use Rattle.record.specs.declared.record.Prepared.{Prepared}
 use Rattle.record.specs.declared.record.Record.{Record}
-use Rattle.record.specs.declared.record.Record.TheVariants.{Opened, Ceiling, Prepare, Commit, Abort, Outcome}
+use Rattle.record.specs.declared.record.Record.TheVariants.{Opened, Ceiling, Prepare, Commit, Abort, Outcome, Horizon}
 
 -- how a transaction ended at a shard: at a timestamp, or aborted
 pub record Ended : Type 0 where
@@ -16,52 +16,38 @@ pub record Ended : Type 0 where
 -- the record as an opening's epoch
 abbrev pub as_opened : Record → Option ℕ
 as_opened (Opened epoch) = Some epoch
-as_opened (Ceiling at) = None
-as_opened (Prepare p) = None
-as_opened (Commit c) = None
-as_opened (Abort t) = None
-as_opened (Outcome t o) = None
+as_opened _ = None
 
 -- the record as a prepared part
 abbrev pub as_prepared : Record → Option Prepared
-as_prepared (Opened epoch) = None
-as_prepared (Ceiling at) = None
 as_prepared (Prepare p) = Some p
-as_prepared (Commit c) = None
-as_prepared (Abort t) = None
-as_prepared (Outcome t o) = None
+as_prepared _ = None
 
 -- the record as a commit decision
 abbrev pub as_committed : Record → Option Committed
-as_committed (Opened epoch) = None
-as_committed (Ceiling at) = None
-as_committed (Prepare p) = None
 as_committed (Commit c) = Some c
-as_committed (Abort t) = None
-as_committed (Outcome t o) = None
+as_committed _ = None
 
 -- the record as an abort decision
 abbrev pub as_aborted : Record → Option Id
-as_aborted (Opened epoch) = None
-as_aborted (Ceiling at) = None
-as_aborted (Prepare p) = None
-as_aborted (Commit c) = None
 as_aborted (Abort t) = Some t
-as_aborted (Outcome t o) = None
+as_aborted _ = None
 
 -- the record as an outcome
 abbrev pub as_ended : Record → Option Ended
-as_ended (Opened epoch) = None
-as_ended (Ceiling at) = None
-as_ended (Prepare p) = None
-as_ended (Commit c) = None
-as_ended (Abort t) = None
 as_ended (Outcome t o) = Some (record { txn = t; outcome = o })
+as_ended _ = None
 
--- the timestamp that a record holds
+-- the record as a horizon
+abbrev pub as_horizon : Record → Option ℕ
+as_horizon (Horizon at) = Some at
+as_horizon _ = None
+
+-- the timestamp that a record brings; a horizon is one that the log already covers
 abbrev pub stamp_in : Record → Option ℕ
 stamp_in (Opened epoch) = None
 stamp_in (Ceiling at) = Some at
+stamp_in (Horizon at) = None
 stamp_in (Prepare p) = Some p.at
 stamp_in (Commit c) = Some c.at
 stamp_in (Abort t) = None
@@ -71,6 +57,7 @@ stamp_in (Outcome t o) = o
 abbrev pub id_in : Record → Option Id
 id_in (Opened epoch) = None
 id_in (Ceiling at) = None
+id_in (Horizon at) = None
 id_in (Prepare p) = Some p.txn
 id_in (Commit c) = Some c.txn
 id_in (Abort t) = Some t
@@ -83,6 +70,10 @@ epoch_of log = greatest (gather as_opened log)
 -- the floor: the greatest timestamp, 0 where there is none
 abbrev pub floor_of : List Record → ℕ
 floor_of log = greatest (gather stamp_in log)
+
+-- the horizon, below which no value is read: the greatest of the log, 0 where there is none
+abbrev pub horizon_of : List Record → ℕ
+horizon_of log = greatest (gather as_horizon log)
 
 -- what the log prepared of an id
 abbrev pub prepared_of : List Record → Id → Option Prepared

@@ -80,7 +80,8 @@ impl Committed {
 }
 
 /// A record of a shard's log: an opening with its epoch, a ceiling of the served time, a promise, a commit decision, an
-/// abort decision, or how a transaction ended at this shard (at a timestamp, or `None` for aborted).
+/// abort decision, how a transaction ended at this shard (at a timestamp, or `None` for aborted), or a horizon, below which
+/// no value is read any more.
 #[derive(Drop)]
 pub enum Record {
     Opened { epoch: Epoch },
@@ -89,6 +90,7 @@ pub enum Record {
     Commit(Committed),
     Abort { txn: TxnId },
     Outcome { txn: TxnId, outcome: Option<Stamp> },
+    Horizon { at: Stamp },
 }
 
 impl Record {
@@ -119,6 +121,7 @@ impl Record {
                 txn: *txn,
                 outcome: *outcome,
             }),
+            Record::Horizon { at } => Ok(Record::Horizon { at: *at }),
         }
     }
 }

@@ -35,6 +35,7 @@ names (Record.Commit c) = Some c.txn
 names (Record.Abort t) = Some t
 names (Record.Opened epoch) = None
 names (Record.Ceiling at) = None
+names (Record.Horizon at) = None
 names (Record.Outcome t outcome) = None
 
 -- ---- records that change no row
@@ -56,6 +57,15 @@ serves_again k at last logged p recovered same plan =
     ap (λ q. carried q k.memory) plan
     ∙ ap (λ n. record { last = n; rows = k.memory.rows; ended = k.memory.ended }) same
     ∙ ap (λ m. record { last = max m.last at; rows = m.rows; ended = m.ended }) recovered.memory
+
+pub forgets_again : (k : Kept) (at last : ℕ) (logged : Option Record) (p : protocol.Plan) → IsRecovered k → last ≡ k.memory.last
+    → p ≡ record { wounded = []; change = protocol.Keeps; logged = logged; last = last; outbox = [] }
+    → carried p k.memory ≡ rebuilt (learn k.facts (Record.Horizon at))
+unfolding carried after_change ended_by rebuilt learn
+forgets_again k at last logged p recovered same plan =
+    ap (λ q. carried q k.memory) plan
+    ∙ ap (λ n. record { last = n; rows = k.memory.rows; ended = k.memory.ended }) same
+    ∙ ap (λ m. record { last = m.last; rows = m.rows; ended = m.ended }) recovered.memory
 
 -- ---- a promise or a decision
 
@@ -117,6 +127,7 @@ pub id_rules : (shard : ℕ) (facts : Facts) (r : Record) → follows_facts shar
 unfolding follows_facts
 id_rules shard facts (Record.Opened epoch) follows = refl
 id_rules shard facts (Record.Ceiling at) follows = refl
+id_rules shard facts (Record.Horizon at) follows = (and_parts _ _ follows).1
 id_rules shard facts (Record.Prepare p) follows = (and_parts _ _ follows).1
 id_rules shard facts (Record.Commit c) follows = (and_parts _ _ follows).1
 id_rules shard facts (Record.Abort t) follows = (and_parts _ _ follows).1
@@ -136,6 +147,7 @@ fresh_before shard facts r t follows named = by_record r (id_rules shard facts r
     by_record (Record.Abort u) h k = let same : u ≡ t = cc in subst (λ u. recorded facts u ≡ Unrecorded) same (unrecorded_is (recorded facts u) h)
     by_record (Record.Opened epoch) h k = cc
     by_record (Record.Ceiling at) h k = cc
+    by_record (Record.Horizon at) h k = cc
     by_record (Record.Outcome u o) h k = cc
 
 pub absent_before : (k : Kept) (shard : ℕ) (r : Record) (t : Id) → IsRecovered k → follows_facts shard k.facts r ≡ true → names r ≡ Some t →
@@ -246,6 +258,7 @@ pub learn_order : (f : Facts) (r : Record) → IsById (λ e. e.txn) f.entries �
 unfolding learn
 learn_order f (Record.Opened epoch) up = up
 learn_order f (Record.Ceiling at) up = up
+learn_order f (Record.Horizon at) up = up
 learn_order f (Record.Prepare p) up = by_id-status f.entries p.txn (StandsPrepared p) up
 learn_order f (Record.Commit c) up = by_id-status f.entries c.txn (StandsDecided c) up
 learn_order f (Record.Abort t) up = by_id-status f.entries t HasAborted up
@@ -256,6 +269,7 @@ pub learn_own : (shard : ℕ) (f : Facts) (r : Record) → follows_facts shard f
 unfolding learn
 learn_own shard f (Record.Opened epoch) follows own = own
 learn_own shard f (Record.Ceiling at) follows own = own
+learn_own shard f (Record.Horizon at) follows own = own
 learn_own shard f (Record.Prepare p) follows own = own-status f.entries p.txn (StandsPrepared p) refl own
 learn_own shard f (Record.Commit c) follows own = own-status f.entries c.txn (StandsDecided c) refl own
 learn_own shard f (Record.Abort t) follows own = own-status f.entries t HasAborted tt own

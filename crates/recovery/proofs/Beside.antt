@@ -1,19 +1,22 @@
 -- Whether a record has its place beside the rows that a log holds.
-use Rattle.std.proofs.Common.{◌≡◌, ℕ, Bool, true, false, not, ◌&&◌, nat_lt, nat_le, List, [], ◌∷◌, ◌++◌, map, length, Option, Some, None, refl, sym}
+use Rattle.std.proofs.Common.{◌≡◌, ℕ, ◌-◌, ◌<◌, ◌≤◌, min, Bool, true, false, not, ◌&&◌, nat_lt, nat_le, List, [], ◌∷◌, ◌++◌, map, length, Option, Some, None, refl, sym}
 use Rattle.std.proofs.Common.{ap, ◌∙◌, arith}
-use Rattle.std.specs.List.{AllByRecursion, list_any}
-use Rattle.std.proofs.lemmas.Bool.{and_parts}
+use Rattle.std.specs.List.{AllByRecursion, list_all, list_any}
+use Rattle.std.proofs.lemmas.Bool.{and_parts, le-leb}
 use Rattle.std.proofs.lemmas.Bool.Decides.{nat_tests}
 use Rattle.units.specs.Limits.{most_rows}
+use Rattle.units.specs.Lists.{gather, least_with}
 use Rattle.units.specs.Ids.{Id, same_id}
 use Rattle.units.specs.Keys.{Bytes}
 use Rattle.units.specs.Locks.{clash, exclusive, is_free, locks_of, shared, wounded}
 use Rattle.units.specs.Versions.{above_versions}
 use Rattle.units.specs.declared.writes.Write.{Write}
 use Rattle.units.proofs.ByIdLaws.{first_none}
-use Rattle.record.specs.Facts.{TxnStatus, or_unrecorded, recorded}
+use Rattle.record.specs.Facts.{Facts, TxnStatus, or_unrecorded, recorded}
+use Rattle.record.specs.declared.record.Record.{Record}
 use Rattle.record.specs.Records.{Status, Unrecorded, StandsPrepared, StandsDecided, HasAborted, HasSettled, HasClosed}
-use Rattle.protocol.specs.Rows.{without_rows, Row, claims, find_row, rebuilt, standing_row}
+use Rattle.facts.specs.Rules.{follows_facts}
+use Rattle.protocol.specs.Rows.{without_rows, Row, claims, find_row, held_stamp, rebuilt, safe, standing_row}
 use Rattle.protocol.specs.Plan.{is_crowded, opens}
 use Rattle.memory.specs.Carry.{Asks}
 use Rattle.memory.specs.Kept.{Kept, start_of}
@@ -64,23 +67,27 @@ opens_are k t rs ws recovered absent =
     (none_wounded (standing_rows k.facts) t (shared rs ++ exclusive ws) (all_still k.facts))
     ∙ locks_free k.facts t rs ws (ap (λ rows. find_row rows t) (sym (rows_are k recovered)) ∙ absent)
 
--- so it stands beside them by the three tests
-pub stands_are : (k : Kept) (t : Id) (at : ℕ) (rs : List Bytes) (ws : List Write) (crowded free above : Bool) → IsRecovered k → find_row k.memory.rows t ≡ None
-    → crowded ≡ is_crowded (start_of k) t → free ≡ opens (start_of k) t (shared rs ++ exclusive ws) → above ≡ above_versions k.facts.installs at ws
-    → (not crowded && free && above) ≡ stands_in k.facts at rs ws
-stands_are k t at rs ws crowded free above recovered absent c f a =
+-- so it stands beside them by the four tests
+pub stands_are : (k : Kept) (t : Id) (at : ℕ) (rs : List Bytes) (ws : List Write) (crowded free late above : Bool) → IsRecovered k
+    → find_row k.memory.rows t ≡ None → crowded ≡ is_crowded (start_of k) t → free ≡ opens (start_of k) t (shared rs ++ exclusive ws)
+    → late ≡ nat_lt k.facts.horizon at → above ≡ above_versions k.facts.installs at ws
+    → (not crowded && free && late && above) ≡ stands_in k.facts at rs ws
+stands_are k t at rs ws crowded free late above recovered absent c f l a =
     let room : not crowded ≡ nat_lt (length (standing_rows k.facts)) most_rows =
     ap not c ∙ roomy k.memory.rows t absent ∙ ap (λ rows. nat_lt (length rows) most_rows) (rows_are k recovered) in
     let open_ : free ≡ not (list_any (clash (locks_of rs ws)) (map (λ r. r.held) (standing_rows k.facts))) = f ∙ opens_are k t rs ws recovered absent in
-    ap (λ b. b && free && above) room ∙ ap (λ b. nat_lt (length (standing_rows k.facts)) most_rows && b && above) open_
-    ∙ ap (λ b. nat_lt (length (standing_rows k.facts)) most_rows && not (list_any (clash (locks_of rs ws)) (map (λ r. r.held) (standing_rows k.facts))) && b) a
+    ap (λ b. b && free && late && above) room ∙ ap (λ b. nat_lt (length (standing_rows k.facts)) most_rows && b && late && above) open_
+    ∙ ap (λ b. nat_lt (length (standing_rows k.facts)) most_rows && not (list_any (clash (locks_of rs ws)) (map (λ r. r.held) (standing_rows k.facts)))
+    && b && above) l
+    ∙ ap (λ b. nat_lt (length (standing_rows k.facts)) most_rows && not (list_any (clash (locks_of rs ws)) (map (λ r. r.held) (standing_rows k.facts)))
+    && nat_lt k.facts.horizon at && b) a
 
 -- and then it may ask for its locks
 pub asks_are : (k : Kept) (t : Id) (at : ℕ) (rs : List Bytes) (ws : List Write) → IsRecovered k → find_row k.memory.rows t ≡ None →
     stands_in k.facts at rs ws ≡ true
     → Asks k.memory.rows t [] (shared rs ++ exclusive ws) true
 asks_are k t at rs ws recovered absent stands =
-    let p = and_parts _ _ (and_parts _ _ stands).0 in
+    let p = and_parts _ _ (and_parts _ _ (and_parts _ _ stands).0).0 in
     let room : nat_lt (length k.memory.rows) most_rows ≡ true = ap (λ rows. nat_lt (length rows) most_rows) (rows_are k recovered) ∙ p.0 in
     let nobody : wounded (claims k.memory.rows) t (shared rs ++ exclusive ws) ≡ [] =
     ap (λ rows. wounded (claims rows) t (shared rs ++ exclusive ws)) (rows_are k recovered)
@@ -95,3 +102,33 @@ asks_are k t at rs ws recovered absent stands =
         (elim o [ None ↦ nat_lt (length k.memory.rows) most_rows | Some r ↦ is_reading r.phase ]) ≡ true
     by_row None none room = room
     by_row (Some r) none room = cc
+
+-- ---- a horizon
+
+safe_is : (k : Kept) → IsRecovered k → safe k.memory ≡ safe (rebuilt k.facts)
+safe_is k recovered = ap safe recovered.memory
+
+-- a time from the floor down is served where it is below each timestamp that stands
+below_least : (at last : ℕ) (stamps : List ℕ) → 0 < at → at ≤ last → nat_le at (least_with last (map (λ s. s - 1) stamps)) ≡ list_all (nat_lt at) stamps
+below_least at last [] some low = le-leb at last low
+below_least at last (s ∷ stamps) some low =
+    by_tests (least_with last (map (λ s. s - 1) stamps)) (list_all (nat_lt at) stamps) (below_least at last stamps some low)
+  where
+    by_tests : (least : ℕ) (all : Bool) → nat_le at least ≡ all → nat_le at (min (s - 1) least) ≡ (nat_lt at s && all)
+    by_tests least true h = grind (arith, nat_tests)
+    by_tests least false h = grind (arith, nat_tests)
+
+pub below_rows : (k : Kept) (at : ℕ) → IsRecovered k → 0 < at → at ≤ k.facts.floor → nat_le at (safe k.memory) ≡
+    list_all (nat_lt at) (gather (λ r. held_stamp r.phase) (standing_rows k.facts))
+unfolding safe rebuilt
+below_rows k at recovered some low =
+    ap (nat_le at) (safe_is k recovered) ∙ below_least at k.facts.floor (gather (λ r. held_stamp r.phase) (standing_rows k.facts)) some low
+
+-- a horizon that may come next is above 0, and not above the log's timestamps
+pub horizon_rules : (shard : ℕ) (facts : Facts) (at : ℕ) → follows_facts shard facts (Record.Horizon at) ≡ true → (0 < at) × (at ≤ facts.floor)
+unfolding follows_facts
+horizon_rules shard facts at follows =
+    let two = and_parts _ _ (and_parts _ _ follows).1 in
+    let high : nat_lt facts.horizon at ≡ true = two.0 in
+    let low : nat_le at facts.floor ≡ true = two.1 in
+    (grind (arith, nat_tests, high), grind (arith, nat_tests, low))

@@ -1,5 +1,5 @@
 -- The first record of a log.
-use Rattle.std.proofs.Common.{◌≡◌, ℕ, true, false, not, cond, ◌&&◌, ◌<◌, nat_le, [], ◌∷◌, Option, Some, None, refl, sym, ap, subst, ◌∙◌, arith}
+use Rattle.std.proofs.Common.{◌≡◌, ◌≤◌, ℕ, true, false, not, cond, ◌&&◌, ◌<◌, nat_le, [], ◌∷◌, Option, Some, None, refl, sym, ap, subst, ◌∙◌, arith}
 use Rattle.std.proofs.lemmas.Bool.{false≢true}
 use Rattle.std.proofs.lemmas.Bool.Decides.{nat_tests}
 use Rattle.std.specs.Prelude.{IsTrue}
@@ -24,6 +24,7 @@ first_follows : (shard : ℕ) (r : Record) → follows_facts shard (facts_of [])
 unfolding follows_facts facts_of
 first_follows shard (Record.Opened epoch) = refl
 first_follows shard (Record.Ceiling at) = refl
+first_follows shard (Record.Horizon at) = refl
 first_follows shard (Record.Prepare p) = refl
 first_follows shard (Record.Commit c) = refl
 first_follows shard (Record.Abort t) = refl
@@ -32,6 +33,7 @@ first_follows shard (Record.Outcome t o) = refl
 first_is : (r : Record) → is_first r ≡ true → r ≡ Record.Opened 1
 first_is (Record.Opened epoch) h = let one : epoch ≡ 1 = grind (arith, nat_tests) in ap Record.Opened one
 first_is (Record.Ceiling at) h = absurd (false≢true h)
+first_is (Record.Horizon at) h = absurd (false≢true h)
 first_is (Record.Prepare p) h = absurd (false≢true h)
 first_is (Record.Commit c) h = absurd (false≢true h)
 first_is (Record.Abort t) h = absurd (false≢true h)
@@ -84,6 +86,7 @@ first_recovered k facts memory = record {
   opened = subst (λ (f : Facts). 0 < f.epoch) (sym facts) (omega arith);
   good = subst (λ (f : Facts). AllByRecursion (IsGood f) f.entries) (sym facts) tt;
   covered = subst (λ (f : Facts). IsTrue (list_all (λ i. nat_le i.at f.floor) f.installs)) (sym facts) no_installs;
+  horizon = subst (λ (f : Facts). f.horizon ≤ f.floor) (sym facts) (omega arith);
   order = subst (λ (f : Facts). IsById (λ (e : TxnStatus). e.txn) f.entries) (sym facts) tt;
   own = subst (λ (f : Facts). AllByRecursion IsOwn f.entries) (sym facts) tt;
 }

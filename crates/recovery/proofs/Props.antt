@@ -2,7 +2,7 @@
 use Rattle.std.specs.Prelude.{IsTrue, nat_le}
 use Rattle.std.specs.List.{list_all}
 use Rattle.protocol.specs.Rows.{rebuilt}
-use Rattle.std.proofs.Common.{◌≡◌, ◌<◌, List, [], ◌∷◌, Option, Some, None}
+use Rattle.std.proofs.Common.{◌≡◌, ◌<◌, ◌≤◌, List, [], ◌∷◌, Option, Some, None}
 use Rattle.std.proofs.Props.{props}
 use mathlib.Core.HLevel.{×_prop, Unit-prop}
 use Rattle.std.specs.List.{AllByRecursion-prop}
@@ -39,6 +39,7 @@ recovered-prop k x y = λ i. record {
   own = AllByRecursion-prop IsOwn (λ e. own-prop e.txn e.status) k.facts.entries x.own y.own i;
   good = AllByRecursion-prop (IsGood k.facts) (λ e. part-prop k.facts (part_of e.status)) k.facts.entries x.good y.good i;
   covered = covered-prop x.covered y.covered i;
+  horizon = horizon-prop x.horizon y.horizon i;
 }
   where
     memory-prop : IsProp (k.memory ≡ rebuilt k.facts)
@@ -49,6 +50,9 @@ recovered-prop k x y = λ i. record {
 
     covered-prop : IsProp (IsTrue (list_all (λ i. nat_le i.at k.facts.floor) k.facts.installs))
     covered-prop = hlevel props
+
+    horizon-prop : IsProp (k.facts.horizon ≤ k.facts.floor)
+    horizon-prop = hlevel props
 
 pub state-prop : (setup : Setup) (o : Option Kept) → IsProp (IsStateOf setup o)
 state-prop setup None = Unit-prop

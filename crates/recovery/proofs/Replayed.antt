@@ -1,5 +1,5 @@
 -- A record that has its place can be made once more, and leaves what the log with it leaves.
-use Rattle.std.proofs.Common.{◌≡◌, ◌<◌, nat_le, true, List, Option, Some, None, sym, ap, subst, ◌∙◌}
+use Rattle.std.proofs.Common.{◌≡◌, ◌≤◌, ◌<◌, nat_le, true, List, Option, Some, None, sym, ap, subst, ◌∙◌}
 use Rattle.std.specs.Prelude.{IsTrue}
 use Rattle.units.specs.LockLaws.{IsLawfulTable}
 use Rattle.std.specs.List.{AllByRecursion, list_all}
@@ -35,6 +35,7 @@ installs_again facts (Record.Outcome t (Some s)) fits = fits
 installs_again facts (Record.Outcome t None) fits = tt
 installs_again facts (Record.Opened epoch) fits = tt
 installs_again facts (Record.Ceiling at) fits = tt
+installs_again facts (Record.Horizon at) fits = tt
 installs_again facts (Record.Prepare p) fits = tt
 installs_again facts (Record.Commit c) fits = tt
 installs_again facts (Record.Abort t) fits = tt
@@ -65,7 +66,7 @@ recovered_again old new later p item recovered lawful follows fits fit ready law
     let then : later.facts ≡ learn old.facts item = facts ∙ ap (λ f. facts_after f (Some item)) ready.facts in
     let taken = taken_more old.setup.shard old.facts item recovered.order recovered.own
     (subst (λ rows. IsLawfulTable (claims rows)) (rows_are old recovered) lawful) follows fits
-    (record { opened = recovered.opened; good = recovered.good; covered = recovered.covered }) in (
+    (record { opened = recovered.opened; good = recovered.good; covered = recovered.covered; horizon = recovered.horizon }) in (
       then,
       record {
         memory = memory_again old new (with_record p item) later.memory recovered fit ready law memory ∙ again ∙ ap rebuilt (sym then);
@@ -74,5 +75,6 @@ recovered_again old new later p item recovered lawful follows fits fit ready law
         own = subst (λ (f : Facts). AllByRecursion IsOwn f.entries) (sym then) (learn_own old.setup.shard old.facts item follows recovered.own);
         good = subst (λ (f : Facts). AllByRecursion (IsGood f) f.entries) (sym then) taken.good;
         covered = subst (λ (f : Facts). IsTrue (list_all (λ i. nat_le i.at f.floor) f.installs)) (sym then) taken.covered;
+        horizon = subst (λ (f : Facts). f.horizon ≤ f.floor) (sym then) taken.horizon;
       },
     )

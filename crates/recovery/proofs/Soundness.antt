@@ -6,7 +6,7 @@ use Rattle.std.specs.Prelude.{IsTrue}
 use Rattle.std.specs.List.{AllByRecursion, list_all}
 use Rattle.std.proofs.lemmas.Bool.{false≢true, and_parts}
 use Rattle.std.proofs.lemmas.Bool.Decides.{nat_tests}
-use Rattle.units.specs.Lists.{ascends, follow}
+use Rattle.units.specs.Lists.{ascends, follow, gather}
 use Rattle.units.specs.Ids.{Id, older, same_id}
 use Rattle.units.specs.ById.{IsById, find_member}
 use Rattle.units.specs.Keys.{same_key}
@@ -21,7 +21,7 @@ use Rattle.record.specs.Facts.{TxnStatus, Facts, after_outcome, installs_at, lea
 use Rattle.record.specs.Records.{Status, Unrecorded, StandsPrepared, StandsDecided, HasAborted, HasSettled, HasClosed, stamp_in}
 use Rattle.record.specs.declared.record.Record.{Record}
 use Rattle.facts.specs.Rules.{allows, follows_facts}
-use Rattle.protocol.specs.Rows.{Row, IsPrepared, IsDecided, claims, find_row, rebuilt, standing_row}
+use Rattle.protocol.specs.Rows.{Row, IsPrepared, IsDecided, claims, find_row, held_stamp, rebuilt, standing_row}
 use Rattle.protocol.specs.Sound.{Agrees, IsSound, fits, holds_writes}
 use Rattle.protocol.proofs.AboveVersions.{above_more, each_append, rows_apart, writes_apart}
 use Rattle.protocol.proofs.InWay.{holds_exclusive}
@@ -29,6 +29,7 @@ use Rattle.protocol.proofs.KeptFacts.{covered_later, covered_versions}
 use Rattle.protocol.proofs.OpenedRows.{all-gather}
 use Rattle.protocol.proofs.RecordLocks.{holds_reads}
 use Rattle.protocol.proofs.RowChanges.{find_members}
+use Rattle.protocol.proofs.Serves.{AllOver, Over, under_safe}
 use Rattle.protocol.proofs.StatusChanges.{by_id-status, entry_other, entry_same}
 use Rattle.memory.specs.Kept.{Kept}
 use Rattle.recovery.specs.Recovered.{MayStandNext, IsGood, IsGoodPart, IsOwn, IsRecovered, Part, fits_facts, part_of, standing_rows}
@@ -103,9 +104,10 @@ parts_apart f e d x y up own lawful here there differ k j =
 
 -- ---- what stands is due
 
-due_later : (f g : Facts) (x : Part) → f.floor ≤ g.floor → f.installs ≡ g.installs → MayStandNext f x → MayStandNext g x
-due_later f g x low same due = record {
+due_later : (f g : Facts) (x : Part) → f.horizon ≡ g.horizon → f.floor ≤ g.floor → f.installs ≡ g.installs → MayStandNext f x → MayStandNext g x
+due_later f g x horizon low same due = record {
   above_zero = due.above_zero;
+  above_horizon = omega (arith, horizon, due.above_horizon);
   assigned = omega (arith, due.assigned, low);
   above = subst (λ is. IsTrue (above_versions is x.at x.writes)) same due.above;
 }
@@ -117,8 +119,8 @@ good_by f g e h good = by_part (part_of e.status) refl good
     by_part None k good = tt
     by_part (Some x) k good = h x k good
 
-good_later : (f g : Facts) (e : TxnStatus) → f.floor ≤ g.floor → f.installs ≡ g.installs → IsGood f e → IsGood g e
-good_later f g e low same = good_by f g e (λ x k. due_later f g x low same)
+good_later : (f g : Facts) (e : TxnStatus) → f.horizon ≡ g.horizon → f.floor ≤ g.floor → f.installs ≡ g.installs → IsGood f e → IsGood g e
+good_later f g e horizon low same = good_by f g e (λ x k. due_later f g x horizon low same)
 
 up_left : (a b : ℕ) → a ≤ max a b
 up_left a b = omega arith
@@ -135,25 +137,25 @@ floor_later f r = by_stamp (stamp_in r)
     by_stamp (Some at) = up_left f.floor at
 
 -- a record that changes no version, and no status
-raised_good : (f g : Facts) → f.entries ≡ g.entries → f.installs ≡ g.installs → f.floor ≤ g.floor → AllByRecursion (IsGood f) f.entries →
-    AllByRecursion (IsGood g) g.entries
-raised_good f g same installs low good =
-    subst (λ es. AllByRecursion (IsGood g) es) same (all_gives (IsGood f) (IsGood g) (λ e h. good_later f g e low installs h) f.entries good)
+raised_good : (f g : Facts) → f.entries ≡ g.entries → f.installs ≡ g.installs → f.horizon ≡ g.horizon → f.floor ≤ g.floor
+    → AllByRecursion (IsGood f) f.entries → AllByRecursion (IsGood g) g.entries
+raised_good f g same installs horizon low good =
+    subst (λ es. AllByRecursion (IsGood g) es) same (all_gives (IsGood f) (IsGood g) (λ e h. good_later f g e horizon low installs h) f.entries good)
 
 -- a record of one id that changes no version
 noted_good : (f g : Facts) (t : Id) (s : Status) → IsById (λ e. e.txn) f.entries → g.entries ≡ with_status f.entries t s → f.installs ≡ g.installs →
-    f.floor ≤ g.floor
+    f.horizon ≡ g.horizon → f.floor ≤ g.floor
     → IsGoodPart g (part_of s) → AllByRecursion (IsGood f) f.entries → AllByRecursion (IsGood g) g.entries
-noted_good f g t s up put installs low new good =
+noted_good f g t s up put installs horizon low new good =
     subst (λ es. AllByRecursion (IsGood g) es) (sym put)
-    (all_status (IsGood f) (IsGood g) f.entries t s up new (λ e here differ h. good_later f g e low installs h) good)
+    (all_status (IsGood f) (IsGood g) f.entries t s up new (λ e here differ h. good_later f g e horizon low installs h) good)
 
 -- an outcome of what stands: the others write other keys
 installed_good : (f g : Facts) (t : Id) (s : Status) (y : Part) (at : ℕ) (d : TxnStatus) → IsById (λ e. e.txn) f.entries →
     AllByRecursion IsOwn f.entries → IsLawfulTable (claims (standing_rows f))
     → find_member (λ e. e.txn) f.entries t ≡ Some d → part_of d.status ≡ Some y → g.entries ≡ with_status f.entries t s → part_of s ≡ None
-    → g.installs ≡ f.installs ++ versions y.writes at → f.floor ≤ g.floor → AllByRecursion (IsGood f) f.entries → AllByRecursion (IsGood g) g.entries
-installed_good f g t s y at d up own lawful there part put gone installs low good =
+    → g.installs ≡ f.installs ++ versions y.writes at → f.horizon ≡ g.horizon → f.floor ≤ g.floor → AllByRecursion (IsGood f) f.entries → AllByRecursion (IsGood g) g.entries
+installed_good f g t s y at d up own lawful there part put gone installs horizon low good =
     subst (λ es. AllByRecursion (IsGood g) es) (sym put)
     (all_status (IsGood f) (IsGood g) f.entries t s up (subst (IsGoodPart g) (sym gone) tt) keeps good)
   where
@@ -168,6 +170,7 @@ installed_good f g t s y at d up own lawful there part put gone installs low goo
         good_by f g e
         (λ x k due. record {
           above_zero = due.above_zero;
+          above_horizon = omega (arith, horizon, due.above_horizon);
           assigned = omega (arith, due.assigned, low);
           above =
               subst (λ is. IsTrue (above_versions is x.at x.writes)) (sym installs)
@@ -182,11 +185,13 @@ pub record IsTaken (f : Facts) : Type 0 where
   pub opened : 0 < f.epoch
   pub good : AllByRecursion (IsGood f) f.entries
   pub covered : IsTrue (list_all (λ i. nat_le i.at f.floor) f.installs)
+  pub horizon : f.horizon ≤ f.floor
 
-fresh_due : (f g : Facts) (x : Part) → 0 < x.at → f.installs ≡ g.installs → g.floor ≡ max f.floor x.at →
+fresh_due : (f g : Facts) (x : Part) → 0 < x.at → f.horizon ≡ g.horizon → nat_lt f.horizon x.at ≡ true → f.installs ≡ g.installs → g.floor ≡ max f.floor x.at →
     above_versions f.installs x.at x.writes ≡ true → MayStandNext g x
-fresh_due f g x some same floor above = record {
+fresh_due f g x some horizon late same floor above = record {
   above_zero = some;
+  above_horizon = (let l : f.horizon < x.at = grind (arith, nat_tests) in omega (arith, horizon, l));
   assigned = omega (arith, floor, up_right f.floor x.at);
   above = subst (λ is. IsTrue (above_versions is x.at x.writes)) same above;
 }
@@ -239,49 +244,95 @@ more_nil : (is : List Install) → is ++ [] ≡ is
 more_nil [] = refl
 more_nil (i ∷ is) = ap (λ js. i ∷ js) (more_nil is)
 
+under_later : (h floor at : ℕ) → h ≤ floor → h ≤ max floor at
+under_later h floor at low = omega (arith, low)
+
+-- a horizon below all that stands
+forgotten_good : (f : Facts) (at : ℕ) → list_all (nat_lt at) (gather (λ r. held_stamp r.phase) (standing_rows f)) ≡ true
+    → AllByRecursion (IsGood f) f.entries → AllByRecursion (IsGood (learn f (Record.Horizon at))) f.entries
+unfolding learn
+forgotten_good f at below good = each f.entries below good
+  where
+    after : Facts
+    after = learn f (Record.Horizon at)
+
+    one : (x : Part) → nat_lt at x.at ≡ true → MayStandNext f x → MayStandNext after x
+    one x late due = record {
+      above_zero = due.above_zero;
+      above_horizon = (let l : at < x.at = grind (arith, nat_tests) in omega (arith, l, due.above_horizon));
+      assigned = due.assigned;
+      above = due.above;
+    }
+
+    each : (es : List TxnStatus) → list_all (nat_lt at) (gather (λ r. held_stamp r.phase) (gather standing_row es)) ≡ true
+        → AllByRecursion (IsGood f) es → AllByRecursion (IsGood after) es
+    each [] h all = tt
+    each (e ∷ es) h all = by_status e.status h all.0 (each es)
+      where
+        by_status : (s : Status)
+            → list_all (nat_lt at) (gather (λ r. held_stamp r.phase) (gather standing_row (record { txn = e.txn; status = s } ∷ es))) ≡ true
+            → IsGoodPart f (part_of s)
+            → (list_all (nat_lt at) (gather (λ r. held_stamp r.phase) (gather standing_row es)) ≡ true → AllByRecursion (IsGood f) es
+            → AllByRecursion (IsGood after) es)
+            → IsGoodPart after (part_of s) × AllByRecursion (IsGood after) es
+        by_status (StandsPrepared p) k due rest = (one _ (and_parts _ _ k).0 due, rest (and_parts _ _ k).1 all.1)
+        by_status (StandsDecided c) k due rest = (one _ (and_parts _ _ k).0 due, rest (and_parts _ _ k).1 all.1)
+        by_status Unrecorded k due rest = (tt, rest k all.1)
+        by_status HasAborted k due rest = (tt, rest k all.1)
+        by_status (HasSettled at ps) k due rest = (tt, rest k all.1)
+        by_status (HasClosed c o) k due rest = (tt, rest k all.1)
+
 pub taken_more : (shard : ℕ) (f : Facts) (r : Record) → IsById (λ e. e.txn) f.entries → AllByRecursion IsOwn f.entries →
     IsLawfulTable (claims (standing_rows f))
     → follows_facts shard f r ≡ true → fits_facts f r ≡ true → IsTaken f → IsTaken (learn f r)
 unfolding learn follows_facts
 taken_more shard f (Record.Opened epoch) up own lawful follows fit taken = record {
   opened = (let next : epoch ≡ f.epoch + 1 = grind (arith, nat_tests) in omega (arith, next));
-  good = raised_good f (learn f (Record.Opened epoch)) refl refl (omega arith) taken.good;
+  good = raised_good f (learn f (Record.Opened epoch)) refl refl refl (omega arith) taken.good;
   covered = taken.covered;
+  horizon = taken.horizon;
 }
 taken_more shard f (Record.Ceiling at) up own lawful follows fit taken = record {
   opened = taken.opened;
-  good = raised_good f (learn f (Record.Ceiling at)) refl refl (up_left f.floor at) taken.good;
+  good = raised_good f (learn f (Record.Ceiling at)) refl refl refl (up_left f.floor at) taken.good;
   covered = covered_later f.floor (max f.floor at) f.installs (up_left f.floor at) taken.covered;
+  horizon = under_later f.horizon f.floor at taken.horizon;
 }
 taken_more shard f (Record.Prepare p) up own lawful follows fit taken = record {
   opened = taken.opened;
-  good = noted_good f (learn f (Record.Prepare p)) p.txn (StandsPrepared p) up refl refl (up_left f.floor p.at)
+  good = noted_good f (learn f (Record.Prepare p)) p.txn (StandsPrepared p) up refl refl refl (up_left f.floor p.at)
       (fresh_due f (learn f (Record.Prepare p)) (record { at = p.at; reads = p.reads; writes = p.writes })
-      (lt-of p.at (and_parts _ _ (and_parts _ _ (id_rules shard f (Record.Prepare p) follows)).0).0) refl refl (and_parts _ _ fit).1)
+      (lt-of p.at (and_parts _ _ (and_parts _ _ (id_rules shard f (Record.Prepare p) follows)).0).0) refl
+      (and_parts _ _ (and_parts _ _ fit).0).1 refl refl (and_parts _ _ fit).1)
       taken.good;
   covered = covered_later f.floor (max f.floor p.at) f.installs (up_left f.floor p.at) taken.covered;
+  horizon = under_later f.horizon f.floor p.at taken.horizon;
 }
 taken_more shard f (Record.Commit c) up own lawful follows fit taken = record {
   opened = taken.opened;
-  good = noted_good f (learn f (Record.Commit c)) c.txn (StandsDecided c) up refl refl (up_left f.floor c.at)
+  good = noted_good f (learn f (Record.Commit c)) c.txn (StandsDecided c) up refl refl refl (up_left f.floor c.at)
       (fresh_due f (learn f (Record.Commit c)) (record { at = c.at; reads = c.reads; writes = c.writes })
-      (lt-of c.at (and_parts _ _ (and_parts _ _ (id_rules shard f (Record.Commit c) follows)).0).0) refl refl (and_parts _ _ fit).1)
+      (lt-of c.at (and_parts _ _ (and_parts _ _ (id_rules shard f (Record.Commit c) follows)).0).0) refl
+      (and_parts _ _ (and_parts _ _ fit).0).1 refl refl (and_parts _ _ fit).1)
       taken.good;
   covered = covered_later f.floor (max f.floor c.at) f.installs (up_left f.floor c.at) taken.covered;
+  horizon = under_later f.horizon f.floor c.at taken.horizon;
 }
 taken_more shard f (Record.Abort t) up own lawful follows fit taken = record {
   opened = taken.opened;
-  good = noted_good f (learn f (Record.Abort t)) t HasAborted up refl refl (omega arith) tt taken.good;
+  good = noted_good f (learn f (Record.Abort t)) t HasAborted up refl refl refl (omega arith) tt taken.good;
   covered = taken.covered;
+  horizon = taken.horizon;
 }
 taken_more shard f (Record.Outcome t None) up own lawful follows fit taken =
     let x = standing_entry f t None (id_rules shard f (Record.Outcome t None) follows) in
     let same : f.installs ≡ f.installs ++ installs_at (recorded f t) None = sym (ap (λ is. f.installs ++ is) x.none ∙ more_nil f.installs) in
     record {
       opened = taken.opened;
-      good = noted_good f (learn f (Record.Outcome t None)) t (after_outcome (recorded f t) None) up refl same (omega arith)
+      good = noted_good f (learn f (Record.Outcome t None)) t (after_outcome (recorded f t) None) up refl same refl (omega arith)
           (subst (IsGoodPart (learn f (Record.Outcome t None))) (sym (x.gone None)) tt) taken.good;
       covered = subst (λ is. IsTrue (list_all (λ i. nat_le i.at f.floor) is)) same taken.covered;
+      horizon = taken.horizon;
     }
 taken_more shard f (Record.Outcome t (Some s)) up own lawful follows fit taken =
     let x = standing_entry f t (Some s) (id_rules shard f (Record.Outcome t (Some s)) follows) in
@@ -289,13 +340,23 @@ taken_more shard f (Record.Outcome t (Some s)) up own lawful follows fit taken =
       opened = taken.opened;
       good = installed_good f (learn f (Record.Outcome t (Some s))) t (after_outcome (recorded f t) (Some s)) x.part s x.entry up own lawful x.there
           x.is refl (x.gone (Some s))
-          (ap (λ is. f.installs ++ is) (x.installs s)) (up_left f.floor s) taken.good;
+          (ap (λ is. f.installs ++ is) (x.installs s)) refl (up_left f.floor s) taken.good;
       covered =
           each_append (λ (i : Install). nat_le i.at (max f.floor s)) f.installs (installs_at (recorded f t) (Some s))
           (covered_later f.floor (max f.floor s) f.installs (up_left f.floor s) taken.covered)
           (subst (λ is. list_all (λ (i : Install). nat_le i.at (max f.floor s)) is ≡ true) (sym (x.installs s))
           (covered_versions x.part.writes s (max f.floor s) (up_right f.floor s)));
+      horizon = under_later f.horizon f.floor s taken.horizon;
     }
+taken_more shard f (Record.Horizon at) up own lawful follows fit taken = record {
+  opened = taken.opened;
+  good = forgotten_good f at fit taken.good;
+  covered = taken.covered;
+  horizon =
+      let low : nat_le at f.floor ≡ true = (and_parts _ _ (and_parts _ _ follows).1).1 in
+      let before : f.horizon ≤ f.floor = taken.horizon in
+      (let l : at ≤ f.floor = grind (arith, nat_tests) in omega (arith, l, before));
+}
 
 -- ---- so it is sound
 
@@ -360,6 +421,21 @@ entry_agrees f (Some e) good = by_status e.status (good e refl)
     by_status (HasSettled at ps) due = tt
     by_status (HasClosed c o) due = tt
 
+-- what stands is above the horizon
+good_over : (f : Facts) (e : TxnStatus) (r : Row) → standing_row e ≡ Some r → IsGood f e → Over f.horizon (held_stamp r.phase)
+good_over f e r k good = by_status e.status k good
+  where
+    some_over : (q : Row) → Some q ≡ Some r → Over f.horizon (held_stamp q.phase) → Over f.horizon (held_stamp r.phase)
+    some_over q k h = let same : q ≡ r = cc in subst (λ z. Over f.horizon (held_stamp z.phase)) same h
+
+    by_status : (s : Status) → standing_row (record { txn = e.txn; status = s }) ≡ Some r → IsGoodPart f (part_of s) → Over f.horizon (held_stamp r.phase)
+    by_status (StandsPrepared p) k due = some_over _ k (omega (arith, due.above_horizon))
+    by_status (StandsDecided c) k due = some_over _ k (omega (arith, due.above_horizon))
+    by_status Unrecorded k due = cc
+    by_status HasAborted k due = cc
+    by_status (HasSettled at ps) k due = cc
+    by_status (HasClosed c o) k due = cc
+
 pub recovered_sound : (shard : ℕ) (k : Kept) → IsRecovered k → IsLawfulTable (claims k.memory.rows) → IsSound shard k.facts k.memory
 recovered_sound shard k recovered lawful = record {
   opened = recovered.opened;
@@ -377,4 +453,7 @@ recovered_sound shard k recovered lawful = record {
       (subst (Agrees k.facts.installs k.facts.floor (recorded k.facts t)) (sym (found k.facts.entries t recovered.order recovered.own))
       (entry_agrees k.facts (find_member (λ (e : TxnStatus). e.txn) k.facts.entries t)
       (λ e there. found_all (IsGood k.facts) (λ (e : TxnStatus). e.txn) k.facts.entries t e recovered.good there))));
+  horizon = under_safe k.facts.horizon k.memory (omega (arith, recovered.horizon, last_is k recovered))
+      (subst (AllOver k.facts.horizon) (sym (rows_is k recovered))
+      (all-gather (IsGood k.facts) (λ r. Over k.facts.horizon (held_stamp r.phase)) (good_over k.facts) k.facts.entries recovered.good));
 }

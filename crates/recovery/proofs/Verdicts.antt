@@ -1,5 +1,5 @@
 -- The verdict on a whole log, told record by record from the facts.
-use Rattle.std.specs.List.{list_any}
+use Rattle.std.specs.List.{list_all, list_any}
 use Rattle.std.proofs.Common.{◌≡◌, ℕ, suc, ◌+◌, ◌<◌, Bool, true, false, not, cond, ◌&&◌, nat_lt, List, [], ◌∷◌, ◌++◌, map, length, take, drop, get_or}
 use Rattle.std.proofs.Common.{Some, None, refl, sym, ap, subst, ◌∙◌, ◌⊎◌, inl, inr, arith}
 use Rattle.std.specs.Prelude.{slice_get}
@@ -18,7 +18,7 @@ use Rattle.record.specs.Accepted.{Taken, Accepted, DamagedAt, StrangerAt, begins
 use Rattle.record.specs.Accepted.{taken, taken_from}
 use Rattle.record.specs.Facts.{Facts, facts_of, learn, recorded}
 use Rattle.record.specs.Installs.{installs_of, writes_by}
-use Rattle.record.specs.Records.{committed_of, ended_of, is_aborted, prepared_of, status_by, status_of}
+use Rattle.record.specs.Records.{committed_of, ended_of, horizon_of, is_aborted, prepared_of, status_by, status_of}
 use Rattle.record.specs.declared.record.Record.{Record}
 use Rattle.record.proofs.LearnAgrees.{followed_more, learn_agrees}
 use Rattle.record.proofs.Statuses.{recorded_is}
@@ -26,7 +26,7 @@ use Rattle.facts.specs.Rules.{allows, follows_facts}
 use Rattle.facts.proofs.Known.{follows_as_known}
 use Rattle.gatelog.specs.Placed.{Placed}
 use Rattle.protocol.specs.Sound.{writes_standing}
-use Rattle.protocol.proofs.FitsBeside.{installs_are, length-held, standing_is, writes_are}
+use Rattle.protocol.proofs.FitsBeside.{horizon_is, installs_are, length-held, stamps_are, standing_is, writes_are}
 pub use Rattle.recovery.specs.Rebuilding.{Stands}
 use Rattle.recovery.specs.Recovered.{fault_in, fault_next, fits_facts, items, standing_rows, stands_in}
 
@@ -34,12 +34,16 @@ use Rattle.recovery.specs.Recovered.{fault_in, fault_next, fits_facts, items, st
 
 stands_is : (log : List Record) (at : ℕ) (rs : List Bytes) (ws : List Write) → may_stand log at rs ws ≡ stands_in (facts_of log) at rs ws
 stands_is log at rs ws =
-    ap (λ n. nat_lt n most_rows && not (list_any (clash (locks_of rs ws)) (locks_standing log)) && above_versions (installs_of log) at ws)
+    ap (λ n. nat_lt n most_rows && not (list_any (clash (locks_of rs ws)) (locks_standing log)) && nat_lt (horizon_of log) at
+    && above_versions (installs_of log) at ws)
     (ap length (standing_is log) ∙ length-held (standing_rows (facts_of log)))
-    ∙ ap (λ hs. nat_lt (length (standing_rows (facts_of log))) most_rows && not (list_any (clash (locks_of rs ws)) hs) && above_versions
-    (installs_of log) at ws) (standing_is log)
+    ∙ ap (λ hs. nat_lt (length (standing_rows (facts_of log))) most_rows && not (list_any (clash (locks_of rs ws)) hs) && nat_lt (horizon_of log) at
+    && above_versions (installs_of log) at ws) (standing_is log)
+    ∙ ap (λ h. nat_lt (length (standing_rows (facts_of log))) most_rows && not (list_any (clash (locks_of rs ws))
+    (map (λ r. r.held) (standing_rows (facts_of log)))) && nat_lt h at && above_versions (installs_of log) at ws)
+    (sym (horizon_is log))
     ∙ ap (λ is. nat_lt (length (standing_rows (facts_of log))) most_rows && not (list_any (clash (locks_of rs ws))
-    (map (λ r. r.held) (standing_rows (facts_of log)))) && above_versions is at ws)
+    (map (λ r. r.held) (standing_rows (facts_of log)))) && nat_lt (facts_of log).horizon at && above_versions is at ws)
     (sym (installs_are log))
 
 installs_is : (shard : ℕ) (log : List Record) (t : Id) (s : ℕ) → follows_facts shard (facts_of log) (Record.Outcome t (Some s)) ≡ true
@@ -58,6 +62,7 @@ beside_is : (shard : ℕ) (log : List Record) (r : Record) → follows_facts sha
 unfolding fits_beside
 beside_is shard log (Record.Opened epoch) follows = refl
 beside_is shard log (Record.Ceiling at) follows = refl
+beside_is shard log (Record.Horizon at) follows = ap (list_all (nat_lt at)) (stamps_are log)
 beside_is shard log (Record.Prepare p) follows = stands_is log p.at p.reads p.writes
 beside_is shard log (Record.Commit c) follows = stands_is log c.at c.reads c.writes
 beside_is shard log (Record.Abort t) follows = refl

@@ -17,7 +17,7 @@ use Rattle.record.specs.Records.{Status, StandsPrepared, StandsDecided, as_opene
 use Rattle.record.specs.declared.record.Record.{Record}
 use Rattle.facts.specs.Rules.{follows_facts}
 use Rattle.gatelog.specs.Placed.{Placed}
-use Rattle.protocol.specs.Rows.{Row, rebuilt, standing_row}
+use Rattle.protocol.specs.Rows.{Row, held_stamp, rebuilt, standing_row}
 use Rattle.protocol.specs.Sound.{IsSound}
 use Rattle.memory.specs.Kept.{Kept}
 use Rattle.protocol.specs.Sound.{writes_standing}
@@ -30,17 +30,20 @@ items entries = map (λ e. e.item) entries
 abbrev pub standing_rows : Facts → List Row
 standing_rows facts = gather standing_row facts.entries
 
--- a promise or a decision has its place: room for its row, its locks in nobody's way, and above the versions of what it writes
+-- a promise or a decision has its place: room for its row, its locks in nobody's way, above the horizon, and above the versions of
+-- what it writes
 abbrev pub stands_in : Facts → ℕ → List Bytes → List Write → Bool
 stands_in facts at reads writes =
     nat_lt (length (standing_rows facts)) most_rows
     && not (list_any (clash (locks_of reads writes)) (map (λ r. r.held) (standing_rows facts)))
+    && nat_lt facts.horizon at
     && above_versions facts.installs at writes
 
--- a record has its place beside what stands
+-- a record has its place beside what stands; a horizon is below all of it
 abbrev pub fits_facts : Facts → Record → Bool
 fits_facts facts (Record.Opened epoch) = true
 fits_facts facts (Record.Ceiling at) = true
+fits_facts facts (Record.Horizon at) = list_all (nat_lt at) (gather (λ r. held_stamp r.phase) (standing_rows facts))
 fits_facts facts (Record.Prepare p) = stands_in facts p.at p.reads p.writes
 fits_facts facts (Record.Commit c) = stands_in facts c.at c.reads c.writes
 fits_facts facts (Record.Abort t) = true
@@ -78,9 +81,10 @@ part_of (StandsPrepared p) = Some (record { at = p.at; reads = p.reads; writes =
 part_of (StandsDecided c) = Some (record { at = c.at; reads = c.reads; writes = c.writes })
 part_of _ = None
 
--- its timestamp is one of the log's, and above the versions of what it writes
+-- its timestamp is one of the log's, above the horizon, and above the versions of what it writes
 pub record MayStandNext (facts : Facts) (x : Part) : Type 0 where
   pub above_zero : 0 < x.at
+  pub above_horizon : facts.horizon < x.at
   pub assigned : x.at ≤ facts.floor
   pub above : IsTrue (above_versions facts.installs x.at x.writes)
 
@@ -99,6 +103,7 @@ pub record IsRecovered (k : Kept) : Type 0 where
   pub own : AllByRecursion IsOwn k.facts.entries
   pub good : AllByRecursion (IsGood k.facts) k.facts.entries
   pub covered : IsTrue (list_all (λ i. nat_le i.at k.facts.floor) k.facts.installs)
+  pub horizon : k.facts.horizon ≤ k.facts.floor
 
 -- what was found in a log: nothing where no record stands, else what its facts leave
 abbrev pub IsRebuilt : Setup → List Record → Option Kept → Type 0

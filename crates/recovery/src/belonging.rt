@@ -15,7 +15,7 @@ pub fn belongs(setup: &Setup, item: &Record) -> bool
     match item {
         Record::Prepare(prepared) => owns_all(setup, &prepared.reads, &prepared.writes),
         Record::Commit(committed) => owns_all(setup, &committed.reads, &committed.writes),
-        Record::Opened { .. } | Record::Ceiling { .. } => true,
+        Record::Opened { .. } | Record::Ceiling { .. } | Record::Horizon { .. } => true,
         Record::Abort { .. } | Record::Outcome { .. } => true,
     }
 }

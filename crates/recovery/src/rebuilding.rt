@@ -190,7 +190,7 @@ fn is_first(item: &Record) -> bool
     match item {
         Record::Opened { epoch } => epoch.number() == 1,
         Record::Ceiling { .. } | Record::Prepare(_) | Record::Commit(_) => false,
-        Record::Abort { .. } | Record::Outcome { .. } => false,
+        Record::Abort { .. } | Record::Outcome { .. } | Record::Horizon { .. } => false,
     }
 }
 

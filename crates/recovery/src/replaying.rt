@@ -15,8 +15,8 @@ use record::Record;
 use std::alloc::Global;
 use units::{Fault, Keys, Stamp, TxnId, Writes};
 
-/// The record has its place beside what stands: there is room for its row, nobody has its locks, and it is above the versions
-/// of what it writes or installs. It is refused for want of memory alone.
+/// The record has its place beside what stands: there is room for its row, nobody has its locks, and it is above the horizon and the
+/// versions of what it writes or installs; a horizon is below what stands. It is refused for want of memory alone.
 pub fn fits_beside(state: &State, alloc: Global, item: &Record) -> Result<bool, Fault>
     requires recovered { IsRecovered state.now }
     requires follows { follows_facts state.now.setup.shard state.now.facts item.now ≡ true }
@@ -32,6 +32,7 @@ pub fn fits_beside(state: &State, alloc: Global, item: &Record) -> Result<bool, 
         } => Ok(state.takes_standing(*txn, *at)),
         Record::Opened { .. } | Record::Ceiling { .. } | Record::Abort { .. } => Ok(true),
         Record::Outcome { outcome: None, .. } => Ok(true),
+        Record::Horizon { at } => Ok(*at <= state.safe()),
     }
 }
 
@@ -102,6 +103,7 @@ fn plan_again(state: &State, alloc: Global, item: &Record) -> Result<Plan, Fault
             let needs = shared_and_exclusive(alloc, &c.reads, &c.writes)?;
             Ok(Plan::quiet(alloc, needs, Change::Stands(c.txn), last.later(c.at)))
         }
+        Record::Horizon { .. } => Ok(Plan::quiet(alloc, Vec::new(alloc), Change::Keeps, last)),
     }
 }
 
@@ -133,6 +135,7 @@ fn stands_beside(
     let needs = shared_and_exclusive(alloc, reads, writes)?;
     let is_crowded = state.is_crowded(txn);
     let is_free = state.opens(txn, &needs);
+    let is_late = state.horizon() < at;
     let is_above = state.takes(writes, at);
-    Ok(!is_crowded && is_free && is_above)
+    Ok(!is_crowded && is_free && is_late && is_above)
 }

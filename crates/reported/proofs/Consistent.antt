@@ -1,8 +1,7 @@
 -- The logs that a run ends with are some that a crash may leave, and the lines that count are some of its lines.
-use Rattle.std.proofs.Common.{◌≡◌, ◌⊎◌, inl, inr, ℕ, zero, suc, Bool, true, false, cond, List, [], ◌∷◌, ◌++◌, map, filter, slice_get, Option, Some}
-use Rattle.std.proofs.Common.{None, refl, sym, ap, ◌∙◌, subst}
+use Rattle.std.proofs.Common.{◌≡◌, inl, inr, ℕ, zero, suc, Bool, true, false, cond, List, [], ◌∷◌, ◌++◌, map, filter, slice_get, Option, Some}
+use Rattle.std.proofs.Common.{None, refl, sym, subst}
 use Rattle.std.proofs.lemmas.List.{append-nil}
-use Rattle.record.specs.Serially.{LooksSerially, OrderedByTime, ReadsSerially}
 use Rattle.record.specs.Verdict.{IsLine, verdict}
 use Rattle.record.specs.VerdictLaws.{IsBorneOut, ReadsCommitted, SoundIsYes}
 use Rattle.units.specs.Lists.{when}
@@ -13,10 +12,8 @@ use Rattle.record.specs.History.{Txn, find_txn, history}
 use Rattle.world.specs.World.{ShardNow, Unsure, Nothing, Shown, Hidden, counted_lines, line_counts, logs_of, read_log, run, shown_records}
 use Rattle.world.specs.Headline.{IsExternallyConsistent, IsUnsure, MayLeaveLog, MayLeaveLogs}
 use Rattle.law.proofs.WholeLaw.{externally_consistent}
-use Rattle.playing.specs.Reports.{IsReport}
-use Rattle.reported.specs.Reported.{IsConsistentReport, ReportsAreConsistent}
+use Rattle.reported.specs.Reported.{ReportsAreConsistent}
 use Rattle.world.specs.declared.event.Config.{Config}
-use Rattle.world.specs.declared.event.Event.{Event}
 
 -- a read of the disk is one of the logs that a crash may leave
 may_leave : (s : ShardNow) → MayLeaveLog s (read_log s)

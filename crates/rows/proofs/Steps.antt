@@ -130,6 +130,7 @@ pub prepared_token : (k : Token) (r : Record) → (prepared_by k r).token ≡ k
 prepared_token k (Record.Prepare p) = refl
 prepared_token k (Record.Opened e) = refl
 prepared_token k (Record.Ceiling s) = refl
+prepared_token k (Record.Horizon s) = refl
 prepared_token k (Record.Commit c) = refl
 prepared_token k (Record.Abort t) = refl
 prepared_token k (Record.Outcome t o) = refl
@@ -138,6 +139,7 @@ pub prepared_phase : (t : Id) (k : Token) (r : Record) → is_prepare_of t r ≡
 prepared_phase t k (Record.Prepare p) e = refl
 prepared_phase t k (Record.Opened n) e = absurd (false≢true e)
 prepared_phase t k (Record.Ceiling s) e = absurd (false≢true e)
+prepared_phase t k (Record.Horizon s) e = absurd (false≢true e)
 prepared_phase t k (Record.Commit c) e = absurd (false≢true e)
 prepared_phase t k (Record.Abort u) e = absurd (false≢true e)
 prepared_phase t k (Record.Outcome u o) e = absurd (false≢true e)
@@ -146,6 +148,7 @@ pub decided_token : (k : Token) (r : Record) → (decided_by k r).token ≡ k
 decided_token k (Record.Prepare p) = refl
 decided_token k (Record.Opened e) = refl
 decided_token k (Record.Ceiling s) = refl
+decided_token k (Record.Horizon s) = refl
 decided_token k (Record.Commit c) = refl
 decided_token k (Record.Abort t) = refl
 decided_token k (Record.Outcome t o) = refl
@@ -154,6 +157,7 @@ pub decided_phase : (t : Id) (k : Token) (r : Record) → is_commit_of t r ≡ t
 decided_phase t k (Record.Prepare p) e = absurd (false≢true e)
 decided_phase t k (Record.Opened n) e = absurd (false≢true e)
 decided_phase t k (Record.Ceiling s) e = absurd (false≢true e)
+decided_phase t k (Record.Horizon s) e = absurd (false≢true e)
 decided_phase t k (Record.Commit c) e = refl
 decided_phase t k (Record.Abort u) e = absurd (false≢true e)
 decided_phase t k (Record.Outcome u o) e = absurd (false≢true e)

@@ -95,6 +95,7 @@ phase_by (Record.Prepare p) = IsPrepared p.coordinator p.at
 phase_by (Record.Commit c) = IsDecided c.at c.parts
 phase_by (Record.Opened epoch) = Idle
 phase_by (Record.Ceiling at) = Idle
+phase_by (Record.Horizon at) = Idle
 phase_by (Record.Abort t) = Idle
 phase_by (Record.Outcome t outcome) = Idle
 

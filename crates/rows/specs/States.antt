@@ -84,6 +84,7 @@ abbrev pub prepared_by : Token → Record → PreparedState
 prepared_by token (Record.Prepare p) = record { token = token; coordinator = p.coordinator; at = p.at }
 prepared_by token (Record.Opened epoch) = record { token = token; coordinator = 0; at = 0 }
 prepared_by token (Record.Ceiling at) = record { token = token; coordinator = 0; at = 0 }
+prepared_by token (Record.Horizon at) = record { token = token; coordinator = 0; at = 0 }
 prepared_by token (Record.Commit c) = record { token = token; coordinator = 0; at = 0 }
 prepared_by token (Record.Abort u) = record { token = token; coordinator = 0; at = 0 }
 prepared_by token (Record.Outcome u o) = record { token = token; coordinator = 0; at = 0 }
@@ -93,6 +94,7 @@ abbrev pub decided_by : Token → Record → DecidedState
 decided_by token (Record.Commit c) = record { token = token; at = c.at; parts = c.parts }
 decided_by token (Record.Opened epoch) = record { token = token; at = 0; parts = [] }
 decided_by token (Record.Ceiling at) = record { token = token; at = 0; parts = [] }
+decided_by token (Record.Horizon at) = record { token = token; at = 0; parts = [] }
 decided_by token (Record.Prepare p) = record { token = token; at = 0; parts = [] }
 decided_by token (Record.Abort u) = record { token = token; at = 0; parts = [] }
 decided_by token (Record.Outcome u o) = record { token = token; at = 0; parts = [] }

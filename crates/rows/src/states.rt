@@ -176,7 +176,8 @@ impl RowReading {
                 };
                 (state, record)
             }
-            Record::Opened { .. } | Record::Ceiling { .. } => unreachable!(),
+            Record::Opened { .. } | Record::Ceiling { .. } | Record::Horizon { .. } =>
+                unreachable!(),
             Record::Commit(_) | Record::Abort { .. } | Record::Outcome { .. } => unreachable!(),
         }
     }
@@ -395,7 +396,7 @@ fn decide(held: Held, logged: Logged) -> (RowDecided, Record)
             };
             (state, record)
         }
-        Record::Opened { .. } | Record::Ceiling { .. } => unreachable!(),
+        Record::Opened { .. } | Record::Ceiling { .. } | Record::Horizon { .. } => unreachable!(),
         Record::Prepare(_) | Record::Abort { .. } | Record::Outcome { .. } => unreachable!(),
     }
 }

@@ -21,11 +21,12 @@ pub enum Happening {
     Settle,
     Advance,
     Nudge,
+    Forget,
     Open,
 }
 
 /// The forms. Of two with one name the first that fits counts.
-pub static FORMS: [Form<Happening>; 17] = [
+pub static FORMS: [Form<Happening>; 18] = [
     Form {
         name: "begin",
         words: &[Kind::Txn],
@@ -105,6 +106,11 @@ pub static FORMS: [Form<Happening>; 17] = [
         name: "nudge",
         words: &[Kind::Shard, Kind::Txn, Kind::Earliest, Kind::Latest],
         is: Happening::Nudge,
+    },
+    Form {
+        name: "forget",
+        words: &[Kind::Shard, Kind::Stamp, Kind::Earliest, Kind::Latest],
+        is: Happening::Forget,
     },
     Form {
         name: "open",

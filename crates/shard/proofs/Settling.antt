@@ -129,4 +129,5 @@ module _ (k : Kept) (now : Interval) (p : Step) (sound : ∥ IsSound k.setup.sha
   durably_settled keeps disk records (Input.Deliver m) result planned out durable known = tt
   durably_settled keeps disk records Input.Resume result planned out durable known = tt
   durably_settled keeps disk records (Input.Advance at) result planned out durable known = tt
+  durably_settled keeps disk records (Input.Forget at) result planned out durable known = tt
   durably_settled keeps disk records (Input.Nudge t) result planned out durable known = tt

@@ -3,7 +3,7 @@ use Rattle.std.specs.Prelude.{◌≡◌, ◌≤◌, ◌<◌, ℕ, Bool, IsTrue, 
 use Rattle.units.specs.Keys.{Bytes, shard_of}
 use Rattle.units.specs.Versions.{at_time}
 use Rattle.units.specs.declared.fault.Fault.{Fault}
-use Rattle.units.specs.declared.fault.Fault.TheVariants.{Stranger, NotYet, Room}
+use Rattle.units.specs.declared.fault.Fault.TheVariants.{Stranger, TooOld, NotYet, Room}
 use Rattle.units.specs.declared.line.Seen.{Seen}
 use Rattle.units.specs.declared.line.Seen.TheVariants.{Absent, Value}
 use Rattle.protocol.specs.Rows.{safe}
@@ -28,11 +28,15 @@ IsOver None room = ⊥
 IsOver (Some value) room = room < length value
 
 -- A look at a timestamp: the value that the versions have there, at the front of the buffer. It is refused where the key is
--- of another shard, else where the timestamp is not served yet, else where the buffer has too little room; the buffer is then
--- as it was.
+-- of another shard, else where the timestamp is below the horizon, else where it is not served yet, else where the buffer has
+-- too little room; the buffer is then as it was.
 abbrev pub IsLook : {D : Type 0} → CoreView D → Bytes → ℕ → List ℕ → List ℕ → Result Seen Fault → Type 0
-IsLook core key at old new (Ok seen) = IsTrue (is_here core key) × (at ≤ safe_at core) × IsSeen (at_time core.facts.installs key at) old new seen
+IsLook core key at old new (Ok seen) =
+    IsTrue (is_here core key) × (core.facts.horizon ≤ at) × (at ≤ safe_at core) × IsSeen (at_time core.facts.installs key at) old new seen
 IsLook core key at old new (Err Stranger) = IsFalse (is_here core key) × (new ≡ old)
-IsLook core key at old new (Err NotYet) = IsTrue (is_here core key) × (safe_at core < at) × (new ≡ old)
-IsLook core key at old new (Err Room) = IsTrue (is_here core key) × (at ≤ safe_at core) × IsOver (at_time core.facts.installs key at) (length old) × (new ≡ old)
+IsLook core key at old new (Err TooOld) = IsTrue (is_here core key) × (at < core.facts.horizon) × (new ≡ old)
+IsLook core key at old new (Err NotYet) = IsTrue (is_here core key) × (core.facts.horizon ≤ at) × (safe_at core < at) × (new ≡ old)
+IsLook core key at old new (Err Room) =
+    IsTrue (is_here core key) × (core.facts.horizon ≤ at) × (at ≤ safe_at core)
+    × IsOver (at_time core.facts.installs key at) (length old) × (new ≡ old)
 IsLook core key at old new (Err _) = ⊥

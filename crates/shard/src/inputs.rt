@@ -2,7 +2,7 @@
 ghost use Rattle.std.specs.Prelude.{◌≡◌, [], true, Some, Ok, IfOk};
 ghost use Rattle.std.specs.Option.{option_copied};
 ghost use Rattle.protocol.specs.Rows.{held_in, WaitsRead, find_row, needs_of};
-ghost use Rattle.protocol.specs.Cells.{plan_advance, plan_resume, plan_resume_id, plan_resume_row, plan_go_on, to_read};
+ghost use Rattle.protocol.specs.Cells.{plan_advance, plan_forget, plan_resume, plan_resume_id, plan_resume_row, plan_go_on, to_read};
 ghost use Rattle.protocol.specs.Step.{is_for, plan_input, plan_message};
 ghost use Rattle.rows.specs.CodeRows.{phase_of, phase_of_wait};
 ghost use Rattle.rows.specs.RowTable.{needs_in};
@@ -18,6 +18,7 @@ use message::{GiveUp, Input, Message};
 use participant::{
     on_give_up, on_nudge, on_outcome, on_prepare, on_read, resume_prepare, resume_read,
 };
+use record::Record;
 use rows::{Row, Wait};
 use std::alloc::Global;
 use truetime::Reading;
@@ -46,6 +47,7 @@ pub(crate) fn plan_input(
         Input::Settle(txn) => settle(state, alloc, now, *txn),
         Input::Advance(to) => plan_advance(state, alloc, now, *to),
         Input::Nudge(txn) => on_nudge(state, alloc, *txn),
+        Input::Forget(at) => plan_forget(state, alloc, *at),
     }
 }
 
@@ -185,4 +187,19 @@ fn plan_advance(state: &State, alloc: Global, now: &Reading, to: Stamp) -> Resul
     }
     let ceiling = needed(state.floor(), to, state.setup().stride);
     Ok(state.serves(alloc, ceiling, state.last().later(to)))
+}
+
+// No value below this time is read any more: nothing that is not yet served is forgotten, and what is forgotten stays so.
+#[tactic(auto, unfolding(protocol::specs::Cells::plan_forget))]
+fn plan_forget(state: &State, alloc: Global, at: Stamp) -> Result<Step, Fault>
+    ensures planned { IsPlanned state.now (plan_forget (start_of state.now) at) result }
+    ensures fit { IfOk result (IsFit state.now) }
+{
+    if state.safe() < at {
+        return Err(Fault::NotYet);
+    }
+    if at <= state.horizon() {
+        return Ok(state.idles(alloc));
+    }
+    Ok(state.serves(alloc, Some(Record::Horizon { at }), state.last()))
 }

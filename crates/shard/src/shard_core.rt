@@ -36,7 +36,7 @@ use protocol::{own_refusals, taken_is_showable};
 use record::{Record, accepted_follows, learn_agrees, learnt_agrees};
 use std::alloc::Global;
 use truetime::Reading;
-use units::{Epoch, Fault, Install, Key, Seen, Setup, Stamp, TxnId, put_in_front};
+use units::{Epoch, Fault, Install, Key, Seen, Setup, Stamp, TxnId, may_look, show};
 
 /// The core of a shard: its log, what it keeps in memory, and its book, where it was told to keep one. Once a device call has
 /// failed in it, it is stopped, and each input is refused. It has to be spent, by `stop`.
@@ -209,20 +209,21 @@ impl<D: Disk> Core<D> {
         self.machine.state.earliest_decided()
     }
 
-    /// The value of a key at a timestamp that is served, put at the front of the buffer. A core that is stopped still answers.
+    /// The value of a key at a timestamp that is served and not below the horizon, put at the front of the buffer. A core that is stopped
+    /// still answers.
     pub fn look(&self, key: &Key, at: Stamp, buffer: &mut [u8]) -> Result<Seen, Fault>
         ensures { IsLook (seen self.now) key.now at buffer.old buffer.new result }
     {
-        if !self.machine.state.setup().owns(key) {
-            return Err(Fault::Stranger);
-        }
-        if self.machine.state.safe() < at {
-            return Err(Fault::NotYet);
-        }
-        match self.machine.state.value_at(key, at) {
-            None => Ok(Seen::Absent),
-            Some(value) => put_in_front(value.as_bytes(), buffer),
-        }
+        let state = &self.machine.state;
+        may_look(state.setup().owns(key), state.horizon(), state.safe(), at)?;
+        show(state.value_at(key, at), buffer)
+    }
+
+    /// The horizon, below which no value is read: 0 where there is none.
+    pub fn horizon(&self) -> Stamp
+        ensures { result ≡ (seen self.now).facts.horizon }
+    {
+        self.machine.state.horizon()
     }
 
     /// The greatest timestamp at which reads are answered.

@@ -1,10 +1,10 @@
 -- Records counted one by one.
-use Rattle.std.proofs.Common.{◌≡◌, ◌∙◌, ◌++◌, ◌∷◌, ◌+◌, ◌<◌, ◌≤◌, ◌^◌, [], ℕ, suc, add-zero, arith, refl, ap, List, length, length-append, Option, Some, None}
+use Rattle.std.proofs.Common.{◌≡◌, ◌∙◌, ◌++◌, ◌∷◌, ◌+◌, ◌<◌, ◌≤◌, [], ℕ, suc, add-zero, arith, refl, ap, List, length, length-append, Option, Some, None}
 use Rattle.units.specs.Lists.{gather}
 use Rattle.units.proofs.Folds.{gather_append}
-use Rattle.record.specs.Records.{as_aborted, as_committed, as_ended, as_opened, as_prepared}
+use Rattle.record.specs.Records.{as_aborted, as_committed, as_ended, as_horizon, as_opened, as_prepared}
 use Rattle.record.specs.declared.record.Record.{Record}
-use Rattle.record.specs.declared.record.Record.TheVariants.{Opened, Ceiling, Prepare, Commit, Abort, Outcome}
+use Rattle.record.specs.declared.record.Record.TheVariants.{Opened, Ceiling, Prepare, Commit, Abort, Outcome, Horizon}
 use Rattle.showing.specs.Counting.{AreFewer, with_kind}
 use Rattle.showing.specs.Stats.{as_ceiling, kinds_of}
 use Rattle.showing.specs.declared.kinds.Kinds.{Kinds}
@@ -20,39 +20,44 @@ same : {B : Type 0} (f : Record → Option B) (rs : List Record) (r : Record) �
 same f rs r none = more f rs r 0 none ∙ add-zero (length (gather f rs))
 
 -- numbers of each kind
-kinds : ℕ → ℕ → ℕ → ℕ → ℕ → ℕ → Kinds
-kinds o ce p co a e = record { opened = o; ceilings = ce; prepares = p; commits = co; aborts = a; outcomes = e }
+kinds : ℕ → ℕ → ℕ → ℕ → ℕ → ℕ → ℕ → Kinds
+kinds o ce p co a e h = record { opened = o; ceilings = ce; prepares = p; commits = co; aborts = a; outcomes = e; horizons = h }
 
-alike : (o o' ce ce' p p' co co' a a' e e' : ℕ) → o ≡ o' → ce ≡ ce' → p ≡ p' → co ≡ co' → a ≡ a' → e ≡ e'
-    → kinds o ce p co a e ≡ kinds o' ce' p' co' a' e'
-alike o o' ce ce' p p' co co' a a' e e' so sce sp sco sa se = λ i. kinds (so i) (sce i) (sp i) (sco i) (sa i) (se i)
+alike : (o o' ce ce' p p' co co' a a' e e' h h' : ℕ) → o ≡ o' → ce ≡ ce' → p ≡ p' → co ≡ co' → a ≡ a' → e ≡ e' → h ≡ h'
+    → kinds o ce p co a e h ≡ kinds o' ce' p' co' a' e' h'
+alike o o' ce ce' p p' co co' a a' e e' h h' so sce sp sco sa se sh =
+    λ i. kinds (so i) (sce i) (sp i) (sco i) (sa i) (se i) (sh i)
 
 pub kinds_more : (rs : List Record) (r : Record) → kinds_of (rs ++ r ∷ []) ≡ with_kind (kinds_of rs) r
 unfolding kinds
 kinds_more rs (Opened epoch) =
     let r : Record = Opened epoch in
-    alike _ _ _ _ _ _ _ _ _ _ _ _ (more as_opened rs r 1 refl) (same as_ceiling rs r refl) (same as_prepared rs r refl)
-    (same as_committed rs r refl) (same as_aborted rs r refl) (same as_ended rs r refl)
+    alike _ _ _ _ _ _ _ _ _ _ _ _ _ _ (more as_opened rs r 1 refl) (same as_ceiling rs r refl) (same as_prepared rs r refl)
+    (same as_committed rs r refl) (same as_aborted rs r refl) (same as_ended rs r refl) (same as_horizon rs r refl)
 kinds_more rs (Ceiling at) =
     let r : Record = Ceiling at in
-    alike _ _ _ _ _ _ _ _ _ _ _ _ (same as_opened rs r refl) (more as_ceiling rs r 1 refl) (same as_prepared rs r refl)
-    (same as_committed rs r refl) (same as_aborted rs r refl) (same as_ended rs r refl)
+    alike _ _ _ _ _ _ _ _ _ _ _ _ _ _ (same as_opened rs r refl) (more as_ceiling rs r 1 refl) (same as_prepared rs r refl)
+    (same as_committed rs r refl) (same as_aborted rs r refl) (same as_ended rs r refl) (same as_horizon rs r refl)
 kinds_more rs (Prepare p) =
     let r : Record = Prepare p in
-    alike _ _ _ _ _ _ _ _ _ _ _ _ (same as_opened rs r refl) (same as_ceiling rs r refl) (more as_prepared rs r 1 refl)
-    (same as_committed rs r refl) (same as_aborted rs r refl) (same as_ended rs r refl)
+    alike _ _ _ _ _ _ _ _ _ _ _ _ _ _ (same as_opened rs r refl) (same as_ceiling rs r refl) (more as_prepared rs r 1 refl)
+    (same as_committed rs r refl) (same as_aborted rs r refl) (same as_ended rs r refl) (same as_horizon rs r refl)
 kinds_more rs (Commit c) =
     let r : Record = Commit c in
-    alike _ _ _ _ _ _ _ _ _ _ _ _ (same as_opened rs r refl) (same as_ceiling rs r refl) (same as_prepared rs r refl)
-    (more as_committed rs r 1 refl) (same as_aborted rs r refl) (same as_ended rs r refl)
+    alike _ _ _ _ _ _ _ _ _ _ _ _ _ _ (same as_opened rs r refl) (same as_ceiling rs r refl) (same as_prepared rs r refl)
+    (more as_committed rs r 1 refl) (same as_aborted rs r refl) (same as_ended rs r refl) (same as_horizon rs r refl)
 kinds_more rs (Abort t) =
     let r : Record = Abort t in
-    alike _ _ _ _ _ _ _ _ _ _ _ _ (same as_opened rs r refl) (same as_ceiling rs r refl) (same as_prepared rs r refl)
-    (same as_committed rs r refl) (more as_aborted rs r 1 refl) (same as_ended rs r refl)
+    alike _ _ _ _ _ _ _ _ _ _ _ _ _ _ (same as_opened rs r refl) (same as_ceiling rs r refl) (same as_prepared rs r refl)
+    (same as_committed rs r refl) (more as_aborted rs r 1 refl) (same as_ended rs r refl) (same as_horizon rs r refl)
 kinds_more rs (Outcome t o) =
     let r : Record = Outcome t o in
-    alike _ _ _ _ _ _ _ _ _ _ _ _ (same as_opened rs r refl) (same as_ceiling rs r refl) (same as_prepared rs r refl)
-    (same as_committed rs r refl) (same as_aborted rs r refl) (more as_ended rs r 1 refl)
+    alike _ _ _ _ _ _ _ _ _ _ _ _ _ _ (same as_opened rs r refl) (same as_ceiling rs r refl) (same as_prepared rs r refl)
+    (same as_committed rs r refl) (same as_aborted rs r refl) (more as_ended rs r 1 refl) (same as_horizon rs r refl)
+kinds_more rs (Horizon at) =
+    let r : Record = Horizon at in
+    alike _ _ _ _ _ _ _ _ _ _ _ _ _ _ (same as_opened rs r refl) (same as_ceiling rs r refl) (same as_prepared rs r refl)
+    (same as_committed rs r refl) (same as_aborted rs r refl) (same as_ended rs r refl) (more as_horizon rs r 1 refl)
 
 -- no more are gathered than there are
 few : {A B : Type 0} (f : A → Option B) (xs : List A) → length (gather f xs) ≤ length xs
@@ -72,4 +77,5 @@ kinds_few rs limit less = record {
   commits = omega (arith, few as_committed rs, less);
   aborts = omega (arith, few as_aborted rs, less);
   outcomes = omega (arith, few as_ended rs, less);
+  horizons = omega (arith, few as_horizon rs, less);
 }

@@ -2,6 +2,7 @@ mod Accepting
 mod Counted
 mod Doubting
 mod Ends
+mod Latest
 mod Numbered
 mod Summing
 mod Telling

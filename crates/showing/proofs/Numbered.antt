@@ -1,5 +1,5 @@
 -- The numbers of a log, by what was learnt of it.
-use Rattle.std.proofs.Common.{◌≡◌, ◌∙◌, ◌++◌, ◌∷◌, [], ℕ, List, length, map, ap, sym, Result, Ok, Err, flat_map}
+use Rattle.std.proofs.Common.{◌≡◌, ◌∙◌, [], ℕ, List, length, ap, sym, Result, Ok, Err}
 use Rattle.units.specs.declared.fault.Fault.{Fault}
 use Rattle.std.proofs.lemmas.List.{length-map}
 use Rattle.record.specs.Facts.{Facts, facts_of}

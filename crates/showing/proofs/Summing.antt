@@ -1,6 +1,6 @@
 -- What is told of logs, one log at a time, and then of all of them.
-use Rattle.std.proofs.Common.{◌≡◌, ◌∙◌, ◌++◌, ◌∷◌, ◌+◌, ◌<◌, ◌≤◌, [], ℕ, Bool, List, length, map, take, get_or, append-nil, arith, ap, ap₂, sym, flat_map}
-use Rattle.std.specs.Prelude.{nat_lt, if◌then◌else◌}
+use Rattle.std.proofs.Common.{◌≡◌, ◌∙◌, ◌++◌, ◌∷◌, ◌+◌, ◌<◌, ◌≤◌, [], ℕ, Bool, List, length, map, take, get_or, append-nil, append_assoc, arith, ap, ap₂, sym, flat_map}
+use Rattle.std.specs.Prelude.{if◌then◌else◌}
 use Rattle.std.proofs.lemmas.Bool.{le-ltb, lt-ltb}
 use Rattle.std.proofs.lemmas.Grind.{flat_map-append}
 use Rattle.std.proofs.lemmas.List.{length-map, map-append, take_more}
@@ -39,3 +39,10 @@ without_sums told ns t numbers text few =
     text ∙ sym (append-nil (flat_map log_text told))
     ∙ ap (λ (b : Bool). flat_map log_text told ++ (if b then sums_text (map (λ (l : ToldLog). l.numbers) told) else []))
     (sym (le-ltb 1 (length told) (omega (arith, few, count_is told ns numbers))))
+
+-- the head, the numbers and what is in doubt, one behind the other
+pub log_told : (t0 t1 t2 t3 head lines doubts : List ℕ) → t1 ≡ t0 ++ head → t2 ≡ t1 ++ lines → t3 ≡ t2 ++ doubts
+    → t3 ≡ t0 ++ (head ++ (lines ++ doubts))
+log_told t0 t1 t2 t3 head lines doubts first second third =
+    third ∙ ap (λ t. t ++ doubts) (second ∙ ap (λ t. t ++ lines) first ∙ append_assoc t0 head lines) ∙ append_assoc t0 (head ++ lines) doubts
+    ∙ ap (λ t. t0 ++ t) (append_assoc head lines doubts)

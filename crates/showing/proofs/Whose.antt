@@ -1,11 +1,11 @@
 -- Whose log some records are.
-use Rattle.std.proofs.Common.{◌≡◌, ◌∙◌, ◌&&◌, ◌++◌, ◌∷◌, ◌<◌, ◌≤◌, [], ℕ, Bool, true, false, Option, Some, None, List, IsTrue, arith, refl, sym, ap, ap₂, subst}
+use Rattle.std.proofs.Common.{◌≡◌, ◌∙◌, ◌&&◌, ◌++◌, ◌∷◌, ◌<◌, ◌≤◌, [], ℕ, true, false, Option, Some, None, List, IsTrue, arith, refl, sym, ap, ap₂, subst}
 use Rattle.std.specs.Prelude.{nat_eq, nat_lt}
 use Rattle.std.proofs.lemmas.Bool.{eqb-true, lt-ltb, ltb-true}
 use Rattle.units.specs.Lists.{gather, head, when}
 use Rattle.record.specs.Accepted.{begins, followed, followed_from, follows}
 use Rattle.record.specs.declared.record.Record.{Record}
-use Rattle.record.specs.declared.record.Record.TheVariants.{Opened, Ceiling, Prepare, Commit, Abort, Outcome}
+use Rattle.record.specs.declared.record.Record.TheVariants.{Opened, Ceiling, Prepare, Commit, Abort, Outcome, Horizon}
 use Rattle.showing.specs.Stats.{decided_by, or_last, parts_in, shard_told}
 use Rattle.showing.specs.Whose.{TellsItsShard}
 use Rattle.showing.proofs.Accepting.{both}
@@ -21,6 +21,7 @@ taken_later : (s n : ℕ) (before : List Record) (r : Record) → s ≤ n → de
 unfolding follows
 taken_later s n before (Opened epoch) less none takes = takes
 taken_later s n before (Ceiling at) less none takes = takes
+taken_later s n before (Horizon at) less none takes = takes
 taken_later s n before (Prepare p) less none takes =
     let parts = both _ (nat_lt p.coordinator s) takes in
     let below : p.coordinator < s = ltb-true p.coordinator s parts.1 in
@@ -35,6 +36,7 @@ its_own : (s y : ℕ) (before : List Record) (r : Record) → decided r ≡ Some
 unfolding follows
 its_own s y before (Opened epoch) is takes = cc
 its_own s y before (Ceiling at) is takes = cc
+its_own s y before (Horizon at) is takes = cc
 its_own s y before (Prepare p) is takes = cc
 its_own s y before (Commit c) is takes =
     sym (eqb-true s y (sym (ap (when (nat_eq s)) is) ∙ (both _ (when (nat_eq s) (head c.parts)) takes).1))

@@ -12,7 +12,7 @@ use Rattle.record.specs.Accepted.{taken}
 use Rattle.record.specs.Installs.{installs_of}
 use Rattle.record.specs.Records.{ended_of}
 use Rattle.record.specs.declared.record.Record.{Record}
-use Rattle.record.specs.declared.record.Record.TheVariants.{Opened, Ceiling, Prepare, Commit, Abort, Outcome}
+use Rattle.record.specs.declared.record.Record.TheVariants.{Opened, Ceiling, Prepare, Commit, Abort, Outcome, Horizon}
 use Rattle.gatelog.specs.Log.{log}
 use Rattle.gatelog.specs.Placed.{Placed}
 use Rattle.recovery.specs.Recovered.{fault_in, items}
@@ -41,6 +41,7 @@ told_as k t writes (Some standing) =
 abbrev pub told_by : (Id → Option (Option ℕ)) → Bytes → Record → List Told
 told_by ends k (Opened epoch) = []
 told_by ends k (Ceiling at) = []
+told_by ends k (Horizon at) = []
 told_by ends k (Prepare p) = told_as k p.txn p.writes (standing_by (Promised p.at) (ends p.txn))
 told_by ends k (Commit c) = told_as k c.txn c.writes (standing_by (Decided c.at) (ends c.txn))
 told_by ends k (Abort t) = []

@@ -1,14 +1,14 @@
 -- What the log in a file holds, as numbers, and what is in doubt in it.
-use Rattle.std.specs.Prelude.{ℕ, Bool, true, false, List, [], ◌∷◌, ◌++◌, Option, Some, None, Result, Ok, length, map, fold, if◌then◌else◌}
+use Rattle.std.specs.Prelude.{ℕ, true, false, List, [], ◌∷◌, ◌++◌, Option, Some, None, Result, Ok, length, map, fold, if◌then◌else◌}
 use Rattle.units.specs.Ids.{Id}
 use Rattle.units.specs.Keys.{Bytes, has_key}
 use Rattle.units.specs.Lists.{gather, head}
 use Rattle.units.specs.declared.fault.Fault.{Fault}
 use Rattle.units.specs.declared.writes.Install.{Install}
 use Rattle.record.specs.Installs.{installs_of}
-use Rattle.record.specs.Records.{as_aborted, as_committed, as_ended, as_opened, as_prepared, epoch_of, floor_of}
+use Rattle.record.specs.Records.{as_aborted, as_committed, as_ended, as_horizon, as_opened, as_prepared, epoch_of, floor_of}
 use Rattle.record.specs.declared.record.Record.{Record}
-use Rattle.record.specs.declared.record.Record.TheVariants.{Opened, Ceiling, Prepare, Commit, Abort, Outcome}
+use Rattle.record.specs.declared.record.Record.TheVariants.{Opened, Ceiling, Prepare, Commit, Abort, Outcome, Horizon}
 use Rattle.gatelog.specs.Log.{log}
 use Rattle.gatelog.specs.Placed.{Placed}
 use Rattle.recovery.specs.Recovered.{items}
@@ -23,6 +23,7 @@ use Rattle.showing.specs.declared.stats.Numbers.{Numbers}
 abbrev pub as_ceiling : Record → Option ℕ
 as_ceiling (Opened epoch) = None
 as_ceiling (Ceiling at) = Some at
+as_ceiling (Horizon at) = None
 as_ceiling (Prepare p) = None
 as_ceiling (Commit c) = None
 as_ceiling (Abort t) = None
@@ -37,6 +38,7 @@ kinds_of records = record {
   commits = length (gather as_committed records);
   aborts = length (gather as_aborted records);
   outcomes = length (gather as_ended records);
+  horizons = length (gather as_horizon records);
 }
 
 -- some keys with one more, where it is not there
@@ -51,6 +53,7 @@ keys_of installs = fold with_key [] (map (λ i. i.key) installs)
 abbrev pub as_begun : Record → Option InDoubt
 as_begun (Opened epoch) = None
 as_begun (Ceiling at) = None
+as_begun (Horizon at) = None
 as_begun (Prepare p) = Some (record { txn = p.txn; at = p.at; is_decided = false })
 as_begun (Commit c) = Some (record { txn = c.txn; at = c.at; is_decided = true })
 as_begun (Abort t) = None
@@ -90,6 +93,7 @@ decided_by (Some parts) = head parts
 abbrev pub parts_in : Record → Option (List ℕ)
 parts_in (Opened epoch) = None
 parts_in (Ceiling at) = None
+parts_in (Horizon at) = None
 parts_in (Prepare p) = None
 parts_in (Commit c) = Some c.parts
 parts_in (Abort t) = None

@@ -3,7 +3,7 @@ use Rattle.std.specs.Prelude.{◌≡◌, ℕ, Bool, true, false, List, [], ◌�
 use Rattle.std.specs.Fmt.{decimal}
 use Rattle.units.specs.Texts.{txn_text}
 use Rattle.showing.specs.declared.figure.Figure.{Figure}
-use Rattle.showing.specs.declared.figure.Figure.TheVariants.{Bytes, Records, Opened, Ceilings, Prepares, Commits, Aborts, Outcomes, Keys, Versions, Epoch, Floor, InDoubt}
+use Rattle.showing.specs.declared.figure.Figure.TheVariants.{Bytes, Records, Opened, Ceilings, Prepares, Commits, Aborts, Outcomes, Horizons, Keys, Versions, Epoch, Floor, InDoubt}
 use Rattle.showing.specs.declared.stats.Numbers.{Numbers}
 use Rattle.showing.specs.declared.stats.InDoubt as doubts
 
@@ -17,6 +17,7 @@ number_of Prepares numbers = numbers.kinds.prepares
 number_of Commits numbers = numbers.kinds.commits
 number_of Aborts numbers = numbers.kinds.aborts
 number_of Outcomes numbers = numbers.kinds.outcomes
+number_of Horizons numbers = numbers.kinds.horizons
 number_of Keys numbers = numbers.keys
 number_of Versions numbers = numbers.versions
 number_of Epoch numbers = numbers.epoch
@@ -33,6 +34,7 @@ word_of Prepares = codes "prepare"
 word_of Commits = codes "commit"
 word_of Aborts = codes "abort"
 word_of Outcomes = codes "outcome"
+word_of Horizons = codes "horizon"
 word_of Keys = codes "keys"
 word_of Versions = codes "versions"
 word_of Epoch = codes "epoch"
@@ -41,11 +43,11 @@ word_of InDoubt = codes "in doubt"
 
 -- the numbers of which there are sums
 abbrev pub summed : List Figure
-summed = Bytes ∷ Records ∷ Opened ∷ Ceilings ∷ Prepares ∷ Commits ∷ Aborts ∷ Outcomes ∷ Keys ∷ Versions ∷ InDoubt ∷ []
+summed = Bytes ∷ Records ∷ Opened ∷ Ceilings ∷ Prepares ∷ Commits ∷ Aborts ∷ Outcomes ∷ Horizons ∷ Keys ∷ Versions ∷ InDoubt ∷ []
 
 -- all of them
 abbrev pub figures : List Figure
-figures = Bytes ∷ Records ∷ Opened ∷ Ceilings ∷ Prepares ∷ Commits ∷ Aborts ∷ Outcomes ∷ Keys ∷ Versions ∷ Epoch ∷ Floor ∷ InDoubt ∷ []
+figures = Bytes ∷ Records ∷ Opened ∷ Ceilings ∷ Prepares ∷ Commits ∷ Aborts ∷ Outcomes ∷ Horizons ∷ Keys ∷ Versions ∷ Epoch ∷ Floor ∷ InDoubt ∷ []
 
 -- a number on a line
 abbrev pub number_line : Figure → ℕ → List ℕ

@@ -63,7 +63,7 @@ fn begun(item: &Record) -> Option<InDoubt>
             at: c.at,
             is_decided: true,
         }),
-        Record::Opened { .. } | Record::Ceiling { .. } => None,
+        Record::Opened { .. } | Record::Ceiling { .. } | Record::Horizon { .. } => None,
         Record::Abort { .. } | Record::Outcome { .. } => None,
     }
 }

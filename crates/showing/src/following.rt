@@ -75,7 +75,10 @@ fn decided_by(item: &Record) -> Option<ShardNo>
 {
     match item {
         Record::Commit(c) => Some(c.parts.least()),
-        Record::Opened { .. } | Record::Ceiling { .. } | Record::Prepare(_) => None,
+        Record::Opened { .. }
+        | Record::Ceiling { .. }
+        | Record::Horizon { .. }
+        | Record::Prepare(_) => None,
         Record::Abort { .. } | Record::Outcome { .. } => None,
     }
 }

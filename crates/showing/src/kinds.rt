@@ -16,6 +16,7 @@ pub struct Kinds {
     pub commits: u64,
     pub aborts: u64,
     pub outcomes: u64,
+    pub horizons: u64,
 }
 
 impl Kinds {
@@ -31,6 +32,7 @@ impl Kinds {
             Record::Commit(_) => self.commits += 1,
             Record::Abort { txn: _ } => self.aborts += 1,
             Record::Outcome { txn: _, outcome: _ } => self.outcomes += 1,
+            Record::Horizon { at: _ } => self.horizons += 1,
         }
     }
 }
@@ -46,6 +48,7 @@ pub fn kinds_of(entries: &[Entry]) -> Kinds
         commits: 0,
         aborts: 0,
         outcomes: 0,
+        horizons: 0,
     };
     for entry in entries {
         kinds.count(entry.item());

@@ -6,6 +6,7 @@ ghost use Rattle.recovery.specs.Recovered.{IsRebuilt, items};
 ghost use Rattle.showing.specs.Histories.{history_in, is_no_shard_log, log_in, value_in, value_with};
 
 use crate::learning::learn_all;
+use crate::newest::value_at;
 use crate::told::{Told, history};
 use disk::Disk;
 use gatelog::{Entry, GateLog};
@@ -36,7 +37,7 @@ pub fn read_history<D: Disk + Drop>(
 }
 
 /// The value of a key by the log of a shard, at a timestamp or by the latest version: none where there is none or it was erased.
-/// What has no outcome in the log is no version. It is refused as `read_history` is. Nothing is written.
+/// What has no outcome in the log is no version, and a horizon takes none away. It is refused as `read_history` is. Nothing is written.
 pub fn read_value<D: Disk + Drop>(
     alloc: Global,
     disk: D,
@@ -61,14 +62,14 @@ pub fn read_value<D: Disk + Drop>(
     value
 }
 
-// The value of a key in memory, with bytes of its own.
+// The value of a key in memory, with bytes of its own. All versions of the log are there, those below its horizon too.
 fn value_of(state: &State, key: &Key, at: Option<Stamp>) -> Result<Option<Value>, Fault>
     ensures value { IfOk result
         (λ value. value ≡ value_with state.now.facts.installs key.now at) }
     ensures memory { IfErr result (λ fault. fault ≡ Fault.Memory) }
 {
     let value = match at {
-        Some(at) => state.value_at(key, at),
+        Some(at) => value_at(state.installs(), key, at),
         None => state.latest(key),
     };
     match value {

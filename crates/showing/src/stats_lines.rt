@@ -8,7 +8,7 @@ use std::alloc::Global;
 use units::Fault;
 
 // The numbers of which there are sums.
-const SUMMED: [Figure; 11] = [
+const SUMMED: [Figure; 12] = [
     Figure::Bytes,
     Figure::Records,
     Figure::Opened,
@@ -17,13 +17,14 @@ const SUMMED: [Figure; 11] = [
     Figure::Commits,
     Figure::Aborts,
     Figure::Outcomes,
+    Figure::Horizons,
     Figure::Keys,
     Figure::Versions,
     Figure::InDoubt,
 ];
 
 // All of them.
-const FIGURES: [Figure; 13] = [
+const FIGURES: [Figure; 14] = [
     Figure::Bytes,
     Figure::Records,
     Figure::Opened,
@@ -32,6 +33,7 @@ const FIGURES: [Figure; 13] = [
     Figure::Commits,
     Figure::Aborts,
     Figure::Outcomes,
+    Figure::Horizons,
     Figure::Keys,
     Figure::Versions,
     Figure::Epoch,

@@ -66,7 +66,7 @@ fn tell(told: &mut Vec<Told>, facts: &Facts, item: &Record, key: &Key) -> Result
             let standing = standing_by(Standing::Decided(c.at), facts.outcome(c.txn));
             tell_writes(told, c.txn, standing, &c.writes, key)
         }
-        Record::Opened { .. } | Record::Ceiling { .. } => Ok(()),
+        Record::Opened { .. } | Record::Ceiling { .. } | Record::Horizon { .. } => Ok(()),
         Record::Abort { .. } | Record::Outcome { .. } => Ok(()),
     }
 }

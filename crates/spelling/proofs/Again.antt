@@ -189,6 +189,7 @@ pub record_again : (r : Record) (rest : List ℕ) → IsRecord r → record_at (
 unfolding record_at
 record_again (records.Opened epoch) rest h = rw (epoch_again epoch rest h) refl
 record_again (records.Ceiling at) rest h = rw (stamp_again at rest h) refl
+record_again (records.Horizon at) rest h = rw (stamp_again at rest h) refl
 record_again (records.Prepare p) rest h = rw (prepare_again p rest h) refl
 record_again (records.Commit c) rest h = rw (commit_again c rest h) refl
 record_again (records.Abort txn) rest h = rw (id_again txn rest h) refl
@@ -229,6 +230,7 @@ write-most write h = omega (arith, h.0.1, length-append (key_spelling write.key)
 pub spelling-least : (r : Record) → 1 ≤ length (spelling r)
 spelling-least (records.Opened epoch) = omega arith
 spelling-least (records.Ceiling at) = omega arith
+spelling-least (records.Horizon at) = omega arith
 spelling-least (records.Prepare p) = omega arith
 spelling-least (records.Commit c) = omega arith
 spelling-least (records.Abort txn) = omega arith
@@ -257,6 +259,7 @@ outcome-most (Some at) = omega arith
 pub spelling-most : (r : Record) → IsRecord r → length (spelling r) ≤ 2 ^ 20
 spelling-most (records.Opened epoch) h = omega arith
 spelling-most (records.Ceiling at) h = omega arith
+spelling-most (records.Horizon at) h = omega arith
 spelling-most (records.Prepare p) h =
     omega (
       arith,

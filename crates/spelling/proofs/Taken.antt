@@ -353,8 +353,10 @@ unfolding record_at
 record_reads [] x fits e = absurd cc
 record_reads (kind ∷ bytes) x fits e =
     let rest_fits = bytes-behind kind bytes fits in
+    let horizons : Option (Record × List ℕ) = stamp_at bytes >>= λ at. Some (records.Horizon at.0, at.1) in
+    let seventh : Option (Record × List ℕ) = cond (eqb kind 7) horizons None in
     let ends : Option (Record × List ℕ) = ended_at bytes >>= λ y. Some (records.Outcome y.0.0 y.0.1, y.1) in
-    let sixth : Option (Record × List ℕ) = cond (eqb kind 6) ends None in
+    let sixth : Option (Record × List ℕ) = cond (eqb kind 6) ends seventh in
     let aborts : Option (Record × List ℕ) = id_at bytes >>= λ txn. Some (records.Abort txn.0, txn.1) in
     let fifth : Option (Record × List ℕ) = cond (eqb kind 5) aborts sixth in
     let commits : Option (Record × List ℕ) = commit_at bytes >>= λ c. Some (records.Commit c.0, c.1) in
@@ -378,10 +380,14 @@ record_reads (kind ∷ bytes) x fits e =
             | inr past4 ↦ elim (chosen (eqb kind 5) aborts sixth (Some x) past4.1) [
               | inl abort ↦ of_kind 5 kind id_at id_spelling IsId (λ txn. records.Abort txn) bytes x rest_fits id_reads (eqb-true kind 5 abort.0)
                   (λ a. refl) (λ a h. h) abort.1
-              | inr past5 ↦
-                  let outcome = if_some (eqb kind 6) ends x past5.1 in
-                  of_kind 6 kind ended_at ended_spelling (λ y. IsId y.0 × IsOutcome y.1) (λ y. records.Outcome y.0 y.1) bytes x rest_fits ended_reads
-                  (eqb-true kind 6 outcome.0) (λ a. refl) (λ a h. h) outcome.1
+              | inr past5 ↦ elim (chosen (eqb kind 6) ends seventh (Some x) past5.1) [
+                | inl outcome ↦ of_kind 6 kind ended_at ended_spelling (λ y. IsId y.0 × IsOutcome y.1) (λ y. records.Outcome y.0 y.1) bytes x rest_fits
+                    ended_reads (eqb-true kind 6 outcome.0) (λ a. refl) (λ a h. h) outcome.1
+                | inr past6 ↦
+                    let horizon = if_some (eqb kind 7) horizons x past6.1 in
+                    of_kind 7 kind stamp_at (to_be_bytes w64) IsStamp (λ n. records.Horizon n) bytes x rest_fits stamp_reads
+                    (eqb-true kind 7 horizon.0) (λ a. refl) (λ a h. h) horizon.1
+              ]
             ]
           ]
         ]

@@ -66,6 +66,7 @@ spelling (records.Prepare p) = 3 ∷ prepare_spelling p
 spelling (records.Commit c) = 4 ∷ commit_spelling c
 spelling (records.Abort txn) = 5 ∷ id_spelling txn
 spelling (records.Outcome txn outcome) = 6 ∷ id_spelling txn ++ outcome_spelling outcome
+spelling (records.Horizon at) = 7 ∷ to_be_bytes w64 at
 
 -- ---- limits
 
@@ -143,6 +144,7 @@ IsRecord (records.Prepare p) = IsPrepare p
 IsRecord (records.Commit c) = IsCommit c
 IsRecord (records.Abort txn) = IsId txn
 IsRecord (records.Outcome txn outcome) = IsId txn × IsOutcome outcome
+IsRecord (records.Horizon at) = IsStamp at
 
 -- these bytes spell this record
 abbrev pub Spells : List ℕ → Record → Type 0

@@ -159,7 +159,8 @@ record_at (kind ∷ bytes) =
     else (if kind == 3 then (prepare_at bytes >>= λ p. Some (records.Prepare p.0, p.1))
     else (if kind == 4 then (commit_at bytes >>= λ c. Some (records.Commit c.0, c.1))
     else (if kind == 5 then (id_at bytes >>= λ txn. Some (records.Abort txn.0, txn.1))
-    else (if kind == 6 then (ended_at bytes >>= λ e. Some (records.Outcome e.0.0 e.0.1, e.1)) else None)))))
+    else (if kind == 6 then (ended_at bytes >>= λ e. Some (records.Outcome e.0.0 e.0.1, e.1))
+    else (if kind == 7 then (stamp_at bytes >>= λ at. Some (records.Horizon at.0, at.1)) else None))))))
 
 -- all of the bytes
 unfoldable pub read_record : List ℕ → Option Record

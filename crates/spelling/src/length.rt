@@ -69,5 +69,6 @@ pub fn encoded_len(record: &Record) -> u64
             None => 18,
             Some(_) => 26,
         },
+        Record::Horizon { at: _ } => 9,
     }
 }

@@ -377,6 +377,10 @@ fn short_of(kind: u8, bytes: &[u8]) -> Option<(Record, &[u8])>
             Some(((txn, outcome), rest)) => Some((Record::Outcome { txn, outcome }, rest)),
             None => None,
         },
+        7 => match stamp_of(bytes) {
+            Some((at, rest)) => Some((Record::Horizon { at }, rest)),
+            None => None,
+        },
         _ => None,
     }
 }

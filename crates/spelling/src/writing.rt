@@ -178,6 +178,7 @@ fn put_record(out: &mut Vec<u8>, record: &Record) -> bool
         Record::Commit(c) => put_u8(out, 4) && put_commit(out, c),
         Record::Abort { txn } => put_u8(out, 5) && put_id(out, *txn),
         Record::Outcome { txn, outcome } => put_u8(out, 6) && put_ended(out, *txn, *outcome),
+        Record::Horizon { at } => put_u8(out, 7) && put_u64(out, at.micros()),
     }
 }
 

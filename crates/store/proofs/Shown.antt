@@ -6,10 +6,10 @@ use Rattle.std.proofs.lemmas.List.{take_at}
 use Rattle.units.specs.Keys.{Bytes}
 use Rattle.units.specs.Looks.{buffer_filled, value_seen}
 use Rattle.units.specs.declared.fault.Fault.{Fault}
-use Rattle.units.specs.declared.fault.Fault.TheVariants.{NotYet, Room, Stopped, Stranger}
+use Rattle.units.specs.declared.fault.Fault.TheVariants.{NotYet, Room, Stopped, Stranger, TooOld}
 use Rattle.units.specs.declared.line.Seen.{Seen}
 use Rattle.units.specs.declared.line.Seen.TheVariants.{Value}
-use Rattle.board.specs.Board.{safe_on, shown_at}
+use Rattle.board.specs.Board.{horizon_on, safe_on, shown_at}
 use Rattle.board.specs.Look.{is_at_home}
 use Rattle.board.specs.Views.{LookedBy, Viewing}
 use Rattle.board.specs.declared.entry.BoardEntry.{BoardEntry}
@@ -26,9 +26,10 @@ abbrev is_ok : {A B : Type 0} → Result A B → Bool
 is_ok (Ok x) = true
 is_ok (Err e) = false
 
--- what an answer of a look tells: the key is at home, the timestamp is served, and the value is in the buffer
-record Tells (here late : Bool) (value : Option Bytes) (seen : Seen) (new : List ℕ) : Type 0 where
+-- what an answer of a look tells: the key is at home, the timestamp is not below the horizon and is served, and the value is in the buffer
+record Tells (here old late : Bool) (value : Option Bytes) (seen : Seen) (new : List ℕ) : Type 0 where
   here_is : here ≡ true
+  recent : old ≡ false
   in_time : late ≡ false
   same : value ≡ seen_in seen new
 
@@ -48,12 +49,14 @@ by_value (Some value) seen buffer new is filled = by_room (nat_lt (length buffer
         sym (ap (λ s. seen_in s new) (ap (λ r. got r seen) is)
         ∙ (ap (λ (l : List ℕ). Some (take (length value) l)) filled ∙ ap Some (take_at value (drop (length value) buffer) (length value) refl)))
 
-tells : (here late : Bool) (value : Option Bytes) (seen : Seen) (buffer new : List ℕ)
-    → Ok seen ≡ (if here then (if late then Err NotYet else value_seen value (length buffer)) else Err Stranger)
-    → new ≡ (if here then (if late then buffer else buffer_filled value buffer) else buffer) → Tells here late value seen new
-tells true true value seen buffer new is filled = absurd (true≢false (ap is_ok is))
-tells true false value seen buffer new is filled = record { here_is = refl; in_time = refl; same = by_value value seen buffer new is filled }
-tells false late value seen buffer new is filled = absurd (true≢false (ap is_ok is))
+tells : (here old late : Bool) (value : Option Bytes) (seen : Seen) (buffer new : List ℕ)
+    → Ok seen ≡ (if here then (if old then Err TooOld else (if late then Err NotYet else value_seen value (length buffer))) else Err Stranger)
+    → new ≡ (if here then (if old then buffer else (if late then buffer else buffer_filled value buffer)) else buffer) → Tells here old late value seen new
+tells true true late value seen buffer new is filled = absurd (true≢false (ap is_ok is))
+tells true false true value seen buffer new is filled = absurd (true≢false (ap is_ok is))
+tells true false false value seen buffer new is filled =
+    record { here_is = refl; recent = refl; in_time = refl; same = by_value value seen buffer new is filled }
+tells false old late value seen buffer new is filled = absurd (true≢false (ap is_ok is))
 
 -- a viewer that has come to know more since
 pub record IsLater (old now : Viewing) : Type 0 where
@@ -79,13 +82,15 @@ pub shown_by : (old now after : Viewing) (key : Bytes) (at : ℕ) (buffer new : 
     → IsLater old now → LookedBy now key at buffer (Ok seen) after new → value ≡ seen_in seen new → IsShown old key at value
 shown_by old now after key at buffer new seen value later looked is =
     let told =
-    tells (is_at_home now.home key) (nat_lt (safe_on after.seen) at) (shown_at after.seen key at) seen buffer new looked.answered looked.filled in
+    tells (is_at_home now.home key) (nat_lt at (horizon_on after.seen)) (nat_lt (safe_on after.seen) at) (shown_at after.seen key at) seen buffer new
+    looked.answered looked.filled in
     record {
       list = after.seen;
       later = prefix_trans old.seen now.seen after.seen later.seen looked.later;
       told = subst (λ (l : List BoardEntry). IsPrefix l after.seen) later.told looked.told;
       lawful = looked.lawful;
       home = subst (λ (h : Home). is_at_home h key ≡ true) later.home told.here_is;
+      recent = told.recent;
       served = told.in_time;
       shows = told.same ∙ sym is;
       stays = looked.stays refl;

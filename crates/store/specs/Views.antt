@@ -4,7 +4,7 @@ use mathlib.Core.List.{IsPrefix}
 use Rattle.units.specs.Keys.{Bytes}
 use Rattle.units.specs.declared.line.Seen.{Seen}
 use Rattle.units.specs.declared.line.Seen.TheVariants.{Absent, Value}
-use Rattle.board.specs.Board.{is_board, safe_on, shown_at}
+use Rattle.board.specs.Board.{is_board, horizon_on, safe_on, shown_at}
 use Rattle.board.specs.Look.{AnswerStays, is_at_home}
 use Rattle.board.specs.Views.{Viewing}
 use Rattle.board.specs.declared.entry.BoardEntry.{BoardEntry}
@@ -14,7 +14,7 @@ abbrev pub seen_in : Seen → List ℕ → Option Bytes
 seen_in Absent buffer = None
 seen_in (Value n) buffer = Some (take n buffer)
 
--- The value of a key at a timestamp by one list of its shard's board, which serves the timestamp. The list begins with all that the viewer
+-- The value of a key at a timestamp by one list of its shard's board, which serves the timestamp and has not forgotten it. The list begins with all that the viewer
 -- has seen and was told of before, and every longer list of the board gives the same value.
 pub record IsShown (viewer : Viewing) (key : Bytes) (at : ℕ) (value : Option Bytes) : Type 0 where
   pub list : List BoardEntry
@@ -22,6 +22,7 @@ pub record IsShown (viewer : Viewing) (key : Bytes) (at : ℕ) (value : Option B
   pub told : IsPrefix viewer.told list
   pub lawful : is_board list ≡ true
   pub home : is_at_home viewer.home key ≡ true
+  pub recent : nat_lt at (horizon_on list) ≡ false
   pub served : nat_lt (safe_on list) at ≡ false
   pub shows : shown_at list key at ≡ value
   pub stays : AnswerStays key at list

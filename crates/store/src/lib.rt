@@ -3,6 +3,7 @@
 
 mod clients;
 mod crew;
+mod kept;
 mod options;
 mod serving;
 mod shared;

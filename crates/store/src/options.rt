@@ -19,6 +19,10 @@ pub struct Options {
     /// How often 20 milliseconds pass in silence before the first attempt of a transaction is given up, up to three times more by the client's
     /// number; each further attempt waits once more than the one before, and no more than 100 times.
     pub patience: u32,
+    /// For how many microseconds a shard keeps what its keys were before, so that views which are no older are answered; or `None`, for good.
+    /// A shard that is written to or looked at forgets now and then what is older. A view of that is refused as `TooOld`, for good, also
+    /// where the store is opened again by other options.
+    pub keep: Option<u64>,
 }
 
 impl Drop for Options {
@@ -29,6 +33,7 @@ impl Drop for Options {
             epsilon: _,
             clients: _,
             patience: _,
+            keep: _,
         } = self;
     }
 }
@@ -38,6 +43,7 @@ const STRIDE: u64 = 100_000;
 
 impl Options {
     /// So many clients over these shards: a stride of 100,000 microseconds, an epsilon of 1,000, and a patience of 100 milliseconds.
+    /// Nothing is forgotten.
     pub fn new(splits: Splits, clients: u64) -> Options {
         let stride = match Stride::new(STRIDE) {
             Some(stride) => stride,
@@ -49,6 +55,7 @@ impl Options {
             epsilon: 1_000,
             clients,
             patience: 5,
+            keep: None,
         }
     }
 

@@ -6,13 +6,16 @@ ghost use Rattle.std.specs.Thread.{IsSync, IsSend};
 use crate::Options;
 use crate::clients::Client;
 use crate::crew::{Crew, clients_of};
+use crate::kept::kept_nodes;
 use crate::shared::{Shared, Stopped};
 use crate::steady::StoreClock;
 use board::Viewer;
 use client::Stop;
 use crossbeam_channel::Receiver;
+use disk::Disk;
 use drive::run_of;
 use letters::{Inboxes, Letter, Mail, Network, Post, Served, Serves, start_in};
+use node::Node;
 use std::alloc::Global;
 use std::sync::Wait;
 use std::sync::atomic::AtomicU64;
@@ -23,8 +26,33 @@ use truetime::Clock;
 use units::{Epoch, Fault, Stamp};
 use workers::{MachineClock, Viewers};
 
-/// Serves nodes of any kind, each on a thread, while `work` goes on with its clients.
-pub fn serve_nodes<
+/// Serves nodes, each on a thread, while `work` goes on with its clients. They keep the past for as long as the options say.
+pub fn serve_kept<
+    R: Threads + Wait + time::Clock + Sync,
+    D: Disk + Drop + Send,
+    H: Wait + Drop + Send,
+    T: Drop,
+    F: for<'s> FnOnce(Vec<Client<'s, R>>) -> T,
+>(
+    rt: &R,
+    alloc: Global,
+    options: &Options,
+    epoch: Epoch,
+    last: Stamp,
+    nodes: &[Node<D, H>],
+    viewers: Viewers,
+    work: F,
+) -> Result<T, Fault>
+    requires { F.IsAlwaysCallable work }
+    ensures { IfOk result (λ answer. (clients : _) × F.post work clients answer
+        × All (IsFresh epoch options.now.splits) clients.items) }
+{
+    let kept = kept_nodes(alloc, nodes, options.keep)?;
+    serve_nodes(rt, alloc, options, epoch, last, &kept, viewers, work)
+}
+
+// Serves nodes of any kind, each on a thread, while `work` goes on with its clients.
+fn serve_nodes<
     N: Serves + Sync,
     R: Threads + Wait + time::Clock + Sync,
     T: Drop,

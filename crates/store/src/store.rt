@@ -5,7 +5,7 @@ ghost use Rattle.store.specs.Attempts.{IsFresh};
 
 use crate::Options;
 use crate::clients::Client;
-use crate::serving::serve_nodes;
+use crate::serving::serve_kept;
 use disk::Disk;
 use drive::{Opened, Unopened, open_shards};
 use filedisk::FileDisk;
@@ -115,7 +115,7 @@ impl<'r, R: Threads + Wait + time::Clock + Sync, D: Disk + Drop + Send> Store<'r
             epoch,
             last,
         } = opened;
-        let answer = serve_nodes(rt, alloc, &options, epoch, last, &nodes, viewers, work);
+        let answer = serve_kept(rt, alloc, &options, epoch, last, &nodes, viewers, work);
         drop(options);
         match answer {
             Ok(answer) => Ok((answer, closed(alloc, nodes)?)),

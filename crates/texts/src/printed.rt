@@ -55,6 +55,7 @@ pub fn record_words(record: &Record) -> [Word<'_>; 6] {
             NO,
             NO,
         ],
+        Record::Horizon { at } => [Plain("horizon"), Stamp(*at), NO, NO, NO, NO],
     }
 }
 

@@ -1,8 +1,8 @@
 -- What a look answers, and what it leaves in the buffer that it was given.
-use Rattle.std.specs.Prelude.{ℕ, Bool, List, Option, None, Some, Result, Ok, Err, length, drop, ◌++◌, if◌then◌else◌, nat_lt}
+use Rattle.std.specs.Prelude.{ℕ, ◌≡◌, ◌≤◌, ◌<◌, ◌⊎◌, IsTrue, IsFalse, Bool, List, Option, None, Some, Result, Ok, Err, length, drop, ◌++◌, if◌then◌else◌, nat_lt}
 use Rattle.units.specs.Keys.{Bytes}
 use Rattle.units.specs.declared.fault.Fault.{Fault}
-use Rattle.units.specs.declared.fault.Fault.TheVariants.{NotYet, Room, Stranger}
+use Rattle.units.specs.declared.fault.Fault.TheVariants.{NotYet, Room, Stranger, TooOld}
 use Rattle.units.specs.declared.line.Seen.{Seen}
 use Rattle.units.specs.declared.line.Seen.TheVariants.{Absent, Value}
 
@@ -16,10 +16,18 @@ abbrev pub buffer_filled : Option Bytes → List ℕ → List ℕ
 buffer_filled None buffer = buffer
 buffer_filled (Some value) buffer = if nat_lt (length buffer) (length value) then buffer else value ++ drop (length value) buffer
 
--- what is answered where a key is at home or not, by the last safe timestamp and the value: a key that is elsewhere comes
--- first, then a timestamp that is not served yet, and then a buffer that is too short
-abbrev pub look_answer_with : Bool → ℕ → Option Bytes → ℕ → ℕ → Result Seen Fault
-look_answer_with here safe value at room = if here then (if nat_lt safe at then Err NotYet else value_seen value room) else Err Stranger
+-- what is answered where a key is at home or not, by the horizon, the last safe timestamp and the value: a key that is elsewhere
+-- comes first, then a timestamp below the horizon, then one that is not served yet, and then a buffer that is too short
+abbrev pub look_answer_with : Bool → ℕ → ℕ → Option Bytes → ℕ → ℕ → Result Seen Fault
+look_answer_with here horizon safe value at room =
+    if here then (if nat_lt at horizon then Err TooOld else (if nat_lt safe at then Err NotYet else value_seen value room)) else Err Stranger
 
-abbrev pub look_buffer_with : Bool → ℕ → Option Bytes → ℕ → List ℕ → List ℕ
-look_buffer_with here safe value at buffer = if here then (if nat_lt safe at then buffer else buffer_filled value buffer) else buffer
+abbrev pub look_buffer_with : Bool → ℕ → ℕ → Option Bytes → ℕ → List ℕ → List ℕ
+look_buffer_with here horizon safe value at buffer =
+    if here then (if nat_lt at horizon then buffer else (if nat_lt safe at then buffer else buffer_filled value buffer)) else buffer
+
+-- why a look is refused, by where its key belongs, the horizon and the last safe timestamp
+abbrev pub IsRefusedLook : Bool → ℕ → ℕ → ℕ → Fault → Type 0
+IsRefusedLook here horizon safe at fault =
+    ((fault ≡ Stranger) × IsFalse here)
+    ⊎ (((fault ≡ TooOld) × IsTrue here × (at < horizon)) ⊎ ((fault ≡ NotYet) × IsTrue here × (horizon ≤ at) × (safe < at)))

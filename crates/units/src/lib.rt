@@ -22,7 +22,7 @@ pub use key::Key;
 pub use keys::Keys;
 pub use line::{Line, Seen, Verdict};
 pub use lock::{Asked, Ids, Lock, MOST_ROWS, Mode};
-pub use look::put_in_front;
+pub use look::{may_look, show};
 pub use parts::Parts;
 pub use setup::{Book, Capacity, Setup, Stride};
 pub use shard::ShardNo;

@@ -19,14 +19,12 @@ use Rattle.message.specs.declared.message.Envelope.{Envelope}
 use Rattle.message.specs.declared.message.Message.{Message}
 use Rattle.message.specs.declared.message.Answer.TheVariants.{Holds}
 use Rattle.message.specs.declared.message.Address.TheVariants.{Shard, Session}
-use Rattle.world.specs.World.{World, ShardNow, View, Runs, start, read_log, client_of}
+use Rattle.world.specs.World.{World, ShardNow, View, Runs, read_log, client_of}
 use Rattle.record.specs.declared.record.Record.{Record}
 use Rattle.units.specs.declared.line.Line.{Line}
-use Rattle.world.specs.declared.event.Act.{Act}
 use Rattle.world.specs.declared.event.Event.{Event}
 use Rattle.world.specs.Computing.{computing}
-use Rattle.protocol.proofs.Samples.{m, txn}
-use Rattle.worked_runs.proofs.RandomRuns.{three, next, pick, act, try_event, played}
+use Rattle.worked_runs.proofs.RandomRuns.{begun_world, next, pick, act, try_event, played}
 
 -- each place of a list: what stands before it, and the member
 abbrev pub places : {A : Type 0} → List A → List A → List (List A × A)
@@ -44,6 +42,7 @@ claimed (Record.Prepare p) = Some (record { txn = p.txn; at = p.at; reads = p.re
 claimed (Record.Commit c) = Some (record { txn = c.txn; at = c.at; reads = c.reads })
 claimed (Record.Opened epoch) = None
 claimed (Record.Ceiling at) = None
+claimed (Record.Horizon at) = None
 claimed (Record.Abort t) = None
 claimed (Record.Outcome t outcome) = None
 
@@ -160,22 +159,19 @@ always_right (suc n) r w =
     let e : Event = record { time = t; act = act (pick r1 200) (next (next r2)) t w } in
     (not (nat_eq (n % 20) 0) || right_now w) && always_right n (next r2) (try_event w e)
 
-abbrev pub first_world : World
-first_world = try_event (start three) (record { time = 100; act = Act.Begin (txn 0) })
-
-pub the_first_stand : always_right 1000 7919 first_world ≡ true
+pub the_first_stand : always_right 1000 7919 begun_world ≡ true
 unfolding computing
 the_first_stand = refl
 
-pub the_second_stand : always_right 1000 15838 first_world ≡ true
+pub the_second_stand : always_right 1000 15838 begun_world ≡ true
 unfolding computing
 the_second_stand = refl
 
-pub the_fourth_stand : always_right 1000 31676 first_world ≡ true
+pub the_fourth_stand : always_right 1000 31676 begun_world ≡ true
 unfolding computing
 the_fourth_stand = refl
 
-pub the_fifth_stand : always_right 1000 39595 first_world ≡ true
+pub the_fifth_stand : always_right 1000 39595 begun_world ≡ true
 unfolding computing
 the_fifth_stand = refl
 

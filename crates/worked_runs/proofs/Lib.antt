@@ -2,6 +2,7 @@ pub mod Clients
 pub mod DrawnTests
 pub mod Events
 pub mod Faults
+pub mod Forgotten
 pub mod OneShardRun
 pub mod RandomRuns
 pub mod Recovery

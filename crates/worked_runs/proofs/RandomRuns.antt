@@ -6,7 +6,7 @@ use Rattle.std.specs.Prelude.{ℕ, Bool, ◌&&◌, ◌||◌, ◌++◌, not, nat_
 use Rattle.std.specs.Prelude.{List, [], ◌∷◌, length, map, slice_get, Some, None}
 use Rattle.units.specs.Lists.{count}
 use Rattle.units.specs.LockLaws.{keeps_lock_law, keeps_wait_law}
-use Rattle.record.specs.Records.{floor_of}
+use Rattle.record.specs.Records.{floor_of, horizon_of}
 use Rattle.protocol.specs.Rows.{claims}
 use Rattle.protocol.specs.Step.{Stepped, Does}
 use Rattle.units.specs.Ids.{Id}
@@ -113,16 +113,19 @@ abbrev pub try_event : World → Event → World
 try_event w e = cond (may_happen w e) ((happens w e).0) w
 
 -- some events, drawn one after another
-abbrev pub drive : ℕ → ℕ → World → World
-drive zero r w = w
-drive (suc n) r w =
+abbrev pub drive : (ℕ → ℕ → ℕ → World → Act) → ℕ → ℕ → World → World
+drive draw zero r w = w
+drive draw (suc n) r w =
     let r1 : ℕ = next r in
     let r2 : ℕ = next r1 in
     let t : ℕ = w.time + pick r2 9 in
-    drive n (next r2) (try_event w (record { time = t; act = act (pick r1 200) (next (next r2)) t w }))
+    drive draw n (next r2) (try_event w (record { time = t; act = draw (pick r1 200) (next (next r2)) t w }))
+
+abbrev pub begun_world : World
+begun_world = try_event (start three) (record { time = 100; act = Act.Begin (txn 0) })
 
 abbrev pub played : ℕ → ℕ → World
-played n seed = drive n seed (try_event (start three) (record { time = 100; act = Act.Begin (txn 0) }))
+played n seed = drive act n seed begun_world
 
 -- how much was acknowledged, read by committed transactions and looked at
 abbrev pub tally : List Line → ℕ
@@ -257,11 +260,11 @@ always_kept (suc n) r w =
     let t : ℕ = w.time + pick r2 9 in
     list_all shard_keeps w.shards && always_kept n (next r2) (try_event w (record { time = t; act = act (pick r1 200) (next (next r2)) t w }))
 
-pub the_first_tables : always_kept 1000 7919 (try_event (start three) (record { time = 100; act = Act.Begin (txn 0) })) ≡ true
+pub the_first_tables : always_kept 1000 7919 begun_world ≡ true
 unfolding computing
 the_first_tables = refl
 
-pub the_second_tables : always_kept 1000 15838 (try_event (start three) (record { time = 100; act = Act.Begin (txn 0) })) ≡ true
+pub the_second_tables : always_kept 1000 15838 begun_world ≡ true
 unfolding computing
 the_second_tables = refl
 
@@ -301,19 +304,36 @@ abbrev pub consistent_now : World → Bool
 consistent_now w =
     is_consistent (logs_of w) w.lines && is_consistent (map (λ s. s.log) w.shards) w.lines && list_all (installed_before w.time) w.shards
 
-abbrev pub always_consistent : ℕ → ℕ → World → Bool
-always_consistent zero r w = consistent_now w
-always_consistent (suc n) r w =
+abbrev pub always_consistent : (ℕ → ℕ → ℕ → World → Act) → ℕ → ℕ → World → Bool
+always_consistent draw zero r w = consistent_now w
+always_consistent draw (suc n) r w =
     let r1 : ℕ = next r in
     let r2 : ℕ = next r1 in
     let t : ℕ = w.time + pick r2 9 in
-    let e : Event = record { time = t; act = act (pick r1 200) (next (next r2)) t w } in
-    consistent_now w && (not (may_happen w e) || consistent_within w e) && always_consistent n (next r2) (try_event w e)
+    let e : Event = record { time = t; act = draw (pick r1 200) (next (next r2)) t w } in
+    consistent_now w && (not (may_happen w e) || consistent_within w e) && always_consistent draw n (next r2) (try_event w e)
 
-pub the_first_moments : always_consistent 400 7919 (try_event (start three) (record { time = 100; act = Act.Begin (txn 0) })) ≡ true
+pub the_first_moments : always_consistent act 400 7919 begun_world ≡ true
 unfolding computing
 the_first_moments = refl
 
-pub the_second_moments : always_consistent 400 31676 (try_event (start three) (record { time = 100; act = Act.Begin (txn 0) })) ≡ true
+pub the_second_moments : always_consistent act 400 31676 begun_world ≡ true
 unfolding computing
 the_second_moments = refl
+
+-- ---- so where shards forget what they served
+
+-- the acts above, and now and then a horizon at some time before
+abbrev pub forgetful : ℕ → ℕ → ℕ → World → Act
+forgetful kind r t w =
+    cond (nat_eq (pick (next (next (next r))) 15) 0)
+    (Act.At (pick r 3) (Doing.Forget (t - pick (next r) 400) (clock (t - 20) (t + 20)))) (act kind r t w)
+
+pub the_forgetful_moments : always_consistent forgetful 400 31676 begun_world ≡ true
+unfolding computing
+the_forgetful_moments = refl
+
+-- each shard did
+pub what_is_forgotten : map (λ log. nat_lt 0 (horizon_of log)) (logs_of (drive forgetful 400 31676 begun_world)) ≡ true ∷ true ∷ true ∷ []
+unfolding computing
+what_is_forgotten = refl

@@ -127,6 +127,8 @@ doing_limit setup w time n (Doing.Resume now) may p same = given now Input.Resum
 doing_limit setup w time n (Doing.Settle t now) may p same = given now (Input.Settle t) p tt same
 doing_limit setup w time n (Doing.Advance at now) may p same =
     given now (Input.Advance at) p (leb-true at time_limit (and_parts (is_honest time now) (nat_le at time_limit) may).1) same
+doing_limit setup w time n (Doing.Forget at now) may p same =
+    given now (Input.Forget at) p (leb-true at time_limit (and_parts (is_honest time now) (nat_le at time_limit) may).1) same
 doing_limit setup w time n (Doing.Nudge t now) may p same = given now (Input.Nudge t) p tt same
 doing_limit setup w time n Doing.Open may p same = cc
 
@@ -238,6 +240,8 @@ module _ (config : Config) (bag : List Envelope) (n : ℕ) (s : ShardNow) (well 
       (input_of bag (Doing.Settle t now)) r memory out well e
   wanted_logs (Doing.Advance at now) r memory out e = step_logs (setup_of config n) s.log s.unsure s.state s.views
       (input_of bag (Doing.Advance at now)) r memory out well e
+  wanted_logs (Doing.Forget at now) r memory out e = step_logs (setup_of config n) s.log s.unsure s.state s.views
+      (input_of bag (Doing.Forget at now)) r memory out well e
   wanted_logs (Doing.Nudge t now) r memory out e = step_logs (setup_of config n) s.log s.unsure s.state s.views
       (input_of bag (Doing.Nudge t now)) r memory out well e
 

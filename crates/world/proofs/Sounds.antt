@@ -179,6 +179,8 @@ module _ (Allowed : Setup → Input → Type 0) (Sound : Setup → Facts → Mem
         (input_of bag (Doing.Settle t now)) (λ p e l. l p e) s.state refl
     wanted_sound (Doing.Advance at now) = running (DoingAllowed Allowed (setup_of config n) bag (Doing.Advance at now))
         (input_of bag (Doing.Advance at now)) (λ p e l. l p e) s.state refl
+    wanted_sound (Doing.Forget at now) = running (DoingAllowed Allowed (setup_of config n) bag (Doing.Forget at now))
+        (input_of bag (Doing.Forget at now)) (λ p e l. l p e) s.state refl
     wanted_sound (Doing.Nudge t now) = running (DoingAllowed Allowed (setup_of config n) bag (Doing.Nudge t now)) (input_of bag (Doing.Nudge t now))
         (λ p e l. l p e) s.state refl
 
@@ -241,6 +243,7 @@ module _ (Allowed : Setup → Input → Type 0) (Sound : Setup → Facts → Mem
     refused_left_sound fate (Doing.Resume now) = crashed_sound _ (left_sound fate)
     refused_left_sound fate (Doing.Settle t now) = crashed_sound _ (left_sound fate)
     refused_left_sound fate (Doing.Advance at now) = crashed_sound _ (left_sound fate)
+    refused_left_sound fate (Doing.Forget at now) = crashed_sound _ (left_sound fate)
     refused_left_sound fate (Doing.Nudge t now) = crashed_sound _ (left_sound fate)
 
     pub crashed_in_sound : (L : Type 0) → L → (call : ℕ) (fate : Fate) (doing : Doing) (st : Stepped) →
@@ -324,6 +327,7 @@ module _ (Allowed : Setup → Input → Type 0) (Sound : Setup → Facts → Mem
       refused_sound (Doing.Resume now) f = sound
       refused_sound (Doing.Settle t now) f = sound
       refused_sound (Doing.Advance at now) f = sound
+      refused_sound (Doing.Forget at now) f = sound
       refused_sound (Doing.Nudge t now) f = sound
 
       did_sound : (doing : Doing) → DoingAllowed Allowed (setup_of w.config n) w.bag doing → (st : Stepped) →

@@ -103,6 +103,7 @@ module _ (w : World) where
   refused_settings n s (Doing.Resume now) f = (refl, refl)
   refused_settings n s (Doing.Settle t now) f = (refl, refl)
   refused_settings n s (Doing.Advance at now) f = (refl, refl)
+  refused_settings n s (Doing.Forget at now) f = (refl, refl)
   refused_settings n s (Doing.Nudge t now) f = (refl, refl)
 
   did_settings : (n : ℕ) (s : ShardNow) (doing : Doing) (st : Stepped) → Fixed w (did w n s doing st).0

@@ -38,14 +38,15 @@ goes_to n e = elim e.to [ Shard m ↦ nat_eq m n | Session t ↦ false ]
 abbrev pub can_come : World → Envelope → Bool
 can_come w e = elim e.to [ Shard m ↦ true | Session t ↦ has_begun w t ]
 
--- a doing at a shard: its reading is honest, its message was put out for this shard, the time that it advances to is within
--- the limit, an opening is of one that is not up
+-- a doing at a shard: its reading is honest, its message was put out for this shard, the time that it advances to or forgets is
+-- within the limit, an opening is of one that is not up
 abbrev pub may_do : World → ℕ → ℕ → Doing → Bool
 may_do w time n (Doing.Take m now) = is_honest time now && when (goes_to n) (slice_get w.bag m)
 may_do w time n (Doing.Resume now) = is_honest time now
 may_do w time n (Doing.Settle t now) = is_honest time now
 may_do w time n (Doing.Advance at now) = is_honest time now && nat_le at time_limit
 may_do w time n (Doing.Nudge t now) = is_honest time now
+may_do w time n (Doing.Forget at now) = is_honest time now && nat_le at time_limit
 may_do w time n Doing.Open = is_in w n (λ s. not (is_up s))
 
 -- a crash is of a shard that is up or stopped, but that of an opening is of one that is not up

@@ -15,7 +15,7 @@ use Rattle.protocol.specs.Step.{Stepped, Refuses, Does, step}
 use Rattle.session.specs.Sessions.{Client, IsOpen, IsClosing, IsOver, begun, Moved, Denies, Goes, reads, buffers, hears, closes, gives_up, finishes, was_taken}
 use Rattle.record.specs.History.{history, find_txn, Txn}
 use Rattle.units.specs.declared.fault.Fault.{Fault}
-use Rattle.units.specs.declared.fault.Fault.TheVariants.{Device, Stopped, TimeSpent, NotYet, Stranger}
+use Rattle.units.specs.declared.fault.Fault.TheVariants.{Device, Stopped, TimeSpent, NotYet, Stranger, TooOld}
 use Rattle.truetime.specs.Interval.{Interval}
 use Rattle.units.specs.declared.setup.Setup.{Setup}
 use Rattle.units.specs.declared.setup.Book.TheVariants.{Off}
@@ -37,10 +37,11 @@ use Rattle.world.specs.declared.event.Doing.{Doing}
 use Rattle.world.specs.declared.event.Event.{Event}
 use Rattle.world.specs.declared.event.Reply.{Reply}
 
--- what a view shows: the versions and the served time of one moment
+-- what a view shows: the versions, the served time and the horizon of one moment
 pub record View : Type 0 where
   pub installs : List Install
   pub safe : ℕ
+  pub horizon : ℕ
 
 -- a shard runs, is stopped by its device (and can still be looked at), or is down
 pub data State : Type 0 where
@@ -89,7 +90,7 @@ read_log s = s.log ++ shown_records s.unsure
 
 -- the view of a running shard
 abbrev pub view_of : Facts → Memory → View
-view_of facts memory = record { installs = facts.installs; safe = safe memory }
+view_of facts memory = record { installs = facts.installs; safe = safe memory; horizon = facts.horizon }
 
 -- an opening logs the next epoch, and finds its memory in the log
 unfoldable pub step_of_opening : Facts → Stepped
@@ -103,6 +104,7 @@ input_of bag (Doing.Resume now) = Some (now, Input.Resume)
 input_of bag (Doing.Settle t now) = Some (now, Input.Settle t)
 input_of bag (Doing.Advance at now) = Some (now, Input.Advance at)
 input_of bag (Doing.Nudge t now) = Some (now, Input.Nudge t)
+input_of bag (Doing.Forget at now) = Some (now, Input.Forget at)
 input_of bag Doing.Open = None
 
 -- the step of a running shard
@@ -180,11 +182,12 @@ stopped _ = IsDown
 unfoldable pub failed_in : ShardNow → ℕ → Record → ShardNow
 failed_in s call r = record { log = read_log s; unsure = left_unsure call r; state = stopped s.state; views = s.views }
 
--- a look at what a view shows: the key belongs here, and the time is served
+-- a look at what a view shows: the key belongs here, and the time is not forgotten, and is served
 abbrev pub look_view : Setup → View → Bytes → ℕ → Reply
 look_view setup v k at =
     cond (not (nat_eq (shard_of setup.splits k) setup.shard)) (Reply.Refused Stranger)
-    (cond (nat_le at v.safe) (Reply.Shows (at_time v.installs k at)) (Reply.Refused NotYet))
+    (cond (nat_lt at v.horizon) (Reply.Refused TooOld)
+    (cond (nat_le at v.safe) (Reply.Shows (at_time v.installs k at)) (Reply.Refused NotYet)))
 
 -- a look at a shard: a stopped one can be looked at, one that is down not
 abbrev pub look_shard : Setup → ShardNow → Bytes → ℕ → Reply

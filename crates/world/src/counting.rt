@@ -89,6 +89,6 @@ fn decides(item: &Record, shard: usize) -> Option<TxnId>
             }
         }
         Record::Opened { .. } | Record::Ceiling { .. } | Record::Prepare(_) => None,
-        Record::Abort { .. } | Record::Outcome { .. } => None,
+        Record::Abort { .. } | Record::Outcome { .. } | Record::Horizon { .. } => None,
     }
 }

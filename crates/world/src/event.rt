@@ -18,6 +18,8 @@ pub enum Doing {
     Settle(TxnId, Reading),
     Advance(Stamp, Reading),
     Nudge(TxnId, Reading),
+    /// A horizon: no value below it is read any more.
+    Forget(Stamp, Reading),
     Open,
 }
 

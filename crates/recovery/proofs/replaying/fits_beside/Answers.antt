@@ -1,7 +1,9 @@
-use Rattle.std.proofs.Common.{◌≡◌, true, refl, subst}
+use Rattle.std.proofs.Common.{rules, ◌≡◌, ◌∙◌, true, nat_le, refl, sym, ap, subst}
 use Rattle.record.specs.declared.record.Record.{Record}
 use Rattle.facts.specs.Rules.{follows_facts}
+use Rattle.recovery.specs.Recovered.{fits_facts}
 use Rattle.recovery.proofs.Again.{absent_before}
+use Rattle.recovery.proofs.Beside.{below_rows, horizon_rules}
 use Rattle.recovery.proofs.replaying.fits_beside.Goals as goal
 
 pub stands_beside-requires-clause-absent : goal.stands_beside-requires-clause-absent
@@ -15,3 +17,13 @@ stands_beside-requires-in-Commit-clause-absent c =
     let k = c.args.state.now in
     absent_before k k.setup.shard (Record.Commit c.in-Commit.c) c.in-Commit.c.txn c.requires.recovered
     (subst (λ r. follows_facts k.setup.shard k.facts r ≡ true) c.in-Commit.is c.requires.follows) refl
+
+pub returns-in-Horizon-clause-fits : goal.returns-in-Horizon-clause-fits
+returns-in-Horizon-clause-fits c =
+    let k = c.args.state.now in
+    let at = c.in-Horizon.at in
+    let told = horizon_rules k.setup.shard k.facts at
+    (subst (λ r. follows_facts k.setup.shard k.facts r ≡ true) c.in-Horizon.is c.requires.follows) in
+    let is : c.le.result ≡ nat_le at c.safe.result = (search rules) in
+    subst (λ r. c.le.result ≡ fits_facts k.facts r) (sym c.in-Horizon.is)
+    (is ∙ ap (nat_le at) c.safe.ensures ∙ below_rows k at c.requires.recovered told.0 told.1)

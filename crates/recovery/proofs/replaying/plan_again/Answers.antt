@@ -14,7 +14,7 @@ use Rattle.memory.specs.declared.plan.Plan.{Plan}
 use Rattle.rows.specs.RowTable.{phase_by}
 use Rattle.recovery.specs.Recovered.{fits_facts}
 use Rattle.recovery.proofs.Again.{abort_again, absent_before, decision_again, may_abort_again, may_close_again, opens_again, outcome_again}
-use Rattle.recovery.proofs.Again.{promise_again, serves_again}
+use Rattle.recovery.proofs.Again.{forgets_again, promise_again, serves_again}
 use Rattle.recovery.proofs.Beside.{asks_are}
 use Rattle.recovery.proofs.Replayed.{with_record}
 use Rattle.recovery.proofs.replaying.plan_again.Goals as goal
@@ -44,6 +44,14 @@ returns-in-Ceiling-clause-memory_after c =
     (serves_again k c.in-Ceiling.at c.later-last.result (Some item) _ c.requires.recovered
     (c.later-last.ensures ∙ ap (λ n. max n c.in-Ceiling.at) c.last-last.ensures)
     (ap (λ (p : Plan). plan_of k.memory.rows (with_record p item)) c.quiet-in-Ceiling.ensures))
+
+pub returns-in-Horizon-clause-memory_after : goal.returns-in-Horizon-clause-memory_after
+returns-in-Horizon-clause-memory_after c =
+    let k = c.args.state.now in
+    let item = c.args.item.now in
+    subst (λ r. carried (plan_of k.memory.rows (with_record c.quiet-in-Horizon.result item)) k.memory ≡ rebuilt (learn k.facts r)) (sym c.in-Horizon.is)
+    (forgets_again k c.in-Horizon.at c.last-last.result (Some item) _ c.requires.recovered c.last-last.ensures
+    (ap (λ (p : Plan). plan_of k.memory.rows (with_record p item)) c.quiet-in-Horizon.ensures))
 
 pub returns-in-Abort-clause-fit : goal.returns-in-Abort-clause-fit
 returns-in-Abort-clause-fit c =

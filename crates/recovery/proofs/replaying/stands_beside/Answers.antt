@@ -6,10 +6,11 @@ use Rattle.recovery.proofs.replaying.stands_beside.Goals as goal
 
 pub returns-clause-stands : goal.returns-clause-stands
 returns-clause-stands c =
-    let all : c.if-is_free.result ≡ (not c.is_crowded-is_crowded.result && c.opens-is_free.result && c.takes-is_above.result) = (search rules) in
+    let all : c.if-is_late.result ≡ (not c.is_crowded-is_crowded.result && c.opens-is_free.result && c.lt-is_late.result && c.takes-is_above.result) =
+    (search rules) in
     all
     ∙ stands_are c.args.state.now c.args.txn c.args.at c.args.reads.now c.args.writes.now c.is_crowded-is_crowded.result c.opens-is_free.result
-    c.takes-is_above.result
+    c.lt-is_late.result c.takes-is_above.result
     c.requires.recovered c.requires.absent c.is_crowded-is_crowded.ensures.crowded
     (c.opens-is_free.ensures ∙ ap (opens (start_of c.args.state.now) c.args.txn) (c.deref.ensures.value ∙ c.in_ok-needs.ensures.locks))
-    c.takes-is_above.ensures
+    (search rules) c.takes-is_above.ensures

@@ -1,4 +1,4 @@
-use Rattle.std.proofs.Common.{◌≡◌, ◌∙◌, ◌++◌, ◌∷◌, [], List, Option, ap, ap₂, arith, sym}
+use Rattle.std.proofs.Common.{◌∙◌, ◌++◌, ◌∷◌, [], List, Option, ap, ap₂, arith, sym}
 use Rattle.std.proofs.lemmas.List.{take_all}
 use Rattle.units.specs.Lists.{gather}
 use Rattle.record.specs.Facts.{recorded}

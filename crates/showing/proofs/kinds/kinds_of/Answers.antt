@@ -1,4 +1,4 @@
-use Rattle.std.proofs.Common.{◌≡◌, ◌∙◌, ◌<◌, ◌^◌, ap, ap₂, arith, length, length-take-le, subst, sym, take}
+use Rattle.std.proofs.Common.{◌∙◌, ◌<◌, ◌^◌, ap, ap₂, arith, length, length-take-le, subst, sym, take}
 use Rattle.std.proofs.lemmas.List.{length-map}
 use Rattle.gatelog.specs.Placed.{Placed}
 use Rattle.recovery.specs.Recovered.{items}

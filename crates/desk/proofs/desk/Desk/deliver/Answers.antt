@@ -16,4 +16,5 @@ invariant_of-self g c =
       in_step = kept_in_step g.D.Disk.file old new c.args.now.now c.args.input.now c.step_keeps_showable.ensures c.writes_ascend.ensures.limit
           c.writes_ascend.ensures.order c.is_sound.ensures.sound c.is_sound.ensures.showable c.on.result self.handed
           (self.publisher.published ++ self.publisher.pending) stood.0 stood.1 self.in_step;
+      horizon = self.horizon;
     }

@@ -10,4 +10,5 @@ returns-clause-facts c = λ i. record {
   floor = c.zero.ensures i;
   entries = shown_entries (by_id (c.new.ensures.empty i));
   installs = c.new-2.ensures.items i;
+  horizon = c.zero-2.ensures i;
 }

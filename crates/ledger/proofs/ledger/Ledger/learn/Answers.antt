@@ -4,7 +4,7 @@ use Rattle.record.specs.Facts.{Facts, learn}
 use Rattle.facts.specs.Known.{Known}
 use Rattle.versions.specs.Orders.{Orders, AreBehind}
 use Rattle.ledger.specs.Ledger.{writes_given, CanInstall}
-use Rattle.ledger.proofs.Learns.{still_orders, are_behind, as_many_more, is_up}
+use Rattle.ledger.proofs.Learns.{still_orders, risen_orders, are_behind, as_many_more, is_up}
 use Rattle.ledger.proofs.ledger.Ledger.learn.Goals as goal
 
 pub follow-requires-clause-known : goal.follow-requires-clause-known
@@ -13,10 +13,11 @@ follow-requires-clause-known c =
     let places = c.self.inside.places in
     let can : CanInstall f c.args.item = subst (λ (k : Known). CanInstall k.facts c.args.item) (sym c.self.view_is) c.requires.installs in
     let known : length c.installs-known.result.now ≡ length f.installs = ap length c.installs-known.ensures in (
-      0,
-      subst (λ (t : List Install). Orders 0 t (length c.installs-known.result.now) places)
+      f.horizon,
+      subst (λ (t : List Install). Orders f.horizon t (length c.installs-known.result.now) places)
           (sym (c.installs.ensures ∙ ap (λ (g : Facts). g.installs) c.learn_next.ensures.facts))
-          (subst (λ (n : ℕ). Orders 0 (learn f c.args.item).installs n places) (sym known) (still_orders f c.args.item can places c.self.invariant)),
+          (subst (λ (n : ℕ). Orders f.horizon (learn f c.args.item).installs n places) (sym known)
+          (still_orders f c.args.item can f.horizon places c.self.invariant)),
     )
 
 pub follow-requires-clause-behind : goal.follow-requires-clause-behind
@@ -53,7 +54,12 @@ invariant_of-self c =
     let places = c.self.inside.places in
     let can : CanInstall f c.args.item = subst (λ (k : Known). CanInstall k.facts c.args.item) (sym c.self.view_is) c.requires.installs in
     let known : length c.installs-known.result.now ≡ length f.installs = ap length c.installs-known.ensures in
-    subst (λ (t : List Install). Orders 0 t (length t) c.follow.new.self) c.installs.ensures
-    (c.follow.ensures.all 0 (subst (λ (t : List Install). Orders 0 t (length c.installs-known.result.now) places)
+    let h = (learn f c.args.item).horizon in
+    subst (λ (g : Facts). Orders g.horizon c.learn_next.new.self.facts.installs (length c.learn_next.new.self.facts.installs) c.follow.new.self)
+    (sym c.learn_next.ensures.facts)
+    (subst (λ (t : List Install). Orders h t (length t) c.follow.new.self) c.installs.ensures
+    (c.follow.ensures.all h (subst (λ (t : List Install). Orders h t (length c.installs-known.result.now) places)
     (sym (c.installs.ensures ∙ ap (λ (g : Facts). g.installs) c.learn_next.ensures.facts))
-    (subst (λ (n : ℕ). Orders 0 (learn f c.args.item).installs n places) (sym known) (still_orders f c.args.item can places c.self.invariant))))
+    (subst (λ (n : ℕ). Orders h (learn f c.args.item).installs n places) (sym known)
+    (risen_orders f c.args.item (learn f c.args.item).installs (length f.installs) places
+    (still_orders f c.args.item can f.horizon places c.self.invariant))))))

@@ -1,0 +1,87 @@
+-- Logs that are alike keep the same, and stay alike by one more record.
+use Rattle.std.proofs.Common.{◌≡◌, ℕ, ◌≤◌, Bool, max, List, [], ◌∷◌, ◌++◌, filter, refl, sym, ap, subst, ◌∙◌, arith}
+use Rattle.units.specs.Lists.{follow}
+use Rattle.units.specs.Keys.{same_key}
+use Rattle.units.specs.Versions.{newest}
+use Rattle.units.specs.declared.writes.Install.{Install}
+use Rattle.record.specs.Records.{StandsPrepared, StandsDecided, HasAborted, HasSettled, HasClosed, stamp_in}
+use Rattle.record.specs.Facts.{Facts, learn, recorded, with_status, after_outcome, installs_at, or_floor}
+use Rattle.record.specs.declared.record.Record.{Record}
+use Rattle.record.specs.declared.record.Record.TheVariants.{Opened, Ceiling, Prepare, Commit, Abort, Outcome, Horizon}
+use Rattle.facts.specs.Shown.{status_in}
+use Rattle.versions.specs.Ordered.{is_by}
+use Rattle.versions.proofs.Newest.{at_time_is}
+use Rattle.renewal.specs.Kinds.{Plain, Base, Version, Settled, Closed}
+use Rattle.renewal.specs.Learnt.{learn_item}
+use Rattle.renewal.specs.Keeps.{Alike, SameVersions}
+use Rattle.renewal.specs.Laws.{AlikeKeeps, AlikeStays}
+use Rattle.renewal.proofs.Newest.{newer_of, newest-more}
+
+pub alike-keeps : AlikeKeeps
+alike-keeps a b h = record {
+  epoch = h.epoch;
+  floor = h.floor;
+  horizon = h.horizon;
+  entries = h.entries;
+  values = λ k t le.
+      at_time_is k t a.installs ∙ ap (λ found. follow found (λ i. i.value)) (h.versions.at k t le) ∙ sym (at_time_is k t b.installs);
+}
+
+-- ---- versions
+
+same-append : (h : ℕ) (a b c : List Install) → SameVersions h a b → SameVersions h (a ++ c) (b ++ c)
+same-append h a b c same = record {
+  now = λ k. by_test (λ x. same_key x.key k) (same.now k);
+  at = λ k t le. by_test (is_by k t) (same.at k t le);
+}
+  where
+    by_test : (test : Install → Bool) → newest (filter test a) ≡ newest (filter test b) → newest (filter test (a ++ c)) ≡ newest (filter test (b ++ c))
+    by_test test e = newest-more test a c ∙ ap (λ n. newer_of n (newest (filter test c))) e ∙ sym (newest-more test b c)
+
+pub same-higher : (h n : ℕ) (a b : List Install) → h ≤ n → SameVersions h a b → SameVersions n a b
+same-higher h n a b le same = record { now = same.now; at = λ k t more. same.at k t (omega (arith, le, more)) }
+
+pub same-then : (h : ℕ) (a b c : List Install) → SameVersions h a b → SameVersions h b c → SameVersions h a c
+same-then h a b c p q = record { now = λ k. p.now k ∙ q.now k; at = λ k t le. p.at k t le ∙ q.at k t le }
+
+pub same-back : (h : ℕ) (a b : List Install) → SameVersions h a b → SameVersions h b a
+same-back h a b p = record { now = λ k. sym (p.now k); at = λ k t le. sym (p.at k t le) }
+
+-- ---- one more record
+
+-- the parts of what is alike
+made : (a b : Facts) → a.epoch ≡ b.epoch → a.floor ≡ b.floor → a.horizon ≡ b.horizon → a.entries ≡ b.entries
+    → SameVersions a.horizon a.installs b.installs → Alike a b
+made a b e f h es v = record { epoch = e; floor = f; horizon = h; entries = es; versions = v }
+
+pub plain-stays : (a b : Facts) (r : Record) → Alike a b → Alike (learn a r) (learn b r)
+unfolding learn
+plain-stays a b (Opened e) h = made _ _ refl h.floor h.horizon h.entries h.versions
+plain-stays a b (Ceiling at) h = made _ _ h.epoch (ap (λ n. max n at) h.floor) h.horizon h.entries h.versions
+plain-stays a b (Horizon at) h =
+    made _ _ h.epoch h.floor (ap (λ n. max n at) h.horizon) h.entries (same-higher a.horizon (max a.horizon at) _ _ (omega arith) h.versions)
+plain-stays a b (Prepare p) h =
+    made _ _ h.epoch (ap (λ n. or_floor n (stamp_in (Prepare p))) h.floor) h.horizon (ap (λ es. with_status es p.txn
+    (StandsPrepared p)) h.entries) h.versions
+plain-stays a b (Commit c) h =
+    made _ _ h.epoch (ap (λ n. or_floor n (stamp_in (Commit c))) h.floor) h.horizon (ap (λ es. with_status es c.txn (StandsDecided c)) h.entries) h.versions
+plain-stays a b (Abort t) h = made _ _ h.epoch h.floor h.horizon (ap (λ es. with_status es t HasAborted) h.entries) h.versions
+plain-stays a b (Outcome t o) h =
+    let same : status_in a.entries t ≡ status_in b.entries t = ap (λ es. status_in es t) h.entries in
+    made _ _ h.epoch (ap (λ n. or_floor n (stamp_in (Outcome t o))) h.floor) h.horizon
+    (λ i. with_status (h.entries i) t (after_outcome (same i) o))
+    (subst (λ s. SameVersions a.horizon (a.installs ++ installs_at (recorded a t) o) (b.installs ++ installs_at s o)) same
+    (same-append a.horizon a.installs b.installs (installs_at (recorded a t) o) h.versions))
+
+pub alike-stays : AlikeStays
+unfolding learn_item
+alike-stays a b (Plain r) h = plain-stays a b r h
+alike-stays a b (Base epoch floor horizon) h =
+    made _ _ refl (ap (λ n. max n floor) h.floor) (ap (λ n. max n horizon) h.horizon) h.entries
+    (same-higher a.horizon (max a.horizon horizon) _ _ (omega arith) h.versions)
+alike-stays a b (Version i) h =
+    made _ _ h.epoch (ap (λ n. max n i.at) h.floor) h.horizon h.entries (same-append a.horizon _ _ (i ∷ []) h.versions)
+alike-stays a b (Settled t at parts) h =
+    made _ _ h.epoch (ap (λ n. max n at) h.floor) h.horizon (ap (λ es. with_status es t (HasSettled at parts)) h.entries) h.versions
+alike-stays a b (Closed t coordinator outcome) h =
+    made _ _ h.epoch (ap (λ n. or_floor n outcome) h.floor) h.horizon (ap (λ es. with_status es t (HasClosed coordinator outcome)) h.entries) h.versions

@@ -1,0 +1,59 @@
+-- Which record may come next, told from what a log says: of the records that steps log.
+use Rattle.std.specs.List.{list_all, list_any}
+use Rattle.std.specs.Prelude.{ℕ, IsTrue, Bool, true, not, ◌&&◌, nat_lt, List, [], ◌∷◌, map, length, Some, None}
+use Rattle.units.specs.Limits.{most_rows}
+use Rattle.units.specs.Lists.{gather}
+use Rattle.units.specs.Keys.{Bytes}
+use Rattle.units.specs.Locks.{clash, locks_of}
+use Rattle.units.specs.Versions.{above_versions}
+use Rattle.units.specs.declared.setup.Setup.{Setup}
+use Rattle.units.specs.declared.writes.Write.{Write}
+use Rattle.record.specs.Accepted.{belongs}
+use Rattle.record.specs.Facts.{Facts, recorded}
+use Rattle.record.specs.declared.record.Record.{Record}
+use Rattle.facts.specs.Rules.{follows_facts}
+use Rattle.protocol.specs.Rows.{Row, held_stamp, standing_row}
+use Rattle.protocol.specs.Sound.{writes_standing}
+use Rattle.renewal.specs.Kinds.{Item, Plain, Base, Version, Settled, Closed}
+use Rattle.renewal.specs.Learnt.{learn_item}
+
+-- the rows that some facts hold
+abbrev pub standing_rows : Facts → List Row
+standing_rows facts = gather standing_row facts.entries
+
+-- a promise or a decision has its place: room for its row, its locks in nobody's way, above the horizon, and above the versions of
+-- what it writes
+abbrev pub stands_in : Facts → ℕ → List Bytes → List Write → Bool
+stands_in facts at reads writes =
+    nat_lt (length (standing_rows facts)) most_rows
+    && not (list_any (clash (locks_of reads writes)) (map (λ r. r.held) (standing_rows facts)))
+    && nat_lt facts.horizon at
+    && above_versions facts.installs at writes
+
+-- a record has its place beside what stands; a horizon is below all of it
+abbrev pub fits_facts : Facts → Record → Bool
+fits_facts facts (Record.Opened epoch) = true
+fits_facts facts (Record.Ceiling at) = true
+fits_facts facts (Record.Horizon at) = list_all (nat_lt at) (gather (λ r. held_stamp r.phase) (standing_rows facts))
+fits_facts facts (Record.Prepare p) = stands_in facts p.at p.reads p.writes
+fits_facts facts (Record.Commit c) = stands_in facts c.at c.reads c.writes
+fits_facts facts (Record.Abort t) = true
+fits_facts facts (Record.Outcome t None) = true
+fits_facts facts (Record.Outcome t (Some at)) = above_versions facts.installs at (writes_standing (recorded facts t))
+
+-- the record may come next
+unfoldable pub takes : Setup → Facts → Record → Bool
+takes setup facts r = belongs setup r && follows_facts setup.shard facts r && fits_facts facts r
+
+-- a record of any kind has its place: only records of steps take rows and locks
+abbrev pub item_fits : Facts → Item → Bool
+item_fits facts (Plain r) = fits_facts facts r
+item_fits facts (Base epoch floor horizon) = true
+item_fits facts (Version i) = true
+item_fits facts (Settled t at parts) = true
+item_fits facts (Closed t coordinator outcome) = true
+
+-- so each of some records, beside what stands by those before it
+abbrev pub AllFit : Facts → List Item → Type 0
+AllFit facts [] = Unit {0}
+AllFit facts (i ∷ is) = IsTrue (item_fits facts i) × AllFit (learn_item facts i) is

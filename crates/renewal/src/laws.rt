@@ -1,0 +1,99 @@
+//! Laws of renewed logs. Each is the contract of a function that does nothing.
+ghost use Rattle.renewal.specs.Laws.{AlikeKeeps, AlikeStands, AlikeStays, AlikeSteps, AlikeTakes, AlikeTurned, FollowsKnown, LastingStays};
+ghost use Rattle.renewal.specs.Laws.{LearntAsRead, LogIsOfShard, LogLasts, OfShardStays};
+ghost use Rattle.renewal.specs.Laws.{TurnedAgain, TurnedFits, TurnedKeeps, TurnedLasts, TurnedLogKeeps, TurnedMayCome, TurnedSays};
+
+/// A renewed log, learnt record by record, says what the log said, with the versions that were held.
+pub fn turned_says()
+    ensures { TurnedSays }
+{}
+
+/// It is like the log that it renews.
+pub fn turned_keeps()
+    ensures { TurnedKeeps }
+{}
+
+/// Its records may each come after those before it.
+pub fn turned_may_come()
+    ensures { TurnedMayCome }
+{}
+
+/// Read as a set they keep what the log said.
+pub fn turned_log_keeps()
+    ensures { TurnedLogKeeps }
+{}
+
+/// Each of its records has its place beside what stands by those before it.
+pub fn turned_fits()
+    ensures { TurnedFits }
+{}
+
+/// It may be renewed again,
+pub fn turned_lasts()
+    ensures { TurnedLasts }
+{}
+
+/// into the same records.
+pub fn turned_again()
+    ensures { TurnedAgain }
+{}
+
+/// Logs that are alike say the same of every id, and have the same values from the horizon up.
+pub fn alike_keeps()
+    ensures { AlikeKeeps }
+{}
+
+/// They stay alike by one more record.
+pub fn alike_stays()
+    ensures { AlikeStays }
+{}
+
+/// They take the same records.
+pub fn alike_takes()
+    ensures { AlikeTakes }
+{}
+
+/// A step over one is a step over the other.
+pub fn alike_steps()
+    ensures { AlikeSteps }
+{}
+
+/// A transaction stands in one where it stands in the other.
+pub fn alike_stands()
+    ensures { AlikeStands }
+{}
+
+/// They are turned over into the same records.
+pub fn alike_turned()
+    ensures { AlikeTurned }
+{}
+
+/// What is learnt record by record, of all kinds, is what is read from the set of all records.
+pub fn learnt_as_read()
+    ensures { LearntAsRead }
+{}
+
+/// Which record may come next is told from the facts, and from where in the log one is.
+pub fn follows_known()
+    ensures { FollowsKnown }
+{}
+
+/// What a log of all kinds says may be renewed, where each record may come next and has its place,
+pub fn log_lasts()
+    ensures { LogLasts }
+{}
+
+/// and what it says of ids is of its shard.
+pub fn log_is_of_shard()
+    ensures { LogIsOfShard }
+{}
+
+/// What may be renewed may be renewed behind each record of a step that is taken,
+pub fn lasting_stays()
+    ensures { LastingStays }
+{}
+
+/// and what is said of ids stays of the shard.
+pub fn of_shard_stays()
+    ensures { OfShardStays }
+{}

@@ -1,0 +1,49 @@
+//! The newest version of a key up to a time, among all that a log installs.
+ghost use Rattle.std.specs.Prelude.{◌≡◌};
+ghost use Rattle.std.specs.Option.{option_copied};
+ghost use Rattle.units.specs.Versions.{at_time};
+ghost use Rattle.showing.specs.Newer.{newer, newest_upto};
+
+use units::{Install, Key, Stamp, Value};
+
+/// The value of a key at a time.
+#[tactic(auto, using(crate::proofs::Latest::value_of))]
+pub fn value_at<'a>(installs: &'a [Install], key: &Key, at: Stamp) -> Option<&'a Value>
+    ensures { option_copied result ≡ at_time installs.now key.now at }
+{
+    match newest_at(installs, key, at) {
+        Some(install) => install.value.as_ref(),
+        None => None,
+    }
+}
+
+// The newest version of the key up to the time.
+fn newest_at<'a>(installs: &'a [Install], key: &Key, at: Stamp) -> Option<&'a Install>
+    ensures { option_copied result ≡ newest_upto installs.now key.now at }
+{
+    let mut best: Option<&Install> = None;
+    let mut left = installs.len();
+    while left > 0 {
+        left -= 1;
+        best = newer(&installs[left], best, key, at);
+    }
+    best
+}
+
+// The version itself, where it is of the key and of a time that has come, unless a later one is known.
+fn newer<'a>(
+    one: &'a Install,
+    best: Option<&'a Install>,
+    key: &Key,
+    at: Stamp,
+) -> Option<&'a Install>
+    ensures { option_copied result ≡ newer one.now key.now at (option_copied best.entry) }
+{
+    if one.at.micros() > at.micros() || !one.key.is(key) {
+        return best;
+    }
+    match best {
+        Some(other) if one.at.micros() < other.at.micros() => Some(other),
+        _ => Some(one),
+    }
+}

@@ -1,0 +1,5 @@
+use Rattle.slots.proofs.Armed as laws
+use Rattle.slots.proofs.laws.failing_calls.Goals as goal
+
+pub returns : goal.returns
+returns c = laws.failing-calls

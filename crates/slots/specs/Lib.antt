@@ -1,0 +1,4 @@
+pub mod Slots
+pub mod Turns
+pub mod Armed
+pub mod Appends
