@@ -1,5 +1,6 @@
 //! Commands that ask the system for files.
-use crate::given::{Asked, File};
+use crate::given::{AMPLE, Asked, File, comes_to};
+use std::alloc::Global;
 
 pub static FILES: [File<'static>; 23] = [
     File {
@@ -115,7 +116,8 @@ pub static FILES: [File<'static>; 23] = [
     },
 ];
 
-pub static ASKED: [Asked; 58] = [
+// Commands that make, judge or drive logs.
+static ASKED: [Asked; 38] = [
     Asked {
         text: "format new.log",
         words: &["format", "new.log"],
@@ -421,6 +423,10 @@ pub static ASKED: [Asked; 58] = [
         refused: "fault: 7 BadRequest(command)\n",
         status: 2,
     },
+];
+
+// What logs hold, as lines.
+static DUMPED: [Asked; 13] = [
     Asked {
         text: "dump done.log",
         words: &["dump", "done.log"],
@@ -512,6 +518,10 @@ pub static ASKED: [Asked; 58] = [
         refused: "fault: 7 BadRequest(command)\n",
         status: 2,
     },
+];
+
+// And in numbers.
+static COUNTED: [Asked; 7] = [
     Asked {
         text: "stats done.log",
         words: &["stats", "done.log"],
@@ -640,3 +650,28 @@ in doubt 0
         status: 2,
     },
 ];
+
+// The first row that does not come to what it says.
+fn wrong_of(alloc: Global, rows: &[Asked]) -> &'static str {
+    for row in rows {
+        if !comes_to(alloc, &FILES, row, AMPLE) {
+            return row.text;
+        }
+    }
+    ""
+}
+
+/// The first command that makes, judges or drives logs, and does not come to what its row says.
+pub fn wrong(alloc: Global) -> &'static str {
+    wrong_of(alloc, &ASKED)
+}
+
+/// The first dump that does not come to what its row says.
+pub fn wrong_dump(alloc: Global) -> &'static str {
+    wrong_of(alloc, &DUMPED)
+}
+
+/// The first command of numbers that does not come to what its row says.
+pub fn wrong_count(alloc: Global) -> &'static str {
+    wrong_of(alloc, &COUNTED)
+}

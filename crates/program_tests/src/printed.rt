@@ -1,5 +1,4 @@
 //! What the program prints.
-use crate::asked::{ASKED, FILES};
 use crate::given::{AMPLE, Asked, Writes, comes_to};
 use crate::of_keys;
 use cli::{Command, command};
@@ -192,16 +191,6 @@ pub fn wrong_answer(alloc: Global) -> &'static str {
     for row in &FAILING {
         if !comes_to(alloc, &[], &row.asked, row.writes) {
             return row.asked.text;
-        }
-    }
-    ""
-}
-
-/// The first command over files that does not come to what its row says.
-pub fn wrong_on_files(alloc: Global) -> &'static str {
-    for row in &ASKED {
-        if !comes_to(alloc, &FILES, row, AMPLE) {
-            return row.text;
         }
     }
     ""

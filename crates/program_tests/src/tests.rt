@@ -5,8 +5,8 @@ use crate::horizons::HORIZONS;
 use crate::stops::FAILED;
 use crate::whole_schedules::SCHEDULES;
 use crate::{
-    comparing, each_call, horizons, of_logs, outside, places, played, printed, schedule_texts,
-    stops, unlawful,
+    asked, comparing, each_call, horizons, of_logs, outside, places, played, printed,
+    schedule_texts, stops, unlawful,
 };
 use std::process::Abort;
 
@@ -20,7 +20,9 @@ fn check(rt: &impl Abort, area: &str, wrong: &str) {
 fn answers(rt: HostRuntime) {
     let alloc = rt.alloc();
     check(&rt, "commands", printed::wrong_answer(alloc));
-    check(&rt, "commands over files", printed::wrong_on_files(alloc));
+    check(&rt, "commands over files", asked::wrong(alloc));
+    check(&rt, "dumps", asked::wrong_dump(alloc));
+    check(&rt, "numbers", asked::wrong_count(alloc));
     check(&rt, "commands over keys", printed::wrong_of_keys(alloc));
     check(&rt, "words", printed::wrong_words(alloc));
     check(&rt, "numbers of logs", of_logs::wrong(alloc));
