@@ -1,5 +1,5 @@
 #!/usr/bin/env python3
-"""Counts the calls of fsync in drives over files: two for each record that is logged, one for each log that is made and one for each opening;
+"""Counts the calls of fsync in drives over files: two for each record that is logged, two for each log that is made and one for each opening;
 and the folder is synced behind the last name that is given and before the first record is logged, also by a drive that finds all logs. A
 second drive goes on with the bytes that the first one left. It wants the program built and strace; without that it says so and ends well."""
 import os
@@ -43,8 +43,8 @@ def one_drive(room, folder, settings, name):
         after = traced.records_in(path)
         if after[: len(before[shard])] != before[shard] or len(after) == len(before[shard]):
             fail(f"{name}: the log of shard {shard} does not begin with what was there, or has nothing more")
-        # That of the making, that of the opening, that of the judging, and two for each record.
-        wanted = 2 * (len(after) - len(before[shard])) + made[shard] + 2
+        # Two of the making, that of the opening, that of the judging, and two for each record.
+        wanted = 2 * (len(after) - len(before[shard])) + 2 * made[shard] + 2
         if synced.get(f"shard-{shard}.log", 0) != wanted:
             fail(f"{name}: {synced.get(f'shard-{shard}.log', 0)} syncs of the log of shard {shard}, and not {wanted}")
     first = order.index("record") if "record" in order else len(order)

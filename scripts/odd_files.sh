@@ -1,6 +1,6 @@
 #!/bin/sh
 # Commands over files and folders that are not as they should be: texts without an end, other settings than the store's, logs that are gone
-# or exchanged, a draft that is a link, no thread to be had. Each has to be refused as README says, soon, and with nothing written. It wants
+# or exchanged, a draft that is a link, logs of version 1, no thread to be had. Each has to be refused as README says, soon, and with nothing written. It wants
 # the program built (`./run --build`).
 set -eu
 root=$(dirname "$(dirname "$(readlink -f "$0")")")
@@ -67,6 +67,21 @@ mv logs/shard-0.log kept
 mv logs/shard-1.log logs/shard-0.log
 mv kept logs/shard-1.log
 [ "$(sums)" = "$before" ] || fail "a drive that was refused has written"
+
+printf 'SPNLOG01\245\000\000\000\011\001\000\000\000\000\000\000\000\001\000' >old.log
+mv logs/shard-0.log kept
+cp old.log logs/shard-0.log
+want 'fault: 12 NotALog' drive two
+want 'fault: 12 NotALog' dump old.log
+want '' migrate old.log new.log
+want '9224 opened 1
+closed at 9238' dump new.log
+want 'fault: 2 Device' migrate old.log new.log
+want 'fault: 2 Device' migrate old.log missing/new.log
+want 'fault: 12 NotALog' migrate new.log newer.log
+[ ! -e newer.log ] || fail "a refused migration has made a file"
+cmp -s old.log logs/shard-0.log || fail "a log of version 1 was written to"
+mv kept logs/shard-0.log
 
 if (ulimit -v 20000) 2>/dev/null; then
     began=$(date +%s)

@@ -173,7 +173,7 @@ class Round:
     def record(self, is_killed):
         traced.settings(self.settings, self.folder, self.shards, self.workers, random.choice([2, 5]), 4 * self.shards)
         trace = os.path.join(self.room, "trace")
-        call, place = random.choice([("fsync", 6 * self.shards + 4), ("rename", self.shards + 1), ("openat", 6 * self.shards + 4)])
+        call, place = random.choice([("fsync", 7 * self.shards + 4), ("rename", self.shards + 1), ("openat", 6 * self.shards + 4)])
         inject = f"{call}:signal=KILL:when={random.randint(1, place)}" if is_killed else None
         answer = traced.drive(self.settings, inject=inject, trace=trace)
         if not is_killed and not answer.is_yes:

@@ -1,6 +1,6 @@
 #!/bin/sh
 # Runs programs with the N-th growth of their memory refused, for N = 1, 2, .. until none is. `refusing` has to ask again, and to end as
-# without. The program has to end as without, or with `1 Memory` behind what it printed so far: `once`, `play`, `inspect`, and `drive`
+# without. The program has to end as without, or with `1 Memory` behind what it printed so far: `once`, `play`, `inspect`, `migrate`, and `drive`
 # at some of its growths, whose number depends on its threads. It wants both programs built (as the gate does), and the kit's own clang;
 # where there is none, nothing is tried.
 set -eu
@@ -20,9 +20,10 @@ fail() {
     exit 1
 }
 
-# Runs some words with growth n refused, and says whether it was.
+# Runs some words with growth n refused, and says whether it was. A file that is to be made is not there then.
 run() {
     : >"$room/refused"
+    rm -f "$room/new.log"
     status=0
     REFUSE_AT=$n LD_PRELOAD=$room/refuse.so "$@" >"$room/out" 2>"$room/err" 9>"$room/refused" || status=$?
     [ -s "$room/refused" ]
@@ -37,6 +38,16 @@ is_memory() {
 is_whole() {
     [ "$status" -eq 0 ] && [ ! -s "$room/err" ] && ! grep -q '^refused: .*, not all as before$' "$room/out" \
         && grep -v '^refused: ' "$room/out" | cmp -s - "$room/whole"
+}
+
+# The new log was made, and the old one is as it was.
+is_migrated() {
+    is_whole && [ "$(wc -c <"$room/new.log")" -eq 9239 ] && cmp -s "$room/old.log" "$room/kept.log"
+}
+
+# There is no new log, and the old one is as it was.
+is_not_migrated() {
+    is_memory && [ ! -s "$room/new.log" ] && cmp -s "$room/old.log" "$room/kept.log"
 }
 
 # The drive ended with the verdict yes, or with `1 Memory`, behind its four counts where its workers had reported.
@@ -81,6 +92,10 @@ mkdir "$room/logs"
 "$program" drive "$room/with.files" >/dev/null
 : >"$room/no.lines"
 
+# Version 1: Opened 1, and a closed gate.
+printf 'SPNLOG01\245\000\000\000\011\001\000\000\000\000\000\000\000\001\000' >"$room/old.log"
+cp "$room/old.log" "$room/kept.log"
+
 from=$(date +%s)
 done=
 sweep refusing 1 is_whole is_whole "$root/crates/refusing/out/refusing"
@@ -88,5 +103,6 @@ cmp -s "$room/whole" "$root/crates/refusing/stdout" || fail
 sweep once 1 is_whole is_memory "$program" once a 1 100 110 112 121
 sweep play 1 is_whole is_memory "$program" play "$root/docs/example.schedule"
 sweep inspect 1 is_whole is_memory "$program" inspect "$room/no.lines" "$room/logs/shard-0.log" "$room/logs/shard-1.log"
+sweep migrate 1 is_migrated is_not_migrated "$program" migrate "$room/old.log" "$room/new.log"
 sweep drive 13 is_driven is_driven "$program" drive "$room/settings"
 echo "refused_memory: $done growths refused in $(($(date +%s) - from)) seconds, each as it should be"

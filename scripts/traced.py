@@ -102,10 +102,23 @@ def verdict(folder, shards, no_lines):
     return (ran.stdout + ran.stderr).strip()
 
 
+FIRST_GATE = 9224
+
+
+def area(image):
+    """Where the log of a file begins: its slots, each a gate and an offset, are open from the first on, and the last open one names it."""
+    begins = FIRST_GATE
+    for slot in range(8, FIRST_GATE, 9):
+        if image[slot : slot + 1] != b"\xa5":
+            break
+        begins = int.from_bytes(image[slot + 1 : slot + 9], "big")
+    return begins
+
+
 def records(image):
     """The bodies of the records of a log, by its file; none where it is no log."""
-    found, at = [], 8
-    if image[:8] != b"SPNLOG01":
+    found, at = [], area(image)
+    if image[:8] != b"SPNLOG02":
         return found
     while at + 5 <= len(image) and image[at] == 0xA5:
         count = int.from_bytes(image[at + 1 : at + 5], "big")

@@ -2,7 +2,7 @@
 use Rattle.std.proofs.Common.{◌≡◌, inl, ℕ, ◌≤◌, List, map, refl, sym, subst, ◌∙◌, IsTrue}
 use Rattle.units.specs.declared.line.Line.{Line}
 use Rattle.record.specs.History.{Txn, Map, history, put_all, empty, upto}
-use Rattle.record.specs.Verdict.{IsLine}
+use Rattle.record.specs.Lines.{IsLine}
 use Rattle.record.specs.declared.record.Record.{Record}
 use Rattle.session.specs.Sessions.{Client}
 use Rattle.units.specs.Ids.{same_id}

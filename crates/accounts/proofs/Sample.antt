@@ -4,7 +4,8 @@ use Rattle.std.specs.Prelude.{◌≡◌, ℕ, ◌+◌, ◌*◌, ◌-◌, true, L
 use Rattle.units.specs.Lists.{gather}
 use Rattle.units.specs.Ids.{Id}
 use Rattle.record.specs.History.{Map, history, upto, empty, put_all}
-use Rattle.record.specs.Verdict.{IsLine, verdict}
+use Rattle.record.specs.Verdict.{verdict}
+use Rattle.record.specs.Lines.{IsLine}
 use Rattle.record.specs.declared.record.Record.{Record}
 use Rattle.units.specs.declared.line.Verdict.TheVariants.{Yes}
 use Rattle.protocol.specs.Outputs.{decision}

@@ -6,7 +6,7 @@ use Rattle.units.specs.Keys.{Bytes}
 use Rattle.units.specs.declared.line.Line.{Line}
 use Rattle.units.specs.declared.writes.Write.{Write}
 use Rattle.record.specs.History.{Map, empty, put_all, history, upto}
-use Rattle.record.specs.Verdict.{IsLine}
+use Rattle.record.specs.Lines.{IsLine}
 use Rattle.record.specs.declared.record.Record.{Record}
 use Rattle.session.specs.Sessions.{Client}
 use Rattle.law.specs.Among.{IsAmong}

@@ -3,7 +3,7 @@ use Rattle.std.specs.Prelude.{◌≡◌, ◌⊎◌, ℕ, Result, Ok, Err}
 use Rattle.units.specs.declared.fault.Fault.{Fault}
 use Rattle.units.specs.declared.fault.Fault.TheVariants.{BadRequest, Device, Memory}
 use Rattle.units.specs.declared.fault.Reason.TheVariants.{Settings, Unlawful}
-use Rattle.command_line.specs.Commands.{Asked, help, once_asked, format_asked, play_asked, inspect_asked, drive_asked, dump_asked, history_asked, get_asked, put_asked, stats_asked}
+use Rattle.command_line.specs.Commands.{Asked, help, once_asked, format_asked, play_asked, inspect_asked, drive_asked, dump_asked, history_asked, get_asked, put_asked, stats_asked, migrate_asked}
 use Rattle.client.specs.declared.ended.Ended.{Ended}
 use Rattle.cli.specs.declared.engine.Put.{Put}
 use Rattle.drive.specs.declared.shards.NoVerdict.{NoVerdict}
@@ -13,6 +13,7 @@ use Rattle.output.specs.declared.failure.Failure.TheVariants.{Refused, Unwritten
 use Rattle.script.specs.Refusals.{IsNoSchedule}
 use Rattle.showing.specs.Dumps.{IsNotShown}
 use Rattle.showing.specs.HistoryTexts.{IsNotTold}
+use Rattle.system.specs.Refusals.{IsNotMigrated}
 use Rattle.system.specs.declared.asked.Driven.{Driven}
 
 -- memory is wanting, or the system refuses the file
@@ -64,6 +65,7 @@ MayRefuse drives puts (history_asked dir key) fault = IsNotTold fault
 MayRefuse drives puts (get_asked dir key at) fault = IsNotTold fault
 MayRefuse drives puts (put_asked dir key value) fault = IsNotPut puts fault
 MayRefuse drives puts (stats_asked logs) fault = IsNotShown fault
+MayRefuse drives puts (migrate_asked old new) fault = IsNotMigrated fault
 
 abbrev pub MayRefuseTo : (Fault → Type 0) → (Fault → Type 0) → Result Asked Fault → Fault → Type 0
 MayRefuseTo drives puts (Ok asked) fault = MayRefuse drives puts asked fault

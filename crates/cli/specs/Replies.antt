@@ -2,7 +2,7 @@
 use Rattle.std.specs.Prelude.{◌≡◌, ◌++◌, ℕ, List, [], Some, None, Result, Ok, Err, codes}
 use Rattle.units.specs.declared.fault.Fault.{Fault}
 use Rattle.units.specs.declared.line.Verdict.{Verdict}
-use Rattle.command_line.specs.Commands.{Asked, command_of, help, once_asked, format_asked, play_asked, inspect_asked, drive_asked, dump_asked, history_asked, get_asked, put_asked, stats_asked}
+use Rattle.command_line.specs.Commands.{Asked, command_of, help, once_asked, format_asked, play_asked, inspect_asked, drive_asked, dump_asked, history_asked, get_asked, put_asked, stats_asked, migrate_asked}
 use Rattle.command_line.specs.Lines.{Word}
 use Rattle.command_line.specs.declared.usage.TheConstants.{USAGE}
 use Rattle.client.specs.declared.ended.Ended.{Ended}
@@ -27,6 +27,7 @@ reply_of (history_asked dir key) = None
 reply_of (get_asked dir key at) = None
 reply_of (put_asked dir key value) = None
 reply_of (stats_asked logs) = None
+reply_of (migrate_asked old new) = None
 
 -- and what is no command is refused
 abbrev pub reply_or_refusal : Result Asked Fault → Expected
@@ -53,6 +54,7 @@ Tells puts (get_asked dir key at) status text = (status ≡ 0) × IsAValue text
 Tells puts (put_asked dir key value) status text =
     (ended : Ended) × puts dir key value ended × (status ≡ put_status ended) × (text ≡ put_text ended)
 Tells puts (stats_asked logs) status text = (status ≡ 0) × AreStats logs text
+Tells puts (migrate_asked old new) status text = (status ≡ 0) × (text ≡ [])
 
 -- what the command that some words ask for has printed
 abbrev pub TellsTo : Said → Result Asked Fault → ℕ → List ℕ → Type 0

@@ -27,6 +27,7 @@ use crate::help::help;
 use crate::hints::{Hints, tell_place};
 use crate::inspect::inspect;
 use crate::key_commands::{get, history};
+use crate::migrate::migrate;
 use crate::play::play;
 use crate::put_command::put;
 use crate::stats_command::stats;
@@ -76,7 +77,7 @@ pub fn answer<
     ensures helped { asks_help (map (λ w. w.now) words.entry.now) ≡ true → result.0 ≢ 2
         → (result.0 ≡ 0)
         × Appends (O.contents (writer_of out.old)) (O.contents (writer_of out.new)) USAGE.now }
-    // What files tell: a format prints nothing, an inspection a verdict, which its status goes with, and a dump lines of records.
+    // What files tell: a format and a migration print nothing, an inspection a verdict, which its status goes with, and a dump lines of records.
     ensures tells { are_plain (map (λ w. w.now) words.entry.now) ≡ true → result.0 ≢ 2
         → (text : List ℕ) × TellsTo (IsPutBy (P.post system.now.drive.put alloc))
         (command_of (map (λ w. w.now) words.entry.now)) result.0 text
@@ -227,5 +228,6 @@ fn run<
         Command::Get { dir, key, at } => (get(alloc, dir, &key, at, &system.files, out), disk),
         Command::Put { dir, key, value } => (put(alloc, dir, &key, &value, system, out), disk),
         Command::Stats { logs } => (stats(alloc, &logs, &system.files, out), disk),
+        Command::Migrate { old, new } => (migrate(alloc, old, new, &system.files), disk),
     }
 }

@@ -61,7 +61,7 @@ pub fn program<
     ensures helped { asks_help (map (λ w. w.now) words.entry.now) ≡ true → result ≢ 2
         → (result ≡ 0)
         × Appends (O.contents (writer_of out.old)) (O.contents (writer_of out.new)) USAGE.now }
-    // What files tell: a format prints nothing, an inspection a verdict, which its status goes with, and a dump lines of records.
+    // What files tell: a format and a migration print nothing, an inspection a verdict, which its status goes with, and a dump lines of records.
     ensures tells { are_plain (map (λ w. w.now) words.entry.now) ≡ true → result ≢ 2
         → (text : List ℕ) × TellsTo AnyEnd (command_of (map (λ w. w.now) words.entry.now)) result text
         × Appends (O.contents (writer_of out.old)) (O.contents (writer_of out.new)) text }
@@ -130,7 +130,7 @@ fn answer_by<
     ensures helped { asks_help (map (λ w. w.now) words.entry.now) ≡ true → result ≢ 2
         → (result ≡ 0)
         × Appends (O.contents (writer_of out.old)) (O.contents (writer_of out.new)) USAGE.now }
-    // What files tell: a format prints nothing, an inspection a verdict, which its status goes with, and a dump lines of records.
+    // What files tell: a format and a migration print nothing, an inspection a verdict, which its status goes with, and a dump lines of records.
     ensures tells { are_plain (map (λ w. w.now) words.entry.now) ≡ true → result ≢ 2
         → (text : List ℕ) × TellsTo AnyEnd (command_of (map (λ w. w.now) words.entry.now)) result text
         × Appends (O.contents (writer_of out.old)) (O.contents (writer_of out.new)) text }

@@ -12,6 +12,7 @@ mod host;
 mod host_put;
 mod inspect;
 mod key_commands;
+mod migrate;
 mod places;
 mod play;
 mod put_command;

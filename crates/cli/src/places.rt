@@ -47,6 +47,7 @@ fn place_for<F: Files>(
         }
         Command::Put { dir, .. } => in_store(alloc, files, dir),
         Command::Stats { logs } => in_logs(alloc, files, logs, fault),
+        Command::Migrate { old, new } => in_migrated(alloc, files, old, new, fault),
     }
 }
 
@@ -108,6 +109,21 @@ fn in_logs<F: Files>(alloc: Global, files: &F, logs: &[&str], fault: Fault) -> O
         }
     }
     None
+}
+
+// In the old file, but where the system refuses something and it can be read.
+fn in_migrated<F: Files>(
+    alloc: Global,
+    files: &F,
+    old: &str,
+    new: &str,
+    fault: Fault,
+) -> Option<String> {
+    if fault == Fault::Device && files.open(alloc, old).is_ok() {
+        at(alloc, new)
+    } else {
+        at(alloc, old)
+    }
 }
 
 // In the settings, or in the folder that they name.

@@ -20,6 +20,7 @@ pub data CommandLine : Type 0 where
   get : Word → Word → Option Word → CommandLine
   put : Word → Word → Word → CommandLine
   stats : List Word → CommandLine
+  migrate : Word → Word → CommandLine
 
 -- the word does not begin with `-` (45)
 abbrev pub is_plain : Word → Bool
@@ -82,6 +83,11 @@ abbrev pub stats_of : List Word → Option CommandLine
 stats_of (log ∷ logs) = if nat_lt 16 (length (log ∷ logs)) then None else Some (stats (log ∷ logs))
 stats_of [] = None
 
+-- OLD NEW
+abbrev pub migrate_of : List Word → Option CommandLine
+migrate_of (old ∷ new ∷ []) = Some (migrate old new)
+migrate_of _ = None
+
 -- the command line that the words are
 abbrev pub line_of : List Word → Option CommandLine
 line_of [] = None
@@ -96,4 +102,5 @@ line_of (name ∷ rest) =
     else (if bytes_eq (codes "get") name then get_of rest
     else (if bytes_eq (codes "put") name then put_of rest
     else (if bytes_eq (codes "stats") name then stats_of rest
-    else None)))))))))
+    else (if bytes_eq (codes "migrate") name then migrate_of rest
+    else None))))))))))

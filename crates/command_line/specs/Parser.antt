@@ -3,7 +3,7 @@ use Rattle.std.specs.Prelude.{ℕ, List, [], ◌∷◌, Some, None, true, codes,
 use Rattle.clap.specs.Words.{App, Row, Rule, Shape, Text, new_app, new_rule, with_rule, with_subcommand}
 use Rattle.clap.specs.declared.parser.matches.ValueSource.TheVariants.{CommandLine as given}
 use Rattle.clap.specs.declared.builder.value_parser.Reading.TheVariants.{AsWritten}
-use Rattle.command_line.specs.Lines.{CommandLine, Word, once, format, play, inspect, drive, dump, history, get, put, stats}
+use Rattle.command_line.specs.Lines.{CommandLine, Word, once, format, play, inspect, drive, dump, history, get, put, stats, migrate}
 
 -- an argument of which 1 to `most` words have to be given, or one that may be left out where that is 0
 abbrev pub needed : Text × ℕ → Rule
@@ -45,10 +45,14 @@ put_app = command_app (codes "put") ((codes "dir", 1) ∷ (codes "key", 1) ∷ (
 abbrev pub stats_app : App
 stats_app = command_app (codes "stats") ((codes "logs", 16) ∷ [])
 
+-- OLD NEW
+abbrev pub migrate_app : App
+migrate_app = command_app (codes "migrate") ((codes "old", 1) ∷ (codes "new", 1) ∷ [])
+
 -- the commands
 abbrev pub shapes : List Shape
 shapes = once_app.top ∷ (file_app (codes "format")).top ∷ (file_app (codes "play")).top ∷ inspect_app.top ∷ (file_app (codes "drive")).top
-    ∷ (file_app (codes "dump")).top ∷ history_app.top ∷ get_app.top ∷ put_app.top ∷ stats_app.top ∷ []
+    ∷ (file_app (codes "dump")).top ∷ history_app.top ∷ get_app.top ∷ put_app.top ∷ stats_app.top ∷ migrate_app.top ∷ []
 
 -- the program: one command is wanted
 abbrev pub bare_app : App
@@ -95,3 +99,4 @@ entry_of (get dir key None) = (codes "get", row (codes "dir") dir ∷ row (codes
 entry_of (get dir key (Some at)) = (codes "get", row (codes "dir") dir ∷ row (codes "key") key ∷ row (codes "at") at ∷ [])
 entry_of (put dir key value) = (codes "put", row (codes "dir") dir ∷ row (codes "key") key ∷ row (codes "value") value ∷ [])
 entry_of (stats logs) = (codes "stats", row_with (codes "logs") logs ∷ [])
+entry_of (migrate old new) = (codes "migrate", row (codes "old") old ∷ row (codes "new") new ∷ [])

@@ -18,6 +18,11 @@ pub enum Command<'a> {
     Format {
         file: &'a str,
     },
+    /// The log in a file of version 1 is written into a new file, as one of version 2.
+    Migrate {
+        old: &'a str,
+        new: &'a str,
+    },
     /// The schedule of a file is played, and the report printed.
     Play {
         file: &'a str,

@@ -17,7 +17,7 @@ use units::{Fault, Reason};
 type Form<'a> = (&'a str, &'a [(&'a str, usize)]);
 
 /// The program's commands.
-static COMMANDS: [Form<'static>; 10] = [
+static COMMANDS: [Form<'static>; 11] = [
     (
         "once",
         &[
@@ -38,6 +38,7 @@ static COMMANDS: [Form<'static>; 10] = [
     ("get", &[("dir", 1), ("key", 1), ("at", 0)]),
     ("put", &[("dir", 1), ("key", 1), ("value", 1)]),
     ("stats", &[("logs", 16)]),
+    ("migrate", &[("old", 1), ("new", 1)]),
 ];
 
 /// A command, with its words.
@@ -84,6 +85,10 @@ pub enum Line<'a> {
     Stats {
         logs: Vec<&'a str>,
     },
+    Migrate {
+        old: &'a str,
+        new: &'a str,
+    },
 }
 
 /// The command line that the words are. Of words that do not begin with `-` it is found exactly
@@ -112,27 +117,23 @@ fn found_line<'a>(alloc: Global, matches: &ArgMatches<'a>) -> Result<Line<'a>, F
         return Ok(once_line(given));
     }
     if let Some(given) = matches.subcommand_matches("format") {
-        return Ok(Line::Format {
-            file: word(given, "file"),
-        });
+        let file = word(given, "file");
+        return Ok(Line::Format { file });
     }
     if let Some(given) = matches.subcommand_matches("play") {
-        return Ok(Line::Play {
-            file: word(given, "file"),
-        });
+        let file = word(given, "file");
+        return Ok(Line::Play { file });
     }
     if let Some(given) = matches.subcommand_matches("inspect") {
         return inspect_line(alloc, given);
     }
     if let Some(given) = matches.subcommand_matches("drive") {
-        return Ok(Line::Drive {
-            file: word(given, "file"),
-        });
+        let file = word(given, "file");
+        return Ok(Line::Drive { file });
     }
     if let Some(given) = matches.subcommand_matches("dump") {
-        return Ok(Line::Dump {
-            file: word(given, "file"),
-        });
+        let file = word(given, "file");
+        return Ok(Line::Dump { file });
     }
     if let Some(given) = matches.subcommand_matches("history") {
         return Ok(history_line(given));
@@ -145,6 +146,9 @@ fn found_line<'a>(alloc: Global, matches: &ArgMatches<'a>) -> Result<Line<'a>, F
     }
     if let Some(given) = matches.subcommand_matches("stats") {
         return stats_line(alloc, given);
+    }
+    if let Some(given) = matches.subcommand_matches("migrate") {
+        return Ok(migrate_line(given));
     }
     Err(Fault::BadRequest(Reason::Command))
 }
@@ -196,6 +200,17 @@ fn put_line<'a>(given: &ArgMatches<'a>) -> Line<'a>
         dir: word(given, "dir"),
         key: word(given, "key"),
         value: word(given, "value"),
+    }
+}
+
+// The words of `migrate`.
+fn migrate_line<'a>(given: &ArgMatches<'a>) -> Line<'a>
+    ensures { (line : CommandLine) → (entry_of line).0 ≡ codes "migrate"
+        → rows_of (found_of given.now) ≡ (entry_of line).1 → line_view result ≡ line }
+{
+    Line::Migrate {
+        old: word(given, "old"),
+        new: word(given, "new"),
     }
 }
 

@@ -30,6 +30,10 @@ play FILE
 format FILE
     Makes FILE, which must not exist, as the file of a new log. Prints nothing.
 
+migrate OLD NEW
+    Makes NEW, which must not exist, as a log file of version 2 with the records
+    of OLD, a log file of version 1, which stays as it is. Prints nothing.
+
 inspect LINES LOG..
     Judges the logs of shards 0, 1 and so on, 1 to 16 files, and the lines in
     LINES, as 'play' prints them; an empty file has none. Prints the verdict:

@@ -58,6 +58,7 @@ fn read_command<'a>(alloc: Global, words: &'a [&'a str]) -> Result<Command<'a>, 
         Line::Get { dir, key, at } => read_get(dir, key, at),
         Line::Put { dir, key, value } => read_put(alloc, dir, key, value),
         Line::Stats { logs } => Ok(Command::Stats { logs }),
+        Line::Migrate { old, new } => Ok(Command::Migrate { old, new }),
     }
 }
 

@@ -2,6 +2,7 @@
 use crate::answers::Told;
 use crate::given::Given;
 use crate::stories::{Moment, Origin, Shows, Story};
+use made::FIRST_GATE;
 
 pub static COORDINATING: [Story; 4] = [
     Story {
@@ -57,7 +58,7 @@ pub static COORDINATING: [Story; 4] = [
         // The opening, the abort and a closed gate.
         moments: &[Moment {
             after: 2,
-            shows: &[Shows::Size(45)],
+            shows: &[Shows::Size(FIRST_GATE + 37)],
         }],
     },
     Story {
@@ -76,7 +77,7 @@ pub static COORDINATING: [Story; 4] = [
         ],
         moments: &[Moment {
             after: 2,
-            shows: &[Shows::Size(45)],
+            shows: &[Shows::Size(FIRST_GATE + 37)],
         }],
     },
     // What is read at one shard and written at another.

@@ -2,6 +2,7 @@
 use crate::answers::Told;
 use crate::given::{Given, LAST};
 use crate::stories::{Moment, Origin, Shows, Story};
+use made::{FIRST_GATE, ONE_COMMIT};
 use units::Fault;
 
 const A: Given = Given::Commit(1, 0, b"a", b"1");
@@ -35,22 +36,13 @@ pub static COMMITS: [Story; 5] = [
                     Shows::Earliest(1, 111),
                 ],
             },
-            // The header; Opened 1; Commit 1.1 at 111, parts 0, no reads, a=1; Outcome 1.1 committed 111; a closed gate.
+            // The header, the slots, Opened 1, the commit, its outcome and a closed gate.
             Moment {
                 after: 8,
                 shows: &[
                     Shows::Decided(0, 0),
-                    Shows::Size(96),
-                    Shows::Log(
-                        0,
-                        &[
-                            0x53, 0x50, 0x4e, 0x4c, 0x4f, 0x47, 0x30, 0x31, 0xa5, 0, 0, 0, 9, 1, 0,
-                            0, 0, 0, 0, 0, 0, 1, 0xa5, 0, 0, 0, 37, 4, 0, 0, 0, 0, 0, 0, 0, 1, 0,
-                            0, 0, 0, 0, 0, 0, 1, 0, 0, 0, 0, 0, 0, 0, 0x6f, 0, 1, 0, 0, 0, 1, 1,
-                            0x61, 1, 0, 1, 0x31, 0xa5, 0, 0, 0, 26, 6, 0, 0, 0, 0, 0, 0, 0, 1, 0,
-                            0, 0, 0, 0, 0, 0, 1, 1, 0, 0, 0, 0, 0, 0, 0, 0x6f, 0,
-                        ],
-                    ),
+                    Shows::Size(9_312),
+                    Shows::File(&ONE_COMMIT),
                 ],
             },
         ],
@@ -77,10 +69,10 @@ pub static COMMITS: [Story; 5] = [
             (100, LAST, A, Told::Refused(Fault::TimeSpent)),
             (100, 110, A, Told::Says(&[])),
         ],
-        // The header, Opened 1, the commit and a closed gate.
+        // The header, the slots, Opened 1, the commit and a closed gate.
         moments: &[Moment {
             after: 4,
-            shows: &[Shows::Size(65)],
+            shows: &[Shows::Size(FIRST_GATE + 57)],
         }],
     },
     // The younger one is decided first.
@@ -134,14 +126,14 @@ pub static COMMITS: [Story; 5] = [
                 after: 4,
                 shows: &[Shows::Decided(2, 112), Shows::Ready(3)],
             },
-            // The header, Opened 1, two commits, the outcome, the third commit and a closed gate.
+            // The header, the slots, Opened 1, two commits, the outcome, the third commit and a closed gate.
             Moment {
                 after: 5,
                 shows: &[
                     Shows::Decided(2, 112),
                     Shows::Second(3, 113),
                     Shows::Ready(0),
-                    Shows::Size(180),
+                    Shows::Size(FIRST_GATE + 172),
                 ],
             },
         ],

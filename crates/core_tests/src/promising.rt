@@ -2,6 +2,7 @@
 use crate::answers::Told;
 use crate::given::Given;
 use crate::stories::{Moment, Origin, Shows, Story};
+use made::FIRST_GATE;
 use units::{Fault, Seen};
 
 pub static PROMISING: [Story; 5] = [
@@ -51,7 +52,7 @@ pub static PROMISING: [Story; 5] = [
                 Shows::Prepared(0, 0),
                 Shows::Installs(1),
                 Shows::Safe(200),
-                Shows::Size(95),
+                Shows::Size(FIRST_GATE + 87),
                 Shows::Look(b"z", 200, 1, Ok(Seen::Value(1)), [0x37, 9, 9, 9]),
             ],
         }],
@@ -84,7 +85,7 @@ pub static PROMISING: [Story; 5] = [
         // The opening, one promise and a closed gate.
         moments: &[Moment {
             after: 3,
-            shows: &[Shows::Prepared(1, 200), Shows::Size(64)],
+            shows: &[Shows::Prepared(1, 200), Shows::Size(FIRST_GATE + 56)],
         }],
     },
     Story {

@@ -2,12 +2,13 @@
 use crate::cores::{opened, plain};
 use crate::verdict::told;
 use disk::Disk;
+use made::{FIRST_GATE, with_slots};
 use simdisk::SimDisk;
 use std::alloc::Global;
 use std::process::Abort;
 use units::Fault;
 
-// A file: the header and the first opening, these frames, and behind them so many zeros.
+// A file: the header, the slots and the first opening, these frames, and behind them so many zeros.
 struct Row {
     name: &'static str,
     frames: &'static [&'static [u8]],
@@ -16,7 +17,7 @@ struct Row {
 }
 
 const FRONT: &[u8] = &[
-    0x53, 0x50, 0x4e, 0x4c, 0x4f, 0x47, 0x30, 0x31, 0xa5, 0, 0, 0, 9, 1, 0, 0, 0, 0, 0, 0, 0, 1,
+    0x53, 0x50, 0x4e, 0x4c, 0x4f, 0x47, 0x30, 0x32, 0xa5, 0, 0, 0, 9, 1, 0, 0, 0, 0, 0, 0, 0, 1,
 ];
 
 // Commit 1.1 at 111, of shard 0, with z=1: a key of shard 1.
@@ -47,31 +48,41 @@ static ROWS: [Row; 9] = [
         name: "a record out of turn",
         frames: &[OPENED_3],
         zeros: 1,
-        fault: Fault::Damaged { offset: 22 },
+        fault: Fault::Damaged {
+            offset: FIRST_GATE + 14,
+        },
     },
     Row {
         name: "damage behind a strange key",
         frames: &[STRANGE, BROKEN],
         zeros: 0,
-        fault: Fault::Damaged { offset: 64 },
+        fault: Fault::Damaged {
+            offset: FIRST_GATE + 56,
+        },
     },
     Row {
         name: "damage behind a record out of turn",
         frames: &[OPENED_3, BROKEN],
         zeros: 0,
-        fault: Fault::Damaged { offset: 36 },
+        fault: Fault::Damaged {
+            offset: FIRST_GATE + 28,
+        },
     },
     Row {
         name: "no gate behind a strange key",
         frames: &[STRANGE],
         zeros: 0,
-        fault: Fault::Damaged { offset: 64 },
+        fault: Fault::Damaged {
+            offset: FIRST_GATE + 56,
+        },
     },
     Row {
         name: "a strange key behind a record out of turn",
         frames: &[OPENED_3, STRANGE],
         zeros: 1,
-        fault: Fault::Damaged { offset: 22 },
+        fault: Fault::Damaged {
+            offset: FIRST_GATE + 14,
+        },
     },
     Row {
         name: "a record out of turn behind a strange key",
@@ -83,20 +94,23 @@ static ROWS: [Row; 9] = [
         name: "a body of 2^20 bytes that is no record",
         frames: &[LONGEST],
         zeros: 1_048_577,
-        fault: Fault::Damaged { offset: 22 },
+        fault: Fault::Damaged {
+            offset: FIRST_GATE + 14,
+        },
     },
     Row {
         name: "a longer body",
         frames: &[TOO_LONG],
         zeros: 1_048_578,
-        fault: Fault::Damaged { offset: 22 },
+        fault: Fault::Damaged {
+            offset: FIRST_GATE + 14,
+        },
     },
 ];
 
 // The disk with the file of the row.
 fn written(rt: &impl Abort, alloc: Global, row: &Row) -> SimDisk {
-    let mut bytes = Vec::new(alloc);
-    bytes.extend_from_slice(FRONT).ok().expect(rt, "memory");
+    let mut bytes = with_slots(alloc, FRONT).ok().expect(rt, "memory");
     for frame in row.frames {
         bytes.extend_from_slice(*frame).ok().expect(rt, "memory");
     }

@@ -2,6 +2,7 @@
 use crate::answers::Told;
 use crate::given::Given;
 use crate::stories::{Exchange, Moment, Origin, Shows, Story};
+use made::FIRST_GATE;
 use units::{Fault, Seen};
 
 const SERVED: &[Exchange] = &[(150, 160, Given::Advance(150), Told::Says(&[]))];
@@ -76,7 +77,11 @@ pub static REOPENED: [Story; 5] = [
         // Two openings and a closed gate.
         moments: &[Moment {
             after: 1,
-            shows: &[Shows::Prepared(0, 0), Shows::Epoch(2), Shows::Size(37)],
+            shows: &[
+                Shows::Prepared(0, 0),
+                Shows::Epoch(2),
+                Shows::Size(FIRST_GATE + 29),
+            ],
         }],
     },
     Story {
@@ -163,7 +168,11 @@ pub static ARMED: [Story; 4] = [
         // Two openings, a commit of 42 bytes between them, and a closed gate.
         moments: &[Moment {
             after: 0,
-            shows: &[Shows::Decided(1, 111), Shows::Epoch(2), Shows::Size(79)],
+            shows: &[
+                Shows::Decided(1, 111),
+                Shows::Epoch(2),
+                Shows::Size(FIRST_GATE + 71),
+            ],
         }],
         ..HIDDEN
     },

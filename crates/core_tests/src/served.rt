@@ -2,6 +2,7 @@
 use crate::answers::Told;
 use crate::given::{Given, LAST};
 use crate::stories::{Exchange, Moment, Origin, Shows, Story};
+use made::FIRST_GATE;
 use units::{Fault, Seen};
 
 const COMMITTED: &[Exchange] = &[
@@ -25,7 +26,7 @@ pub static SERVING: [Story; 6] = [
         moments: &[
             Moment {
                 after: 1,
-                shows: &[Shows::Safe(0), Shows::Size(23)],
+                shows: &[Shows::Safe(0), Shows::Size(FIRST_GATE + 15)],
             },
             Moment {
                 after: 3,
@@ -34,8 +35,8 @@ pub static SERVING: [Story; 6] = [
                     Shows::Last(110),
                     Shows::Installs(0),
                     Shows::Epoch(1),
-                    Shows::Log(27, &[2, 0, 0, 0, 0, 0, 0, 0, 110]),
-                    Shows::Size(37),
+                    Shows::Log(FIRST_GATE + 19, &[2, 0, 0, 0, 0, 0, 0, 0, 110]),
+                    Shows::Size(FIRST_GATE + 29),
                 ],
             },
         ],
@@ -53,8 +54,8 @@ pub static SERVING: [Story; 6] = [
             after: 2,
             shows: &[
                 Shows::Last(160),
-                Shows::Log(27, &[2, 0, 0, 0, 0, 0, 0, 0, 200]),
-                Shows::Size(37),
+                Shows::Log(FIRST_GATE + 19, &[2, 0, 0, 0, 0, 0, 0, 0, 200]),
+                Shows::Size(FIRST_GATE + 29),
             ],
         }],
     },
@@ -71,7 +72,10 @@ pub static SERVING: [Story; 6] = [
         )],
         moments: &[Moment {
             after: 1,
-            shows: &[Shows::Log(27, &[2, 0x3f, 255, 255, 255, 255, 255, 255, 255])],
+            shows: &[Shows::Log(
+                FIRST_GATE + 19,
+                &[2, 0x3f, 255, 255, 255, 255, 255, 255, 255],
+            )],
         }],
     },
     Story {

@@ -4,7 +4,7 @@ use crate::cores::{Setting, formatted, opened, plain};
 use crate::given::{Given, input_of, reading};
 use crate::verdict::told;
 use disk::Disk;
-use made::stamp;
+use made::{stamp, with_slots};
 use shard::Core;
 use simdisk::{Choice, SimDisk};
 use std::alloc::Global;
@@ -49,9 +49,10 @@ pub enum Shows {
     // What a look at a key, at a timestamp, into so many bytes sees, and what stands in those and the next, four in all. They
     // were 9 before.
     Look(&'static [u8], u64, usize, Result<Seen, Fault>, [u8; 4]),
-    // The length of its log's file, and bytes from a place on.
+    // The length of its log's file, bytes of it from an offset on, and all of them, told without the slots.
     Size(u64),
-    Log(usize, &'static [u8]),
+    Log(u64, &'static [u8]),
+    File(&'static [u8]),
 }
 
 // Once so many of the exchanges were made.
@@ -112,7 +113,7 @@ fn is_shown(rt: &impl Abort, core: &Core<SimDisk>, fact: &Shows) -> bool {
             let look = core.look(&key, stamp(at), &mut buffer[..room.min(4)]);
             look == seen && buffer == bytes
         }
-        Shows::Size(_) | Shows::Log(_, _) => true,
+        Shows::Size(_) | Shows::Log(_, _) | Shows::File(_) => true,
     }
 }
 
@@ -136,13 +137,26 @@ pub fn play(rt: &impl Abort, alloc: Global, core: &mut Core<SimDisk>, part: &Par
     }
 }
 
-fn is_in(bytes: &[u8], fact: &Shows) -> bool {
+// These are the bytes of a file that is told without its slots.
+fn is_whole(alloc: Global, bytes: &[u8], told: &[u8]) -> bool {
+    match with_slots(alloc, told) {
+        Ok(whole) => {
+            let same = whole.as_slice() == bytes;
+            drop(whole);
+            same
+        }
+        Err(_) => false,
+    }
+}
+
+fn is_in(alloc: Global, bytes: &[u8], fact: &Shows) -> bool {
     match *fact {
         Shows::Size(size) => bytes.len() as u64 == size,
-        Shows::Log(place, wanted) => match bytes.get(place..) {
+        Shows::Log(offset, wanted) => match bytes.get(offset as usize..) {
             Some(rest) => rest.starts_with(wanted),
             None => false,
         },
+        Shows::File(told) => is_whole(alloc, bytes, told),
         _ => true,
     }
 }
@@ -156,7 +170,7 @@ fn compare_file(rt: &impl Abort, alloc: Global, disk: &mut SimDisk, part: &Part)
     for fact in part.shows {
         told(
             rt,
-            is_in(bytes.as_slice(), fact),
+            is_in(alloc, bytes.as_slice(), fact),
             part.name,
             part.exchanges.len() as u64,
         );

@@ -31,6 +31,12 @@ fn cores(rt: HostRuntime) {
 fn damaged_files(rt: HostRuntime) {
     damaged::cut_to_each_length(&rt, rt.alloc());
     damaged::with_one_byte_altered(&rt, rt.alloc());
+    damaged::with_slots_altered(&rt, rt.alloc());
+    damaged::another_byte(&rt, rt.alloc());
+}
+
+#[test]
+fn damaged_files_of_version_1(rt: HostRuntime) {
     damaged::ten_thousand(&rt, rt.alloc());
 }
 

@@ -3,6 +3,7 @@ use crate::awaiting::Awaiting;
 use crate::cores::{formatted, opened, plain, setup};
 use crate::verdict::told;
 use disk::Disk;
+use made::FIRST_GATE;
 use node::open_all;
 use shard::Core;
 use simdisk::SimDisk;
@@ -31,7 +32,7 @@ struct Row {
     disks: &'static [Given],
 }
 
-// A log of nothing takes nine bytes, and each opening 14: a gate, four bytes of length, a kind and a number of eight.
+// A log of nothing ends with its first gate, and each opening takes 14 bytes: a gate, four of length, a kind and a number of eight.
 static ROWS: [Row; 4] = [
     Row {
         name: "no disk",
@@ -45,14 +46,14 @@ static ROWS: [Row; 4] = [
                 before: Some(0),
                 waits: true,
                 gives: Ok(1),
-                size: 23,
+                size: FIRST_GATE + 15,
             },
             Given {
                 shard: 1,
                 before: Some(0),
                 waits: true,
                 gives: Ok(1),
-                size: 23,
+                size: FIRST_GATE + 15,
             },
         ],
     },
@@ -64,21 +65,21 @@ static ROWS: [Row; 4] = [
                 before: Some(2),
                 waits: false,
                 gives: Ok(3),
-                size: 51,
+                size: FIRST_GATE + 43,
             },
             Given {
                 shard: 0,
                 before: Some(0),
                 waits: false,
                 gives: Ok(1),
-                size: 23,
+                size: FIRST_GATE + 15,
             },
             Given {
                 shard: 1,
                 before: Some(1),
                 waits: false,
                 gives: Ok(2),
-                size: 37,
+                size: FIRST_GATE + 29,
             },
         ],
     },
@@ -90,7 +91,7 @@ static ROWS: [Row; 4] = [
                 before: Some(1),
                 waits: false,
                 gives: Ok(2),
-                size: 37,
+                size: FIRST_GATE + 29,
             },
             Given {
                 shard: 1,
@@ -104,7 +105,7 @@ static ROWS: [Row; 4] = [
                 before: Some(0),
                 waits: false,
                 gives: Ok(1),
-                size: 23,
+                size: FIRST_GATE + 15,
             },
         ],
     },

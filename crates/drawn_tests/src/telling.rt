@@ -120,11 +120,14 @@ fn put_parts(told: &mut Vec<Told>, txn: u64, parts: Parts) -> bool {
     true
 }
 
+// No step logs a record of a renewed log's head.
 fn put_record(told: &mut Vec<Told>, shard: usize, item: &Record) -> bool {
     let mut one = NOTHING;
     one.shard = shard;
     match item {
         Record::Opened { .. } | Record::Ceiling { .. } => return true,
+        Record::Base { .. } | Record::Version(_) => return false,
+        Record::Settled { .. } | Record::Closed { .. } => return false,
         Record::Commit(committed) => {
             one.kind = Kind::Commit;
             one.txn = number_of(committed.txn);
@@ -176,6 +179,8 @@ fn put_log(told: &mut Vec<Told>, shard: usize, log: &[Record]) -> bool {
             Record::Prepare(promise) => promise.at.micros() > horizon,
             Record::Commit(committed) => committed.at.micros() > horizon,
             Record::Ceiling { .. } | Record::Abort { .. } | Record::Outcome { .. } => true,
+            Record::Base { .. } | Record::Version(_) => false,
+            Record::Settled { .. } | Record::Closed { .. } => false,
         };
         if !rises || !put_record(told, shard, item) {
             return false;

@@ -3,6 +3,7 @@ use crate::folder::Folder;
 use cli::{Driven, Ended, Engine, Hints, NoVerdict, Put, Stream, System, answer, put_in_store};
 use drive::drive_shards;
 use host_files::HostFiles;
+use made::{ONE_COMMIT, in_version_1, with_slots};
 use settings::Settings;
 use simdisk::SimDisk;
 use std::alloc::Global;
@@ -263,6 +264,134 @@ static CLOSED: [Step; 5] = [
     },
 ];
 
+// What is printed of the log of one commit.
+const DUMPED: &str =
+    "9224 opened 1\n9238 commit 1.1 111 0 - a=1\n9280 outcome 1.1 committed 111\nclosed at 9311\n";
+
+// Logs of version 1, one of which is cut. What is refused makes nothing.
+static MIGRATIONS: [Step; 15] = [
+    Step {
+        command: "migrate",
+        names: &["old.log", "new.log"],
+        more: &[],
+        output: Output::Nothing,
+        fault: "",
+        status: 0,
+    },
+    Step {
+        command: "dump",
+        names: &["new.log"],
+        more: &[],
+        output: Output::Is(DUMPED),
+        fault: "",
+        status: 0,
+    },
+    Step {
+        command: "migrate",
+        names: &["old.log", "new.log"],
+        more: &[],
+        output: Output::Nothing,
+        fault: "fault: 2 Device\n",
+        status: 2,
+    },
+    Step {
+        command: "dump",
+        names: &["new.log"],
+        more: &[],
+        output: Output::Is(DUMPED),
+        fault: "",
+        status: 0,
+    },
+    Step {
+        command: "inspect",
+        names: &["no.lines", "new.log"],
+        more: &[],
+        output: Output::Yes,
+        fault: "",
+        status: 0,
+    },
+    Step {
+        command: "migrate",
+        names: &["old.log", "old.log"],
+        more: &[],
+        output: Output::Nothing,
+        fault: "fault: 2 Device\n",
+        status: 2,
+    },
+    Step {
+        command: "dump",
+        names: &["old.log"],
+        more: &[],
+        output: Output::Nothing,
+        fault: "fault: 12 NotALog\n",
+        status: 2,
+    },
+    Step {
+        command: "migrate",
+        names: &["new.log", "other.log"],
+        more: &[],
+        output: Output::Nothing,
+        fault: "fault: 12 NotALog\n",
+        status: 2,
+    },
+    Step {
+        command: "migrate",
+        names: &["no.lines", "other.log"],
+        more: &[],
+        output: Output::Nothing,
+        fault: "fault: 12 NotALog\n",
+        status: 2,
+    },
+    Step {
+        command: "migrate",
+        names: &["cut.log", "other.log"],
+        more: &[],
+        output: Output::Nothing,
+        fault: "fault: 11 Damaged at 95\n",
+        status: 2,
+    },
+    Step {
+        command: "migrate",
+        names: &["cut.log", "new.log"],
+        more: &[],
+        output: Output::Nothing,
+        fault: "fault: 11 Damaged at 95\n",
+        status: 2,
+    },
+    Step {
+        command: "migrate",
+        names: &["missing.log", "other.log"],
+        more: &[],
+        output: Output::Nothing,
+        fault: "fault: 2 Device\n",
+        status: 2,
+    },
+    Step {
+        command: "migrate",
+        names: &["folder", "other.log"],
+        more: &[],
+        output: Output::Nothing,
+        fault: "fault: 2 Device\n",
+        status: 2,
+    },
+    Step {
+        command: "migrate",
+        names: &["old.log", "missing/new.log"],
+        more: &[],
+        output: Output::Nothing,
+        fault: "fault: 2 Device\n",
+        status: 2,
+    },
+    Step {
+        command: "dump",
+        names: &["other.log"],
+        more: &[],
+        output: Output::Nothing,
+        fault: "fault: 2 Device\n",
+        status: 2,
+    },
+];
+
 // Settings of disks in memory.
 const IN_MEMORY: &str =
     "shards = 2\nsplits = [\"k0005\"]\nstride = 1000\nepsilon = 100\nworkers = 4\ntransactions = 50\nkeys = 10\n";
@@ -442,4 +571,35 @@ fn commands_over_files(rt: HostRuntime) {
     }
     let removed = folder.remove(&rt);
     assert!(rt; removed && wrong.is_none(), "{wrong:?}");
+}
+
+// It fails where a migration writes over a file that is there, or changes the old one.
+#[test]
+fn migrated_logs(rt: HostRuntime) {
+    let folder = furnished(&rt, &rt);
+    let old = in_version_1(ONE_COMMIT);
+    folder.put_bytes(&rt, &rt, "old.log", &old);
+    folder.put_bytes(&rt, &rt, "cut.log", &old[..95]);
+    let system = System {
+        files: HostFiles {
+            rt: &rt,
+            is_watched: false,
+        },
+        drive: Engine {
+            run: |alloc: Global, settings: &Settings| {
+                drive_shards(&rt, alloc, settings, Some(Vec::<u8>::new(alloc)))
+            },
+            put: |alloc: Global, write: Put<'_>| put_in_store(&rt, alloc, write),
+        },
+    };
+    let wrong = first_wrong(&rt, &rt, &system, &folder, &MIGRATIONS);
+    let stays = folder.has(&rt, &rt, "old.log", &old);
+    let whole = with_slots(rt.alloc(), &ONE_COMMIT)
+        .ok()
+        .expect(&rt, "memory");
+    let made = folder.has(&rt, &rt, "new.log", &whole);
+    drop(whole);
+    let removed = folder.remove(&rt);
+    assert!(rt; removed && wrong.is_none(), "{wrong:?}");
+    assert!(rt; stays && made, "the files");
 }

@@ -45,6 +45,25 @@ impl Folder {
         put.ok().expect(test, name);
     }
 
+    /// Puts a file of these bytes in it.
+    pub fn put_bytes(&self, rt: &HostRuntime, test: &impl Abort, name: &str, bytes: &[u8]) {
+        let path = self.path(rt, test, name);
+        let put = fs::write(rt, path.as_str(), bytes);
+        drop(path);
+        put.ok().expect(test, name);
+    }
+
+    /// Whether a file in it has these bytes.
+    pub fn has(&self, rt: &HostRuntime, test: &impl Abort, name: &str, bytes: &[u8]) -> bool {
+        let path = self.path(rt, test, name);
+        let found = fs::read(rt, path.as_str());
+        drop(path);
+        match found {
+            Ok(found) => found.as_slice() == bytes,
+            Err(_) => false,
+        }
+    }
+
     /// Takes all rights of a file. Whether it may not be read then: a process of root reads it nevertheless.
     pub fn close(&self, rt: &HostRuntime, test: &impl Abort, name: &str) -> bool {
         let path = self.path(rt, test, name);

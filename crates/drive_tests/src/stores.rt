@@ -2,6 +2,7 @@
 use crate::folder::Folder;
 use drive::drive_shards;
 use host_files::logs_in;
+use made::{FIRST_GATE, with_slots};
 use settings::Settings;
 use std::alloc::Global;
 use std::fs::{self, File, Metadata, OpenOptions};
@@ -15,22 +16,25 @@ use std::thread::Threads;
 use std::{io, time};
 use units::{Fault, Key, Reason, Splits};
 
-// An empty log.
-const EMPTY: &[u8] = b"SPNLOG01\0";
+// An empty log. Logs are told without their slots.
+const EMPTY: &[u8] = b"SPNLOG02\0";
 
 // Opened 1; Commit 1.1 at 111, parts 0, no reads, a=1; a closed gate.
 const OF_SHARD_0: &[u8] =
-    b"SPNLOG01\xa5\0\0\0\x09\x01\0\0\0\0\0\0\0\x01\xa5\0\0\0\x25\x04\0\0\0\0\0\0\0\x01\0\0\0\0\0\0\0\x01\
+    b"SPNLOG02\xa5\0\0\0\x09\x01\0\0\0\0\0\0\0\x01\xa5\0\0\0\x25\x04\0\0\0\0\0\0\0\x01\0\0\0\0\0\0\0\x01\
 \0\0\0\0\0\0\0\x6f\0\x01\0\0\0\x01\x01\x61\x01\0\x01\x31\0";
+
+// Opened 1, in version 1.
+const OLD: &[u8] = b"SPNLOG01\xa5\0\0\0\x09\x01\0\0\0\0\0\0\0\x01\0";
 
 // Opened 1; Commit 1.1 at 111, parts 0 and 2, no reads, a=1; a closed gate.
 const OF_THREE_SHARDS: &[u8] =
-    b"SPNLOG01\xa5\0\0\0\x09\x01\0\0\0\0\0\0\0\x01\xa5\0\0\0\x25\x04\0\0\0\0\0\0\0\x01\0\0\0\0\0\0\0\x01\
+    b"SPNLOG02\xa5\0\0\0\x09\x01\0\0\0\0\0\0\0\x01\xa5\0\0\0\x25\x04\0\0\0\0\0\0\0\x01\0\0\0\0\0\0\0\x01\
 \0\0\0\0\0\0\0\x6f\0\x05\0\0\0\x01\x01\x61\x01\0\x01\x31\0";
 
 // Opened 1; Commit 1.1 at 111, parts 0, no reads, z=1; a closed gate.
 const OF_OTHER_KEYS: &[u8] =
-    b"SPNLOG01\xa5\0\0\0\x09\x01\0\0\0\0\0\0\0\x01\xa5\0\0\0\x25\x04\0\0\0\0\0\0\0\x01\0\0\0\0\0\0\0\x01\
+    b"SPNLOG02\xa5\0\0\0\x09\x01\0\0\0\0\0\0\0\x01\xa5\0\0\0\x25\x04\0\0\0\0\0\0\0\x01\0\0\0\0\0\0\0\x01\
 \0\0\0\0\0\0\0\x6f\0\x01\0\0\0\x01\x01\x7a\x01\0\x01\x31\0";
 
 const MANIFEST: &[u8] = b"version = 1\nshards = 2\nsplits = [\"m\"]\nname = \"0123456789abcdef\"\n";
@@ -73,7 +77,7 @@ const TAKEN: Scene = Scene {
 
 const SETTINGS: Option<Fault> = Some(Fault::BadRequest(Reason::Settings));
 
-static SCENES: [Scene; 16] = [
+static SCENES: [Scene; 20] = [
     TAKEN,
     Scene {
         what: "a store",
@@ -175,7 +179,9 @@ static SCENES: [Scene; 16] = [
             ("shard-0.log", EMPTY),
             ("shard-1.log", OF_SHARD_0),
         ],
-        refused: Some(Fault::Damaged { offset: 22 }),
+        refused: Some(Fault::Damaged {
+            offset: FIRST_GATE + 14,
+        }),
         left: &[("shard-0.log", EMPTY), ("shard-1.log", OF_SHARD_0)],
         ..TAKEN
     },
@@ -192,6 +198,41 @@ static SCENES: [Scene; 16] = [
             ("shard-1.log.new", b"SPN"),
             ("store.toml.new", b"version"),
         ],
+        ..TAKEN
+    },
+    // An opening refuses it.
+    Scene {
+        what: "a store with a log of version 1",
+        files: &[
+            ("store.toml", MANIFEST),
+            ("shard-0.log", OLD),
+            ("shard-1.log", EMPTY),
+        ],
+        left: &[("shard-0.log", OLD), ("shard-1.log", EMPTY)],
+        ..TAKEN
+    },
+    Scene {
+        what: "a log of version 1 without a manifest",
+        files: &[("shard-0.log", OLD)],
+        refused: Some(Fault::NotALog),
+        left: &[("shard-0.log", OLD)],
+        gone: &["shard-1.log", "store.toml"],
+        ..TAKEN
+    },
+    Scene {
+        what: "a draft of version 1",
+        files: &[("shard-0.log.new", OLD)],
+        refused: Some(Fault::NotALog),
+        left: &[("shard-0.log.new", OLD)],
+        gone: &["shard-0.log", "store.toml"],
+        ..TAKEN
+    },
+    Scene {
+        what: "a draft that ends before its first gate",
+        files: &[("shard-0.log.new", b"SPNLOG02")],
+        refused: Some(Fault::Damaged { offset: FIRST_GATE }),
+        left: &[("shard-0.log.new", b"SPNLOG02")],
+        gone: &["shard-0.log", "store.toml"],
         ..TAKEN
     },
     Scene {
@@ -315,10 +356,9 @@ fn splits(test: &impl Abort, alloc: Global) -> Splits {
 // Puts the files of a scene into a folder.
 fn furnish(rt: &HostRuntime, test: &impl Abort, folder: &Folder, scene: &Scene) {
     for (name, bytes) in scene.files {
-        let path = folder.path(rt, test, name);
-        let put = fs::write(rt, path.as_str(), *bytes);
-        drop(path);
-        put.ok().expect(test, name);
+        let whole = with_slots(rt.alloc(), bytes).ok().expect(test, "memory");
+        folder.put_bytes(rt, test, name, &whole);
+        drop(whole);
     }
     if let Some(link) = scene.link {
         let path = folder.path(rt, test, link);
@@ -330,13 +370,10 @@ fn furnish(rt: &HostRuntime, test: &impl Abort, folder: &Folder, scene: &Scene) 
 
 // Whether a file has these bytes.
 fn has(rt: &HostRuntime, test: &impl Abort, folder: &Folder, named: &Named) -> bool {
-    let path = folder.path(rt, test, named.0);
-    let bytes = fs::read(rt, path.as_str());
-    drop(path);
-    match bytes {
-        Ok(bytes) => bytes.as_slice() == named.1,
-        Err(_) => false,
-    }
+    let whole = with_slots(rt.alloc(), named.1).ok().expect(test, "memory");
+    let same = folder.has(rt, test, named.0, &whole);
+    drop(whole);
+    same
 }
 
 // Whether nothing has a name.

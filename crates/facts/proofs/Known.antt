@@ -1,27 +1,34 @@
 -- What the facts alone tell of a log.
-use Rattle.std.proofs.Common.{refl, sym, ◌∙◌, ap}
-use Rattle.std.specs.Prelude.{ℕ, ◌+◌, ◌≡◌, Bool, true, false, not, cond, ◌&&◌, ◌||◌, nat_eq, nat_lt, List, [], ◌∷◌, ◌++◌, Option, Some, None, option_map}
+use Rattle.std.proofs.Common.{refl, sym, ◌∙◌, ap, arith}
+use Rattle.std.proofs.lemmas.Bool.Decides.{nat_tests}
+use Rattle.std.specs.Prelude.{ℕ, ◌+◌, ◌≡◌, Bool, true, false, not, cond, ◌&&◌, ◌||◌, nat_eq, nat_le, nat_lt, List, [], ◌∷◌, ◌++◌, Option, Some, None, option_map}
 use Rattle.std.proofs.lemmas.Bool.{and_parts, true≢false}
+use Rattle.std.specs.List.{list_all}
 use Rattle.std.proofs.lemmas.List.{append-nil}
 use Rattle.std.proofs.Math.Bool.{or-false, and-false}
 use Rattle.units.specs.Lists.{head, when}
 use Rattle.units.specs.Ids.{Id}
+use Rattle.units.specs.Versions.{of_key}
+use Rattle.units.specs.declared.writes.Install.{Install}
 use Rattle.units.proofs.Folds.{is_there}
-use Rattle.record.specs.Accepted.{begins, is_new, outcome_fits, follows, followed, followed_from}
+use Rattle.record.specs.Accepted.{begins, is_new, outcome_fits, follows, followed, followed_from, is_start, is_timed}
+use Rattle.record.specs.Installs.{installs_of}
 use Rattle.record.specs.Facts.{facts_of, learn, recorded}
 use Rattle.record.specs.Records.{Ended, Status, Unrecorded, StandsPrepared, StandsDecided, HasAborted, HasSettled, HasClosed, prepared_of}
 use Rattle.record.specs.Records.{committed_of, is_aborted, ended_of, epoch_of, status_by, status_of}
 use Rattle.record.specs.declared.record.Committed.{Committed}
 use Rattle.record.specs.declared.record.Prepared.{Prepared}
 use Rattle.record.specs.declared.record.Record.{Record}
-use Rattle.record.specs.declared.record.Record.TheVariants.{Opened, Ceiling, Prepare, Commit, Abort, Outcome, Horizon}
+use Rattle.record.specs.declared.record.Record.TheVariants.{Opened, Ceiling, Prepare, Commit, Abort, Outcome, Horizon, Base, Version, Settled, Closed}
 use Rattle.record.proofs.Sound.{made}
 use Rattle.record.proofs.LearnAgrees.{learns, followed_more}
 use Rattle.record.proofs.Statuses.{recorded_is}
-use Rattle.facts.specs.Laws.{FollowsAsKnown, LearntAsFollowed, SaysOfRecords, SaysOf, learnt_from}
+use Rattle.facts.specs.Laws.{FollowsAsKnown, LearntAsFollowed, SaysOfRecords, SaysOf, StageAgrees, learnt_from}
+use Rattle.facts.specs.Stages.{stage_of, stage_after, follows_head, follows_next, is_head, is_open, comes_behind}
 use Rattle.facts.specs.Readers.{standing_promise, standing_decision, has_abort, outcome_in}
 use Rattle.facts.specs.Rules.{is_unrecorded, allows, follows_facts}
-use Rattle.facts.proofs.Kept.{Kept, Settles, kept_empty, kept_more, kept_followed, append_one, begins_ceiling, begins_horizon, begins_prepare, begins_commit}
+use Rattle.facts.proofs.Heads.{behind_above}
+use Rattle.facts.proofs.Kept.{Kept, is_begun, stage_more, begins_none, Settles, kept_empty, kept_more, kept_followed, append_one, begins_ceiling, begins_horizon, begins_prepare, begins_commit}
 use Rattle.facts.proofs.Kept.{begins_abort, begins_outcome}
 
 -- ---- the rules of one id
@@ -79,42 +86,89 @@ begins_opened : (log : List Record) (epoch : ℕ) → begins log (Opened epoch) 
 begins_opened [] epoch = refl
 begins_opened (q ∷ qs) epoch = refl
 
-known_next : (shard : ℕ) (log : List Record) (r : Record) → Kept log → (begins log r && follows shard log r) ≡ follows_facts shard (facts_of log) r
-unfolding follows follows_facts facts_of
-known_next shard log (Opened epoch) k = ap (λ b. b && nat_eq epoch (epoch_of log + 1)) (begins_opened log epoch)
-known_next shard log (Ceiling at) k = two _ _ _ _ (begins_ceiling log at ∙ k.begun) refl
-known_next shard log (Horizon at) k = two _ _ _ _ (begins_horizon log at ∙ k.begun) refl
+start_known : (log : List Record) → Kept log → is_start log ≡ nat_eq (epoch_of log) 0
+start_known log k = not_begun log ∙ ap (λ b. not b) k.begun ∙ none_above (epoch_of log)
+  where
+    not_begun : (log : List Record) → is_start log ≡ not (is_begun log)
+    not_begun [] = refl
+    not_begun (q ∷ qs) = refl
+
+    none_above : (n : ℕ) → not (nat_lt 0 n) ≡ nat_eq n 0
+    none_above n = grind (arith, nat_tests)
+
+begins_base : (log : List Record) (e f n : ℕ) → begins log (Base e f n) ≡ true
+begins_base [] e f n = refl
+begins_base (q ∷ qs) e f n = refl
+
+-- what asks for a record before it needs no more than its own rule
+asks : (a b c : Bool) → (a && ((a && b) && c)) ≡ ((a && b) && c)
+asks true b c = refl
+asks false b c = refl
+
+asks_more : (a b c d e : Bool) → (a && ((((a && b) && c) && d) && e)) ≡ ((((a && b) && c) && d) && e)
+asks_more true b c d e = refl
+asks_more false b c d e = refl
+
+known_next : (shard : ℕ) (log : List Record) (r : Record) → Kept log →
+    (begins log r && follows shard log r) ≡ follows_next shard (stage_of log) (facts_of log) r
+unfolding follows follows_next follows_facts follows_head facts_of
+known_next shard log (Opened epoch) k = ap (λ b. b && nat_eq epoch (epoch_of log + 1)) (begins_opened log epoch) ∙ sym (or-false _)
+known_next shard log (Ceiling at) k = two _ _ _ _ (begins_ceiling log at ∙ k.begun) refl ∙ sym (or-false _)
+known_next shard log (Horizon at) k = two _ _ _ _ (begins_horizon log at ∙ k.begun) refl ∙ sym (or-false _)
 known_next shard log (Prepare p) k = two _ _ _ _ (begins_prepare log p ∙ k.begun)
-    (ap (λ b. nat_lt 0 p.at && b && nat_lt p.coordinator shard) (new_known log p.txn))
+    (ap (λ b. nat_lt 0 p.at && b && nat_lt p.coordinator shard) (new_known log p.txn)) ∙ sym (or-false _)
 known_next shard log (Commit c) k = two _ _ _ _ (begins_commit log c ∙ k.begun)
-    (ap (λ b. nat_lt 0 c.at && b && when (nat_eq shard) (head c.parts)) (new_known log c.txn))
-known_next shard log (Abort t) k = two _ _ _ _ (begins_abort log t ∙ k.begun) (new_known log t)
-known_next shard log (Outcome t o) k = two _ _ _ _ (begins_outcome log t o ∙ k.begun) (allowed_known log t o k)
+    (ap (λ b. nat_lt 0 c.at && b && when (nat_eq shard) (head c.parts)) (new_known log c.txn)) ∙ sym (or-false _)
+known_next shard log (Abort t) k = two _ _ _ _ (begins_abort log t ∙ k.begun) (new_known log t) ∙ sym (or-false _)
+known_next shard log (Outcome t o) k = two _ _ _ _ (begins_outcome log t o ∙ k.begun) (allowed_known log t o k) ∙ sym (or-false _)
+known_next shard log (Base e f n) k =
+    λ i. begins_base log e f n i && ((start_known log k i && nat_lt 0 e) && nat_le n f)
+known_next shard log (Version v) k =
+    two _ _ _ _ (begins_none log (Version v) refl ∙ k.begun) (k.at.next v)
+    ∙ asks (nat_lt 0 (epoch_of log)) (is_head (stage_of log)) (comes_behind (installs_of log) v)
+known_next shard log (Settled t at parts) k =
+    two _ _ _ _ (begins_none log (Settled t at parts) refl ∙ k.begun)
+    (λ i. ((k.at.early i && nat_lt 0 at) && new_known log t i) && when (nat_eq shard) (head parts))
+    ∙ asks_more (nat_lt 0 (epoch_of log)) (not (is_open (stage_of log))) (nat_lt 0 at) (is_unrecorded (recorded (facts_of log) t))
+    (when (nat_eq shard) (head parts))
+known_next shard log (Closed t coordinator o) k =
+    two _ _ _ _ (begins_none log (Closed t coordinator o) refl ∙ k.begun)
+    (λ i. ((k.at.early i && is_timed o) && new_known log t i) && nat_lt coordinator shard)
+    ∙ asks_more (nat_lt 0 (epoch_of log)) (not (is_open (stage_of log))) (is_timed o) (is_unrecorded (recorded (facts_of log) t))
+    (nat_lt coordinator shard)
 
 pub follows_as_known : FollowsAsKnown
 follows_as_known shard log r h =
     followed_more shard log r ∙ ap (λ b. b && (begins log r && follows shard log r)) h ∙ known_next shard log r (kept_followed shard log h)
 
+-- a version that may come is above those of its key
+pub version_above : (shard : ℕ) (log : List Record) (i : Install) → followed shard log ≡ true →
+    follows_next shard (stage_of log) (facts_of log) (Version i) ≡ true → list_all (λ j. nat_lt j.at i.at) (of_key (facts_of log).installs i.key) ≡ true
+unfolding follows_next follows_facts follows_head facts_of
+version_above shard log i h may =
+    let p = and_parts _ _ may in
+    behind_above (installs_of log) i ((kept_followed shard log h).at.rising ((and_parts _ _ p.0).1)) p.1
+
 -- ---- whole lists
 
 learnt_by : (shard : ℕ) (before log : List Record) → Kept before →
-    learnt_from shard (facts_of before) log ≡ cond (followed_from shard before log) (Some (facts_of (before ++ log))) None
+    learnt_from shard (stage_of before) (facts_of before) log ≡ cond (followed_from shard before log) (Some (facts_of (before ++ log))) None
 learnt_by shard before [] k = ap (λ l. Some (facts_of l)) (sym (append-nil before))
 learnt_by shard before (r ∷ rs) k = by_test (begins before r && follows shard before r) refl (learnt_by shard (before ++ r ∷ []) rs)
   where
     by_test : (b : Bool) → (begins before r && follows shard before r) ≡ b →
-        (Kept (before ++ r ∷ []) → learnt_from shard (facts_of (before ++ r ∷ [])) rs
+        (Kept (before ++ r ∷ []) → learnt_from shard (stage_of (before ++ r ∷ [])) (facts_of (before ++ r ∷ [])) rs
         ≡ cond (followed_from shard (before ++ r ∷ []) rs) (Some (facts_of ((before ++ r ∷ []) ++ rs))) None) →
-        learnt_from shard (facts_of before) (r ∷ rs) ≡ cond (followed_from shard before (r ∷ rs)) (Some (facts_of (before ++ r ∷ rs))) None
+        learnt_from shard (stage_of before) (facts_of before) (r ∷ rs) ≡ cond (followed_from shard before (r ∷ rs)) (Some (facts_of (before ++ r ∷ rs))) None
     by_test true e rest =
         let p : (begins before r ≡ true) × (follows shard before r ≡ true) = and_parts _ _ e in
-        ap (λ b. cond b (learnt_from shard (learn (facts_of before) r) rs) None) (sym (known_next shard before r k) ∙ e)
-        ∙ ap (λ f. learnt_from shard f rs) (sym (learns shard before r k.sound p.1))
+        ap (λ b. cond b (learnt_from shard (stage_after (stage_of before) r) (learn (facts_of before) r) rs) None) (sym (known_next shard before r k) ∙ e)
+        ∙ (λ i. learnt_from shard (sym (stage_more before r) i) (sym (learns shard before r k.sound p.1) i) rs)
         ∙ rest (kept_more shard before r k p.0 p.1)
         ∙ ap (λ l. cond (followed_from shard (before ++ r ∷ []) rs) (Some (facts_of l)) None) (append_one before r rs)
         ∙ ap (λ b. cond (b && followed_from shard (before ++ r ∷ []) rs) (Some (facts_of (before ++ r ∷ rs))) None) (sym e)
     by_test false e rest =
-        ap (λ b. cond b (learnt_from shard (learn (facts_of before) r) rs) None) (sym (known_next shard before r k) ∙ e)
+        ap (λ b. cond b (learnt_from shard (stage_after (stage_of before) r) (learn (facts_of before) r) rs) None) (sym (known_next shard before r k) ∙ e)
         ∙ ap (λ b. cond (b && followed_from shard (before ++ r ∷ []) rs) (Some (facts_of (before ++ r ∷ rs))) None) (sym e)
 
 pub learnt_as_followed : LearntAsFollowed
@@ -177,6 +231,9 @@ says log k t =
       abort = ap has_abort (recorded_is log t) ∙ abort_by a c p e;
       outcome = ap outcome_in (recorded_is log t) ∙ outcome_by a c p e (k.sound.apart t) (k.sound.closed t) (k.settles t);
     }
+
+pub stage_agrees : StageAgrees
+stage_agrees log r = stage_more log r
 
 pub says_of_records : SaysOfRecords
 says_of_records shard log h t = says log (kept_followed shard log h) t

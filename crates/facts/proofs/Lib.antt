@@ -1,3 +1,5 @@
 pub mod Entries
+pub mod Heads
 pub mod Kept
 pub mod Known
+pub mod Nexts

@@ -6,24 +6,30 @@ use Rattle.record.specs.Facts.{Facts, facts_of, learn, recorded}
 use Rattle.record.specs.Records.{prepared_of, committed_of, is_aborted, ended_of}
 use Rattle.record.specs.declared.record.Record.{Record}
 use Rattle.facts.specs.Readers.{standing_promise, standing_decision, has_abort, outcome_in}
-use Rattle.facts.specs.Rules.{follows_facts}
+use Rattle.facts.specs.Stages.{follows_next, stage_of, stage_after}
+use Rattle.facts.specs.declared.stage.Stage.{Stage}
 
--- whether one more record may come next is told from the facts alone
+-- whether one more record may come next is told from the facts, and from where in the log one is
 abbrev pub FollowsAsKnown : Type 0
 FollowsAsKnown =
     (shard : ℕ) (log : List Record) (r : Record) → IsTrue (followed shard log) →
-    followed shard (log ++ r ∷ []) ≡ follows_facts shard (facts_of log) r
+    followed shard (log ++ r ∷ []) ≡ follows_next shard (stage_of log) (facts_of log) r
+
+-- so is where one is behind it
+abbrev pub StageAgrees : Type 0
+StageAgrees = (log : List Record) (r : Record) → stage_of (log ++ r ∷ []) ≡ stage_after (stage_of log) r
 
 -- some records learnt one after another, where each may come next
-abbrev pub learnt_from : ℕ → Facts → List Record → Option Facts
-learnt_from shard facts [] = Some facts
-learnt_from shard facts (r ∷ rs) = cond (follows_facts shard facts r) (learnt_from shard (learn facts r) rs) None
+abbrev pub learnt_from : ℕ → Stage → Facts → List Record → Option Facts
+learnt_from shard stage facts [] = Some facts
+learnt_from shard stage facts (r ∷ rs) =
+    cond (follows_next shard stage facts r) (learnt_from shard (stage_after stage r) (learn facts r) rs) None
 
 -- a list is learnt to its end exactly where each record follows those before it, and what is known then is its facts
 abbrev pub LearntAsFollowed : Type 0
 LearntAsFollowed =
     (shard : ℕ) (log : List Record) →
-    learnt_from shard (facts_of []) log ≡ cond (followed shard log) (Some (facts_of log)) None
+    learnt_from shard (stage_of []) (facts_of []) log ≡ cond (followed shard log) (Some (facts_of log)) None
 
 -- what the facts still say of an id is what its records say: a promise and a decision until the outcome, the rest for good
 pub record SaysOf (log : List Record) (t : Id) : Type 0 where

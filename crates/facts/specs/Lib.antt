@@ -3,3 +3,4 @@ pub mod Laws
 pub mod Readers
 pub mod Rules
 pub mod Shown
+pub mod Stages

@@ -4,7 +4,7 @@ use Rattle.units.specs.Lists.{head, when}
 use Rattle.record.specs.Facts.{Facts, recorded}
 use Rattle.record.specs.Records.{Status, Unrecorded, StandsPrepared, StandsDecided}
 use Rattle.record.specs.declared.record.Record.{Record}
-use Rattle.record.specs.declared.record.Record.TheVariants.{Opened, Ceiling, Prepare, Commit, Abort, Outcome, Horizon}
+use Rattle.record.specs.declared.record.Record.TheVariants.{Opened, Ceiling, Prepare, Commit, Abort, Outcome, Horizon, Base, Version, Settled, Closed}
 
 -- there is no promise, decision or abort
 abbrev pub is_unrecorded : Status → Bool
@@ -18,7 +18,7 @@ allows (StandsPrepared p) None = true
 allows (StandsDecided c) (Some s) = nat_eq c.at s
 allows _ _ = false
 
--- the rules of one id
+-- the rules of one id; the kinds of a renewed log's head have their own
 abbrev pub id_follows : ℕ → Facts → Record → Bool
 id_follows shard facts (Opened epoch) = true
 id_follows shard facts (Ceiling at) = true
@@ -27,6 +27,10 @@ id_follows shard facts (Prepare p) = nat_lt 0 p.at && is_unrecorded (recorded fa
 id_follows shard facts (Commit c) = nat_lt 0 c.at && is_unrecorded (recorded facts c.txn) && when (nat_eq shard) (head c.parts)
 id_follows shard facts (Abort t) = is_unrecorded (recorded facts t)
 id_follows shard facts (Outcome t outcome) = allows (recorded facts t) outcome
+id_follows shard facts (Base epoch floor horizon) = false
+id_follows shard facts (Version install) = false
+id_follows shard facts (Settled t at parts) = false
+id_follows shard facts (Closed t coordinator outcome) = false
 
 -- the rules of the openings, the first of which comes before all else, and of one id
 unfoldable pub follows_facts : ℕ → Facts → Record → Bool
@@ -37,3 +41,7 @@ follows_facts shard facts (Prepare p) = nat_lt 0 facts.epoch && id_follows shard
 follows_facts shard facts (Commit c) = nat_lt 0 facts.epoch && id_follows shard facts (Commit c)
 follows_facts shard facts (Abort t) = nat_lt 0 facts.epoch && id_follows shard facts (Abort t)
 follows_facts shard facts (Outcome t outcome) = nat_lt 0 facts.epoch && id_follows shard facts (Outcome t outcome)
+follows_facts shard facts (Base epoch floor horizon) = false
+follows_facts shard facts (Version install) = false
+follows_facts shard facts (Settled t at parts) = false
+follows_facts shard facts (Closed t coordinator outcome) = false

@@ -1,14 +1,16 @@
 //! The facts of a log, learnt record by record.
-ghost use Rattle.std.specs.Prelude.{◌≡◌, ◌<◌, ◌≤◌, [], IsTrue, IsFalse, IsOk, IfErr, OnOk, OnErr, Err, ◌^◌};
+ghost use Rattle.std.specs.Prelude.{◌≡◌, ◌<◌, ◌≤◌, [], IsTrue, IsFalse, IsOk, IfErr, OnOk, OnErr, Err, ◌^◌, ◌&&◌, not, nat_lt};
 ghost use Rattle.std.specs.Option.{option_copied};
 ghost use Rattle.units.specs.declared.fault.Fault.TheVariants.{Memory, Damaged};
+ghost use Rattle.record.specs.Accepted.{is_timed};
 ghost use Rattle.record.specs.Facts.{facts_of, learn, recorded, after_outcome};
 ghost use Rattle.facts.specs.Readers.{standing_promise, standing_decision, has_abort, outcome_in};
 ghost use Rattle.facts.specs.Rules.{follows_facts, is_unrecorded, allows};
 ghost use Rattle.facts.specs.Shown.{meaning, meant};
+ghost use Rattle.facts.specs.Stages.{comes_behind, follows_head, follows_next, is_open, stage_after, stage_of};
 
-use crate::Status;
 use crate::table::{install, put, set};
+use crate::{Stage, Status};
 use indexmap::IndexMap;
 use record::{Committed, Prepared, Record};
 use std::alloc::Global;
@@ -16,7 +18,7 @@ use std::marker::Model;
 use units::{Fault, Install, ShardNo, Stamp, TxnId};
 
 /// What a shard's log determines: the epoch, the greatest timestamp, how each transaction stands, the versions in the
-/// log's order, and the horizon. It learns the records one by one, in the order of the log. A look-up goes by the id's hash.
+/// log's order, and the horizon; and where in the log one is. It learns the records one by one, in the order of the log. A look-up goes by the id's hash.
 pub struct Facts {
     shard: ShardNo,
     epoch: u64,
@@ -25,6 +27,7 @@ pub struct Facts {
     statuses: IndexMap<TxnId, Status>,
     installs: Vec<Install>,
     horizon: Stamp,
+    stage: Stage,
 }
 
 impl Drop for Facts {
@@ -36,6 +39,7 @@ impl Drop for Facts {
             statuses: _,
             installs: _,
             horizon: _,
+            stage: _,
         } = self;
     }
 }
@@ -53,6 +57,7 @@ impl Model for Facts {
       shard = f.shard;
       facts = facts_with f.epoch f.floor
           (shown_entries (by_id f.statuses.entries)) f.installs.items f.horizon;
+      stage = f.stage;
       room = room_for (spare f.statuses) (vec_capacity f.installs - vec_len f.installs);
     } };
 
@@ -64,6 +69,7 @@ impl Facts {
     pub fn new(alloc: Global, shard: ShardNo) -> Facts
         ensures shard { result.shard ≡ shard }
         ensures facts { result.facts ≡ facts_of [] }
+        ensures stage { result.stage ≡ stage_of [] }
     {
         Facts {
             shard,
@@ -72,13 +78,15 @@ impl Facts {
             statuses: IndexMap::new(alloc),
             installs: Vec::new(alloc),
             horizon: Stamp::zero(),
+            stage: Stage::Head,
         }
     }
 
     /// Takes the memory in which one more record is learnt.
     pub fn reserve(&mut self) -> Result<(), Fault>
         ensures room { OnOk result (1 ≤ self.new.room) }
-        ensures same { (self.new.facts ≡ self.old.facts) × (self.new.shard ≡ self.old.shard) }
+        ensures same { (self.new.facts ≡ self.old.facts) × (self.new.shard ≡ self.old.shard)
+            × (self.new.stage ≡ self.old.stage) }
         ensures keeps { self.old.room ≤ self.new.room }
         ensures succeeds { 1 ≤ self.old.room → IsOk result }
         ensures memory { IfErr result (λ fault. fault ≡ Memory) }
@@ -159,7 +167,23 @@ impl Facts {
         self.installs.as_slice()
     }
 
-    /// The record may come next in the log, by the rules of one transaction and of openings.
+    /// Where in the log one is.
+    pub fn stage(&self) -> Stage
+        ensures { result ≡ self.now.stage }
+    {
+        self.stage
+    }
+
+    /// The record may come next in the log.
+    #[tactic(auto, unfolding(crate::specs::Stages::follows_next))]
+    pub fn may_come(&self, item: &Record) -> bool
+        ensures { result ≡
+            follows_next self.now.shard self.now.stage self.now.facts item.now }
+    {
+        self.follows(item) || self.follows_head(item)
+    }
+
+    /// The record is of a kind that steps log, and may come next in the log, by the rules of one transaction and of openings.
     #[tactic(auto, unfolding(crate::specs::Rules::follows_facts))]
     pub fn follows(&self, item: &Record) -> bool
         ensures { result ≡ follows_facts self.now.shard self.now.facts item.now }
@@ -182,6 +206,62 @@ impl Facts {
             Record::Abort { txn } => self.epoch > 0 && self.is_new(*txn),
             Record::Outcome { txn, outcome } => { self.epoch > 0 && self.allows(*txn, *outcome) }
             Record::Horizon { at } => { self.epoch > 0 && self.horizon < *at && *at <= self.floor }
+            Record::Base { .. } | Record::Version(_) => false,
+            Record::Settled { .. } | Record::Closed { .. } => false,
+        }
+    }
+
+    /// The record is of a kind of a renewed log's head, and may come next in the log.
+    #[tactic(auto, unfolding(crate::specs::Stages::follows_head))]
+    pub fn follows_head(&self, item: &Record) -> bool
+        ensures { result ≡
+            follows_head self.now.shard self.now.stage self.now.facts item.now }
+    {
+        match item {
+            Record::Opened { .. } | Record::Ceiling { .. } | Record::Horizon { .. } => false,
+            Record::Prepare(_) | Record::Commit(_) => false,
+            Record::Abort { .. } | Record::Outcome { .. } => false,
+            Record::Base {
+                epoch,
+                floor,
+                horizon,
+            } => self.epoch == 0 && epoch.number() > 0 && *horizon <= *floor,
+            Record::Version(install) => {
+                self.epoch > 0 && self.stage.is_head() && self.comes_behind(install)
+            }
+            Record::Settled { txn, at, parts } => {
+                self.is_early()
+                    && Stamp::zero() < *at
+                    && self.is_new(*txn)
+                    && parts.least() == self.shard
+            }
+            Record::Closed {
+                txn,
+                coordinator,
+                outcome,
+            } => {
+                self.is_early()
+                    && is_timed(*outcome)
+                    && self.is_new(*txn)
+                    && *coordinator < self.shard
+            }
+        }
+    }
+
+    // A record came, and no opening.
+    fn is_early(&self) -> bool
+        ensures { result ≡ (nat_lt 0 self.now.facts.epoch && not (is_open self.now.stage)) }
+    {
+        self.epoch > 0 && !self.stage.is_open()
+    }
+
+    // The last version, where there is one, comes before one more.
+    fn comes_behind(&self, install: &Install) -> bool
+        ensures { result ≡ comes_behind self.now.facts.installs install.now }
+    {
+        match self.installs.as_slice().last() {
+            Some(last) => last.is_before(install),
+            None => true,
         }
     }
 
@@ -207,14 +287,16 @@ impl Facts {
     pub fn learn(&mut self, offset: u64, item: Record) -> Result<(), (Fault, Record)>
         requires room { 1 ≤ self.old.room }
         ensures learnt { OnOk result (self.new.facts ≡ learn self.old.facts item) }
-        ensures follows { OnOk result (IsTrue (follows_facts self.old.shard self.old.facts item)) }
+        ensures follows { OnOk result
+            (IsTrue (follows_next self.old.shard self.old.stage self.old.facts item)) }
         ensures shard { self.new.shard ≡ self.old.shard }
+        ensures stage { OnOk result (self.new.stage ≡ stage_after self.old.stage item) }
         ensures damaged { IfErr result (λ refused. refused ≡ (Damaged offset, item)) }
         ensures same { OnErr result (self.new ≡ self.old) }
         ensures strange { OnErr result
-            (IsFalse (follows_facts self.old.shard self.old.facts item)) }
+            (IsFalse (follows_next self.old.shard self.old.stage self.old.facts item)) }
     {
-        if !self.follows(&item) {
+        if !self.may_come(&item) {
             return Err((Fault::Damaged { offset }, item));
         }
         self.learn_next(item);
@@ -222,10 +304,25 @@ impl Facts {
     }
 
     /// Learns a record that may come next in the log. It takes no memory.
-    #[tactic(auto, unfolding(record::specs::Facts::learn, crate::specs::Rules::follows_facts))]
     pub fn learn_next(&mut self, item: Record)
         requires room { 1 ≤ self.old.room }
-        requires follows { IsTrue (follows_facts self.old.shard self.old.facts item) }
+        requires follows { IsTrue
+            (follows_next self.old.shard self.old.stage self.old.facts item) }
+        ensures facts { self.new.facts ≡ learn self.old.facts item }
+        ensures shard { self.new.shard ≡ self.old.shard }
+        ensures stage { self.new.stage ≡ stage_after self.old.stage item }
+    {
+        let stage = stage_after(self.stage, &item);
+        self.note(item);
+        self.stage = stage;
+    }
+
+    // Notes what a record says. The stage stays.
+    #[tactic(auto, unfolding(record::specs::Facts::learn, crate::specs::Rules::follows_facts))]
+    fn note(&mut self, item: Record)
+        requires room { 1 ≤ self.old.room }
+        requires follows { IsTrue
+            (follows_next self.old.shard self.old.stage self.old.facts item) }
         ensures facts { self.new.facts ≡ learn self.old.facts item }
         ensures shard { self.new.shard ≡ self.old.shard }
     {
@@ -243,6 +340,37 @@ impl Facts {
             Record::Abort { txn } => set(&mut self.statuses, txn, Status::Aborted),
             Record::Outcome { txn, outcome } => self.end(txn, outcome),
             Record::Horizon { at } => self.horizon = self.horizon.later(at),
+            Record::Base {
+                epoch,
+                floor,
+                horizon,
+            } => {
+                self.epoch = epoch.number();
+                self.floor = self.floor.later(floor);
+                self.horizon = self.horizon.later(horizon);
+            }
+            Record::Version(install) => {
+                self.floor = self.floor.later(install.at);
+                self.installs.push_reserved(install);
+            }
+            Record::Settled { txn, at, parts } => {
+                self.floor = self.floor.later(at);
+                set(&mut self.statuses, txn, Status::Settled { at, parts });
+            }
+            Record::Closed {
+                txn,
+                coordinator,
+                outcome,
+            } => {
+                if let Some(at) = &outcome {
+                    self.floor = self.floor.later(*at);
+                }
+                let closed = Status::Closed {
+                    coordinator,
+                    outcome,
+                };
+                set(&mut self.statuses, txn, closed);
+            }
         }
     }
 
@@ -272,5 +400,29 @@ impl Facts {
             self.floor = self.floor.later(*at);
             install(&mut self.installs, former, *at);
         }
+    }
+}
+
+// The timestamp of an outcome, where there is one, is not 0.
+fn is_timed(outcome: Option<Stamp>) -> bool
+    ensures { result ≡ is_timed outcome }
+{
+    match outcome {
+        Some(at) => Stamp::zero() < at,
+        None => true,
+    }
+}
+
+// Where one is behind one more record.
+fn stage_after(stage: Stage, item: &Record) -> Stage
+    ensures { result ≡ stage_after stage item.now }
+{
+    match item {
+        Record::Opened { .. } => Stage::Open,
+        Record::Ceiling { .. } | Record::Horizon { .. } => stage.past_head(),
+        Record::Prepare(_) | Record::Commit(_) => stage.past_head(),
+        Record::Abort { .. } | Record::Outcome { .. } => stage.past_head(),
+        Record::Base { .. } | Record::Version(_) => stage,
+        Record::Settled { .. } | Record::Closed { .. } => stage.past_head(),
     }
 }

@@ -5,8 +5,10 @@
 mod entry;
 mod facts;
 mod laws;
+mod stage;
 mod table;
 
 pub use entry::Status;
 pub use facts::Facts;
-pub use laws::{follows_as_known, learnt_as_followed, says_of_records};
+pub use laws::{follows_as_known, learnt_as_followed, says_of_records, stage_agrees};
+pub use stage::Stage;

@@ -4,7 +4,7 @@ use Rattle.std.proofs.Common.{get_or, Result, Ok, Err, refl, sym, subst, ap, ◌
 use Rattle.std.specs.Prelude.{IsTrue, IfErr, OnOk, IsErr, nat_le, nat_lt}
 use Rattle.std.proofs.lemmas.Bool.{cases_eq, eq-eqb, ne_eqb, false≢true, le-leb, lt-leb, le-ltb}
 use Rattle.record.specs.declared.record.Record.{Record}
-use Rattle.spelling.specs.Grammar.{IsRecord}
+use Rattle.spelling.specs.Limits.{IsRecord}
 use Rattle.disk.specs.declared.plan.FailurePlan.{FailurePlan}
 use Rattle.disk.specs.declared.plan.FailurePlan.TheVariants.{Never, After, AfterWrite}
 use Rattle.disk.specs.declared.plan.Fate.{Fate}
@@ -19,7 +19,7 @@ use Rattle.gatelog.specs.Frames.{staged_bytes}
 use Rattle.gatelog.specs.Gates.{open_gate, is_read, opens_gate}
 use Rattle.gatelog.specs.Log.{log, scan, ends_at, and_entry}
 use Rattle.gatelog.specs.Armed.{fails_in_two, after_two, two_made, fails_in_append, appended, waits, with_if, IsArmed}
-use Rattle.gatelog.proofs.Scan.{gate_within}
+use Rattle.gatelog.proofs.Goes.{gate_within}
 use Rattle.gatelog.proofs.Images.{ends_found, staged_long, log-staged, log-shut, log-opened, log-staging}
 
 pub planned_ok : (E : Type 0) {T : Type 0} (failed : Bool) (value : T) → IsAsPlanned {T = T} {E = E} failed (Ok value) → failed ≡ false
@@ -40,9 +40,18 @@ pub on_any : {T E : Type 0} (result : Result T E) (P : Type 0) → P → OnOk re
 on_any (Ok value) P holds = holds
 on_any (Err error) P holds = tt
 
+-- what holds of the fault that it was refused for
+pub if_err : {T E : Type 0} (P : E → Type 0) (result : Result T E) (error : E) → result ≡ Err error → P error → IfErr result P
+if_err P result error is holds = subst (λ r. IfErr r P) (sym is) holds
+
 pub as_err : {T E : Type 0} (result : Result T E) (failed : Bool) → failed ≡ true → IsErr result → IsAsPlanned failed result
 as_err result true is err = err
 as_err result false is err = absurd (false≢true is)
+
+-- what holds after Ok leads to what follows from it
+pub on_map : {T E : Type 0} {A B : Type 0} (result : Result T E) → (A → B) → OnOk result A → OnOk result B
+on_map (Ok value) f a = f a
+on_map (Err error) f a = tt
 
 pub on_ok : {T E : Type 0} {A : Type 0} (result : Result T E) → A → OnOk result A
 on_ok (Ok value) a = a

@@ -21,3 +21,13 @@ elapses_on file clock since failures old mid new first second same = record {
         → since old moment image ⊎ MayLeave (surface (file new)) image
     by_second moment image le (inl was) = by_first moment image (first.nothing_else moment image le was)
     by_second moment image le (inr may) = inr may
+
+-- no time passes where nothing is done
+pub elapses_none : {D : Type 0} (file : D → File) (clock : D → ℕ) (since : D → ℕ → List ℕ → Type 0) (failures : D → ℕ) (disk : D)
+    → Elapses file clock since failures disk disk
+elapses_none file clock since failures disk = record {
+  later = omega arith;
+  nothing_else = λ moment image le was. inl was;
+  stays = λ moment image le was. was;
+  failures_stay = omega arith;
+}

@@ -5,57 +5,30 @@ use Rattle.std.specs.Prelude.{IsTrue}
 use Rattle.std.specs.Int.{w32, to_be_bytes}
 use Rattle.std.proofs.lemmas.Bool.{cases_eq, eqb-true, eq-eqb, false≢true}
 use Rattle.std.proofs.lemmas.List.{take_at, drop_at, length-append, length-take-le, length-drop, take-take, take-append-le, take-append-drop}
-use Rattle.std.proofs.lemmas.List.{get_or-take, get_or-drop, ext_get_or, drop_more, append-nil, get_or_append_left}
+use Rattle.std.proofs.lemmas.List.{get_or-take, get_or-drop, drop_more, append-nil, get_or_append_left}
 use Rattle.std.proofs.Math.Seq.{get_or-append_seam}
 use Rattle.record.specs.declared.record.Record.{Record}
-use Rattle.spelling.specs.Grammar.{spelling, IsRecord}
+use Rattle.spelling.specs.Grammar.{spelling}
+use Rattle.spelling.specs.Limits.{IsRecord}
 use Rattle.spelling.proofs.Again.{wide32, spelling-least, spelling-most}
 use Rattle.disk.specs.Image.{Surface, MayLeave, IsUntouched, IsSynced, with_bytes, tried_write, after_write, after_sync}
 use Rattle.disk.specs.Moments.{LeavesOnly}
-use Rattle.disk.proofs.Runs.{and_then, weaker}
+use Rattle.disk.proofs.Runs.{and_then, weaker, get_or-with_bytes}
 use Rattle.gatelog.specs.Placed.{Placed}
 use Rattle.gatelog.specs.Frames.{behind_gate, staged_bytes, next_gate}
 use Rattle.gatelog.specs.Gates.{open_gate}
 use Rattle.gatelog.specs.Log.{framed, with_entry, entries_at, scan, entries_of, log, ends_with, ends_at, and_entry}
 use Rattle.gatelog.specs.Crash.{IsOldOrWith}
-use Rattle.gatelog.proofs.Scan.{Found, with_entries, is_open, is_closed, at_gate, open_step, closed_step, frame_from, frame_again, later, skips}
-use Rattle.gatelog.proofs.Scan.{gate_within, scan_goes_on}
-
--- ---- lists that agree in a range
-
-pub take_agrees : (xs ys : List ℕ) (n : ℕ) → n ≤ length xs → n ≤ length ys → ((i : ℕ) → i < n → get_or xs i 0 ≡ get_or ys i 0) → take n xs ≡ take n ys
-take_agrees xs ys n long_xs long_ys same =
-    let size_xs = length-take-le n xs long_xs in
-    let size_ys = length-take-le n ys long_ys in
-    ext_get_or 0 (take n xs) (take n ys) (size_xs ∙ sym size_ys) (λ i lt.
-    let below : i < n = omega (arith, lt, size_xs) in
-    get_or-take n xs i 0 below ∙ same i below ∙ sym (get_or-take n ys i 0 below))
+use Rattle.gatelog.specs.Slots.{begins_in}
+use Rattle.gatelog.proofs.Scan.{Found, with_entries, open_step, closed_step, frame_from, frame_again, skips}
+use Rattle.gatelog.proofs.Bytes.{take_agrees}
+use Rattle.gatelog.proofs.Goes.{gate_within, gate_closed, scan_goes_on, begins-stays}
 
 -- ---- the gate
 
 pub ends_found : (found : Found) (gate : ℕ) → IsTrue (ends_with found gate) → (es : List Placed) × (found ≡ Ok (es, gate))
 ends_found (Ok found) gate h = (found.0, ap (λ (n : ℕ). Ok (found.0, n)) (eqb-true found.1 gate h))
 ends_found (Err fault) gate h = absurd (false≢true h)
-
-from_entries : (es : List Placed) (found : Found) (fs : List Placed) (gate : ℕ) → with_entries es found ≡ Ok (fs, gate) → (gs : List Placed)
-    × (found ≡ Ok (gs, gate))
-from_entries es (Ok found) fs gate h =
-    let both : ◌≡◌ {A = List Placed × ℕ} (es ++ found.0, found.1) (fs, gate) = cc in
-    (found.0, ap (λ (n : ℕ). Ok (found.0, n)) (ap (λ (p : List Placed × ℕ). p.1) both))
-from_entries es (Err fault) fs gate h = absurd cc
-
-pub gate_closed : (image : List ℕ) (es : List Placed) (gate : ℕ) → scan image ≡ Ok (es, gate) → get_or image gate 0 ≢ open_gate
-gate_closed image es gate h opened =
-    let lies = gate_within image es gate h in
-    let at_end : drop gate image ≡ get_or image gate 0 ∷ drop (gate + 1) image = drop_more image gate 0 lies.1 in
-    let whole = sym (scan_goes_on image image es gate h refl (omega (arith, lies.1))) ∙ h in
-    let rest = from_entries es (entries_at gate 0 (drop gate image)) es gate whole in
-    let there : entries_at gate 0 (get_or image gate 0 ∷ drop (gate + 1) image) ≡ Ok (rest.0, gate) =
-    ap (λ (l : List ℕ). entries_at gate 0 l) (sym at_end) ∙ rest.1 in
-    elim (at_gate gate (get_or image gate 0) (drop (gate + 1) image) rest.0 gate there) [
-      | is_open item count more is_it frame behind split ↦ absurd (omega (arith, (later (drop (gate + 1) image) (gate + 1) count more gate behind).0))
-      | is_closed shut none here ↦ shut opened
-    ]
 
 module _ (image other : List ℕ) (es : List Placed) (gate : ℕ) (h : scan image ≡ Ok (es, gate)) (front : take gate other ≡ take gate image) where
   -- with the gate closed it has the same log
@@ -67,7 +40,7 @@ module _ (image other : List ℕ) (es : List Placed) (gate : ℕ) (h : scan imag
       ∙ ap (λ (l : List Placed). Ok (l, gate)) (append-nil es)
 
   -- with the gate open before a staged record it has that too
-  pub is_opened : (item : Record) (rest : List ℕ) → IsRecord item → drop gate other ≡ open_gate ∷ (staged_bytes item ++ rest) → gate ≤ length other
+  pub is_opened : (item : Record) (rest : List ℕ) → IsRecord item → drop gate other ≡ open_gate ∷ (staged_bytes item ++ rest) → gate < length other
       → scan other ≡ Ok (es ++ (record { offset = gate; item = item }) ∷ [], next_gate gate item)
   is_opened item rest fits behind long =
       let entry : Placed = record { offset = gate; item = item } in
@@ -129,6 +102,13 @@ module _ (file : Surface) (gate : ℕ) (item : Record) (synced : IsSynced file) 
       (sym (same gate (omega arith)) ∙ e) in
       same_log image (stays_closed file.seen image found.0 gate found.1 front long shut)
 
+  -- and the log begins where it began
+  pub begins-staging : (image : List ℕ) → MayLeave (tried_write (gate + 1) (length bytes) file) image → begins_in image ≡ begins_in file.seen
+  begins-staging image may =
+      begins-stays file.seen image found.0 gate found.1 (λ i lt. may.untouched i
+      (omega (arith, lt, within.1, synced.whole)) (inl (omega (arith, lt)), subst (λ ranges. IsUntouched i ranges) (sym synced.none) tt))
+      (omega (arith, within.1, may.no_shorter, synced.whole))
+
   pub while_staging : (image : List ℕ) → MayLeave (tried_write (gate + 1) (length bytes) file) image → IsOldOrWith (log file.seen) entry image
   while_staging image may = inl (log-staging image may)
 
@@ -185,6 +165,14 @@ module _ (file : Surface) (gate : ℕ) (item : Record) (synced : IsSynced file) 
       ∙ sym (get_or-drop (gate + 1) staged i 0)) in
       gate_any image front (behind ∙ ap (λ (l : List ℕ). take (length bytes) l) staged_behind ∙ take_at bytes tail (length bytes) refl)
       (omega (arith, long, staged_long))
+
+  pub begins-opening : (image : List ℕ) → MayLeave (tried_write gate 1 (after_sync (after_write (gate + 1) bytes file))) image →
+      begins_in image ≡ begins_in file.seen
+  begins-opening image may =
+      begins-stays file.seen image found.0 gate found.1 (λ i lt.
+      may.untouched i (omega (arith, lt, staged_long)) (inl lt, tt)
+      ∙ get_or-with_bytes (gate + 1) bytes file.seen i (omega (arith, within.1)) (inl (omega (arith, lt))))
+      (omega (arith, may.no_shorter, staged_long))
 
   -- the file with the gate open
   abbrev opened : List ℕ
@@ -262,6 +250,26 @@ module _ {D : Type 0} (surface : D → Surface) (clock : D → ℕ) (since : D �
       ∙ ap (λ (l : List ℕ). after_sync (after_write (gate + 1) l (surface old))) bytes-is in
       and_then clock since old mid new Kept (MayLeave (tried_write gate 1 (surface mid))) Kept (first_run mid run) again (λ image kept. kept)
       (λ image may. while_opening (surface old) gate item synced whole fits image
+      (subst (λ (f : Surface). MayLeave (tried_write gate 1 f) image) staged-is may))
+
+  abbrev Begun : List ℕ → Type 0
+  Begun image = begins_in image ≡ begins_in (surface old).seen
+
+  pub first_begins : (mid : D) → LeavesOnly clock since old mid (MayLeave (tried_write (gate + 1) (length bytes) (surface old))) →
+      LeavesOnly clock since old mid Begun
+  first_begins mid run =
+      weaker clock since old mid (MayLeave (tried_write (gate + 1) (length bytes) (surface old))) Begun run
+      (λ image may. begins-staging (surface old) gate item synced whole fits image
+      (subst (λ (l : List ℕ). MayLeave (tried_write (gate + 1) (length l) (surface old)) image) bytes-is may))
+
+  pub both_begin : (mid new : D) → LeavesOnly clock since old mid (MayLeave (tried_write (gate + 1) (length bytes) (surface old))) →
+      surface mid ≡ after_sync (after_write (gate + 1) bytes (surface old))
+      → LeavesOnly clock since mid new (MayLeave (tried_write gate 1 (surface mid))) → LeavesOnly clock since old new Begun
+  both_begin mid new run mid-is again =
+      let staged-is : surface mid ≡ after_sync (after_write (gate + 1) (staged_bytes item) (surface old)) = mid-is
+      ∙ ap (λ (l : List ℕ). after_sync (after_write (gate + 1) l (surface old))) bytes-is in
+      and_then clock since old mid new Begun (MayLeave (tried_write gate 1 (surface mid))) Begun (first_begins mid run) again (λ image kept. kept)
+      (λ image may. begins-opening (surface old) gate item synced whole fits image
       (subst (λ (f : Surface). MayLeave (tried_write gate 1 f) image) staged-is may))
 
   pub end_is : (mid new : D) → surface mid ≡ after_sync (after_write (gate + 1) bytes (surface old)) →

@@ -1,18 +1,16 @@
 -- Reading the entries of a file one behind the other, as a loop does.
-use Rattle.std.proofs.Common.{◌≡◌, ◌≢◌, inl, inr, ℕ, ◌+◌, ◌-◌, ◌<◌, ◌≤◌, eqb, true, false, not, List, [], ◌∷◌, ◌++◌, length, map, get_or, take, drop, Some}
+use Rattle.std.proofs.Common.{◌≡◌, ◌≢◌, inl, inr, ℕ, ◌+◌, ◌-◌, ◌<◌, ◌≤◌, eqb, true, false, not, List, [], ◌∷◌, ◌++◌, length, get_or, take, drop, Some}
 use Rattle.std.proofs.Common.{None, Ok, Err, refl, sym, ap, ◌∙◌, append_assoc, arith}
 use Rattle.std.specs.Prelude.{bytes_eq}
 use Rattle.std.proofs.lemmas.Bool.{eq-eqb, cases_Bool, false≢true}
 use Rattle.std.proofs.lemmas.Slice.Eq.{bytes_eq-Decides}
 use Rattle.std.proofs.lemmas.List.{drop_more, drop-drop, length-drop, length-take, length-take-le, take-append-drop, append-nil, nil_from_length}
-use Rattle.std.proofs.lemmas.List.{take_all, map-append}
-use Rattle.std.proofs.lemmas.List.Sums.{fold-append}
-use Rattle.spelling.specs.Grammar.{spelling}
+use Rattle.std.proofs.lemmas.List.{take_all}
 use Rattle.units.specs.declared.fault.Fault.TheVariants.{Damaged, NotALog}
 use Rattle.record.specs.declared.record.Record.{Record}
 use Rattle.gatelog.specs.Placed.{Placed}
-use Rattle.gatelog.specs.Frames.{end_of, header, next_gate}
-use Rattle.gatelog.specs.Gates.{first_gate, open_gate}
+use Rattle.gatelog.specs.Frames.{header}
+use Rattle.gatelog.specs.Gates.{open_gate}
 use Rattle.gatelog.specs.Log.{framed, with_entry, entries_at, scan}
 use Rattle.gatelog.proofs.Scan.{Found, with_entries, frame_parts, open_step, closed_step, skips}
 
@@ -103,12 +101,3 @@ agree xs ys is = elim (cases_Bool (bytes_eq xs ys)) [
 -- a slice to the end
 pub to_end : (xs : List ℕ) (n : ℕ) → take (length xs - n) (drop n xs) ≡ drop n xs
 to_end xs n = take_all (length xs - n) (drop n xs) (omega (arith, length-drop n xs))
-
--- the frame of one more record
-pub frame_more : (es : List Placed) (e : Placed) (at count : ℕ) → at ≡ end_of (map (λ p. p.item) es) → count ≡ 4 + length (spelling e.item)
-    → at + (1 + count) ≡ end_of (map (λ p. p.item) (es ++ e ∷ []))
-frame_more es e at count is size =
-    let items : map (λ (p : Placed). p.item) (es ++ e ∷ []) ≡ map (λ p. p.item) es ++ e.item ∷ [] = map-append (λ (p : Placed). p.item) es (e ∷ []) in
-    let whole : end_of (map (λ (p : Placed). p.item) (es ++ e ∷ [])) ≡ next_gate (end_of (map (λ p. p.item) es)) e.item =
-    ap end_of items ∙ fold-append next_gate first_gate (map (λ p. p.item) es) (e.item ∷ []) in
-    omega (arith, whole, is, size)

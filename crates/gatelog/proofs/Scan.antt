@@ -1,22 +1,20 @@
 -- What a scan finds in the front of a file, it finds again in each file with this front.
-use Rattle.std.proofs.Common.{◌≡◌, ◌≢◌, inl, inr, ℕ, zero, suc, ◌+◌, ◌-◌, ◌^◌, ◌<◌, ◌≤◌, ◌&&◌, Bool, true, false, cond, leb, eqb, List, [], ◌∷◌, ◌++◌}
+use Rattle.std.proofs.Common.{◌≡◌, ◌≢◌, inl, inr, ℕ, zero, suc, ◌+◌, ◌^◌, ◌<◌, ◌≤◌, ◌&&◌, Bool, true, false, cond, leb, eqb, List, [], ◌∷◌, ◌++◌}
 use Rattle.std.proofs.Common.{length, take, drop, Option, Some, None, Result, Ok, Err, refl, sym, ap, ◌∙◌, append_assoc, add-zero, arith}
-use Rattle.std.specs.Prelude.{bytes_eq}
 use Rattle.std.specs.Int.{w32, from_be_bytes, to_be_bytes}
 use Rattle.std.proofs.lemmas.Bool.{cases_Bool, le-leb, leb-true, eqb-true, eq-eqb, ne_eqb, and_parts, true≢false}
-use Rattle.std.proofs.lemmas.List.{take_at, drop_at, length-append, length-take, length-drop, take-take, drop-take, drop-drop}
-use Rattle.std.proofs.lemmas.Slice.Eq.{bytes_eq-Decides}
+use Rattle.std.proofs.lemmas.List.{take_at, drop_at, length-append, length-take, length-drop, take-take, drop-take}
 use Rattle.units.specs.declared.fault.Fault.{Fault}
-use Rattle.units.specs.declared.fault.Fault.TheVariants.{NotALog}
 use Rattle.record.specs.declared.record.Record.{Record}
-use Rattle.spelling.specs.Grammar.{spelling, IsRecord}
+use Rattle.spelling.specs.Grammar.{spelling}
+use Rattle.spelling.specs.Limits.{IsRecord}
 use Rattle.spelling.specs.Reading.{◌>>=◌, only_if, number_at, text_at, read_record}
 use Rattle.spelling.proofs.Again.{wide32, read_again}
 use Rattle.gatelog.specs.Placed.{Placed}
-use Rattle.gatelog.specs.Frames.{header, behind_gate}
+use Rattle.gatelog.specs.Frames.{behind_gate}
 use Rattle.gatelog.specs.Gates.{open_gate}
 pub use Rattle.gatelog.specs.Log.{with_entries}
-use Rattle.gatelog.specs.Log.{framed, frame_length, with_entry, with_frame, entries_at, scan}
+use Rattle.gatelog.specs.Log.{framed, frame_length, with_entry, with_frame, entries_at}
 
 abbrev pub Found : Type 0
 Found = Result (List Placed × ℕ) Fault
@@ -82,7 +80,7 @@ pub skip_step : (at skip byte : ℕ) (bytes : List ℕ) → entries_at at (suc s
 unfolding entries_at
 skip_step at skip byte bytes = refl
 
-none_there : (at skip : ℕ) (es : List Placed) (end : ℕ) → entries_at at skip [] ≡ Ok (es, end) → ⊥
+pub none_there : (at skip : ℕ) (es : List Placed) (end : ℕ) → entries_at at skip [] ≡ Ok (es, end) → ⊥
 unfolding entries_at
 none_there at zero es end h = cc
 none_there at (suc skip) es end h = cc
@@ -262,48 +260,3 @@ skips [] rest at = ap (λ (n : ℕ). entries_at n 0 rest) (sym (add-zero at))
 skips (x ∷ front) rest at =
     let end : (at + 1) + length front ≡ at + suc (length front) = omega arith in
     skip_step at (length front) x (front ++ rest) ∙ skips front rest (at + 1) ∙ ap (λ (n : ℕ). entries_at n 0 rest) end
-
--- ---- a whole file
-
--- the parts of a scan
-pub scan_parts : (image : List ℕ) (es : List Placed) (gate : ℕ) → scan image ≡ Ok (es, gate) → (take 8 image ≡ header)
-    × (entries_at 8 0 (drop 8 image) ≡ Ok (es, gate))
-unfolding scan
-scan_parts image es gate h = elim (cases_Bool (bytes_eq (take 8 image) header)) [
-  | inl same ↦ ((bytes_eq-Decides (take 8 image) header).0 same, rw same at h)
-  | inr other ↦ absurd (ok_never (rw other at h))
-]
-  where
-    ok_never : ◌≡◌ {A = Found} (Err NotALog) (Ok (es, gate)) → ⊥
-    ok_never e = cc
-
-pub scan_from : (image : List ℕ) → take 8 image ≡ header → scan image ≡ entries_at 8 0 (drop 8 image)
-unfolding scan
-scan_from image h =
-    let same : bytes_eq (take 8 image) header ≡ true = (bytes_eq-Decides (take 8 image) header).1 h in
-    rw same refl
-
--- the closed gate lies in the file, behind the header
-pub gate_within : (image : List ℕ) (es : List Placed) (gate : ℕ) → scan image ≡ Ok (es, gate) → (8 ≤ gate) × (gate < length image)
-gate_within image es gate h =
-    let parts = scan_parts image es gate h in
-    let lies = later (drop 8 image) 8 0 es gate parts.1 in
-    (omega (arith, lies.0), omega (arith, lies.0, lies.1, length-drop 8 image))
-
--- a file with the same front goes on from the gate
-pub scan_goes_on : (image other : List ℕ) (es : List Placed) (gate : ℕ) → scan image ≡ Ok (es, gate) → take gate other ≡ take gate image → gate ≤ length other
-    → scan other ≡ with_entries es (entries_at gate 0 (drop gate other))
-scan_goes_on image other es gate h same long =
-    let parts = scan_parts image es gate h in
-    let lies = gate_within image es gate h in
-    let k = gate - 8 in
-    let split : gate ≡ 8 + k = omega (arith, lies.0) in
-    let front : take 8 other ≡ header = sym (take-take 8 gate other lies.0) ∙ ap (λ (l : List ℕ). take 8 l) same ∙ take-take 8 gate image lies.0 ∙ parts.0 in
-    let behind : take k (drop 8 other) ≡ take k (drop 8 image) =
-    sym (drop-take 8 k other) ∙ ap (λ (n : ℕ). drop 8 (take n other)) (sym split) ∙ ap (λ (l : List ℕ). drop 8 l) same
-    ∙ ap (λ (n : ℕ). drop 8 (take n image)) split ∙ drop-take 8 k image in
-    let found : entries_at 8 0 (drop 8 image) ≡ Ok (es, 8 + k) = parts.1 ∙ ap (λ (n : ℕ). Ok (es, n)) split in
-    scan_from other front
-    ∙ goes_on (drop 8 image) (drop 8 other) 8 0 k es found behind (omega (arith, long, length-drop 8 other))
-    ∙ ap (λ (l : List ℕ). with_entries es (entries_at (8 + k) 0 l)) (drop-drop k 8 other)
-    ∙ ap (λ (n : ℕ). with_entries es (entries_at n 0 (drop n other))) (sym split)

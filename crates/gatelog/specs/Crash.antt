@@ -1,9 +1,12 @@
 -- What a crash may leave of a log.
-use Rattle.std.specs.Prelude.{◌≡◌, ◌⊎◌, List, ℕ, Result}
+use Rattle.std.specs.Prelude.{◌≡◌, ◌⊎◌, ◌+◌, List, ℕ, Result, Ok}
 use Rattle.units.specs.declared.fault.Fault.{Fault}
 use Rattle.disk.specs.Image.{Surface, MayLeave}
+use Rattle.record.specs.declared.record.Record.{Record}
+use Rattle.gatelog.specs.Areas.{placed_from}
 use Rattle.gatelog.specs.Placed.{Placed}
 use Rattle.gatelog.specs.Log.{log, and_entry}
+use Rattle.gatelog.specs.Slots.{begins_in}
 
 -- every image that a crash now may leave has this log
 abbrev pub Stands : Surface → Result (List Placed) Fault → Type 0
@@ -12,3 +15,12 @@ Stands file entries = (image : List ℕ) → MayLeave file image → log image �
 -- the image has the old log, or the old log with this entry
 abbrev pub IsOldOrWith : Result (List Placed) Fault → Placed → List ℕ → Type 0
 IsOldOrWith entries entry image = (log image ≡ entries) ⊎ (log image ≡ and_entry entries entry)
+
+-- in every image that a crash now may leave the log begins there
+abbrev pub Begins : Surface → ℕ → Type 0
+Begins file at = (image : List ℕ) → MayLeave file image → begins_in image ≡ at
+
+-- the image has the old log where it began, or that of a new area behind the old one's gate
+abbrev pub IsOldOrNew : List ℕ → ℕ → List Record → List ℕ → Type 0
+IsOldOrNew old gate items image =
+    ((log image ≡ log old) × (begins_in image ≡ begins_in old)) ⊎ ((log image ≡ Ok (placed_from (gate + 1) items).0) × (begins_in image ≡ gate + 1))

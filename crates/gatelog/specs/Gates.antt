@@ -9,7 +9,7 @@ use Rattle.gatelog.specs.declared.frame.TheConstants.{FIRST_GATE, OPEN_GATE}
 abbrev pub open_gate : ℕ
 open_gate = OPEN_GATE
 
--- the offset of the first gate, behind the header
+-- the offset of the first gate, behind the header and the slots
 abbrev pub first_gate : ℕ
 first_gate = FIRST_GATE
 

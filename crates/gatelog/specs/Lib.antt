@@ -5,5 +5,11 @@ pub mod Gates
 pub mod Log
 pub mod Placed
 pub mod Shown
+pub mod Slots
+pub mod First
+pub mod Laid
 pub mod Ahead
 pub mod Front
+pub mod Turns
+pub mod ArmedTurn
+pub mod Areas

@@ -1,4 +1,4 @@
--- The log of a file: the records before the first gate that is not open, each with the offset of its gate.
+-- The log of a file: the records of the area that its slots name, before the first gate that is not open, each with the offset of its gate.
 use Rattle.std.specs.Prelude.{ℕ, zero, suc, ◌+◌, ◌^◌, ◌&&◌, Bool, false, true, List, [], ◌∷◌, ◌++◌, take, drop, Option, Some, None, Result, Ok, Err}
 use Rattle.std.specs.Prelude.{nat_le, ◌==◌, if◌then◌else◌, bytes_eq}
 use Rattle.std.specs.Int.{w32}
@@ -8,7 +8,8 @@ use Rattle.record.specs.declared.record.Record.{Record}
 use Rattle.spelling.specs.Reading.{◌>>=◌, number_at, text_at, read_record}
 use Rattle.gatelog.specs.Placed.{Placed}
 use Rattle.gatelog.specs.Frames.{header}
-use Rattle.gatelog.specs.Gates.{first_gate, open_gate}
+use Rattle.gatelog.specs.Gates.{open_gate}
+use Rattle.gatelog.specs.Slots.{area_of}
 
 -- The record behind an open gate, and how many bytes it takes there. There is none where the length is 0, above 2^20
 -- or past the end, or where the body is no record.
@@ -46,9 +47,14 @@ entries_at at (suc skip) (byte ∷ bytes) = entries_at (at + 1) skip bytes
 entries_at at zero (gate ∷ bytes) =
     if gate == open_gate then with_frame at (framed bytes) (entries_at (at + 1) (frame_length (framed bytes)) bytes) else Ok ([], at)
 
--- the entries of a file, and the offset of its closed gate
+-- the entries of an area, and the offset of its closed gate
+abbrev pub in_area : List ℕ → Result ℕ Fault → Result (List Placed × ℕ) Fault
+in_area image (Ok area) = entries_at area 0 (drop area image)
+in_area image (Err fault) = Err fault
+
+-- the entries of a file's present area, and the offset of its closed gate
 unfoldable pub scan : List ℕ → Result (List Placed × ℕ) Fault
-scan image = if bytes_eq (take first_gate image) header then entries_at first_gate 0 (drop first_gate image) else Err NotALog
+scan image = if bytes_eq (take 8 image) header then in_area image (area_of image) else Err NotALog
 
 -- the entries alone
 abbrev pub entries_of : Result (List Placed × ℕ) Fault → Result (List Placed) Fault

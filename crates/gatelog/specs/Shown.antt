@@ -10,6 +10,10 @@ disk_of log = log.disk
 abbrev pub gate_at : {D : Type 0} {g : _} → GateLog D g → ℕ
 gate_at log = log.gate
 
+-- the number of its next free slot, which is that of all slots where none is left
+abbrev pub next_slot : {D : Type 0} {g : _} → GateLog D g → ℕ
+next_slot log = log.slot
+
 -- a device call failed in it
 abbrev pub is_stopped : {D : Type 0} {g : _} → GateLog D g → Bool
 is_stopped log = log.stopped

@@ -8,6 +8,8 @@ ghost use Rattle.gatelog.specs.Armed.{fails_in_two, after_two, two_made, fails_i
 ghost use Rattle.gatelog.specs.Crash.{IsOldOrWith};
 ghost use Rattle.gatelog.specs.Frames.{next_gate, staged_bytes};
 ghost use Rattle.gatelog.specs.Log.{log, ends_at, and_entry};
+ghost use Rattle.gatelog.specs.Slots.{begins_in};
+ghost use Rattle.gatelog.specs.Turns.{IsNextOrNone};
 ghost use Rattle.disk.specs.Moments.{LeavesOnly, HasCause};
 
 use crate::frame::OPEN_GATE;
@@ -44,11 +46,16 @@ pub fn write_frame<D: Disk>(disk: &mut D, staged: &Staged) -> Result<(), Fault>
         → IsTrue (ends_at (surface (D.file disk.old)).seen staged.now.offset) }
     ensures any_moment { D.keeps_model → LeavesOnly D.clock D.since disk.old disk.new
         (IsOldOrWith (log (surface (D.file disk.old)).seen) staged.now) }
+    ensures begins { D.keeps_model → LeavesOnly D.clock D.since disk.old disk.new
+        (λ image. begins_in image ≡ begins_in (surface (D.file disk.old)).seen) }
     ensures done { OnOk result (D.keeps_model → IsSynced (surface (D.file disk.new))
         × IsTrue (ends_at (surface (D.file disk.new)).seen
         (next_gate staged.now.offset staged.now.item))
         × (log (surface (D.file disk.new)).seen ≡
         and_entry (log (surface (D.file disk.old)).seen) staged.now)) }
+    ensures next { OnOk result ((slot : ℕ) → D.keeps_model
+        → IsNextOrNone (surface (D.file disk.old)).seen slot
+        → IsNextOrNone (surface (D.file disk.new)).seen slot) }
     ensures planned { D.has_room disk.old 4 (length (staged_bytes staged.now.item) + 1) →
         IsAsPlanned (fails_in_append (D.plan disk.old)) result
         × (D.file disk.new ≡ appended (D.plan disk.old) staged.now.offset

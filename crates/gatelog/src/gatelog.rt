@@ -7,15 +7,23 @@ ghost use Rattle.disk.specs.declared.plan.FailurePlan.TheVariants.{Never, AfterW
 ghost use Rattle.disk.specs.Planned.{IsAsPlanned, armed};
 ghost use Rattle.disk.specs.Moments.{LeavesOnly};
 ghost use Rattle.gatelog.specs.Armed.{fails_in_append, appended, waits, IsArmed};
-ghost use Rattle.gatelog.specs.Crash.{Stands, IsOldOrWith};
-ghost use Rattle.gatelog.specs.Frames.{IsNearLimit, end_of, next_gate, staged_bytes, IsFull};
+ghost use Rattle.gatelog.specs.ArmedTurn.{fails_in_turnover, turned, IsArmedTurn};
+ghost use Rattle.gatelog.specs.Crash.{Stands, Begins, IsOldOrWith, IsOldOrNew};
+ghost use Rattle.gatelog.specs.Frames.{IsNearLimit, end_from, next_gate, staged_bytes, IsFull};
+ghost use Rattle.gatelog.specs.Areas.{without_header, area_bytes, placed_from};
 ghost use Rattle.gatelog.specs.Gates.{first_gate};
-ghost use Rattle.gatelog.specs.Log.{log, and_entry, ends_at, is_no_log};
+ghost use Rattle.gatelog.specs.Laid.{WasLaid, HasNoneOr};
+ghost use Rattle.gatelog.specs.Slots.{slot_count, begins_in};
+ghost use Rattle.gatelog.specs.Turns.{IsNextOrNone};
+ghost use Rattle.gatelog.specs.Log.{log, scan, and_entry, ends_at, is_no_log};
 
-use crate::change::{write_and_sync, write_frame};
-use crate::frame::{FIRST_GATE, HEADER_AND_GATE};
+use crate::area::{Area, StagedArea};
+use crate::change::write_frame;
+use crate::frame::{FIRST_GATE, SLOTS};
+use crate::laying::lay_out;
 use crate::scanning::{Found, Sink, scan_synced};
 use crate::token::{Entry, Logged, Staged};
+use crate::turning::write_area;
 use disk::Disk;
 use record::Record;
 use spelling::encoded_len;
@@ -28,33 +36,16 @@ use units::Fault;
 pub struct GateLog<D: Disk> {
     disk: D,
     gate: u64,
+    slot: u64,
     stopped: bool,
     ghost small: { gate < 2 ^ 64 },
     ghost synced: { IsFalse stopped → D.keeps_model → IsSynced (surface (D.file disk)) },
     ghost whole: { IsFalse stopped → D.keeps_model → IsTrue (ends_at (surface (D.file disk)).seen gate) },
-}
-
-// Makes a file the empty log, synced. Refused for memory, it is as it was.
-fn lay_out<D: Disk>(disk: &mut D) -> Result<(), Fault>
-    ensures done { OnOk result
-        (D.keeps_model → ((surface (D.file disk.new)).seen ≡ HEADER_AND_GATE)
-        × IsSynced (surface (D.file disk.new))) }
-    // With no call armed, the device does not fail.
-    ensures planned { D.obeys → D.plan disk.old ≡ Never →
-        IfErr result (λ fault. fault ≡ Fault.Memory) × (D.plan disk.new ≡ Never) }
-    ensures failures_stay { D.failures disk.old ≤ D.failures disk.new }
-    ensures cause { IfErr result (λ fault.
-        ((fault ≡ Fault.Memory) × (D.file disk.new ≡ D.file disk.old)
-        × (D.plan disk.new ≡ D.plan disk.old))
-        ⊎ ((fault ≡ Fault.Device) × (D.failures disk.old < D.failures disk.new))) }
-{
-    disk.reserve(9)?;
-    disk.cut(0)?;
-    write_and_sync(disk, 0, &HEADER_AND_GATE)
+    ghost next: { IsFalse stopped → D.keeps_model → IsNextOrNone (surface (D.file disk)).seen slot },
 }
 
 impl<D: Disk> GateLog<D> {
-    ghost use Rattle.gatelog.specs.Shown.{disk_of, gate_at, is_stopped};
+    ghost use Rattle.gatelog.specs.Shown.{disk_of, gate_at, next_slot, is_stopped};
 
     /// Makes an empty log of a file, whatever was in it. Refused for `Memory`, the file is as it was.
     pub fn format(disk: D) -> Result<GateLog<D>, (Fault, D)>
@@ -65,6 +56,13 @@ impl<D: Disk> GateLog<D> {
             (λ made. D.keeps_model → log (surface (D.file (disk_of made))).seen ≡ Ok []) }
         ensures running { IfOk result (λ made. IsFalse (is_stopped made)) }
         ensures gate { IfOk result (λ made. gate_at made ≡ first_gate) }
+        ensures slot { IfOk result (λ made. next_slot made ≡ 0) }
+        ensures begins { IfOk result
+            (λ made. D.keeps_model → Begins (surface (D.file (disk_of made))) first_gate) }
+        // All but its header was synced first. A crash from then on leaves no log, or the empty one.
+        ensures laid { IfOk result (λ made. D.keeps_model
+            → WasLaid D.file D.clock D.since (without_header []) (HasNoneOr [])
+            disk (disk_of made)) }
         ensures failures_stay { IfOk result (λ made. D.failures disk ≤ D.failures (disk_of made)) }
         ensures cause { IfErr result
             (λ refused. ((refused.0 ≡ Fault.Memory) × (D.file refused.1 ≡ D.file disk)
@@ -76,19 +74,33 @@ impl<D: Disk> GateLog<D> {
             × IfErr result (λ refused. refused.0 ≡ Fault.Memory) }
     {
         let mut disk = disk;
-        if let Err(fault) = lay_out(&mut disk) {
+        if let Err(fault) = lay_out(&mut disk, &[0; 9225]) {
             return Err((fault, disk));
         }
-        Ok(GateLog {
+        Ok(GateLog::laid(disk, FIRST_GATE))
+    }
+
+    // The log of a file that was laid out, whose closed gate is there and whose slots are closed.
+    pub(crate) fn laid(disk: D, gate: u64) -> GateLog<D>
+        requires synced { D.keeps_model → IsSynced (surface (D.file disk)) }
+        requires whole { D.keeps_model → IsTrue (ends_at (surface (D.file disk)).seen gate) }
+        requires next { D.keeps_model → IsNextOrNone (surface (D.file disk)).seen 0 }
+        ensures disk { disk_of result ≡ disk }
+        ensures gate { gate_at result ≡ gate }
+        ensures slot { next_slot result ≡ 0 }
+        ensures running { IsFalse (is_stopped result) }
+    {
+        GateLog {
             disk,
-            gate: FIRST_GATE,
+            gate,
+            slot: 0,
             stopped: false,
-        })
+        }
     }
 
     /// Takes up the log of a file, and hands its entries to a sink, one by one in order. It syncs before it reads, in pieces of
-    /// 65,536 bytes at most. `NotALog` where the file does not begin with the header, and `Damaged` at the gate where a frame is due
-    /// and none is whole. Of what a sink was handed by a scan that is refused nothing is said.
+    /// 65,536 bytes at most. `NotALog` where the file does not begin with the header; `Damaged` at a slot that is not whole or names
+    /// no area behind the former one's, and at the gate where a frame is due and none is whole. Of what a sink was handed by a scan that is refused nothing is said.
     pub fn scan<S: Sink>(alloc: Global, disk: D, sink: &mut S) -> Result<GateLog<D>, (Fault, D)>
         requires fresh { S.taken sink.old ≡ [] }
         ensures told { S.told sink.new ≡ S.told sink.old }
@@ -96,8 +108,10 @@ impl<D: Disk> GateLog<D> {
             (λ made. D.keeps_model → log (surface (D.file disk)).seen ≡ Ok (S.taken sink.new)) }
         ensures gate { IfOk result (λ made. D.keeps_model
             → IsTrue (ends_at (surface (D.file disk)).seen (gate_at made))) }
-        ensures end { IfOk result
-            (λ made. gate_at made ≡ end_of (map (λ e. e.item) (S.taken sink.new))) }
+        ensures end { IfOk result (λ made. D.keeps_model → gate_at made ≡
+            end_from (begins_in (surface (D.file disk)).seen) (map (λ e. e.item) (S.taken sink.new))) }
+        ensures slot { IfOk result (λ made. D.keeps_model
+            → IsNextOrNone (surface (D.file disk)).seen (next_slot made)) }
         ensures running { IfOk result (λ made. IsFalse (is_stopped made)) }
         ensures synced { IfOk result
             (λ made. D.keeps_model
@@ -139,9 +153,10 @@ impl<D: Disk> GateLog<D> {
     {
         let mut disk = disk;
         match scan_synced(alloc, &mut disk, sink) {
-            Ok(gate) => Ok(GateLog {
+            Ok((gate, slot)) => Ok(GateLog {
                 disk,
                 gate,
+                slot,
                 stopped: false,
             }),
             Err(fault) => Err((fault, disk)),
@@ -155,8 +170,10 @@ impl<D: Disk> GateLog<D> {
         ensures gate { IfOk result
             (λ opened. D.keeps_model
             → IsTrue (ends_at (surface (D.file disk)).seen (gate_at opened.0))) }
-        ensures end { IfOk result
-            (λ opened. gate_at opened.0 ≡ end_of (map (λ e. e.item) opened.1.items)) }
+        ensures end { IfOk result (λ opened. D.keeps_model → gate_at opened.0 ≡
+            end_from (begins_in (surface (D.file disk)).seen) (map (λ e. e.item) opened.1.items)) }
+        ensures slot { IfOk result (λ opened. D.keeps_model
+            → IsNextOrNone (surface (D.file disk)).seen (next_slot opened.0)) }
         ensures running { IfOk result (λ opened. IsFalse (is_stopped opened.0)) }
         ensures synced { IfOk result
             (λ opened. D.keeps_model
@@ -211,6 +228,20 @@ impl<D: Disk> GateLog<D> {
         }
     }
 
+    /// The offset of the closed gate behind its last record.
+    pub fn gate(&self) -> u64
+        ensures { result ≡ gate_at self.now }
+    {
+        self.gate
+    }
+
+    /// The number of its next free slot: 1,024 where none is left. Each turnover takes one.
+    pub fn slot(&self) -> u64
+        ensures { result ≡ next_slot self.now }
+    {
+        self.slot
+    }
+
     /// A device call has failed in it.
     pub fn is_stopped(&self) -> bool
         ensures value { result ≡ is_stopped self.now }
@@ -255,6 +286,7 @@ impl<D: Disk> GateLog<D> {
         ensures same { (gate_at self.new ≡ gate_at self.old)
             × (is_stopped self.new ≡ is_stopped self.old)
             × (D.file (disk_of self.new) ≡ D.file (disk_of self.old)) }
+        ensures slot { next_slot self.new ≡ next_slot self.old }
         ensures failures_stay { D.failures (disk_of self.old) ≤ D.failures (disk_of self.new) }
         ensures time { LeavesOnly D.clock D.since (disk_of self.old) (disk_of self.new)
             (MayLeave (surface (D.file (disk_of self.old)))) }
@@ -291,6 +323,11 @@ impl<D: Disk> GateLog<D> {
             LeavesOnly D.clock D.since (disk_of self.old) (disk_of self.new)
             (IsOldOrWith (log (surface (D.file (disk_of self.old))).seen) staged) }
 
+        // The log begins where it began.
+        ensures begins { IsFalse (is_stopped self.old) → D.keeps_model →
+            LeavesOnly D.clock D.since (disk_of self.old) (disk_of self.new)
+            (λ image. begins_in image ≡ begins_in (surface (D.file (disk_of self.old))).seen) }
+
         // From then on every crash leaves the log with the record, and a read gives it.
         ensures durable { OnOk result (D.keeps_model →
             Stands (surface (D.file (disk_of self.new)))
@@ -308,6 +345,7 @@ impl<D: Disk> GateLog<D> {
             (λ logged. (logged ≡ staged.item) × IsFalse (is_stopped self.old)
             × IsFalse (is_stopped self.new)) }
         ensures gate { OnOk result (gate_at self.new ≡ next_gate staged.offset staged.item) }
+        ensures slot { next_slot self.new ≡ next_slot self.old }
         ensures failures_stay { D.failures (disk_of self.old) ≤ D.failures (disk_of self.new) }
         ensures cause { IfErr result
             (λ fault. ((fault ≡ Fault.Stopped) × IsTrue (is_stopped self.old)
@@ -354,6 +392,128 @@ impl<D: Disk> GateLog<D> {
         }
     }
 
+    /// Takes all the memory that a turnover to this area needs, the disk's too. `TimeSpent` where no slot is left, or the file
+    /// would grow beyond 2^40 bytes.
+    pub fn stage_area(&mut self, area: Area) -> Result<StagedArea, Fault>
+        ensures staged { IfOk result (λ staged. (staged.items ≡ area)
+            × (staged.gate ≡ gate_at self.old)
+            × (staged.slot ≡ next_slot self.old)) }
+        ensures running { OnOk result (IsFalse (is_stopped self.old)
+            × (next_slot self.old < slot_count)
+            × (end_from (gate_at self.old + 1) area + 1 ≤ 2 ^ 40)) }
+        ensures room { OnOk result (D.obeys
+            → D.has_room (disk_of self.new) 5 (length (area_bytes area) + 9)) }
+        ensures plan { D.plan (disk_of self.new) ≡ D.plan (disk_of self.old) }
+        ensures same { (gate_at self.new ≡ gate_at self.old)
+            × (next_slot self.new ≡ next_slot self.old)
+            × (is_stopped self.new ≡ is_stopped self.old)
+            × (D.file (disk_of self.new) ≡ D.file (disk_of self.old)) }
+        ensures failures_stay { D.failures (disk_of self.old) ≤ D.failures (disk_of self.new) }
+        ensures time { LeavesOnly D.clock D.since (disk_of self.old) (disk_of self.new)
+            (MayLeave (surface (D.file (disk_of self.old)))) }
+        ensures cause { IfErr result
+            (λ fault. ((fault ≡ Fault.Stopped) × IsTrue (is_stopped self.old))
+            ⊎ (((fault ≡ Fault.TimeSpent) × IsFalse (is_stopped self.old)
+            × ((slot_count ≤ next_slot self.old)
+            ⊎ (2 ^ 40 < end_from (gate_at self.old + 1) area + 1)))
+            ⊎ ((fault ≡ Fault.Memory) × IsFalse (is_stopped self.old)
+            × (next_slot self.old < slot_count)
+            × (end_from (gate_at self.old + 1) area + 1 ≤ 2 ^ 40)))) }
+    {
+        if self.stopped {
+            drop(area);
+            return Err(Fault::Stopped);
+        }
+        if self.slot >= SLOTS || !area.has_place(self.gate) {
+            drop(area);
+            return Err(Fault::TimeSpent);
+        }
+        if let Err(fault) = self.disk.reserve(area.len() + 10) {
+            drop(area);
+            return Err(fault);
+        }
+        StagedArea::at(self.gate, self.slot, area)
+    }
+
+    /// Puts an area that was staged into the place of the log. It takes no memory. After a refusal the log is stopped.
+    pub fn turn_over(&mut self, staged: StagedArea) -> Result<(), Fault>
+        // No append and no turnover came between.
+        requires gate { staged.gate ≡ gate_at self.old }
+        requires slot { staged.slot ≡ next_slot self.old }
+
+        // A crash at any moment of the call leaves the old log where it began, or that of the new area.
+        ensures any_moment { IsFalse (is_stopped self.old) → D.keeps_model →
+            LeavesOnly D.clock D.since (disk_of self.old) (disk_of self.new)
+            (IsOldOrNew (surface (D.file (disk_of self.old))).seen staged.gate
+            staged.items) }
+
+        // From then on every crash leaves the log of the new area, and a read gives it.
+        ensures durable { OnOk result (D.keeps_model →
+            Stands (surface (D.file (disk_of self.new)))
+            (Ok (placed_from (staged.gate + 1) staged.items).0)) }
+        ensures read { OnOk result (D.keeps_model →
+            log (surface (D.file (disk_of self.new))).seen ≡
+            Ok (placed_from (staged.gate + 1) staged.items).0) }
+        ensures begins { OnOk result (D.keeps_model →
+            Begins (surface (D.file (disk_of self.new))) (staged.gate + 1)) }
+
+        // A read gives one of the two in any case.
+        ensures read_either { IsFalse (is_stopped self.old) → D.keeps_model
+            → IsOldOrNew (surface (D.file (disk_of self.old))).seen staged.gate
+            staged.items (surface (D.file (disk_of self.new))).seen }
+
+        ensures running { OnOk result
+            (IsFalse (is_stopped self.old) × IsFalse (is_stopped self.new)) }
+        ensures gate { OnOk result (gate_at self.new ≡
+            end_from (staged.gate + 1) staged.items) }
+        ensures slot { OnOk result (next_slot self.new ≡ next_slot self.old + 1) }
+        ensures failures_stay { D.failures (disk_of self.old) ≤ D.failures (disk_of self.new) }
+        ensures cause { IfErr result
+            (λ fault. ((fault ≡ Fault.Stopped) × IsTrue (is_stopped self.old)
+            × (self.new ≡ self.old))
+            ⊎ ((fault ≡ Fault.Device) × IsFalse (is_stopped self.old)
+            × (D.failures (disk_of self.old) < D.failures (disk_of self.new))
+            × IsTrue (is_stopped self.new))) }
+
+        // With a call armed, counted from 0: what a read gives then, and what a crash leaves by each choice.
+        ensures armed { (call : ℕ) → IsFalse (is_stopped self.old) → D.keeps_model
+            → D.has_room (disk_of self.old) 5 (length (area_bytes staged.items) + 9)
+            → D.plan (disk_of self.old) ≡ AfterWrite call →
+            IsAsPlanned (nat_lt call 5) result
+            × IsArmedTurn call (scan (surface (D.file (disk_of self.old))).seen)
+            (Ok (placed_from (staged.gate + 1) staged.items))
+            (D.file (disk_of self.new)) }
+
+        // With no call armed, none is armed afterwards.
+        ensures never { D.plan (disk_of self.old) ≡ Never → D.plan (disk_of self.new) ≡ Never }
+
+        // It needs no more than was reserved: with it, it fails only by the disk's plan.
+        ensures planned { IsFalse (is_stopped self.old)
+            → D.has_room (disk_of self.old) 5 (length (area_bytes staged.items) + 9) →
+            IsAsPlanned (fails_in_turnover (D.plan (disk_of self.old))) result
+            × (D.file (disk_of self.new) ≡ turned (D.plan (disk_of self.old)) staged.slot
+            staged.gate staged.items (D.file (disk_of self.old))) }
+    {
+        if self.stopped {
+            drop(staged);
+            return Err(Fault::Stopped);
+        }
+        self.stopped = true;
+        match write_area(&mut self.disk, &staged) {
+            Ok(()) => {
+                self.gate = staged.end();
+                self.slot += 1;
+                self.stopped = false;
+                drop(staged);
+                Ok(())
+            }
+            Err(fault) => {
+                drop(staged);
+                Err(fault)
+            }
+        }
+    }
+
     /// For tests: the device call that comes that many calls after the next append begins fails once, or none does.
     pub fn arm(&mut self, call: Option<u64>)
         ensures plan { D.obeys → D.plan (disk_of self.new) ≡ armed call }
@@ -363,6 +523,7 @@ impl<D: Disk> GateLog<D> {
             × (is_stopped self.new ≡ is_stopped self.old)
             × (D.file (disk_of self.new) ≡ D.file (disk_of self.old))
             × (D.failures (disk_of self.new) ≡ D.failures (disk_of self.old)) }
+        ensures slot { next_slot self.new ≡ next_slot self.old }
         ensures time { LeavesOnly D.clock D.since (disk_of self.old) (disk_of self.new)
             (MayLeave (surface (D.file (disk_of self.old)))) }
     {
@@ -376,6 +537,7 @@ impl<D: Disk> GateLog<D> {
         let GateLog {
             disk,
             gate: _,
+            slot: _,
             stopped: _,
         } = self;
         disk

@@ -4,9 +4,6 @@ ghost use Rattle.disk.specs.Image.{MayLeave, after_sync};
 ghost use Rattle.disk.specs.File.{surface, synced};
 ghost use Rattle.disk.specs.Moments.{LeavesOnly};
 ghost use Rattle.gatelog.specs.Armed.{waits};
-ghost use Rattle.gatelog.specs.Frames.{end_of};
-ghost use Rattle.gatelog.specs.Log.{framed, scan, is_no_log};
-ghost use Rattle.spelling.specs.Grammar.{spelling};
 
 use disk::Disk;
 use units::Fault;

@@ -76,6 +76,13 @@ impl Pieces {
         self.len - self.read
     }
 
+    /// The length of the file.
+    pub fn len(&self) -> u64
+        ensures { result ≡ self.now.at + length self.now.bytes + self.now.left }
+    {
+        self.len
+    }
+
     /// Goes on behind so many bytes.
     pub fn pass(&mut self, count: usize)
         requires { count ≤ length self.old.bytes }
@@ -86,14 +93,31 @@ impl Pieces {
         self.passed += count;
     }
 
+    /// Goes on from an offset that lies no earlier.
+    pub fn skip_to(&mut self, at: u64)
+        requires later { self.old.at ≤ at }
+        requires inside { at ≤ self.old.at + length self.old.bytes + self.old.left }
+        ensures at { self.new.at ≡ at }
+        ensures there { (image : List ℕ) → IsAhead image self.old → IsAhead image self.new }
+    {
+        let count = at - self.at();
+        if count <= self.bytes().len() as u64 {
+            self.passed += count as usize;
+        } else {
+            self.window.truncate(0);
+            self.passed = 0;
+            self.read = at;
+        }
+    }
+
     /// Reads on, by one piece. It asks for no more than 65,536 bytes at once.
     pub fn more<D: Disk>(&mut self, alloc: Global, disk: &mut D) -> Result<(), Fault>
         requires left { 0 < self.old.left }
         requires there { D.keeps_model → IsAhead (surface (D.file disk.old)).seen self.old }
         ensures at { OnOk result (self.new.at ≡ self.old.at) }
         ensures less { OnOk result (self.new.left < self.old.left) }
-        ensures piece { OnOk result (self.old.bytes ≡ [] → (8 ≤ self.old.left)
-            → 8 ≤ length self.new.bytes) }
+        ensures piece { OnOk result ((n : ℕ) → n ≤ 65536 → n ≤ self.old.left
+            → n ≤ length self.new.bytes) }
         ensures total { OnOk result (length self.new.bytes + self.new.left
             ≡ length self.old.bytes + self.old.left) }
         ensures there { OnOk result

@@ -1,5 +1,5 @@
 //! A scan of a log's file, piece by piece.
-ghost use Rattle.std.specs.Prelude.{◌≡◌, ◌⊎◌, ◌≤◌, ◌<◌, ◌+◌, ◌++◌, ◌∷◌, [], List, ℕ, length, take, drop, map, Ok, Err, OnOk, IfOk, IfErr, IfSome, IfNone, IsTrue, Result, true};
+ghost use Rattle.std.specs.Prelude.{◌≡◌, ◌≢◌, ◌⊎◌, ◌≤◌, ◌<◌, ◌+◌, ◌++◌, ◌∷◌, [], List, ℕ, length, take, drop, map, Ok, Err, OnOk, IfOk, IfErr, IfSome, IfNone, IsTrue, Result, true};
 ghost use Rattle.units.specs.declared.fault.Fault.{Fault};
 ghost use Rattle.disk.specs.File.{surface};
 ghost use Rattle.disk.specs.Image.{MayLeave, after_sync};
@@ -7,15 +7,17 @@ ghost use Rattle.disk.specs.File.{synced};
 ghost use Rattle.disk.specs.Moments.{Elapses, LeavesOnly};
 ghost use Rattle.gatelog.specs.Ahead.{IsAhead, ToDo};
 ghost use Rattle.gatelog.specs.Armed.{waits};
-ghost use Rattle.gatelog.specs.Frames.{end_of, header};
-ghost use Rattle.gatelog.specs.Gates.{first_gate};
+ghost use Rattle.gatelog.specs.Areas.{placed_from};
 ghost use Rattle.gatelog.specs.Placed.{Placed};
 ghost use Rattle.gatelog.specs.Log.{scan, entries_at, with_entries, is_no_log};
+ghost use Rattle.gatelog.specs.Slots.{begins_in};
+ghost use Rattle.gatelog.specs.Turns.{IsNextOrNone};
 
-use crate::frame::{FIRST_GATE, HEADER};
+use crate::frame::HEADER;
 use crate::front::{Front, front_of};
 use crate::opening::sync_first;
 use crate::pieces::Pieces;
+use crate::slots::{area_named, open_slots};
 use crate::token::Entry;
 use disk::Disk;
 use std::alloc::Global;
@@ -75,9 +77,9 @@ fn hand_next<D: Disk, S: Sink>(
         (entries_at ahead.old.at 0 (drop ahead.old.at (surface (D.file disk.old)).seen)) ≡ total
         → with_entries (S.taken sink.new)
         (entries_at ahead.new.at 0 (drop ahead.new.at (surface (D.file disk.old)).seen)) ≡ total)) }
-    ensures counted { IfOk result (λ found. IfNone found
-        (ahead.old.at ≡ end_of (map (λ e. e.item) (S.taken sink.old))
-        → ahead.new.at ≡ end_of (map (λ e. e.item) (S.taken sink.new)))) }
+    ensures placed { IfOk result (λ found. IfNone found ((begins : ℕ)
+        → placed_from begins (map (λ e. e.item) (S.taken sink.old)) ≡ (S.taken sink.old, ahead.old.at)
+        → placed_from begins (map (λ e. e.item) (S.taken sink.new)) ≡ (S.taken sink.new, ahead.new.at))) }
     ensures closed { IfOk result (λ found. IfSome found (λ gate. (gate ≡ ahead.old.at)
         × (S.taken sink.new ≡ S.taken sink.old)
         × (D.keeps_model
@@ -111,24 +113,33 @@ fn hand_next<D: Disk, S: Sink>(
     }
 }
 
-/// Hands the entries of a file over to a sink, and answers the offset of its closed gate.
-pub fn hand_over<D: Disk, S: Sink>(alloc: Global, disk: &mut D, sink: &mut S) -> Result<u64, Fault>
+/// Hands the entries of an area over to a sink, which is read on from its front, and answers the offset of its closed gate.
+pub fn hand_on<D: Disk, S: Sink>(
+    alloc: Global,
+    disk: &mut D,
+    ahead: Pieces,
+    sink: &mut S,
+) -> Result<u64, Fault>
     requires fresh { S.taken sink.old ≡ [] }
+    requires there { D.keeps_model → IsAhead (surface (D.file disk.old)).seen ahead }
     ensures told { S.told sink.new ≡ S.told sink.old }
     ensures found { IfOk result (λ gate. D.keeps_model
-        → scan (surface (D.file disk.old)).seen ≡ Ok (S.taken sink.new, gate)) }
-    ensures end { IfOk result (λ gate. gate ≡ end_of (map (λ e. e.item) (S.taken sink.new))) }
+        → entries_at ahead.at 0 (drop ahead.at (surface (D.file disk.old)).seen)
+        ≡ Ok (S.taken sink.new, gate)) }
+    ensures placed { IfOk result (λ gate.
+        placed_from ahead.at (map (λ e. e.item) (S.taken sink.new)) ≡ (S.taken sink.new, gate)) }
     ensures same { D.file disk.new ≡ D.file disk.old }
     ensures time { Elapses D.file D.clock D.since D.failures disk.old disk.new }
     ensures cause { IfErr result (λ fault. (fault ≡ Fault.Memory)
         ⊎ (((fault ≡ Fault.Device) × (D.failures disk.old < D.failures disk.new))
         ⊎ (IsTrue (is_no_log fault) × (D.keeps_model
-        → scan (surface (D.file disk.old)).seen ≡ Err fault)))) }
+        → entries_at ahead.at 0 (drop ahead.at (surface (D.file disk.old)).seen)
+        ≡ Err fault)))) }
     ensures waits { D.obeys → waits (D.plan disk.old) ≡ true →
         IfErr result (λ fault. (fault ≡ Fault.Memory) ⊎ IsTrue (is_no_log fault))
         × (D.plan disk.new ≡ D.plan disk.old) }
 {
-    let mut ahead = begin(alloc, disk)?;
+    let mut ahead = ahead;
     let mut gate = None;
     while gate.is_none() {
         gate = hand_next(alloc, disk, &mut ahead, sink)?;
@@ -139,17 +150,51 @@ pub fn hand_over<D: Disk, S: Sink>(alloc: Global, disk: &mut D, sink: &mut S) ->
     }
 }
 
-/// Syncs a file, and hands its entries over to a sink. Answers the offset of its closed gate.
+/// Hands the entries of a file over to a sink, and answers the offset of its closed gate, and the number of its next slot.
+pub fn hand_over<D: Disk, S: Sink>(
+    alloc: Global,
+    disk: &mut D,
+    sink: &mut S,
+) -> Result<(u64, u64), Fault>
+    requires fresh { S.taken sink.old ≡ [] }
+    ensures told { S.told sink.new ≡ S.told sink.old }
+    ensures found { IfOk result (λ end. D.keeps_model
+        → scan (surface (D.file disk.old)).seen ≡ Ok (S.taken sink.new, end.0)) }
+    ensures placed { IfOk result (λ end. D.keeps_model
+        → placed_from (begins_in (surface (D.file disk.old)).seen)
+        (map (λ e. e.item) (S.taken sink.new)) ≡ (S.taken sink.new, end.0)) }
+    ensures next { IfOk result (λ end. D.keeps_model
+        → IsNextOrNone (surface (D.file disk.old)).seen end.1) }
+    ensures same { D.file disk.new ≡ D.file disk.old }
+    ensures time { Elapses D.file D.clock D.since D.failures disk.old disk.new }
+    ensures cause { IfErr result (λ fault. (fault ≡ Fault.Memory)
+        ⊎ (((fault ≡ Fault.Device) × (D.failures disk.old < D.failures disk.new))
+        ⊎ (IsTrue (is_no_log fault) × (D.keeps_model
+        → scan (surface (D.file disk.old)).seen ≡ Err fault)))) }
+    ensures waits { D.obeys → waits (D.plan disk.old) ≡ true →
+        IfErr result (λ fault. (fault ≡ Fault.Memory) ⊎ IsTrue (is_no_log fault))
+        × (D.plan disk.new ≡ D.plan disk.old) }
+{
+    let (ahead, slot) = begin(alloc, disk)?;
+    let gate = hand_on(alloc, disk, ahead, sink)?;
+    Ok((gate, slot))
+}
+
+/// Syncs a file, and hands its entries over to a sink. Answers the offset of its closed gate, and the number of its next slot.
 pub fn scan_synced<D: Disk, S: Sink>(
     alloc: Global,
     disk: &mut D,
     sink: &mut S,
-) -> Result<u64, Fault>
+) -> Result<(u64, u64), Fault>
     requires fresh { S.taken sink.old ≡ [] }
     ensures told { S.told sink.new ≡ S.told sink.old }
-    ensures found { IfOk result (λ gate. D.keeps_model
-        → scan (surface (D.file disk.old)).seen ≡ Ok (S.taken sink.new, gate)) }
-    ensures end { IfOk result (λ gate. gate ≡ end_of (map (λ e. e.item) (S.taken sink.new))) }
+    ensures found { IfOk result (λ end. D.keeps_model
+        → scan (surface (D.file disk.old)).seen ≡ Ok (S.taken sink.new, end.0)) }
+    ensures placed { IfOk result (λ end. D.keeps_model
+        → placed_from (begins_in (surface (D.file disk.old)).seen)
+        (map (λ e. e.item) (S.taken sink.new)) ≡ (S.taken sink.new, end.0)) }
+    ensures next { IfOk result (λ end. D.keeps_model
+        → IsNextOrNone (surface (D.file disk.old)).seen end.1) }
     ensures synced { OnOk result
         (D.keeps_model → surface (D.file disk.new) ≡ after_sync (surface (D.file disk.old))) }
     ensures crash { D.keeps_model →
@@ -174,31 +219,62 @@ pub fn scan_synced<D: Disk, S: Sink>(
     hand_over(alloc, disk, sink)
 }
 
-// Reads on from the front of a file behind its header.
-fn begin<D: Disk>(alloc: Global, disk: &mut D) -> Result<Pieces, Fault>
-    ensures at { IfOk result (λ ahead. ahead.at ≡ first_gate) }
-    ensures there { IfOk result (λ ahead. D.keeps_model
-        → IsAhead (surface (D.file disk.old)).seen ahead) }
-    ensures header { OnOk result (D.keeps_model
-        → take 8 (surface (D.file disk.old)).seen ≡ header) }
+// Reads on from the front of the area that the slots of a file name, and answers the number of its next slot too.
+fn begin<D: Disk>(alloc: Global, disk: &mut D) -> Result<(Pieces, u64), Fault>
+    ensures there { IfOk result (λ begun. D.keeps_model
+        → IsAhead (surface (D.file disk.old)).seen begun.0) }
+    ensures area { IfOk result (λ begun. D.keeps_model
+        → scan (surface (D.file disk.old)).seen ≡
+        entries_at begun.0.at 0 (drop begun.0.at (surface (D.file disk.old)).seen)) }
+    ensures begins { IfOk result (λ begun. D.keeps_model
+        → begins_in (surface (D.file disk.old)).seen ≡ begun.0.at) }
+    ensures next { IfOk result (λ begun. D.keeps_model
+        → IsNextOrNone (surface (D.file disk.old)).seen begun.1) }
     ensures same { D.file disk.new ≡ D.file disk.old }
     ensures time { Elapses D.file D.clock D.since D.failures disk.old disk.new }
     ensures cause { IfErr result (λ fault. (fault ≡ Fault.Memory)
         ⊎ (((fault ≡ Fault.Device) × (D.failures disk.old < D.failures disk.new))
-        ⊎ ((fault ≡ Fault.NotALog) × (D.keeps_model
+        ⊎ (IsTrue (is_no_log fault) × (D.keeps_model
         → scan (surface (D.file disk.old)).seen ≡ Err fault)))) }
     ensures waits { D.obeys → waits (D.plan disk.old) ≡ true →
         IfErr result (λ fault. (fault ≡ Fault.Memory) ⊎ IsTrue (is_no_log fault))
         × (D.plan disk.new ≡ D.plan disk.old) }
 {
+    let mut ahead = headed(alloc, disk, &HEADER)?;
+    let area = area_named(ahead.bytes(), ahead.len())?;
+    let slot = open_slots(ahead.bytes());
+    ahead.skip_to(area);
+    Ok((ahead, slot))
+}
+
+/// Reads on from the front of a file behind its header. `NotALog` where it does not begin with this one.
+pub fn headed<D: Disk>(alloc: Global, disk: &mut D, header: &[u8; 8]) -> Result<Pieces, Fault>
+    ensures at { IfOk result (λ ahead. ahead.at ≡ 8) }
+    // All that is behind it was read, or 1,024 slots at least.
+    ensures enough { IfOk result
+        (λ ahead. (9216 ≤ length ahead.bytes) ⊎ (ahead.left ≡ 0)) }
+    ensures there { IfOk result (λ ahead. D.keeps_model
+        → IsAhead (surface (D.file disk.old)).seen ahead) }
+    ensures header { OnOk result (D.keeps_model
+        → take 8 (surface (D.file disk.old)).seen ≡ header.now) }
+    ensures same { D.file disk.new ≡ D.file disk.old }
+    ensures time { Elapses D.file D.clock D.since D.failures disk.old disk.new }
+    ensures cause { IfErr result (λ fault. (fault ≡ Fault.Memory)
+        ⊎ (((fault ≡ Fault.Device) × (D.failures disk.old < D.failures disk.new))
+        ⊎ ((fault ≡ Fault.NotALog) × (D.keeps_model
+        → take 8 (surface (D.file disk.old)).seen ≢ header.now)))) }
+    ensures waits { D.obeys → waits (D.plan disk.old) ≡ true →
+        IfErr result (λ fault. (fault ≡ Fault.Memory) ⊎ IsTrue (is_no_log fault))
+        × (D.plan disk.new ≡ D.plan disk.old) }
+{
     let len = disk.len();
-    if len < FIRST_GATE {
+    if len < 8 {
         return Err(Fault::NotALog);
     }
     let mut ahead = Pieces::of(alloc, len);
     ahead.more(alloc, disk)?;
     let (front, _) = ahead.bytes().split_at(8);
-    if front != HEADER.as_slice() {
+    if front != header.as_slice() {
         return Err(Fault::NotALog);
     }
     ahead.pass(8);

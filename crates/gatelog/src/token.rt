@@ -1,7 +1,7 @@
 //! What a log hands out.
-ghost use Rattle.std.specs.Prelude.{◌≡◌, ◌≤◌, ◌+◌, ◌^◌, [], ◌∷◌, IsTrue, IfOk, IfErr, OnOk};
-ghost use Rattle.gatelog.specs.Frames.{next_gate, staged_bytes};
-ghost use Rattle.spelling.specs.Grammar.{IsRecord};
+ghost use Rattle.std.specs.Prelude.{◌≡◌, ◌≤◌, ◌+◌, ◌^◌, [], ◌∷◌, ◌++◌, IsTrue, IfOk, IfErr, OnOk};
+ghost use Rattle.gatelog.specs.Frames.{behind_gate, next_gate, staged_bytes};
+ghost use Rattle.spelling.specs.Limits.{IsRecord};
 
 use byteorder::{BigEndian, ByteOrder};
 use record::Record;
@@ -83,7 +83,7 @@ impl Model for Staged {
     ghost use Rattle.std.specs.Prelude.{◌≡◌, ◌≤◌, ◌^◌, ◌+◌};
     ghost use Rattle.gatelog.specs.Placed.{Placed};
     ghost use Rattle.gatelog.specs.Frames.{staged_bytes, next_gate};
-    ghost use Rattle.spelling.specs.Grammar.{IsRecord};
+    ghost use Rattle.spelling.specs.Limits.{IsRecord};
 
     ghost Value = { Placed };
 
@@ -126,10 +126,18 @@ fn bytes_for(alloc: Global, item: &Record) -> Result<Vec<u8>, Fault>
     Ok(bytes)
 }
 
-// Puts the length of a record's spelling, the spelling, and a closed gate. It says whether there was the memory.
+// Puts what stands behind the gate of a record, and a closed gate. It says whether there was the memory.
 fn put_frame(bytes: &mut Vec<u8>, item: &Record) -> bool
     requires { bytes.old.items ≡ [] }
     ensures bytes { IsTrue result → bytes.new.items ≡ staged_bytes item.now }
+    ensures fits { IsTrue result → IsRecord item.now }
+{
+    put_behind(bytes, item) && bytes.push(0).is_ok()
+}
+
+// Puts the length of a record's spelling, and the spelling. It says whether there was the memory.
+pub(crate) fn put_behind(bytes: &mut Vec<u8>, item: &Record) -> bool
+    ensures bytes { IsTrue result → bytes.new.items ≡ bytes.old.items ++ behind_gate item.now }
     ensures fits { IsTrue result → IsRecord item.now }
 {
     let mut count = [0; 4];
@@ -137,10 +145,7 @@ fn put_frame(bytes: &mut Vec<u8>, item: &Record) -> bool
     let Ok(()) = bytes.extend_from_slice(&count) else {
         return false;
     };
-    let Ok(()) = encode_into(bytes, item) else {
-        return false;
-    };
-    bytes.push(0).is_ok()
+    encode_into(bytes, item).is_ok()
 }
 
 /// A record that stands in the log for good. Only an append, or an entry that was read, makes it; it has to be spent.

@@ -16,7 +16,7 @@ use std::rt::Files;
 use units::{Fault, Reason, Setup, Splits};
 
 /// Begins a store in a folder: the logs that are there belong to it, a draft stands for each other one, and the manifest tells of
-/// them. A draft without a record is made anew, and one with a record is the log that once had its name.
+/// them. A draft without a record is made anew, and one with a record is the log that once had its name; one of version 1 is refused.
 pub fn begin<R: Files<File = File>>(
     folder: &mut StoreFolder<'_, R>,
     alloc: Global,
@@ -73,7 +73,11 @@ fn draft<R: Files<File = File>>(
         Kind::Nothing => {}
         Kind::Plain => match holds(alloc, folder.open(draft)?, setup) {
             Ok(true) => return Ok(()),
-            Ok(false) | Err(Fault::NotALog) | Err(Fault::Damaged { offset: 8 }) => {
+            Ok(false) => folder.remove(draft)?,
+            Err(Fault::NotALog) => {
+                if is_old(folder, draft)? {
+                    return Err(Fault::NotALog);
+                }
                 folder.remove(draft)?
             }
             Err(fault) => return Err(fault),
@@ -90,6 +94,14 @@ fn draft<R: Files<File = File>>(
             Err(fault)
         }
     }
+}
+
+// Whether a draft begins as a log of version 1 does. It may hold records, so it is not made anew.
+fn is_old<R: Files<File = File>>(folder: &StoreFolder<'_, R>, draft: &str) -> Result<bool, Fault>
+    ensures { IfErr result (λ fault. (fault ≡ Memory) ⊎ (fault ≡ Device)) }
+{
+    let front = folder.read(draft, 8)?;
+    Ok(front.as_slice() == b"SPNLOG01".as_slice())
 }
 
 // Whether a log holds a record. All that it holds belong to its shard.

@@ -6,18 +6,18 @@ ghost use Rattle.units.specs.declared.fault.Fault.TheVariants.{Device, Memory};
 use byteorder::{BigEndian, ByteOrder};
 use disk::Disk;
 use filedisk::FileDisk;
-use gatelog::Entry;
+use gatelog::{Entry, FIRST_GATE, HEADER, area_named};
 use record::Record;
 use spelling::decode;
 use std::alloc::Global;
-use units::{Fault, Key, Keys, Reason, Setup, Writes};
+use units::{Fault, Key, Keys, Parts, Reason, Setup, Writes};
 
-// How many bytes of a log are read for its first promise or decision.
+// How many bytes of a log are read for its first record that tells whose it is.
 const MOST_FRONT: u64 = 1 << 16;
 
 /// Why a record does not belong to the log of a shard: it names a key of another shard (`Stranger`), a shard that is not there
-/// (`settings`), or it stands in the log of another shard (`Damaged`). Openings, ceilings, horizons, aborts and outcomes
-/// name none.
+/// (`settings`), or it stands in the log of another shard (`Damaged`). Openings, ceilings, horizons, aborts, outcomes and the
+/// base of a renewed log name none.
 pub fn misfit(setup: &Setup, item: &Record, offset: u64) -> Option<Fault>
     ensures { IfSome result IsFolderFault }
 {
@@ -29,17 +29,44 @@ pub fn misfit(setup: &Setup, item: &Record, offset: u64) -> Option<Fault>
             stranger(setup, &prepared.reads, &prepared.writes)
         }
         Record::Commit(committed) => {
-            if committed.parts.least() != setup.shard {
-                return Some(Fault::Damaged { offset });
-            }
-            if u32::from(committed.parts.mask()) >> (setup.splits.as_slice().len() + 1) != 0 {
-                return Some(Fault::BadRequest(Reason::Settings));
+            if let Some(fault) = misplaced(setup, committed.parts, offset) {
+                return Some(fault);
             }
             stranger(setup, &committed.reads, &committed.writes)
         }
-        Record::Opened { .. } | Record::Ceiling { .. } | Record::Horizon { .. } => None,
+        Record::Settled { parts, .. } => misplaced(setup, *parts, offset),
+        Record::Closed { coordinator, .. } => {
+            if coordinator.number() >= setup.shard.number() {
+                return Some(Fault::Damaged { offset });
+            }
+            None
+        }
+        Record::Version(version) => {
+            if setup.owns(&version.key) {
+                None
+            } else {
+                Some(Fault::Stranger)
+            }
+        }
+        Record::Opened { .. }
+        | Record::Ceiling { .. }
+        | Record::Horizon { .. }
+        | Record::Base { .. } => None,
         Record::Abort { .. } | Record::Outcome { .. } => None,
     }
+}
+
+// Why a decision of these parts does not belong to the log of a shard.
+fn misplaced(setup: &Setup, parts: Parts, offset: u64) -> Option<Fault>
+    ensures { IfSome result IsFolderFault }
+{
+    if parts.least() != setup.shard {
+        return Some(Fault::Damaged { offset });
+    }
+    if u32::from(parts.mask()) >> (setup.splits.as_slice().len() + 1) != 0 {
+        return Some(Fault::BadRequest(Reason::Settings));
+    }
+    None
 }
 
 // A key of another shard.
@@ -74,16 +101,21 @@ pub fn all_fit(setup: &Setup, entries: &[Entry]) -> Result<(), Fault>
     Ok(())
 }
 
-/// Whether the log in a file is that of its shard, by the first promise or decision that stands in it, which is looked for among its
+/// Whether the log in a file is that of its shard, by the first record in it that tells that, which is looked for among its
 /// first 64 KiB. Where there is none, or what is read is no log, the opening says so.
 pub fn first_fits(alloc: Global, disk: &mut FileDisk, setup: &Setup) -> Result<(), Fault>
     ensures { IfErr result IsFolderFault }
 {
-    let front = front_of(alloc, disk)?;
-    let Some((offset, item)) = first_telling(alloc, &front)? else {
+    let len = disk.len();
+    let front = part_of(alloc, disk, 0, len.min(FIRST_GATE))?;
+    let Some(area) = area_of(&front, len) else {
         return Ok(());
     };
-    let misfit = misfit(setup, &item, offset);
+    let part = part_of(alloc, disk, area, len.saturating_sub(area).min(MOST_FRONT))?;
+    let Some((place, item)) = first_telling(alloc, &part)? else {
+        return Ok(());
+    };
+    let misfit = misfit(setup, &item, area.saturating_add(place));
     drop(item);
     match misfit {
         Some(fault) => Err(fault),
@@ -91,28 +123,49 @@ pub fn first_fits(alloc: Global, disk: &mut FileDisk, setup: &Setup) -> Result<(
     }
 }
 
-// The first bytes of a file.
-fn front_of(alloc: Global, disk: &mut FileDisk) -> Result<Vec<u8>, Fault>
-    ensures { IfErr result (λ fault. (fault ≡ Memory) ⊎ (fault ≡ Device)) }
+// So many bytes of a file, from an offset on.
+fn part_of(alloc: Global, disk: &mut FileDisk, at: u64, size: u64) -> Result<Vec<u8>, Fault>
+    ensures size { IfOk result (λ part. length part.items ≡ size) }
+    ensures refused { IfErr result (λ fault. (fault ≡ Memory) ⊎ (fault ≡ Device)) }
 {
-    let mut front = Vec::new(alloc);
-    front.resize(disk.len().min(MOST_FRONT) as usize, 0)?;
-    disk.read_at(0, &mut front)?;
-    Ok(front)
+    let mut part = Vec::new(alloc);
+    part.resize(size as usize, 0)?;
+    disk.read_at(at, &mut part)?;
+    Ok(part)
 }
 
-// The first promise or decision among some bytes of a log, and the offset of its gate.
+// Where the log begins in a file of this length, by its header and its slots, as far as it has these; nowhere, where they are those of no log.
+fn area_of(front: &[u8], len: u64) -> Option<u64>
+    requires { (length front.now ≡ len) ⊎ ((length front.now ≡ 9224) × (9224 ≤ len)) }
+{
+    let Some(slots) = front.strip_prefix(HEADER.as_slice()) else {
+        return None;
+    };
+    area_named(slots, len).ok()
+}
+
+// The first record among the frames of a log that tells whose it is, a promise, a decision, how one ended, or a version, and how far
+// behind their front its gate is.
 fn first_telling(alloc: Global, bytes: &[u8]) -> Result<Option<(u64, Record)>, Fault>
     ensures { IfErr result (λ fault. fault ≡ Memory) }
 {
-    let mut at = 8;
+    let mut at = 0;
     while at < bytes.len() && bytes[at] == 0xa5 {
         let Some((item, size)) = frame_of(alloc, &bytes[at + 1..])? else {
             return Ok(None);
         };
         match item {
-            Record::Prepare(_) | Record::Commit(_) => return Ok(Some((at as u64, item))),
-            _ => drop(item),
+            Record::Prepare(_)
+            | Record::Commit(_)
+            | Record::Version(_)
+            | Record::Settled { .. }
+            | Record::Closed { .. } => return Ok(Some((at as u64, item))),
+            Record::Opened { .. }
+            | Record::Ceiling { .. }
+            | Record::Horizon { .. }
+            | Record::Base { .. }
+            | Record::Abort { .. }
+            | Record::Outcome { .. } => drop(item),
         }
         at += 1 + size;
     }

@@ -11,7 +11,11 @@ use Rattle.disk.specs.declared.plan.FailurePlan.{FailurePlan}
 use Rattle.disk.specs.File.{File, surface}
 use Rattle.disk.specs.Image.{MayLeave, after_sync}
 use Rattle.disk.specs.Moments.{LeavesOnly}
-use Rattle.gatelog.specs.Frames.{IsFull, end_of, next_gate}
+use Rattle.disk.proofs.Crashes.{seen_may}
+use Rattle.shard.specs.Armed.{HasPlace}
+use Rattle.gatelog.specs.Crash.{Begins}
+use Rattle.gatelog.specs.Frames.{IsFull, end_from, end_of, next_gate}
+use Rattle.gatelog.specs.Slots.{begins_in}
 use Rattle.gatelog.specs.Gates.{first_gate}
 use Rattle.gatelog.specs.Log.{log as scanned_log}
 use Rattle.message.specs.declared.message.Envelope.{Envelope}
@@ -21,9 +25,9 @@ use Rattle.record.specs.Accepted.{Accepted, followed, taken}
 use Rattle.record.specs.Facts.{facts_of}
 use Rattle.record.specs.Records.{epoch_of}
 use Rattle.record.specs.declared.record.Record.{Record}
-use Rattle.shard.specs.Logs.{HoldsOldOrWith, KeepsRecords, and_logged, records_in}
+use Rattle.shard.specs.Logs.{BeginsAsBefore, HoldsOldOrWith, KeepsRecords, and_logged, records_in}
 use Rattle.shard.specs.On.{CoreView, HasStepped, IsCause, IsLogFull, StandsAsBefore, gate_behind, record_of}
-use Rattle.shard.specs.Opened.{HasNotOpened, HasOpened, IsReason, IsTaken, LeavesOpening, is_reason, next_opening, opening_of}
+use Rattle.shard.specs.Opened.{HasNotOpened, HasOpened, IsReason, IsTaken, LeavesOpening, end_in, is_reason, next_opening, opening_of}
 use Rattle.world.specs.Headline.{IsUnsure, MayLeaveLog}
 use Rattle.world.specs.World.{ShardNow, Runs, Nothing, Unsure, crashed, finished, read_log, where_room}
 use Rattle.world.specs.declared.event.Doing.{Doing}
@@ -74,6 +78,19 @@ module _ {D : Type 0} (keeps obeys : Type 0) (file : D → File) (clock : D → 
   now_since : (old new : D) (P : List ℕ → Type 0) → LeavesOnly clock since old new P → (image : List ℕ) → MayLeave (surface (file new)) image → P image
   now_since old new P only image may = only.each image (counts new (clock old) image only.later may)
 
+  -- the log begins where it began
+  pub begins_since : (s : ShardNow) (old new : D) → HoldsLog file s old → LeavesOnly clock since old new (BeginsAsBefore (surface (file old)))
+      → (image : List ℕ) → since new (clock old) image → begins_in image ≡ first_gate
+  begins_since s old new h run image left = by_run (run.each image left)
+    where
+      by_run : BeginsAsBefore (surface (file old)) image → begins_in image ≡ first_gate
+      by_run (inl was) = (h.left image was).begins
+      by_run (inr same) = same ∙ (h.left (surface (file old)).seen (seen_may (file old))).begins
+
+  pub begins_now : (s : ShardNow) (old new : D) → HoldsLog file s old → LeavesOnly clock since old new (BeginsAsBefore (surface (file old)))
+      → Begins (surface (file new)) first_gate
+  begins_now s old new h run image may = begins_since s old new h run image (counts new (clock old) image run.later may)
+
   -- ---- a core that runs
 
   module _ (setup : Setup) (s : ShardNow) (m : Memory) (old new : CoreView D) (h : IsRunning file setup s m old) where
@@ -99,7 +116,8 @@ module _ {D : Type 0} (keeps obeys : Type 0) (file : D → File) (clock : D → 
         let log : List Record = read_log s ++ option_to_list logged in
         let records : and_logged (records_in (surface (file old.disk)).seen) logged ≡ Ok log = ap (λ x. and_logged x logged) h.disk.read
         ∙ with_logged (read_log s) logged in
-        let surely : HoldsSurely file new.disk log = subst (KeepsRecords (surface (file new.disk))) records (k.written.durable kept) in
+        let surely : HoldsSurely file new.disk log =
+        (subst (KeepsRecords (surface (file new.disk))) records (k.written.durable kept), begins_now s old.disk new.disk h.disk (k.written.begins h.runs kept)) in
         record {
           setup_is = k.written.setup ∙ h.setup_is;
           knows = k.done.2.0 ∙ ap (λ f. facts_after f logged) (h.knows ∙ ap facts_of (sym (sure_log s h.sure))) ∙ facts_with setup.shard (read_log s) logged follows;
@@ -182,6 +200,12 @@ module _ {D : Type 0} (keeps obeys : Type 0) (file : D → File) (clock : D → 
   -- ---- a disk that is opened
 
   module _ (setup : Setup) (s : ShardNow) (disk : D) (h : HoldsLog file s disk) where
+    here : begins_in (surface (file disk)).seen ≡ first_gate
+    here = (h.left (surface (file disk)).seen (seen_may (file disk))).begins
+
+    ends : (rs : List Record) → end_in (surface (file disk)).seen rs ≡ end_of rs
+    ends rs = ap (λ n. end_from n rs) here
+
     -- it was
     pub opened : (core : CoreView D) → HasOpened keeps obeys file clock since failures plan disk setup core → taken setup (read_log s) ≡ Accepted →
         Comes setup s Doing.Open (Up core) (opens_as s)
@@ -192,7 +216,8 @@ module _ {D : Type 0} (keeps obeys : Type 0) (file : D → File) (clock : D → 
         let memory : Memory = rebuilt (facts_of (read_log s)) in
         let found : and_logged (records_in (surface (file disk)).seen) (opening_of (records_in (surface (file disk)).seen)) ≡ Ok whole =
         ap (λ x. and_logged x (opening_of x)) h.read in
-        let surely : HoldsSurely file core.disk whole = subst (KeepsRecords (surface (file core.disk))) found (k.durable kept) in
+        let surely : HoldsSurely file core.disk whole =
+        (subst (KeepsRecords (surface (file core.disk))) found (k.durable kept), begins_now s disk core.disk h (k.begins kept)) in
         let facts : core.facts ≡ facts_of whole = (subst (λ x. IsTaken setup x core.facts) h.read (k.taken kept)).1 in
         let gate = k.gate (read_log s) kept h.read in
         let running : IsRunning file setup (finished s Doing.Open (Some q) memory) memory core = record {
@@ -202,9 +227,10 @@ module _ {D : Type 0} (keeps obeys : Type 0) (file : D → File) (clock : D → 
           disk = surely_holds file (finished s Doing.Open (Some q) memory) core.disk refl surely;
           runs = k.running;
           sure = refl;
-          gate = gate.0 ∙ sym (fold-append next_gate first_gate (read_log s) (q ∷ [])) ∙ ap end_of (sym (append-nil whole));
+          gate = gate.0 ∙ ap (λ n. next_gate n q) (ends (read_log s)) ∙ sym (fold-append next_gate first_gate (read_log s) (q ∷ [])) ∙ ap end_of (sym (append-nil whole));
         } in
-        subst (Comes setup s Doing.Open (Up core)) (sym (does s (k.epoch (read_log s) kept h.read) gate.1)) running
+        subst (Comes setup s Doing.Open (Up core)) (sym (does s (k.epoch (read_log s) kept h.read)
+        (subst (λ n. HasPlace n (Some q)) (ends (read_log s)) gate.1))) running
 
     -- it was refused for the reason that the definitions have
     pub not_opened : (fault : Fault) (back : D) → HasNotOpened keeps obeys file clock since failures plan disk setup fault back → IsOwn fault →
@@ -215,8 +241,10 @@ module _ {D : Type 0} (keeps obeys : Type 0) (file : D → File) (clock : D → 
             HoldsLog file (crashed s (read_log s)) back
         synced is (inl wants) = absurd (own.0 wants)
         synced is (inr (inl device)) = absurd (own.1 device)
-        synced is (inr (inr clean)) = surely_holds file (crashed s (read_log s)) back refl
-            (subst (λ f. KeepsRecords f (Ok (read_log s))) (sym (clean kept)) (λ image may. ap records_in (may.unchanged refl) ∙ h.read))
+        synced is (inr (inr clean)) = surely_holds file (crashed s (read_log s)) back refl (
+          subst (λ f. KeepsRecords f (Ok (read_log s))) (sym (clean kept)) (λ image may. ap records_in (may.unchanged refl) ∙ h.read),
+          begins_now s disk back h (k.begins kept),
+        )
 
         spent : fault ≡ TimeSpent → (2 ^ 62 ≤ epoch_of (read_log s) + 1) ⊎ IsFull (end_of (read_log s)) (next_opening (read_log s)) →
             (opens_as s ≡ Refuses TimeSpent) × HoldsLog file (crashed s (read_log s)) back
@@ -226,7 +254,8 @@ module _ {D : Type 0} (keeps obeys : Type 0) (file : D → File) (clock : D → 
         reason (inl found) = absurd (no_fault setup (scanned_log (surface (file disk)).seen) (read_log s) fault h.read accepted found)
         reason (inr (is, (others, no_room))) =
             let same_log : others ≡ read_log s = ok_same others (read_log s) (records_in (surface (file disk)).seen) no_room.read h.read in
-            spent is (subst (λ l. (2 ^ 62 ≤ epoch_of l + 1) ⊎ IsFull (end_of l) (next_opening l)) same_log no_room.spent)
+            spent is (subst (λ n. (2 ^ 62 ≤ epoch_of (read_log s) + 1) ⊎ IsFull n (next_opening (read_log s))) (ends (read_log s))
+            (subst (λ l. (2 ^ 62 ≤ epoch_of l + 1) ⊎ IsFull (end_in (surface (file disk)).seen l) (next_opening l)) same_log no_room.spent))
 
         by_cause : (fault ≡ WantsMemory) ⊎ (((fault ≡ Device) × (failures disk < failures back))
             ⊎ (IsTrue (is_reason fault) × (keeps → IsReason setup (surface (file disk)) fault))) →

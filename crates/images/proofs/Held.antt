@@ -7,7 +7,10 @@ use Rattle.units.specs.declared.setup.Setup.{Setup}
 use Rattle.disk.specs.File.{File, surface}
 use Rattle.disk.specs.Image.{MayLeave}
 use Rattle.disk.proofs.Crashes.{seen_may}
+use Rattle.gatelog.specs.Crash.{Begins}
 use Rattle.gatelog.specs.Frames.{end_of}
+use Rattle.gatelog.specs.Gates.{first_gate}
+use Rattle.gatelog.specs.Slots.{begins_in}
 use Rattle.record.specs.Facts.{facts_of}
 use Rattle.record.specs.declared.record.Record.{Record}
 use Rattle.protocol.specs.Rows.{Memory}
@@ -17,10 +20,11 @@ use Rattle.world.specs.Headline.{IsUnsure, MayLeaveLog}
 use Rattle.world.specs.World.{ShardNow, State, Runs, IsStopped, IsDown, Unsure, Nothing, Shown, Hidden, failed_in, left_unsure, read_log, shown_records}
 use Rattle.images.specs.Images.{HoldsSurely, Life, Up, Down, disk_of}
 
--- an image is read as a log, and it is one of these
+-- an image is read as a log in the first area, and it is one of these
 pub record ReadsAs (allowed : List Record → Type 0) (image : List ℕ) : Type 0 where
   pub log : List Record
   pub read : records_in image ≡ Ok log
+  pub begins : begins_in image ≡ first_gate
   pub fits : allowed log
 
 -- where nothing is unsure, a read gives the log
@@ -87,8 +91,8 @@ module _ {D : Type 0} (file : D → File) where
   -- a disk that surely holds a log
   pub surely_holds : (s : ShardNow) (disk : D) → s.unsure ≡ Nothing → HoldsSurely file disk s.log → HoldsLog s disk
   surely_holds s disk sure kept = record {
-    read = kept (surface (file disk)).seen (seen_may (file disk)) ∙ ap (λ l. Ok l) (sym (sure_log s sure));
-    left = λ image may. record { log = s.log; read = kept image may; fits = inl refl };
+    read = kept.0 (surface (file disk)).seen (seen_may (file disk)) ∙ ap (λ l. Ok l) (sym (sure_log s sure));
+    left = λ image may. record { log = s.log; read = kept.0 image may; begins = kept.1 image may; fits = inl refl };
   }
 
   -- a disk that reads as another, and of which a crash leaves no more
@@ -105,16 +109,18 @@ module _ {D : Type 0} (file : D → File) where
   pub failed_holds : (s : ShardNow) (call : ℕ) (r : Record) (new : D) → nat_lt call 4 ≡ true →
       records_in (surface (file new)).seen ≡ Ok (read_log (failed_in s call r)) →
       ((image : List ℕ) → MayLeave (surface (file new)) image → HoldsOldOrWith (Ok (read_log s)) (Some r) image) → nat_le 2 call ≡ true →
-      HoldsLog (failed_in s call r) new
+      Begins (surface (file new)) first_gate → HoldsLog (failed_in s call r) new
   unfolding failed_in
-  failed_holds s call r new lt read images le = record { read = read; left = λ image may. by_image image (images image may) }
+  failed_holds s call r new lt read images le begins = record { read = read; left = λ image may. by_image image (begins image may) (images image may) }
     where
-      by_image : (image : List ℕ) → HoldsOldOrWith (Ok (read_log s)) (Some r) image → ReadsAs (MayLeaveLog (failed_in s call r)) image
-      by_image image (inl old) = record { log = read_log s; read = old; fits = inl refl }
-      by_image image (inr with) = record { log = read_log s ++ r ∷ []; read = with; fits = inr (r, unsure_there call r lt le, refl) }
+      by_image : (image : List ℕ) → begins_in image ≡ first_gate → HoldsOldOrWith (Ok (read_log s)) (Some r) image
+          → ReadsAs (MayLeaveLog (failed_in s call r)) image
+      by_image image at (inl old) = record { log = read_log s; read = old; begins = at; fits = inl refl }
+      by_image image at (inr with) =
+          record { log = read_log s ++ r ∷ []; read = with; begins = at; fits = inr (r, unsure_there call r lt le, refl) }
 
   -- or that the record is surely not there
   pub without_holds : (s : ShardNow) (call : ℕ) (r : Record) (new : D) → records_in (surface (file new)).seen ≡ Ok (read_log (failed_in s call r)) →
       HoldsSurely file new (read_log s) → HoldsLog (failed_in s call r) new
   unfolding failed_in
-  without_holds s call r new read kept = record { read = read; left = λ image may. record { log = read_log s; read = kept image may; fits = inl refl } }
+  without_holds s call r new read kept = record { read = read; left = λ image may. record { log = read_log s; read = kept.0 image may; begins = kept.1 image may; fits = inl refl } }

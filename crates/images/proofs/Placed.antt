@@ -10,7 +10,9 @@ use Rattle.disk.specs.declared.plan.FailurePlan.{FailurePlan}
 use Rattle.disk.specs.declared.plan.Fate.{Fate}
 use Rattle.disk.specs.File.{File, surface}
 use Rattle.disk.specs.Image.{MayLeave}
+use Rattle.gatelog.specs.Crash.{Begins}
 use Rattle.gatelog.specs.Frames.{end_of}
+use Rattle.gatelog.specs.Gates.{first_gate}
 use Rattle.message.specs.declared.message.Envelope.{Envelope}
 use Rattle.message.specs.declared.message.Input.{Input}
 use Rattle.protocol.specs.Plan.{time_limit}
@@ -35,7 +37,7 @@ use Rattle.lives.proofs.Living.{asks, asks_the_resting, not_up_opens}
 use Rattle.lives.proofs.Opening.{epoch_is, not_up}
 use Rattle.images.specs.Images.{Answers, Fails, GoesOn, HoldsSurely, IsDisk, IsOwnAnswer, Life, Up, Down}
 use Rattle.images.specs.Images.{OpensTo, RestartsWith, RestsOn, StarvesIn, Takes, TakesWhat, WasEnded, disk_of, failing}
-use Rattle.images.proofs.Called.{Comes, Steps, comes, is_stopped, left_now, not_opened, not_opened_now, opened, refuses_all, starved}
+use Rattle.images.proofs.Called.{Comes, Steps, begins_now, comes, is_stopped, left_now, not_opened, not_opened_now, opened, refuses_all, starved}
 use Rattle.images.proofs.Called.{sure_only}
 use Rattle.images.proofs.Held.{HoldsLog, IsRunning, LivesAs, LivesIn, failed_holds, life_holds, sure_log, surely_holds, within_holds, without_holds}
 
@@ -223,9 +225,9 @@ module _ {D : Type 0} (keeps obeys : Type 0) (file : D → File) (clock : D → 
     -- what the disk holds behind it
     tells : (call : ℕ) (r : Record) (disk : D) → nat_lt call 4 ≡ true → records_in (surface (file disk)).seen ≡ Ok (read_log (failed_in s call r)) →
         ((image : List ℕ) → MayLeave (surface (file disk)) image → HoldsOldOrWith (Ok (read_log s)) (Some r) image) →
-        (nat_le 2 call ≡ true) ⊎ HoldsSurely file disk (read_log s) → HoldsLog file (failed_in s call r) disk
-    tells call r disk lt read images (inl le) = failed_holds file s call r disk lt read images le
-    tells call r disk lt read images (inr surely) = without_holds file s call r disk read surely
+        (nat_le 2 call ≡ true) ⊎ HoldsSurely file disk (read_log s) → Begins (surface (file disk)) first_gate → HoldsLog file (failed_in s call r) disk
+    tells call r disk lt read images (inl le) begins = failed_holds file s call r disk lt read images le begins
+    tells call r disk lt read images (inr surely) begins = without_holds file s call r disk read surely
 
     module _ (call : ℕ) (r : Record) (lt : nat_lt call 4 ≡ true) where
       -- of a core
@@ -247,7 +249,8 @@ module _ {D : Type 0} (keeps obeys : Type 0) (file : D → File) (clock : D → 
               subst (λ f. Steps keeps obeys file clock since failures plan counts kept old new (Does (Some r) memory out) (Err f)) device
               (subst (λ st. Steps keeps obeys file clock since failures plan counts kept old new st (Err fault)) step_is k) in
               let disk = tells call r new.disk lt read (λ image may. left_now keeps obeys file clock since failures plan counts kept (setup_of config n) s m
-              old new l (Does (Some r) memory out) (Err Device) stepped image may) told in
+              old new l (Does (Some r) memory out) (Err Device) stepped image may) told
+              (begins_now keeps obeys file clock since failures plan counts kept s old.disk new.disk l.disk (stepped.written.begins l.runs kept)) in
               subst (LivesIn file (setup_of config n) (failed_in s call r) (Up new)) (sym (ap stopped_state runs))
               (is_stopped keeps obeys file clock since failures plan counts kept (setup_of config n) s m old new l r memory out stepped, disk)
           by_state (IsStopped m) stops l = absurd (no_input (setup_of config n) bag s doing (Some r) memory out does
@@ -279,7 +282,8 @@ module _ {D : Type 0} (keeps obeys : Type 0) (file : D → File) (clock : D → 
       opens_fails (Up core) fault disk k down h memory out does read told behind = absurd k
       opens_fails (Down back) fault disk k down h memory out does read told behind =
           subst (LivesIn file (setup_of config n) (failed_in s call r) (Down back)) (sym (not_up s.state down))
-          (tells call r back lt read (images behind) told)
+          (tells call r back lt read (images behind) told
+          (begins_now keeps obeys file clock since failures plan counts kept s disk back h (k.begins kept)))
         where
           opening : next_opening (read_log s) ≡ r
           opening = some_record (next_opening (read_log s)) r (opening_is s (Some r) memory out (sym (not_up_opens (setup_of config n) bag s down).0 ∙ does))
@@ -366,8 +370,10 @@ module _ {D : Type 0} (keeps obeys : Type 0) (file : D → File) (clock : D → 
     ended_lives (Up core) (Down disk) k h = by_state s.state h
       where
         by_state : (st : State) → LivesIn file (setup_of config n) s (Up core) st → HoldsLog file (crashed s s.log) disk
-        by_state (Runs m) l = subst (HoldsLog file (crashed s s.log)) k.1 (surely_holds file (crashed s s.log) core.disk refl
-            (λ image may. sure_only s image l.sure (l.disk.left image may) ∙ ap (λ x. Ok x) (sure_log s l.sure)))
+        by_state (Runs m) l = subst (HoldsLog file (crashed s s.log)) k.1 (surely_holds file (crashed s s.log) core.disk refl (
+          λ image may. sure_only s image l.sure (l.disk.left image may) ∙ ap (λ x. Ok x) (sure_log s l.sure),
+          λ image may. (l.disk.left image may).begins,
+        ))
         by_state (IsStopped m) l = absurd (false≢true (sym k.0 ∙ l.0))
         by_state IsDown l = absurd l
     ended_lives (Up core) (Up new) k h = absurd k

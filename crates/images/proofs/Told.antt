@@ -13,6 +13,8 @@ use Rattle.disk.specs.declared.plan.FailurePlan.{FailurePlan}
 use Rattle.disk.specs.declared.plan.Fate.{Fate}
 use Rattle.disk.specs.File.{File, surface}
 use Rattle.disk.specs.Image.{MayLeave}
+use Rattle.gatelog.specs.Gates.{first_gate}
+use Rattle.gatelog.specs.Slots.{begins_in}
 use Rattle.message.specs.declared.message.Address.{Address}
 use Rattle.message.specs.declared.message.Address.TheVariants.{Shard, Session}
 use Rattle.message.specs.declared.message.Envelope.{Envelope}
@@ -148,9 +150,10 @@ module _ {D : Type 0} (keeps obeys : Type 0) (file : D → File) (clock : D → 
   here = h n s there
 
   -- what goes on from an image that is read as a log
-  restart : (image : List ℕ) (log : List Record) (new : Life D) → records_in image ≡ Ok log → RestartsFrom file image new → RestartsWith file log new
-  restart image log (Up core) read k = absurd k
-  restart image log (Down disk) read k = λ later may. k later may ∙ read
+  restart : (image : List ℕ) (log : List Record) (new : Life D) → records_in image ≡ Ok log → begins_in image ≡ first_gate → RestartsFrom file image new →
+      RestartsWith file log new
+  restart image log (Up core) read at k = absurd k
+  restart image log (Down disk) read at k = (λ later may. (k later may).0 ∙ read, λ later may. (k later may).1 ∙ at)
 
   is_shard : (t : ShardNow) → slice_get (run config es).shards n ≡ Some t → s ≡ t
   is_shard t e = some_shard s t (sym there ∙ e)
@@ -164,24 +167,25 @@ module _ {D : Type 0} (keeps obeys : Type 0) (file : D → File) (clock : D → 
   -- ---- the events
 
   -- the shard crashes
-  by_crash : (image : List ℕ) → records_in image ≡ Ok s.log → is_down s.state ≡ false → Told image
+  by_crash : (image : List ℕ) → records_in image ≡ Ok s.log → begins_in image ≡ first_gate → is_down s.state ≡ false → Told image
   unfolding may_act
-  by_crash image read up = record {
+  by_crash image read at up = record {
     event = record { time = (run config es).time; act = Act.Crash n };
     may = and_from (nat_le (run config es).time (run config es).time) (is_in (run config es) n (λ st. not (is_down st)))
         (no_later (run config es).time) (in_state (λ st. not (is_down st)) (ap not up));
     tells = λ new elsewhere k. record {
       elsewhere = elsewhere;
-      here = λ t e. inl (subst (λ (x : ShardNow). RestartsWith file x.log (new n)) (is_shard t e) (restart image s.log (new n) read k));
+      here = λ t e. inl (subst (λ (x : ShardNow). RestartsWith file x.log (new n)) (is_shard t e) (restart image s.log (new n) read at k));
     };
   }
 
   -- it crashes within a call
   crashes_in : (image : List ℕ) (call time : ℕ) (fate : Fate) (doing : Doing) → (run config es).time ≤ time → may_do (run config es) time n doing ≡ true →
       may_crash (run config es) n doing ≡ true →
-      records_in image ≡ Ok (crashed_in s call fate doing (effect (setup_of (run config es).config n) (run config es).bag s doing)).log → Told image
+      records_in image ≡ Ok (crashed_in s call fate doing (effect (setup_of (run config es).config n) (run config es).bag s doing)).log →
+      begins_in image ≡ first_gate → Told image
   unfolding may_act
-  crashes_in image call time fate doing later may_do_it may_crash_it read = record {
+  crashes_in image call time fate doing later may_do_it may_crash_it read at = record {
     event = record { time = time; act = Act.CrashIn n call fate n doing };
     may = and_from (nat_le (run config es).time time) _ (at_most (run config es).time time later)
         (and_from (nat_lt n (length (run config es).shards) && nat_eq n n && may_do (run config es) time n doing) (may_crash (run config es) n doing)
@@ -192,7 +196,7 @@ module _ {D : Type 0} (keeps obeys : Type 0) (file : D → File) (clock : D → 
       here = λ t e. subst
           (λ (x : ShardNow). RestartsWith file (crashed_in x call fate doing (effect (setup_of (run config es).config n) (run config es).bag x doing)).log (new n))
           (is_shard t e)
-          (restart image (crashed_in s call fate doing (effect (setup_of (run config es).config n) (run config es).bag s doing)).log (new n) read k);
+          (restart image (crashed_in s call fate doing (effect (setup_of (run config es).config n) (run config es).bag s doing)).log (new n) read at k);
     };
   }
     where
@@ -225,7 +229,7 @@ module _ {D : Type 0} (keeps obeys : Type 0) (file : D → File) (clock : D → 
       by_opening down sure same = crashes_in image 0 (run config es).time Fate.Old Doing.Open (omega arith)
           (in_state (λ st. not (is_up st)) (down_rests s.state down)) refl
           (reads.read ∙ ap (λ l. Ok l) (same ∙ sym (sure_log s sure)
-          ∙ unopened_left s (effect (setup_of (run config es).config n) (run config es).bag s Doing.Open)))
+          ∙ unopened_left s (effect (setup_of (run config es).config n) (run config es).bag s Doing.Open))) reads.begins
         where
           down_rests : (st : State) → is_down st ≡ true → not (is_up st) ≡ true
           down_rests (Runs m) e = absurd (false≢true e)
@@ -238,14 +242,14 @@ module _ {D : Type 0} (keeps obeys : Type 0) (file : D → File) (clock : D → 
           crashes_in image 0 (run config es).time Fate.New (Doing.Resume now) (omega arith) (honest_at (run config es).time)
           (in_state (λ st. not (is_down st)) (ap not up))
           (reads.read ∙ ap (λ l. Ok l) (is ∙ refused_left s now r (effect (setup_of (run config es).config n) (run config es).bag s (Doing.Resume now))
-          (asks_the_resting (setup_of (run config es).config n) (run config es).bag s (Doing.Resume now) refl rests) unsure))
+          (asks_the_resting (setup_of (run config es).config n) (run config es).bag s (Doing.Resume now) refl rests) unsure)) reads.begins
 
       by_down : (b : Bool) → is_down s.state ≡ b → s.unsure ≡ Nothing → reads.log ≡ s.log → Told image
       by_down true down sure same = by_opening down sure same
-      by_down false up sure same = by_crash image (reads.read ∙ ap (λ l. Ok l) same) up
+      by_down false up sure same = by_crash image (reads.read ∙ ap (λ l. Ok l) same) reads.begins up
 
       by_fits : MayLeaveLog s reads.log → (is_down s.state ≡ false) ⊎ (s.unsure ≡ Nothing) → Told image
-      by_fits (inl same) (inl up) = by_crash image (reads.read ∙ ap (λ l. Ok l) same) up
+      by_fits (inl same) (inl up) = by_crash image (reads.read ∙ ap (λ l. Ok l) same) reads.begins up
       by_fits (inl same) (inr sure) = by_down (is_down s.state) refl sure same
       by_fits (inr more) (inl up) = with_unsure up more.0 more.1 more.2
       by_fits (inr more) (inr sure) = absurd (subst (λ u. IsUnsure u more.0) sure more.1)
@@ -300,11 +304,11 @@ module _ {D : Type 0} (keeps obeys : Type 0) (file : D → File) (clock : D → 
       parts = and_parts (nat_le (run config es).time u.event.time) (may_act (run config es) u.event.time u.event.act) may
 
       by_fits : MayLeaveHere (run config es) n u.doing s reads.log → Told image
-      by_fits (inl fits) = now_told image (record { log = reads.log; read = reads.read; fits = fits }) can
+      by_fits (inl fits) = now_told image (record { log = reads.log; read = reads.read; begins = reads.begins; fits = fits }) can
       by_fits (inr logged) = crashes_in image 3 u.event.time Fate.New u.doing (later (run config es).time u.event.time parts.0)
           (may_be_done (run config es) u.event.time n u.doing u.event.act u.of parts.1) (may_be_in u.doing u.logged u.memory u.out does)
           (reads.read ∙ ap (λ l. Ok l) (logged.1.1 ∙ logged_left s u.doing logged.0 logged.1.0.0 logged.1.0.1
-          (effect (setup_of (run config es).config n) (run config es).bag s u.doing) logged.1.0.2))
+          (effect (setup_of (run config es).config n) (run config es).bag s u.doing) logged.1.0.2)) reads.begins
         where
           later : (a b : ℕ) → nat_le a b ≡ true → a ≤ b
           later a b e = grind (arith, nat_tests)

@@ -35,10 +35,12 @@ use Rattle.lives.proofs.Formatting.{fresh_is, none_taken, opens_first}
 use Rattle.lives.proofs.Living.{asks_the_resting, not_up_opens}
 use Rattle.law.proofs.Instants.{lawful_front}
 use Rattle.law.proofs.WholeLaw.{externally_consistent, run_on}
+use Rattle.gatelog.specs.Gates.{first_gate}
+use Rattle.gatelog.specs.Slots.{begins_in}
 use Rattle.images.specs.Images.{AreFresh, AreImages, AreLeft, AreLeftWithin, Calls, CoresKnowTheRun, HaveLogs, ImagesHaveLogs, IsFresh, KnowsShard, Leads}
 use Rattle.images.specs.Images.{LeavesNow, LeavesWithin, Life, Up, Down, OpensTo, RestsOn, Takes, TakesWhat, Turn, Happens, Starves, Turns, disk_of, events_of}
 use Rattle.images.proofs.Acted.{acts_hold, starves_hold}
-use Rattle.images.proofs.Called.{Comes, LeavesRead, left_since, not_opened_since, opened, opened_since}
+use Rattle.images.proofs.Called.{Comes, LeavesRead, begins_since, left_since, not_opened_since, opened, opened_since}
 use Rattle.images.proofs.Held.{HoldsLog, LivesAs, LivesIn, ReadsAs, life_holds, read_may, surely_holds}
 use Rattle.images.proofs.Placed.{Hold, input_whole, no_input, opening_is, rests_holds, some_shard}
 
@@ -174,12 +176,12 @@ module _ {D : Type 0} (keeps obeys : Type 0) (file : D → File) (clock : D → 
 
     -- the records, or these with that of the step
     reads_as : (doing : Doing) (logged : Option Record) (memory : Memory) (out : List Envelope) →
-        effect (setup_of w.config n) w.bag s doing ≡ Does logged memory out → (image : List ℕ) → HoldsOldOrWith (Ok (read_log s)) logged image →
-        ReadsAs (MayLeaveHere w n doing s) image
-    reads_as doing logged memory out does image (inl old) = record { log = read_log s; read = old; fits = inl (read_may s) }
-    reads_as doing None memory out does image (inr with) = record { log = read_log s; read = with; fits = inl (read_may s) }
-    reads_as doing (Some r) memory out does image (inr with) =
-        record { log = read_log s ++ r ∷ []; read = with; fits = inr (r, ((memory, out, does), refl)) }
+        effect (setup_of w.config n) w.bag s doing ≡ Does logged memory out → (image : List ℕ) → begins_in image ≡ first_gate →
+        HoldsOldOrWith (Ok (read_log s)) logged image → ReadsAs (MayLeaveHere w n doing s) image
+    reads_as doing logged memory out does image at (inl old) = record { log = read_log s; read = old; begins = at; fits = inl (read_may s) }
+    reads_as doing None memory out does image at (inr with) = record { log = read_log s; read = with; begins = at; fits = inl (read_may s) }
+    reads_as doing (Some r) memory out does image at (inr with) =
+        record { log = read_log s ++ r ∷ []; read = with; begins = at; fits = inr (r, ((memory, out, does), refl)) }
 
     takes_reads : (doing : Doing) (p : Interval × Input) (old new : Life D) (result : Result (List Envelope) Fault) → goes_on doing ≡ true →
         input_of w.bag doing ≡ Some p → (logged : Option Record) (memory : Memory) (out : List Envelope) →
@@ -195,6 +197,7 @@ module _ {D : Type 0} (keeps obeys : Type 0) (file : D → File) (clock : D → 
             (sym (input_whole keeps obeys file clock since failures plan counts kept w.config w.bag n s (steady.takes n s there) follows doing p m old g is runs l)
             ∙ does) in
             reads_as doing logged memory out does image
+            (begins_since keeps obeys file clock since failures plan counts kept s old.disk new.disk l.disk (k.written.begins l.runs kept) image left)
             (subst (λ st. HoldsOldOrWith (Ok (read_log s)) (record_of st) image) step_is
             (left_since keeps obeys file clock since failures plan counts kept (setup_of w.config n) s m old new l (step_of old p.0 p.1) result k image left))
         by_state (IsStopped m) stops l = absurd (no_input (setup_of w.config n) w.bag s doing logged memory out does
@@ -215,11 +218,11 @@ module _ {D : Type 0} (keeps obeys : Type 0) (file : D → File) (clock : D → 
 
     -- of an opening
     read_reads : (disk : D) (h : HoldsLog file s disk) → is_up s.state ≡ false → (logged : Option Record) (memory : Memory) (out : List Envelope) →
-        effect (setup_of w.config n) w.bag s Doing.Open ≡ Does logged memory out → (image : List ℕ) →
+        effect (setup_of w.config n) w.bag s Doing.Open ≡ Does logged memory out → (image : List ℕ) → begins_in image ≡ first_gate →
         LeavesRead keeps obeys file clock since failures plan counts kept (setup_of w.config n) s disk h image → ReadsAs (MayLeaveHere w n Doing.Open s) image
-    read_reads disk h down logged memory out does image (inl before) =
-        let reads = h.left image before in record { log = reads.log; read = reads.read; fits = inl reads.fits }
-    read_reads disk h down logged memory out does image (inr read) = reads_as Doing.Open logged memory out does image
+    read_reads disk h down logged memory out does image at (inl before) =
+        let reads = h.left image before in record { log = reads.log; read = reads.read; begins = at; fits = inl reads.fits }
+    read_reads disk h down logged memory out does image at (inr read) = reads_as Doing.Open logged memory out does image at
         (subst (λ o. HoldsOldOrWith (Ok (read_log s)) o image)
         (opening_is s logged memory out (sym (not_up_opens (setup_of w.config n) w.bag s down).0 ∙ does)) read)
 
@@ -234,6 +237,16 @@ module _ {D : Type 0} (keeps obeys : Type 0) (file : D → File) (clock : D → 
     opens_reads (Up core) (Err fault) disk k down h image left = absurd k
     opens_reads (Down back) (Ok out) disk k down h image left = absurd k
 
+    opens_begins : (new : Life D) (result : Result (List Envelope) Fault) (disk : D) →
+        OpensTo keeps obeys file clock since failures plan disk (setup_of w.config n) new result → HoldsLog file s disk →
+        (image : List ℕ) → since (disk_of new) (clock disk) image → begins_in image ≡ first_gate
+    opens_begins (Up core) (Ok out) disk k h image left =
+        begins_since keeps obeys file clock since failures plan counts kept s disk core.disk h (k.begins kept) image left
+    opens_begins (Down back) (Err fault) disk k h image left =
+        begins_since keeps obeys file clock since failures plan counts kept s disk back h (k.begins kept) image left
+    opens_begins (Up core) (Err fault) disk k h image left = absurd k
+    opens_begins (Down back) (Ok out) disk k h image left = absurd k
+
     same_disk : (old : Life D) (disk : D) → RestsOn old disk → disk_of old ≡ disk
     same_disk (Up core) disk rests = rests.1
     same_disk (Down d) disk rests = rests
@@ -244,8 +257,9 @@ module _ {D : Type 0} (keeps obeys : Type 0) (file : D → File) (clock : D → 
         (image : List ℕ) → since (disk_of new) (clock (disk_of old)) image → ReadsAs (MayLeaveHere w n doing s) image
     calls_read Doing.Open old new result logged memory out does k h image left =
         let rests = rests_holds keeps obeys file clock since failures plan counts kept (setup_of w.config n) s old k.disk k.rests s.state h in
-        read_reads k.disk rests.1 rests.0 logged memory out does image (opens_reads new result k.disk k.opened rests.0 rests.1 image
-        (subst (λ d. since (disk_of new) (clock d) image) (same_disk old k.disk k.rests) left))
+        let since_then = subst (λ d. since (disk_of new) (clock d) image) (same_disk old k.disk k.rests) left in
+        read_reads k.disk rests.1 rests.0 logged memory out does image (opens_begins new result k.disk k.opened rests.1 image since_then)
+        (opens_reads new result k.disk k.opened rests.0 rests.1 image since_then)
     calls_read (Doing.Take m now) old new result logged memory out does k h image left =
         what_reads (Doing.Take m now) (input_of w.bag (Doing.Take m now)) old new result refl refl logged memory out does k h image left
     calls_read (Doing.Resume now) old new result logged memory out does k h image left =

@@ -10,6 +10,9 @@ use Rattle.truetime.specs.Interval.{Interval}
 use Rattle.disk.specs.declared.plan.FailurePlan.{FailurePlan}
 use Rattle.disk.specs.File.{File, surface}
 use Rattle.disk.specs.Image.{MayLeave}
+use Rattle.gatelog.specs.Crash.{Begins}
+use Rattle.gatelog.specs.Gates.{first_gate}
+use Rattle.gatelog.specs.Slots.{begins_in}
 use Rattle.record.specs.Facts.{facts_of}
 use Rattle.record.specs.declared.record.Record.{Record}
 use Rattle.message.specs.declared.message.Envelope.{Envelope}
@@ -111,9 +114,9 @@ module _ {D : Type 0} (file : D → File) where
   abbrev pub LeavesNow : Life D → List ℕ → Type 0
   LeavesNow life image = MayLeave (surface (file (disk_of life))) image
 
-  -- each image that a crash now may leave has these records, and no other
+  -- each image that a crash now may leave has these records, and no other, in the first area
   abbrev pub HoldsSurely : D → List Record → Type 0
-  HoldsSurely disk log = KeepsRecords (surface (file disk)) (Ok log)
+  HoldsSurely disk log = KeepsRecords (surface (file disk)) (Ok log) × Begins (surface (file disk)) first_gate
 
   -- a shard is down, on a disk that surely holds these records
   abbrev pub RestartsWith : List Record → Life D → Type 0
@@ -123,7 +126,8 @@ module _ {D : Type 0} (file : D → File) where
   -- it is down, on a disk of which each image that a crash now may leave is read as this one
   abbrev pub RestartsFrom : List ℕ → Life D → Type 0
   RestartsFrom image (Up core) = ⊥
-  RestartsFrom image (Down disk) = (later : List ℕ) → MayLeave (surface (file disk)) later → records_in later ≡ records_in image
+  RestartsFrom image (Down disk) = (later : List ℕ) → MayLeave (surface (file disk)) later →
+      (records_in later ≡ records_in image) × (begins_in later ≡ begins_in image)
 
 module _ {D : Type 0} (keeps obeys : Type 0) (file : D → File) (clock : D → ℕ) (since : D → ℕ → List ℕ → Type 0) (failures : D → ℕ)
     (plan : D → FailurePlan) where

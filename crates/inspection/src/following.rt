@@ -2,9 +2,10 @@
 ghost use Rattle.std.specs.Prelude.{◌≡◌, ◌⊎◌, ◌++◌, ◌∷◌, [], Ok, Err, IfErr, IsTrue, IsFalse, OnOk, MatchResult};
 ghost use Rattle.record.specs.Accepted.{followed};
 ghost use Rattle.record.specs.Facts.{facts_of};
+ghost use Rattle.facts.specs.Stages.{stage_of};
 ghost use Rattle.inspection.specs.Files.{records_behind};
 
-use facts::{Facts, follows_as_known};
+use facts::{Facts, follows_as_known, stage_agrees};
 use gatelog::Entry;
 use record::{Record, learn_agrees};
 use std::alloc::Global;
@@ -32,16 +33,19 @@ fn take(
     entry: &Entry,
 ) -> Result<(), Fault>
     requires known { facts.old.facts ≡ facts_of records.old.items }
+    requires stage { facts.old.stage ≡ stage_of records.old.items }
     requires followed { IsTrue (followed facts.old.shard records.old.items) }
     ensures shard { facts.new.shard ≡ facts.old.shard }
     ensures taken { OnOk result (records.new.items ≡ records.old.items ++ entry.now.item ∷ []) }
     ensures known { OnOk result (facts.new.facts ≡ facts_of records.new.items) }
+    ensures stage { OnOk result (facts.new.stage ≡ stage_of records.new.items) }
     ensures followed { OnOk result (IsTrue (followed facts.old.shard records.new.items)) }
     ensures refused { IfErr result (λ fault. (fault ≡ Fault.Memory)
         ⊎ ((fault ≡ Fault.Damaged entry.now.offset)
         × IsFalse (followed facts.old.shard (records.old.items ++ entry.now.item ∷ [])))) }
 {
     follows_as_known();
+    stage_agrees();
     learn_agrees();
     records.push(entry.item().copy(alloc)?)?;
     facts.reserve()?;

@@ -5,11 +5,11 @@ use Rattle.std.proofs.Common.{Some, None, refl, sym, ap, arith}
 use Rattle.std.proofs.lemmas.Bool.Decides.{nat_tests}
 use Rattle.units.specs.Ids.{Id, same_id}
 use Rattle.units.specs.Lists.{gather, has, when}
-use Rattle.record.specs.Records.{as_ended, is_aborted}
+use Rattle.record.specs.Records.{as_ended, closed_promise, is_aborted}
 use Rattle.record.specs.Whole.{Decision, fits_decision, is_promise_for, outcomes_fit, promises_of, turns_down}
 use Rattle.record.specs.declared.record.Prepared.{Prepared}
 use Rattle.record.specs.declared.record.Record.{Record}
-use Rattle.record.specs.declared.record.Record.TheVariants.{Opened, Ceiling, Prepare, Commit, Abort, Outcome, Horizon}
+use Rattle.record.specs.declared.record.Record.TheVariants.{Opened, Ceiling, Prepare, Commit, Abort, Outcome, Horizon, Base, Version, Settled, Closed}
 use Rattle.inspector.specs.declared.whole.Stand.TheVariants.{Nothing, Otherwise, Promised}
 use Rattle.inspector.specs.Tallies.{all_fit, stand_of}
 
@@ -66,6 +66,20 @@ none_left false true true d = refl
 none_left false true false d = refl
 none_left false false found d = refl
 
+-- an outcome at a timestamp more
+ended_fits : (own part found : Bool) (t : Id) (d : Decision) (log : List Record) (b c at : Bool)
+    → all_fit own part found (map (stand_of t d) log)
+    ≡ (not (turns_down log t) && outcomes_fit log t (nat_eq d.commit.at) && promises_fit own part found d (promises_of log t))
+    → all_fit own part found (cond (c && not at) Otherwise Nothing ∷ map (stand_of t d) log)
+    ≡ (not (is_aborted log t || ((b && false) || is_ended_aborted log t)) && ((not c || at) && outcomes_fit log t (nat_eq d.commit.at))
+    && promises_fit own part found d (promises_of log t))
+ended_fits own part found t d log true true true rest = rest
+ended_fits own part found t d log false true true rest = rest
+ended_fits own part found t d log b true false rest = never_first (not (is_aborted log t || ((b && false) || is_ended_aborted log t)))
+    (promises_fit own part found d (promises_of log t))
+ended_fits own part found t d log true false at rest = rest
+ended_fits own part found t d log false false at rest = rest
+
 pub each_fits : (own part found : Bool) (t : Id) (d : Decision) (log : List Record)
     → all_fit own part found (map (stand_of t d) log)
     ≡ (not (turns_down log t) && outcomes_fit log t (nat_eq d.commit.at) && promises_fit own part found d (promises_of log t))
@@ -73,6 +87,8 @@ each_fits own part found t d [] = none_left own part found d
 each_fits own part found t d (Opened e ∷ log) = each_fits own part found t d log
 each_fits own part found t d (Ceiling a ∷ log) = each_fits own part found t d log
 each_fits own part found t d (Horizon a ∷ log) = each_fits own part found t d log
+each_fits own part found t d (Base e f h ∷ log) = each_fits own part found t d log
+each_fits own part found t d (Version v ∷ log) = each_fits own part found t d log
 each_fits own part found t d (Commit c ∷ log) = each_fits own part found t d log
 each_fits own part found t d (Prepare p ∷ log) = by_test (same_id p.txn t) (each_fits own part found t d log) (each_fits own part true t d log)
   where
@@ -110,20 +126,46 @@ each_fits own part found t d (Outcome u None ∷ log) = by_test (same_id u t) (s
         (promises_fit own part found d (promises_of log t))
     by_test false true rest = rest
     by_test false false rest = rest
-each_fits own part found t d (Outcome u (Some s) ∷ log) = by_test (same_id u t) (same_id t u) (nat_eq d.commit.at s) (each_fits own part found t d log)
+each_fits own part found t d (Outcome u (Some s) ∷ log) =
+    ended_fits own part found t d log (same_id u t) (same_id t u) (nat_eq d.commit.at s) (each_fits own part found t d log)
+each_fits own part found t d (Settled u s parts ∷ log) =
+    ended_fits own part found t d log (same_id u t) (same_id t u) (nat_eq d.commit.at s) (each_fits own part found t d log)
+each_fits own part found t d (Closed u k None ∷ log) = by_test (same_id u t) (same_id t u) (each_fits own part found t d log)
   where
+    by_test : (b c : Bool)
+        → all_fit own part found (map (stand_of t d) log)
+        ≡ (not (turns_down log t) && outcomes_fit log t (nat_eq d.commit.at) && promises_fit own part found d (promises_of log t))
+        → all_fit own part found (cond b Otherwise Nothing ∷ map (stand_of t d) log)
+        ≡ (not (is_aborted log t || ((b && true) || is_ended_aborted log t)) && ((not c || true) && outcomes_fit log t (nat_eq d.commit.at))
+        && promises_fit own part found d (cond b (closed_promise u k None ∷ promises_of log t) (promises_of log t)))
+    by_test true c rest = turned (is_aborted log t) ((not c || true) && outcomes_fit log t (nat_eq d.commit.at))
+        (promises_fit own part found d (closed_promise u k None ∷ promises_of log t))
+    by_test false true rest = rest
+    by_test false false rest = rest
+each_fits own part found t d (Closed u k (Some s) ∷ log) =
+    by_test (same_id u t) (same_id t u) (nat_eq d.commit.at s) (each_fits own part found t d log) (each_fits own part true t d log)
+  where
+    fits : Bool
+    fits = nat_eq k d.shard && nat_le s d.commit.at
+
     by_test : (b c at : Bool)
         → all_fit own part found (map (stand_of t d) log)
         ≡ (not (turns_down log t) && outcomes_fit log t (nat_eq d.commit.at) && promises_fit own part found d (promises_of log t))
-        → all_fit own part found (cond (c && not at) Otherwise Nothing ∷ map (stand_of t d) log)
+        → all_fit own part true (map (stand_of t d) log)
+        ≡ (not (turns_down log t) && outcomes_fit log t (nat_eq d.commit.at) && promises_fit own part true d (promises_of log t))
+        → all_fit own part found (cond (c && not at) Otherwise (cond b (Promised fits) Nothing) ∷ map (stand_of t d) log)
         ≡ (not (is_aborted log t || ((b && false) || is_ended_aborted log t)) && ((not c || at) && outcomes_fit log t (nat_eq d.commit.at))
-        && promises_fit own part found d (promises_of log t))
-    by_test true true true rest = rest
-    by_test false true true rest = rest
-    by_test b true false rest = never_first (not (is_aborted log t || ((b && false) || is_ended_aborted log t)))
-        (promises_fit own part found d (promises_of log t))
-    by_test true false at rest = rest
-    by_test false false at rest = rest
+        && promises_fit own part found d (cond b (closed_promise u k (Some s) ∷ promises_of log t) (promises_of log t)))
+    by_test b true false rest found_rest = never_first (not (is_aborted log t || ((b && false) || is_ended_aborted log t)))
+        (promises_fit own part found d (cond b (closed_promise u k (Some s) ∷ promises_of log t) (promises_of log t)))
+    by_test true true true rest found_rest =
+        one_promise own part found (not (turns_down log t)) (outcomes_fit log t (nat_eq d.commit.at)) d (closed_promise u k (Some s)) (promises_of log t)
+        (all_fit own part found (map (stand_of t d) log)) (all_fit own part true (map (stand_of t d) log)) rest found_rest
+    by_test true false at rest found_rest =
+        one_promise own part found (not (turns_down log t)) (outcomes_fit log t (nat_eq d.commit.at)) d (closed_promise u k (Some s)) (promises_of log t)
+        (all_fit own part found (map (stand_of t d) log)) (all_fit own part true (map (stand_of t d) log)) rest found_rest
+    by_test false true true rest found_rest = rest
+    by_test false false at rest found_rest = rest
 
 pub log_by_records : (t : Id) (d : Decision) (n : ℕ) (log : List Record)
     → fits_decision t d (n, log) ≡ all_fit (nat_eq n d.shard) (has d.commit.parts n) false (map (stand_of t d) log)

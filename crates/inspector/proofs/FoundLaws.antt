@@ -5,7 +5,7 @@ use Rattle.std.proofs.Common.{◌≡◌, ◌∙◌, ℕ, Bool, true, false, cond
 use Rattle.units.specs.Ids.{Id, same_id}
 use Rattle.units.proofs.IdLaws.{same_id_comm}
 use Rattle.record.specs.History.{Txn}
-use Rattle.record.specs.Verdict.{is_in_at}
+use Rattle.record.specs.Lines.{is_in_at}
 use Rattle.inspector.specs.Known.{HaveSame, of_id}
 use Rattle.inspector.proofs.IdRuns.{is_less, stable_by_id}
 

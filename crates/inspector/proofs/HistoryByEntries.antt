@@ -5,11 +5,11 @@ use Rattle.units.specs.Lists.{gather, head, numbered, when}
 use Rattle.units.proofs.Folds.{gather_append}
 use Rattle.units.proofs.IdLaws.{same_id_comm}
 use Rattle.record.specs.History.{history, whole_txn}
-use Rattle.record.specs.Records.{as_committed, as_prepared}
+use Rattle.record.specs.Records.{as_committed, as_prepared, closed_promise}
 use Rattle.record.specs.declared.record.Committed.{Committed}
 use Rattle.record.specs.declared.record.Prepared.{Prepared}
 use Rattle.record.specs.declared.record.Record.{Record}
-use Rattle.record.specs.declared.record.Record.TheVariants.{Opened, Ceiling, Prepare, Commit, Abort, Outcome, Horizon}
+use Rattle.record.specs.declared.record.Record.TheVariants.{Opened, Ceiling, Prepare, Commit, Abort, Outcome, Horizon, Base, Version, Settled, Closed}
 use Rattle.inspector.specs.Decided.{decided_in, promised_in, whole_in}
 use Rattle.inspector.specs.Entries.{About, about_in, entries, of_txn}
 use Rattle.inspector.proofs.WholeByEntries.{of_txn_append, own, those}
@@ -34,31 +34,40 @@ no_promise t u shard n r log none rest = by_test (same_id t u)
     by_test true = ap rest_of (by_shard_test (nat_eq n shard)) ∙ rest
     by_test false = rest
 
-one_log : (t : Id) (shard n : ℕ) (log : List Record) → promised_in shard (own t n log) ≡ promised_here t shard n log
-one_log t shard n [] = refl
-one_log t shard n (Opened e ∷ log) = one_log t shard n log
-one_log t shard n (Ceiling a ∷ log) = one_log t shard n log
-one_log t shard n (Horizon a ∷ log) = one_log t shard n log
-one_log t shard n (Commit c ∷ log) = no_promise t c.txn shard n (Commit c) log refl (one_log t shard n log)
-one_log t shard n (Abort u ∷ log) = no_promise t u shard n (Abort u) log refl (one_log t shard n log)
-one_log t shard n (Outcome u o ∷ log) = no_promise t u shard n (Outcome u o) log refl (one_log t shard n log)
-one_log t shard n (Prepare p ∷ log) =
-    by_tests (same_id t p.txn) (nat_eq n shard) (one_log t shard n log)
+-- a record with one
+a_promise : (t : Id) (shard n : ℕ) (r : Record) (p : Prepared) (log : List Record) → as_prepared r ≡ Some p
+    → promised_in shard (own t n log) ≡ promised_here t shard n log
+    → promised_in shard (cond (same_id t p.txn) (record { txn = p.txn; shard = n; item = r } ∷ own t n log) (own t n log))
+    ≡ cond (same_id p.txn t && not (nat_eq n shard)) (p ∷ promised_here t shard n log) (promised_here t shard n log)
+a_promise t shard n r p log is rest =
+    by_tests (same_id t p.txn)
     ∙ ap (λ b. cond (b && not (nat_eq n shard)) (p ∷ promised_here t shard n log) (promised_here t shard n log)) (same_id_comm t p.txn)
   where
     rest_of : Option Prepared → List Prepared
     rest_of o = elim o as (λ x. List Prepared) [ None ↦ promised_in shard (own t n log) | Some y ↦ y ∷ promised_in shard (own t n log) ]
 
-    by_here : (b : Bool) → promised_in shard (own t n log) ≡ promised_here t shard n log
-        → rest_of (cond b None (Some p)) ≡ cond (not b) (p ∷ promised_here t shard n log) (promised_here t shard n log)
-    by_here true rest = rest
-    by_here false rest = ap (λ l. p ∷ l) rest
+    by_here : (b : Bool) → rest_of (cond b None (Some p)) ≡ cond (not b) (p ∷ promised_here t shard n log) (promised_here t shard n log)
+    by_here true = rest
+    by_here false = ap (λ l. p ∷ l) rest
 
-    by_tests : (a b : Bool) → promised_in shard (own t n log) ≡ promised_here t shard n log
-        → promised_in shard (cond a (record { txn = p.txn; shard = n; item = Prepare p } ∷ own t n log) (own t n log))
+    by_tests : (a : Bool) → promised_in shard (cond a (record { txn = p.txn; shard = n; item = r } ∷ own t n log) (own t n log))
         ≡ cond (a && not (nat_eq n shard)) (p ∷ promised_here t shard n log) (promised_here t shard n log)
-    by_tests true b rest = by_here (nat_eq n shard) rest
-    by_tests false b rest = rest
+    by_tests true = ap (λ o. rest_of (cond (nat_eq n shard) None o)) is ∙ by_here (nat_eq n shard)
+    by_tests false = rest
+
+one_log : (t : Id) (shard n : ℕ) (log : List Record) → promised_in shard (own t n log) ≡ promised_here t shard n log
+one_log t shard n [] = refl
+one_log t shard n (Opened e ∷ log) = one_log t shard n log
+one_log t shard n (Ceiling a ∷ log) = one_log t shard n log
+one_log t shard n (Horizon a ∷ log) = one_log t shard n log
+one_log t shard n (Base e f h ∷ log) = one_log t shard n log
+one_log t shard n (Version v ∷ log) = one_log t shard n log
+one_log t shard n (Commit c ∷ log) = no_promise t c.txn shard n (Commit c) log refl (one_log t shard n log)
+one_log t shard n (Abort u ∷ log) = no_promise t u shard n (Abort u) log refl (one_log t shard n log)
+one_log t shard n (Outcome u o ∷ log) = no_promise t u shard n (Outcome u o) log refl (one_log t shard n log)
+one_log t shard n (Settled u s ps ∷ log) = no_promise t u shard n (Settled u s ps) log refl (one_log t shard n log)
+one_log t shard n (Closed u k o ∷ log) = a_promise t shard n (Closed u k o) (closed_promise u k o) log refl (one_log t shard n log)
+one_log t shard n (Prepare p ∷ log) = a_promise t shard n (Prepare p) p log refl (one_log t shard n log)
 
 -- of all logs
 promised_from : (t : Id) (shard n : ℕ) (logs : List (List Record))

@@ -11,7 +11,8 @@ use Rattle.units.specs.Lists.{first, gather, head, numbered, when}
 use Rattle.units.specs.declared.line.Line.{Line}
 use Rattle.units.specs.declared.line.Line.TheVariants.{Ack, Begin, Look, Read}
 use Rattle.record.specs.History.{Txn, before, find_txn, serial, serial_before, upto}
-use Rattle.record.specs.Verdict.{first_fault, first_lost, first_wrong_order, first_wrong_read, is_in_at, is_late_ack, late_acks, line_reads_right}
+use Rattle.record.specs.Verdict.{first_fault, first_lost, first_wrong_order, first_wrong_read, is_late_ack, late_acks, line_reads_right}
+use Rattle.record.specs.Lines.{is_in_at}
 use Rattle.record.specs.Verdict.{lost_by, same_value}
 use Rattle.inspector.specs.Versions.{shown}
 use Rattle.inspector.specs.Known.{HaveSame, of_id}
@@ -94,5 +95,6 @@ same_wrong_order us vs same lines =
     ap (λ (late : Line → List ℕ). head (gather (λ (l : ℕ × Line). option_map (λ (j : ℕ). (l.0, j)) (head (late l.1))) (numbered 0 lines)))
     (λ i l. same_late_acks us vs same (numbered 0 lines) l i)
 
-pub same_fault : (us vs : List Txn) → HaveSame us vs → (lines : List Line) → line_fault us lines ≡ line_fault vs lines
-same_fault us vs same lines = λ i. first_fault None (same_lost us vs same lines i) (same_wrong_read us vs same lines i) (same_wrong_order us vs same lines i)
+pub same_fault : (renewed : Bool) (us vs : List Txn) → HaveSame us vs → (lines : List Line) → line_fault renewed us lines ≡ line_fault renewed vs lines
+same_fault renewed us vs same lines =
+    λ i. first_fault None (same_lost us vs same lines i) (cond renewed None (same_wrong_read us vs same lines i)) (same_wrong_order us vs same lines i)

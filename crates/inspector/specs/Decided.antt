@@ -1,5 +1,5 @@
 -- The transactions of the logs, log by log, with what others promised as found among the records about each.
-use Rattle.std.specs.Prelude.{ℕ, cond, ◌++◌, nat_eq, List, flat_map, Option, Some, None}
+use Rattle.std.specs.Prelude.{ℕ, cond, ◌++◌, nat_eq, List, [], flat_map, Option, Some, None}
 use Rattle.units.specs.Lists.{gather, head, when}
 use Rattle.record.specs.History.{Txn}
 use Rattle.record.specs.Records.{as_committed, as_prepared}
@@ -7,6 +7,11 @@ use Rattle.record.specs.declared.record.Committed.{Committed}
 use Rattle.record.specs.declared.record.Prepared.{Prepared}
 use Rattle.record.specs.declared.record.Record.{Record}
 use Rattle.inspector.specs.Entries.{About, of_txn}
+
+-- a list, or nothing
+abbrev pub or_none : {A : Type 0} → Option (List A) → List A
+or_none None = []
+or_none (Some xs) = xs
 
 -- the promises among some records, but for those of one shard
 abbrev pub promised_in : ℕ → List About → List Prepared

@@ -1,13 +1,13 @@
 -- The decisions of a transaction that logs hold, counted one by one.
 use Rattle.std.specs.List.{list_all}
-use Rattle.std.specs.Prelude.{ℕ, Bool, true, false, not, cond, ◌&&◌, List, [], ◌∷◌, map, filter, nat_eq, nat_le, Some, None}
+use Rattle.std.specs.Prelude.{ℕ, Bool, true, false, not, cond, ◌&&◌, List, [], ◌∷◌, map, filter, nat_eq, nat_le, Option, Some, None, option_map}
 use Rattle.units.specs.Ids.{Id, same_id}
-use Rattle.units.specs.Lists.{gather, head, when}
+use Rattle.units.specs.Lists.{follow, gather, head, when}
 use Rattle.record.specs.History.{by_shard}
-use Rattle.record.specs.Records.{as_committed}
+use Rattle.record.specs.Records.{as_committed, as_ended}
 use Rattle.record.specs.Whole.{Decision, fits_decision, parts_exist}
 use Rattle.record.specs.declared.record.Record.{Record}
-use Rattle.record.specs.declared.record.Record.TheVariants.{Opened, Ceiling, Prepare, Commit, Abort, Outcome, Horizon}
+use Rattle.record.specs.declared.record.Record.TheVariants.{Opened, Ceiling, Prepare, Commit, Abort, Outcome, Horizon, Base, Version, Settled, Closed}
 use Rattle.inspector.specs.declared.whole.Stand.{Stand}
 use Rattle.inspector.specs.declared.whole.Stand.TheVariants.{Nothing, Otherwise, Promised}
 use Rattle.inspector.specs.declared.whole.Tally.{Tally}
@@ -38,16 +38,35 @@ settled_tally never Never = never
 settled_tally never (Once b) = b
 settled_tally never Again = false
 
+-- a log turns the decision down where this holds
+abbrev pub turned_down : Bool → Stand
+turned_down b = cond b Otherwise Nothing
+
+-- how a promise of a transaction stands to a decision of an id
+abbrev pub promised_as : Id → Decision → Id → ℕ → ℕ → Stand
+promised_as t d u coordinator at =
+    cond (same_id u t) (Promised (nat_eq coordinator d.shard && nat_le at d.commit.at)) Nothing
+
 -- how a record stands to a decision of an id
 abbrev pub stand_of : Id → Decision → Record → Stand
 stand_of t d (Opened epoch) = Nothing
 stand_of t d (Ceiling at) = Nothing
 stand_of t d (Horizon at) = Nothing
-stand_of t d (Prepare p) = cond (same_id p.txn t) (Promised (nat_eq p.coordinator d.shard && nat_le p.at d.commit.at)) Nothing
+stand_of t d (Prepare p) = promised_as t d p.txn p.coordinator p.at
 stand_of t d (Commit c) = Nothing
-stand_of t d (Abort u) = cond (same_id t u) Otherwise Nothing
-stand_of t d (Outcome u None) = cond (same_id u t) Otherwise Nothing
-stand_of t d (Outcome u (Some s)) = cond (same_id t u && not (nat_eq d.commit.at s)) Otherwise Nothing
+stand_of t d (Abort u) = turned_down (same_id t u)
+stand_of t d (Outcome u None) = turned_down (same_id u t)
+stand_of t d (Outcome u (Some s)) = turned_down (same_id t u && not (nat_eq d.commit.at s))
+stand_of t d (Base epoch floor horizon) = Nothing
+stand_of t d (Version install) = Nothing
+stand_of t d (Settled u s parts) = turned_down (same_id t u && not (nat_eq d.commit.at s))
+stand_of t d (Closed u coordinator None) = turned_down (same_id u t)
+stand_of t d (Closed u coordinator (Some s)) =
+    cond (same_id t u && not (nat_eq d.commit.at s)) Otherwise (promised_as t d u coordinator s)
+
+-- the transaction that a record ends at a timestamp
+abbrev pub ended_at_a_time : Record → Option Id
+ended_at_a_time r = follow (as_ended r) (λ e. option_map (λ s. e.txn) e.outcome)
 
 -- what stands in a log fits a decision, in the coordinator's log, in that of a part, or in another, where a promise was found before or not
 abbrev pub all_fit : Bool → Bool → Bool → List Stand → Bool

@@ -7,12 +7,13 @@ ghost use Rattle.units.specs.Ids.{Id};
 ghost use Rattle.units.specs.Fronts.{front};
 ghost use Rattle.record.specs.History.{serial_before, find_txn, history, serial, whole_txn};
 ghost use Rattle.inspector.specs.Decided.{decided_in, promised_in, whole_in};
-ghost use Rattle.record.specs.Verdict.{is_in_at};
+ghost use Rattle.record.specs.Lines.{is_in_at};
 ghost use Rattle.inspector.specs.Entries.{AscendsByTxn, entries, of_txn};
 ghost use Rattle.inspector.specs.Known.{AscendsById, HaveSame, of_id};
 
+use crate::decisions::{Decision, decision_of};
 use crate::entries::{self, Entry};
-use record::{Committed, Record};
+use record::Record;
 use std::alloc::Global;
 use std::marker::Model;
 use units::{Fault, Stamp, TxnId, Write};
@@ -77,10 +78,10 @@ fn add_decided(
     ensures memory { IfErr result (λ fault. fault ≡ Fault.Memory) }
 {
     for item in log {
-        if let Record::Commit(committed) = item {
-            if shard == committed.parts.least().number() as usize {
-                let run = entries::run_of(about, committed.txn);
-                found.push(whole(alloc, run, shard, committed)?)?;
+        if let Some(decision) = decision_of(item) {
+            if shard == decision.parts.least().number() as usize {
+                let run = entries::run_of(about, decision.txn);
+                found.push(whole(alloc, run, shard, &decision)?)?;
             }
         }
     }
@@ -92,13 +93,15 @@ fn whole(
     alloc: Global,
     run: &[Entry<'_>],
     shard: usize,
-    commit: &Committed,
+    commit: &Decision<'_>,
 ) -> Result<Transaction, Fault>
     ensures whole { IfOk result (λ t. t ≡ whole_in shard commit.now run.now) }
     ensures memory { IfErr result (λ fault. fault ≡ Fault.Memory) }
 {
     let mut writes = Vec::new(alloc);
-    add_copies(&mut writes, commit.writes.as_slice())?;
+    if let Some(own) = commit.writes {
+        add_copies(&mut writes, own.as_slice())?;
+    }
     add_promised(&mut writes, run, shard)?;
     Ok(Transaction {
         txn: commit.txn,

@@ -2,6 +2,7 @@
 #![tactic(auto)]
 
 mod acks;
+mod decisions;
 mod entries;
 mod history;
 mod lines;

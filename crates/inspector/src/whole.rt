@@ -1,14 +1,17 @@
 //! Whether a transaction is whole over all logs.
-ghost use Rattle.std.specs.Prelude.{◌≡◌, IfOk, IfErr, ◌&&◌, map, not, nat_eq, nat_le, nat_lt, false};
+ghost use Rattle.std.specs.Prelude.{◌≡◌, IfOk, IfErr, ◌&&◌, map, not, nat_eq, nat_lt, false};
 ghost use Rattle.std.specs.List.{list_all};
+ghost use Rattle.units.specs.Ids.{same_id};
 ghost use Rattle.units.specs.Lists.{has, numbered};
 ghost use Rattle.record.specs.Whole.{decisions, fits_decision, outcomes_fit, is_whole};
 ghost use Rattle.inspector.specs.declared.whole.Tally.TheVariants.{Never};
 ghost use Rattle.inspector.specs.Entries.{log_numbered, logs_from};
-ghost use Rattle.inspector.specs.Tallies.{after, all_fit, decisions_here, fits_all, stand_of};
+ghost use Rattle.inspector.specs.Tallies.{after, all_fit, decisions_here, fits_all};
+ghost use Rattle.inspector.specs.Tallies.{ended_at_a_time, promised_as, stand_of, turned_down};
 
+use crate::decisions::{Decision, decision_of};
 use crate::entries::Entry;
-use record::{Committed, Prepared, Record};
+use record::Record;
 use std::alloc::Global;
 use units::{Fault, ShardNo, Stamp, TxnId};
 
@@ -76,11 +79,11 @@ fn tally_log(
 {
     for entry in entries {
         if number == entry.shard {
-            if let Record::Commit(committed) = entry.item {
-                if txn.is(committed.txn) {
+            if let Some(decision) = decision_of(entry.item) {
+                if txn.is(decision.txn) {
                     tally = match tally {
                         Tally::Never => {
-                            Tally::Once(fits(alloc, count, entries, txn, number, committed)?)
+                            Tally::Once(fits(alloc, count, entries, txn, number, &decision)?)
                         }
                         _ => Tally::Again,
                     };
@@ -99,7 +102,7 @@ fn fits(
     entries: &[Entry<'_>],
     txn: TxnId,
     shard: usize,
-    commit: &Committed,
+    commit: &Decision<'_>,
 ) -> Result<bool, Fault>
     ensures fits { IfOk result
         (λ fits. fits ≡ fits_all (logs_from count 0 entries.now) txn
@@ -132,7 +135,7 @@ fn each_fits(
     entries: &[Entry<'_>],
     txn: TxnId,
     shard: usize,
-    commit: &Committed,
+    commit: &Decision<'_>,
     parts: &[ShardNo],
 ) -> bool
     requires { parts.now ≡ commit.now.parts }
@@ -153,7 +156,7 @@ fn log_fits(
     entries: &[Entry<'_>],
     txn: TxnId,
     shard: usize,
-    commit: &Committed,
+    commit: &Decision<'_>,
     parts: &[ShardNo],
 ) -> bool
     requires { parts.now ≡ commit.now.parts }
@@ -196,57 +199,89 @@ fn is_part(parts: &[ShardNo], number: usize) -> bool
 }
 
 // How a record stands to the decision.
-fn stand_of(item: &Record, txn: TxnId, shard: usize, commit: &Committed) -> Stand
+fn stand_of(item: &Record, txn: TxnId, shard: usize, commit: &Decision<'_>) -> Stand
     ensures { result ≡ stand_of txn (record { shard = shard; commit = commit.now }) item.now }
 {
     match item {
-        Record::Opened { .. }
-        | Record::Ceiling { .. }
-        | Record::Horizon { .. }
-        | Record::Commit(_) => Stand::Nothing,
+        Record::Opened { .. } | Record::Ceiling { .. } | Record::Horizon { .. } => Stand::Nothing,
+        Record::Base { .. } | Record::Version(_) | Record::Commit(_) => Stand::Nothing,
         Record::Prepare(prepared) => {
-            if prepared.txn.is(txn) {
-                Stand::Promised(promise_fits(prepared, shard, commit))
-            } else {
-                Stand::Nothing
-            }
+            promised_as(
+                prepared.txn,
+                prepared.coordinator,
+                prepared.at,
+                txn,
+                shard,
+                commit,
+            )
         }
-        Record::Abort { txn: aborted } => {
-            if txn.is(*aborted) {
-                Stand::Otherwise
-            } else {
-                Stand::Nothing
-            }
-        }
+        Record::Abort { txn: aborted } => turned_down(txn.is(*aborted)),
         Record::Outcome {
             txn: ended,
             outcome: None,
-        } => {
-            if ended.is(txn) {
-                Stand::Otherwise
-            } else {
-                Stand::Nothing
-            }
-        }
+        } => turned_down(ended.is(txn)),
         Record::Outcome {
             txn: ended,
             outcome: Some(at),
+        } => turned_down(ends_otherwise(*ended, *at, txn, commit)),
+        Record::Settled {
+            txn: ended,
+            at,
+            parts: _,
+        } => turned_down(ends_otherwise(*ended, *at, txn, commit)),
+        Record::Closed {
+            txn: ended,
+            coordinator: _,
+            outcome: None,
+        } => turned_down(ended.is(txn)),
+        Record::Closed {
+            txn: ended,
+            coordinator,
+            outcome: Some(at),
         } => {
-            if txn.is(*ended) && commit.at.micros() != at.micros() {
+            if ends_otherwise(*ended, *at, txn, commit) {
                 Stand::Otherwise
             } else {
-                Stand::Nothing
+                promised_as(*ended, *coordinator, *at, txn, shard, commit)
             }
-        },
+        }
     }
 }
 
-// The promise names the coordinator and is not above the commit's timestamp.
-fn promise_fits(prepared: &Prepared, shard: usize, commit: &Committed) -> bool
-    ensures { result ≡ (nat_eq prepared.now.coordinator shard
-        && nat_le prepared.now.at commit.now.at) }
+fn turned_down(is_otherwise: bool) -> Stand
+    ensures { result ≡ turned_down is_otherwise }
 {
-    prepared.coordinator.number() as usize == shard && prepared.at.micros() <= commit.at.micros()
+    if is_otherwise {
+        Stand::Otherwise
+    } else {
+        Stand::Nothing
+    }
+}
+
+// An outcome at a timestamp is the transaction's, and not the decision's.
+fn ends_otherwise(ended: TxnId, at: Stamp, txn: TxnId, commit: &Decision<'_>) -> bool
+    ensures { result ≡ (same_id txn ended && not (nat_eq commit.now.at at)) }
+{
+    txn.is(ended) && commit.at.micros() != at.micros()
+}
+
+// How a promise stands to the decision. One that fits names the coordinator, and is not above the commit's timestamp.
+fn promised_as(
+    promised: TxnId,
+    coordinator: ShardNo,
+    at: Stamp,
+    txn: TxnId,
+    shard: usize,
+    commit: &Decision<'_>,
+) -> Stand
+    ensures { result ≡ promised_as txn (record { shard = shard; commit = commit.now })
+        promised coordinator at }
+{
+    if promised.is(txn) {
+        Stand::Promised(coordinator.number() as usize == shard && at.micros() <= commit.at.micros())
+    } else {
+        Stand::Nothing
+    }
 }
 
 // No log ends the transaction at a timestamp.
@@ -268,16 +303,34 @@ fn ends(number: usize, entries: &[Entry<'_>], txn: TxnId) -> bool
 {
     for entry in entries {
         if number == entry.shard {
-            if let Record::Outcome {
-                txn: ended,
-                outcome: Some(_),
-            } = entry.item
-            {
-                if txn.is(*ended) {
+            if let Some(ended) = ended_at_a_time(entry.item) {
+                if txn.is(ended) {
                     return true;
                 }
             }
         }
     }
     false
+}
+
+// The transaction that the record ends at a timestamp.
+fn ended_at_a_time(item: &Record) -> Option<TxnId>
+    ensures { result ≡ ended_at_a_time item.now }
+{
+    match item {
+        Record::Outcome {
+            txn,
+            outcome: Some(_),
+        } => Some(*txn),
+        Record::Closed {
+            txn,
+            outcome: Some(_),
+            ..
+        } => Some(*txn),
+        Record::Settled { txn, .. } => Some(*txn),
+        Record::Outcome { outcome: None, .. } | Record::Closed { outcome: None, .. } => None,
+        Record::Opened { .. } | Record::Ceiling { .. } | Record::Horizon { .. } => None,
+        Record::Base { .. } | Record::Version(_) => None,
+        Record::Prepare(_) | Record::Commit(_) | Record::Abort { .. } => None,
+    }
 }

@@ -1,7 +1,7 @@
 -- What a log that is taken says of its versions: each comes of an outcome, and one key has one value at one time.
 use Rattle.std.specs.List.{list_all}
 use Rattle.std.proofs.Common.{◌≡◌, inl, inr, ℕ, ◌+◌, ◌<◌, Bool, true, false, not, cond, ◌&&◌, nat_lt, List, [], ◌∷◌, ◌++◌, Option, Some, None, refl}
-use Rattle.std.proofs.Common.{sym, ap, subst, ◌∙◌, arith, append_assoc}
+use Rattle.std.proofs.Common.{sym, ap, subst, ◌∙◌, arith, append_assoc, flat_map}
 use Rattle.std.proofs.lemmas.Bool.{and_parts}
 use Rattle.std.proofs.lemmas.Bool.Decides.{nat_tests}
 use Rattle.std.proofs.lemmas.List.{append-nil}
@@ -16,17 +16,19 @@ use Rattle.units.proofs.KeyLaws.{same_key-refl}
 use Rattle.record.specs.Accepted.{Taken, Accepted, DamagedAt, StrangerAt, taken, taken_from, belongs, begins, follows, fits_beside, followed}
 use Rattle.record.specs.Facts.{Facts, facts_of, learn, recorded, installs_at}
 use Rattle.record.specs.Installs.{installs_of, installed_by, writes_by}
-use Rattle.record.specs.Records.{Ended, as_ended, as_committed, as_prepared, status_by, status_of, is_aborted, committed_of, prepared_of, ended_of}
+use Rattle.record.specs.Records.{Ended, as_ended, as_version, as_committed, as_prepared, status_by, status_of, is_aborted, committed_of, prepared_of, ended_of}
 use Rattle.record.specs.declared.record.Committed.{Committed}
 use Rattle.record.specs.declared.record.Prepared.{Prepared}
 use Rattle.record.specs.declared.record.Record.{Record}
-use Rattle.record.specs.declared.record.Record.TheVariants.{Opened, Ceiling, Prepare, Commit, Abort, Outcome, Horizon}
+use Rattle.record.specs.declared.record.Record.TheVariants.{Opened, Ceiling, Prepare, Commit, Abort, Outcome, Horizon, Base, Version, Settled, Closed}
 use Rattle.record.proofs.LearnAgrees.{learn_agrees, followed_more}
 use Rattle.record.proofs.Statuses.{recorded_is}
 use Rattle.law.specs.Among.{IsAmong}
-use Rattle.law.proofs.Members.{among_left, among_cases}
+use Rattle.law.proofs.Members.{among_left, among_right, among_cases}
 use Rattle.law.proofs.Picked.{among_map, map_among, among_join, join_among, keep_among, gather_among}
-use Rattle.law.proofs.Recorded.{among_first, outcome_among, promise_among, decision_among}
+use Rattle.world.proofs.StepKinds.{is_logged}
+use Rattle.law.proofs.Logged.{AreLogged}
+use Rattle.law.proofs.Recorded.{among_first, none_listed, outcome_among, promise_among, decision_among}
 
 -- a member passes the test of all
 pub each_at : {A : Type 0} (test : A → Bool) (xs : List A) (x : A) → list_all test xs ≡ true → IsAmong xs x → test x ≡ true
@@ -121,11 +123,14 @@ pub record InstalledBy (log : List Record) (i : Install) : Type 0 where
   pub at : i.at ≡ stamp
   pub value : i.value ≡ write.value
 
-pub installed_from : (log : List Record) (i : Install) → IsAmong (installs_of log) i → InstalledBy log i
+pub installed_from : (log : List Record) → AreLogged log → (i : Install) → IsAmong (installs_of log) i → InstalledBy log i
 unfolding installs_of
-installed_from log i h =
-    let j = among_join (installed_by log) (gather as_ended log) i h in
-    by_outcome j.from.txn j.from.outcome (outcome_among log j.from j.among) j.within
+installed_from log logged i h = elim (among_cases (gather as_version log) (flat_map (installed_by log) (gather as_ended log)) i h) [
+  | inl listed ↦ absurd (none_listed log logged i listed)
+  | inr made ↦
+      let j = among_join (installed_by log) (gather as_ended log) i made in
+      by_outcome j.from.txn j.from.outcome (outcome_among log logged j.from j.among) j.within
+]
   where
     by_outcome : (t : Id) (o : Option ℕ) → IsAmong log (Outcome t o) →
         IsAmong (elim o as (λ x. List Install) [ None ↦ [] | Some s ↦ versions (writes_by (committed_of log t) (prepared_of log t)) s ]) i → InstalledBy log i
@@ -148,9 +153,10 @@ pub installs_have : (log : List Record) (t : Id) (s : ℕ) (w : Write) → IsAmo
     IsAmong (installs_of log) (record { key = w.key; at = s; value = w.value })
 unfolding installs_of
 installs_have log t s w ended among =
-    join_among (installed_by log) (gather as_ended log) (record { txn = t; outcome = Some s }) (record { key = w.key; at = s; value = w.value })
+    among_right (gather as_version log) (flat_map (installed_by log) (gather as_ended log)) (record { key = w.key; at = s; value = w.value })
+    (join_among (installed_by log) (gather as_ended log) (record { txn = t; outcome = Some s }) (record { key = w.key; at = s; value = w.value })
     (gather_among as_ended log (Outcome t (Some s)) (record { txn = t; outcome = Some s }) ended refl)
-    (map_among (λ (v : Write). record { key = v.key; at = s; value = v.value }) (writes_by (committed_of log t) (prepared_of log t)) w among)
+    (map_among (λ (v : Write). record { key = v.key; at = s; value = v.value }) (writes_by (committed_of log t) (prepared_of log t)) w among))
 
 -- ---- one value of a key at a time
 
@@ -162,6 +168,7 @@ WritesOnce ws = (v w : Write) → IsAmong ws v → IsAmong ws w → v.key ≡ w.
 pub record AllWriteOnce (log : List Record) : Type 0 where
   pub promises : (p : Prepared) → IsAmong log (Prepare p) → WritesOnce p.writes
   pub decisions : (c : Committed) → IsAmong log (Commit c) → WritesOnce c.writes
+  pub logged : AreLogged log
 
 -- versions of one key and time have one value
 abbrev pub OneValue : List Install → Type 0
@@ -173,6 +180,10 @@ installs_by log (Outcome t o) = installs_at (recorded (facts_of log) t) o
 installs_by log (Record.Opened epoch) = []
 installs_by log (Record.Ceiling s) = []
 installs_by log (Record.Horizon s) = []
+installs_by log (Record.Base _ _ _) = []
+installs_by log (Record.Version install) = install ∷ []
+installs_by log (Record.Settled _ _ _) = []
+installs_by log (Record.Closed _ _ _) = []
 installs_by log (Record.Prepare p) = []
 installs_by log (Record.Commit c) = []
 installs_by log (Record.Abort u) = []
@@ -186,6 +197,10 @@ installs_more shard log r h = ap (λ (f : Facts). f.installs) (learn_agrees shar
     by_kind (Opened epoch) = sym (append-nil (installs_of log))
     by_kind (Ceiling at) = sym (append-nil (installs_of log))
     by_kind (Horizon at) = sym (append-nil (installs_of log))
+    by_kind (Base _ _ _) = sym (append-nil (installs_of log))
+    by_kind (Version install) = refl
+    by_kind (Settled _ _ _) = sym (append-nil (installs_of log))
+    by_kind (Closed _ _ _) = sym (append-nil (installs_of log))
     by_kind (Prepare p) = sym (append-nil (installs_of log))
     by_kind (Commit c) = sym (append-nil (installs_of log))
     by_kind (Abort t) = sym (append-nil (installs_of log))
@@ -202,15 +217,19 @@ pub record IsNew (log : List Record) (r : Record) (i : Install) : Type 0 where
   pub at : i.at ≡ stamp
   pub value : i.value ≡ write.value
 
-pub new_from : (log : List Record) (r : Record) (i : Install) → IsAmong (installs_by log r) i → IsNew log r i
+pub new_from : (log : List Record) (r : Record) (i : Install) → is_logged r ≡ true → IsAmong (installs_by log r) i → IsNew log r i
 unfolding status_of
-new_from log (Opened epoch) i h = absurd h
-new_from log (Ceiling at) i h = absurd h
-new_from log (Horizon at) i h = absurd h
-new_from log (Prepare p) i h = absurd h
-new_from log (Commit c) i h = absurd h
-new_from log (Abort t) i h = absurd h
-new_from log (Outcome t o) i h =
+new_from log (Opened epoch) i l h = absurd h
+new_from log (Ceiling at) i l h = absurd h
+new_from log (Horizon at) i l h = absurd h
+new_from log (Base _ _ _) i l h = absurd h
+new_from log (Version _) i l h = cc
+new_from log (Settled _ _ _) i l h = absurd h
+new_from log (Closed _ _ _) i l h = absurd h
+new_from log (Prepare p) i l h = absurd h
+new_from log (Commit c) i l h = absurd h
+new_from log (Abort t) i l h = absurd h
+new_from log (Outcome t o) i l h =
     by_outcome o (subst (λ st. IsAmong (installs_at st o) i) (recorded_is log t) h)
   where
     of_versions : (s : ℕ) → IsAmong (versions (writes_by (committed_of log t) (prepared_of log t)) s) i → IsNew log (Outcome t (Some s)) i
@@ -253,8 +272,8 @@ once_by : (log : List Record) (t : Id) → AllWriteOnce log → WritesOnce (writ
 once_by log t once = by_parts (committed_of log t) refl (prepared_of log t) refl
   where
     by_parts : (c : Option Committed) → committed_of log t ≡ c → (p : Option Prepared) → prepared_of log t ≡ p → WritesOnce (writes_by c p)
-    by_parts (Some c) hc p hp = once.decisions c (decision_among log c (among_first (λ (x : Committed). same_id x.txn t) (gather as_committed log) c hc))
-    by_parts None hc (Some p) hp = once.promises p (promise_among log p (among_first (λ (x : Prepared). same_id x.txn t) (gather as_prepared log) p hp))
+    by_parts (Some c) hc p hp = once.decisions c (decision_among log once.logged c (among_first (λ (x : Committed). same_id x.txn t) (gather as_committed log) c hc))
+    by_parts None hc (Some p) hp = once.promises p (promise_among log once.logged p (among_first (λ (x : Prepared). same_id x.txn t) (gather as_prepared log) p hp))
     by_parts None hc None hp = λ v w h k e. absurd h
 
 -- a timestamp above the versions of what is written is above each of them
@@ -273,18 +292,18 @@ outcome_above : (log : List Record) (t : Id) (s : ℕ) → fits_beside log (Outc
 unfolding fits_beside
 outcome_above log t s e = e
 
-one_more : (shard : ℕ) (log : List Record) (r : Record) → followed shard (log ++ r ∷ []) ≡ true → fits_beside log r ≡ true → AllWriteOnce log →
+one_more : (shard : ℕ) (log : List Record) (r : Record) → is_logged r ≡ true → followed shard (log ++ r ∷ []) ≡ true → fits_beside log r ≡ true → AllWriteOnce log →
     OneValue (installs_of log) → OneValue (installs_of (log ++ r ∷ []))
-one_more shard log r h fits once one =
+one_more shard log r logged h fits once one =
     subst OneValue (sym (installs_more shard log r h)) (λ i j hi hj key at.
     elim (among_cases (installs_of log) (installs_by log r) i hi) [
       | inl old ↦ elim (among_cases (installs_of log) (installs_by log r) j hj) [
         | inl also ↦ one i j old also key at
-        | inr new ↦ absurd (apart i j old (new_from log r j new) key at)
+        | inr new ↦ absurd (apart i j old (new_from log r j logged new) key at)
       ]
       | inr new ↦ elim (among_cases (installs_of log) (installs_by log r) j hj) [
-        | inl old ↦ absurd (apart j i old (new_from log r i new) (sym key) (sym at))
-        | inr also ↦ same_new i j (new_from log r i new) (new_from log r j also) key
+        | inl old ↦ absurd (apart j i old (new_from log r i logged new) (sym key) (sym at))
+        | inr also ↦ same_new i j (new_from log r i logged new) (new_from log r j logged also) key
       ]
     ])
   where
@@ -317,7 +336,7 @@ one_from setup before (r ∷ rest) place e f once one =
     let assoc = append_assoc before (r ∷ []) rest in
     subst (λ l. OneValue (installs_of l)) assoc
     (one_from setup (before ++ r ∷ []) rest (place + 1) p.1 more (subst AllWriteOnce (sym assoc) once)
-    (one_more setup.shard before r more p.0.fits (front_once before (r ∷ rest) once) one))
+    (one_more setup.shard before r (once.logged r (among_right before (r ∷ rest) r (inl refl))) more p.0.fits (front_once before (r ∷ rest) once) one))
   where
     all_three : (a b c : Bool) → a ≡ true → b ≡ true → c ≡ true → (a && (b && c)) ≡ true
     all_three true true true x y z = refl
@@ -330,6 +349,7 @@ one_from setup before (r ∷ rest) place e f once one =
       promises = λ p h. all.promises p (among_left front back (Prepare p) h);
       decisions =
           λ c h. all.decisions c (among_left front back (Commit c) h);
+      logged = λ r h. all.logged r (among_left front back r h);
     }
 
 -- one value of each key at each time

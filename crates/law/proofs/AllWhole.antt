@@ -17,8 +17,9 @@ use Rattle.law.specs.Evidence.{Scene, Holds}
 use Rattle.law.specs.Left.{AreLeft}
 use Rattle.law.proofs.Members.{some_passes}
 use Rattle.law.proofs.Recorded.{among_keep, promise_among, outcome_among, is_aborted_among}
-use Rattle.law.proofs.Homes.{log_in, decision_home, not_both, no_aborted, outcome_decided, outcome_stamp, promised, promise_of_part, is_orderly}
-use Rattle.law.proofs.Decisions.{decision_stands, stands_decided, one_decided, one_promise_in, log_of_number, log_in-is, there_in}
+use Rattle.law.proofs.Logged.{AreLogged}
+use Rattle.law.proofs.Homes.{log_in, log_logged, decision_home, not_both, no_aborted, outcome_decided, outcome_stamp, promised, promise_of_part, is_orderly}
+use Rattle.law.proofs.Decisions.{decision_stands, left_logged, stands_decided, one_decided, one_promise_in, log_of_number, log_in-is, there_in}
 use Rattle.law.proofs.Picked.{each_of, keep_among, kept_passes, gather_among, AtMostOne, is_none, is_single}
 
 place_within : {A : Type 0} (xs : List A) (n : ℕ) (x : A) → slice_get xs n ≡ Some x → n < length xs
@@ -41,8 +42,8 @@ when_head xs n e = ap (when (nat_eq n)) e ∙ same_number n
 
 module _ (sc : Scene) (h : Holds sc) (logs : List (List Record)) (left : AreLeft sc logs) (t : Id) where
   -- each outcome at a timestamp passes a test
-  ends : (log : List Record) (fits : ℕ → Bool) → ((s : ℕ) → IsAmong log (Record.Outcome t (Some s)) → fits s ≡ true) → outcomes_fit log t fits ≡ true
-  ends log fits each_one = each_of _ (gather as_ended log) (λ e k. by_outcome e.txn (same_id t e.txn) refl e.outcome (outcome_among log e k))
+  ends : (log : List Record) → AreLogged log → (fits : ℕ → Bool) → ((s : ℕ) → IsAmong log (Record.Outcome t (Some s)) → fits s ≡ true) → outcomes_fit log t fits ≡ true
+  ends log logged fits each_one = each_of _ (gather as_ended log) (λ e k. by_outcome e.txn (same_id t e.txn) refl e.outcome (outcome_among log logged e k))
     where
       by_outcome : (u : Id) (b : Bool) → same_id t u ≡ b → (o : Option ℕ) → IsAmong log (Record.Outcome u o) →
           (not b || elim o as (λ x. Bool) [ None ↦ true | Some s ↦ fits s ]) ≡ true
@@ -53,7 +54,7 @@ module _ (sc : Scene) (h : Holds sc) (logs : List (List Record)) (left : AreLeft
   -- ---- no decision
 
   undecided : decisions logs t ≡ [] → list_all (λ l. outcomes_fit l t (λ s. false)) logs ≡ true
-  undecided none = each_of_places (λ n log there. ends log (λ s. false)
+  undecided none = each_of_places (λ n log there. ends log (left_logged sc h logs left n log there) (λ s. false)
       (λ s k. absurd (no_decision n s (subst (λ l. IsAmong l (Record.Outcome t (Some s))) (sym (log_in-is logs n log there)) k))))
     where
       no_decision : (n s : ℕ) → IsAmong (log_in logs n) (Record.Outcome t (Some s)) → ⊥
@@ -114,11 +115,11 @@ module _ (sc : Scene) (h : Holds sc) (logs : List (List Record)) (left : AreLeft
             (sym named) (is_aborted_among (log_in logs m) t e)))
         by_parts false e true k =
             let p = some_passes (gather as_ended (log_in logs m)) (λ (x : Ended). same_id x.txn t && not (when (λ s. true) x.outcome)) k in
-            absurd (aborted_outcome p.member (outcome_among (log_in logs m) p.member p.among) p.passes)
+            absurd (aborted_outcome p.member (outcome_among (log_in logs m) (log_logged sc h logs left m) p.member p.among) p.passes)
         by_parts false e false k = refl
 
     ends_here : (m : ℕ) → outcomes_fit (log_in logs m) t (nat_eq d.commit.at) ≡ true
-    ends_here m = ends (log_in logs m) (nat_eq d.commit.at) (λ s k. same_stamp s (outcome_stamp sc h logs left d.shard m d.commit s stands
+    ends_here m = ends (log_in logs m) (log_logged sc h logs left m) (nat_eq d.commit.at) (λ s k. same_stamp s (outcome_stamp sc h logs left d.shard m d.commit s stands
         (of_this m (Some s) k)))
       where
         same_stamp : (s : ℕ) → d.commit.at ≡ s → nat_eq d.commit.at s ≡ true
@@ -145,7 +146,7 @@ module _ (sc : Scene) (h : Holds sc) (logs : List (List Record)) (left : AreLeft
       where
         no_part : (p : Prepared) → IsAmong (promises_of (log_in logs m) t) p → ⊥
         no_part p k =
-            let there = promise_among (log_in logs m) p (among_keep (λ (x : Prepared). same_id x.txn t) (gather as_prepared (log_in logs m)) p k) in
+            let there = promise_among (log_in logs m) (log_logged sc h logs left m) p (among_keep (λ (x : Prepared). same_id x.txn t) (gather as_prepared (log_in logs m)) p k) in
             let mine = same_id-is p.txn t (kept_passes (λ (x : Prepared). same_id x.txn t) (gather as_prepared (log_in logs m)) p k) in
             let part = promise_of_part sc h logs left d.shard m d.commit p stands there (mine ∙ sym named) in
             cc
@@ -172,7 +173,7 @@ module _ (sc : Scene) (h : Holds sc) (logs : List (List Record)) (left : AreLeft
   by_decisions : (ds : List Decision) → decisions logs t ≡ ds → is_whole_by logs t ds ≡ true
   by_decisions [] e = undecided e
   by_decisions (d ∷ []) e =
-      let stands = decision_stands logs t d (subst (λ ds. IsAmong ds d) (sym e) (inl refl)) in
+      let stands = decision_stands logs (left_logged sc h logs left) t d (subst (λ ds. IsAmong ds d) (sym e) (inl refl)) in
       decided_whole d stands.among stands.named
   by_decisions (d ∷ x ∷ rest) e = absurd (subst AtMostOne e (one_decided sc h logs left t))
 

@@ -20,7 +20,7 @@ use Rattle.record.specs.Records.{committed_of, prepared_of, ended_of, status_by,
 use Rattle.record.specs.declared.record.Committed.{Committed}
 use Rattle.record.specs.declared.record.Prepared.{Prepared}
 use Rattle.record.specs.declared.record.Record.{Record}
-use Rattle.record.specs.declared.record.Record.TheVariants.{Opened, Ceiling, Prepare, Commit, Abort, Outcome, Horizon}
+use Rattle.record.specs.declared.record.Record.TheVariants.{Opened, Ceiling, Prepare, Commit, Abort, Outcome, Horizon, Base, Version, Settled, Closed}
 use Rattle.record.proofs.Statuses.{recorded_is}
 use Rattle.message.specs.declared.message.ReadAnswer.{ReadAnswer}
 use Rattle.protocol.specs.Plan.{Plan, Before, start_of_step, carried, after_change}
@@ -120,6 +120,10 @@ claimed_recorded log r t at ks ws h c e = by_parts (is_aborted log t) (committed
     none_logged (Opened y) j d hc hp = d
     none_logged (Ceiling y) j d hc hp = d
     none_logged (Horizon y) j d hc hp = d
+    none_logged (Base _ _ _) j d hc hp = d
+    none_logged (Version _) j d hc hp = d
+    none_logged (Settled _ _ _) j d hc hp = d
+    none_logged (Closed _ _ _) j d hc hp = d
     none_logged (Abort y) j d hc hp = d
     none_logged (Outcome y z) j d hc hp = d
 

@@ -4,14 +4,16 @@ use Rattle.units.specs.Lists.{gather}
 use Rattle.units.specs.Ids.{Id, same_id}
 use Rattle.units.proofs.IdLaws.{same_id-is, same_id_comm, same_id-refl}
 use Rattle.record.specs.History.{by_shard}
-use Rattle.record.specs.Records.{as_committed, as_prepared}
+use Rattle.record.specs.Records.{as_committed, as_prepared, closed_promise, settled_decision}
 use Rattle.record.specs.Whole.{Decision, decisions, promises_of}
 use Rattle.record.specs.declared.record.Committed.{Committed}
+use Rattle.record.specs.declared.record.Prepared.{Prepared}
 use Rattle.record.specs.declared.record.Record.{Record}
-use Rattle.record.specs.declared.record.Record.TheVariants.{Opened, Ceiling, Prepare, Commit, Abort, Outcome, Horizon}
+use Rattle.record.specs.declared.record.Record.TheVariants.{Opened, Ceiling, Prepare, Commit, Abort, Outcome, Horizon, Base, Version, Settled, Closed}
 use Rattle.law.specs.Among.{IsAmong}
 use Rattle.law.specs.Evidence.{Scene, Holds}
 use Rattle.law.specs.Left.{AreLeft}
+use Rattle.law.proofs.Logged.{AreLogged, rests_logged}
 use Rattle.law.proofs.Orderly.{IsOrderly, IsOne, claims_of, orderly}
 use Rattle.law.proofs.Recorded.{among_keep, decision_among}
 use Rattle.law.proofs.Homes.{log_in, one_place}
@@ -24,38 +26,54 @@ skipped : {B : Type 0} (f : Record → Option B) (b : Bool) (r : Record) (rest :
 skipped {B} f true r rest e = ap (λ o. elim o as (λ q. List B) [ None ↦ gather f rest | Some y ↦ y ∷ gather f rest ]) e
 skipped f false r rest e = refl
 
+-- one that gives something
+taken_in : {B : Type 0} (f : Record → Option B) (b : Bool) (r : Record) (y : B) (rest : List Record) (ys : List B) → f r ≡ Some y → ys ≡ gather f rest →
+    cond b (y ∷ ys) ys ≡ gather f (cond b (r ∷ rest) rest)
+taken_in {B} f true r y rest ys e same =
+    ap (λ l. y ∷ l) same ∙ sym (ap (λ o. elim o as (λ q. List B) [ None ↦ gather f rest | Some z ↦ z ∷ gather f rest ]) e)
+taken_in f false r y rest ys e same = same
+
+a_commit : (t : Id) (r : Record) (c : Committed) (rs : List Record) → as_committed r ≡ Some c →
+    filter (λ d. same_id t d.txn) (gather as_committed rs) ≡ gather as_committed (claims_of rs t) →
+    cond (same_id t c.txn) (c ∷ filter (λ d. same_id t d.txn) (gather as_committed rs)) (filter (λ d. same_id t d.txn) (gather as_committed rs)) ≡
+    gather as_committed (cond (same_id c.txn t) (r ∷ claims_of rs t) (claims_of rs t))
+a_commit t r c rs is rest =
+    ap (λ b. cond b (c ∷ filter (λ d. same_id t d.txn) (gather as_committed rs)) (filter (λ d. same_id t d.txn) (gather as_committed rs)))
+    (same_id_comm t c.txn)
+    ∙ taken_in as_committed (same_id c.txn t) r c (claims_of rs t) (filter (λ d. same_id t d.txn) (gather as_committed rs)) is rest
+
+a_promise : (t : Id) (r : Record) (p : Prepared) (rs : List Record) → as_prepared r ≡ Some p → promises_of rs t ≡ gather as_prepared (claims_of rs t) →
+    cond (same_id p.txn t) (p ∷ promises_of rs t) (promises_of rs t) ≡ gather as_prepared (cond (same_id p.txn t) (r ∷ claims_of rs t) (claims_of rs t))
+a_promise t r p rs is rest = taken_in as_prepared (same_id p.txn t) r p (claims_of rs t) (promises_of rs t) is rest
+
 -- its decisions of an id are among the claims of that id
 commits_claimed : (t : Id) (log : List Record) → filter (λ c. same_id t c.txn) (gather as_committed log) ≡ gather as_committed (claims_of log t)
 commits_claimed t [] = refl
 commits_claimed t (Opened epoch ∷ rs) = commits_claimed t rs
 commits_claimed t (Ceiling at ∷ rs) = commits_claimed t rs
 commits_claimed t (Horizon at ∷ rs) = commits_claimed t rs
+commits_claimed t (Base _ _ _ ∷ rs) = commits_claimed t rs
+commits_claimed t (Version _ ∷ rs) = commits_claimed t rs
+commits_claimed t (Closed u k o ∷ rs) = commits_claimed t rs ∙ sym (skipped as_committed (same_id u t) (Closed u k o) (claims_of rs t) refl)
+commits_claimed t (Settled u at ps ∷ rs) = a_commit t (Settled u at ps) (settled_decision u at ps) rs refl (commits_claimed t rs)
 commits_claimed t (Outcome u o ∷ rs) = commits_claimed t rs
 commits_claimed t (Prepare p ∷ rs) = commits_claimed t rs ∙ sym (skipped as_committed (same_id p.txn t) (Prepare p) (claims_of rs t) refl)
 commits_claimed t (Abort u ∷ rs) = commits_claimed t rs ∙ sym (skipped as_committed (same_id t u) (Abort u) (claims_of rs t) refl)
-commits_claimed t (Commit c ∷ rs) = ap (λ b. cond b (c ∷ filter (λ d. same_id t d.txn) (gather as_committed rs))
-    (filter (λ d. same_id t d.txn) (gather as_committed rs))) (same_id_comm t c.txn) ∙ by_test (same_id c.txn t) (commits_claimed t rs)
-  where
-    by_test : (b : Bool) → filter (λ d. same_id t d.txn) (gather as_committed rs) ≡ gather as_committed (claims_of rs t) →
-        cond b (c ∷ filter (λ d. same_id t d.txn) (gather as_committed rs)) (filter (λ d. same_id t d.txn) (gather as_committed rs)) ≡
-        gather as_committed (cond b (Commit c ∷ claims_of rs t) (claims_of rs t))
-    by_test true e = ap (λ l. c ∷ l) e
-    by_test false e = e
+commits_claimed t (Commit c ∷ rs) = a_commit t (Commit c) c rs refl (commits_claimed t rs)
 
 promises_claimed : (t : Id) (log : List Record) → promises_of log t ≡ gather as_prepared (claims_of log t)
 promises_claimed t [] = refl
 promises_claimed t (Opened epoch ∷ rs) = promises_claimed t rs
 promises_claimed t (Ceiling at ∷ rs) = promises_claimed t rs
 promises_claimed t (Horizon at ∷ rs) = promises_claimed t rs
+promises_claimed t (Base _ _ _ ∷ rs) = promises_claimed t rs
+promises_claimed t (Version _ ∷ rs) = promises_claimed t rs
+promises_claimed t (Settled u at ps ∷ rs) = promises_claimed t rs ∙ sym (skipped as_prepared (same_id u t) (Settled u at ps) (claims_of rs t) refl)
+promises_claimed t (Closed u k o ∷ rs) = a_promise t (Closed u k o) (closed_promise u k o) rs refl (promises_claimed t rs)
 promises_claimed t (Outcome u o ∷ rs) = promises_claimed t rs
 promises_claimed t (Commit c ∷ rs) = promises_claimed t rs ∙ sym (skipped as_prepared (same_id c.txn t) (Commit c) (claims_of rs t) refl)
 promises_claimed t (Abort u ∷ rs) = promises_claimed t rs ∙ sym (skipped as_prepared (same_id t u) (Abort u) (claims_of rs t) refl)
-promises_claimed t (Prepare p ∷ rs) = by_test (same_id p.txn t) (promises_claimed t rs)
-  where
-    by_test : (b : Bool) → promises_of rs t ≡ gather as_prepared (claims_of rs t) → cond b (p ∷ promises_of rs t) (promises_of rs t) ≡
-        gather as_prepared (cond b (Prepare p ∷ claims_of rs t) (claims_of rs t))
-    by_test true e = ap (λ l. p ∷ l) e
-    by_test false e = e
+promises_claimed t (Prepare p ∷ rs) = a_promise t (Prepare p) p rs refl (promises_claimed t rs)
 
 one_gathered : {B : Type 0} (f : Record → Option B) (xs : List Record) → IsOne xs → AtMostOne (gather f xs)
 one_gathered f [] one = tt
@@ -67,10 +85,10 @@ one_gathered {B} f (x ∷ []) one = by_value (f x)
 one_gathered f (x ∷ y ∷ rest) one = absurd one
 
 pub one_promise_in : (log : List Record) (t : Id) → IsOrderly log → AtMostOne (promises_of log t)
-one_promise_in log t o = subst AtMostOne (sym (promises_claimed t log)) (one_gathered as_prepared (claims_of log t) (o t))
+one_promise_in log t o = subst AtMostOne (sym (promises_claimed t log)) (one_gathered as_prepared (claims_of log t) (o.0 t))
 
 one_commit_in : (log : List Record) (t : Id) → IsOrderly log → AtMostOne (filter (λ c. same_id t c.txn) (gather as_committed log))
-one_commit_in log t o = subst AtMostOne (sym (commits_claimed t log)) (one_gathered as_committed (claims_of log t) (o t))
+one_commit_in log t o = subst AtMostOne (sym (commits_claimed t log)) (one_gathered as_committed (claims_of log t) (o.0 t))
 
 one_mapped : {A B : Type 0} (f : A → B) (xs : List A) → AtMostOne xs → AtMostOne (map f xs)
 one_mapped f [] one = tt
@@ -109,11 +127,12 @@ pub record Decided (logs : List (List Record)) (t : Id) (d : Decision) : Type 0 
   pub among : IsAmong (log_in logs d.shard) (Commit d.commit)
   pub named : d.commit.txn ≡ t
 
-pub decision_stands : (logs : List (List Record)) (t : Id) (d : Decision) → IsAmong (decisions logs t) d → Decided logs t d
-decision_stands logs t d h =
+pub decision_stands : (logs : List (List Record)) → ((n : ℕ) (log : List Record) → slice_get logs n ≡ Some log → AreLogged log) → (t : Id) (d : Decision) →
+    IsAmong (decisions logs t) d → Decided logs t d
+decision_stands logs logged t d h =
     let j = among_join (decided_in t) (by_shard logs) d h in
     let m = among_map (λ c. record { shard = j.from.0; commit = c }) (filter (λ c. same_id t c.txn) (gather as_committed j.from.1)) d j.within in
-    let here : IsAmong j.from.1 (Commit m.from) = decision_among j.from.1 m.from (among_keep (λ c. same_id t c.txn)
+    let here : IsAmong j.from.1 (Commit m.from) = decision_among j.from.1 (logged j.from.0 j.from.1 (log_of_number logs j.from j.among)) m.from (among_keep (λ c. same_id t c.txn)
     (gather as_committed j.from.1) m.from m.among) in
     let named : t ≡ m.from.txn = same_id-is t m.from.txn (kept_passes (λ c. same_id t c.txn) (gather as_committed j.from.1) m.from m.among) in
     let stands : Decided logs t (record { shard = j.from.0; commit = m.from }) = record {
@@ -131,16 +150,19 @@ stands_decided logs n c h =
     (same_id-refl c.txn)))
 
 module _ (sc : Scene) (h : Holds sc) (logs : List (List Record)) (left : AreLeft sc logs) where
+  pub left_logged : (n : ℕ) (log : List Record) → slice_get logs n ≡ Some log → AreLogged log
+  left_logged n log e r k = rests_logged sc log n r ((left.each n log e).records r k)
+
   pub one_decided : (t : Id) → AtMostOne (decisions logs t)
   one_decided t = one_of_numbered (decided_in t) 0 logs
       (λ p k. one_mapped (λ c. record { shard = p.0; commit = c }) (filter (λ c. same_id t c.txn) (gather as_committed p.1))
-      (one_commit_in p.1 t (orderly p.0 p.1 (left.each p.0 p.1 (log_of_number logs p k)).follows)))
+      (one_commit_in p.1 t (orderly p.0 p.1 (left.each p.0 p.1 (log_of_number logs p k)).follows (left_logged p.0 p.1 (log_of_number logs p k)))))
       same_number
     where
       by : (p : ℕ × List Record) (d : Decision) → IsAmong (by_shard logs) p → IsAmong (decided_in t p) d → Decided logs t d × (d.shard ≡ p.0)
       by p d k l =
           let m = among_map (λ c. record { shard = p.0; commit = c }) (filter (λ c. same_id t c.txn) (gather as_committed p.1)) d l in
-          (decision_stands logs t d (join_among (decided_in t) (by_shard logs) p d k l), sym (ap (λ (x : Decision). x.shard) m.is))
+          (decision_stands logs left_logged t d (join_among (decided_in t) (by_shard logs) p d k l), sym (ap (λ (x : Decision). x.shard) m.is))
 
       same_number : (p q : ℕ × List Record) (x y : Decision) → IsAmong (by_shard logs) p → IsAmong (by_shard logs) q → IsAmong (decided_in t p) x →
           IsAmong (decided_in t q) y → p.0 ≡ q.0

@@ -24,12 +24,14 @@ use Rattle.protocol.specs.Rows.{Memory, Row, rebuilt, without_row, without_rows}
 use Rattle.protocol.specs.Plan.{time_limit, start_of_step, Plan, Planned, Change, Keeps, Ends, Drops, Puts, carried, after_change}
 use Rattle.protocol.specs.Step.{step_within, Stepped, Refuses, Does, plan_input, stepped}
 use Rattle.protocol.proofs.RowTable.{with_row-is}
-use Rattle.world.specs.World.{ShardNow, Runs, read_log, setup_of, step_of_opening, input_of, step_with}
+use Rattle.world.specs.World.{ShardNow, Runs, Unsure, Nothing, Shown, Hidden, read_log, shown_records, setup_of, step_of_opening, input_of, step_with}
 use Rattle.world.specs.Lawful.{goes_to, may_do}
 use Rattle.world.specs.declared.event.Doing.{Doing}
 use Rattle.law.specs.Among.{IsAmong}
 use Rattle.law.specs.Evidence.{Scene, Sent, CommitAsked, BeganBy, PhaseEvidence, RowsEvidence, AllTold, StateEvidence, Holds}
-use Rattle.law.proofs.Members.{among_left}
+use Rattle.world.specs.Headline.{IsUnsure}
+use Rattle.law.proofs.Logged.{AreLogged, rests_logged}
+use Rattle.law.proofs.Members.{among_cases, among_left}
 use Rattle.world.proofs.Places.{with_record}
 use Rattle.law.proofs.Moves.{LoggedEvidence, ChangeEvidence, PlannedEvidence}
 use Rattle.law.proofs.Steps.{Knows, Heard, planned}
@@ -164,6 +166,19 @@ module _ (sc : Scene) (h : Holds sc) (n : ℕ) (s : ShardNow) (there : slice_get
       } in
       stepped_evidence sc s.log n m state.0 (plan_input setup start p.0 p.1) (planned sc s.log start p.0 knows setup p.1 heard.0)
 
+  -- a read of the disk gives the kinds that steps log
+  read_logged : AreLogged (read_log s)
+  read_logged r k = elim (among_cases s.log (shown_records s.unsure) r k) [
+    | inl sure ↦ rests_logged sc s.log n r ((h.shards n s there).records r sure)
+    | inr shown ↦ rests_logged sc s.log n r ((h.shards n s there).unsure r (is_unsure s.unsure shown))
+  ]
+    where
+      is_unsure : (u : Unsure) → IsAmong (shown_records u) r → IsUnsure u r
+      is_unsure Nothing none = none
+      is_unsure (Shown q) (inl same) = same
+      is_unsure (Shown q) (inr none) = absurd none
+      is_unsure (Hidden q) none = absurd none
+
   -- an opening
   pub opening_evidence : SteppedEvidence sc n (read_log s) (step_of_opening (facts_of (read_log s)))
   unfolding step_of_opening
@@ -175,6 +190,6 @@ module _ (sc : Scene) (h : Holds sc) (n : ℕ) (s : ShardNow) (there : slice_get
       by_test true = record {
         rests = tt;
         rows = rows_stay sc sc (grows_same sc) (read_log s) _ (within_record (read_log s) (Some (Record.Opened ((facts_of (read_log s)).epoch + 1))))
-            n _ (rebuilt_rows (read_log s) sc n);
+            n _ (rebuilt_rows (read_log s) read_logged sc n);
         told = tt;
       }

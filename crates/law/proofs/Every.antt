@@ -31,6 +31,7 @@ use Rattle.law.proofs.Grows.{Grows, message_stays, line_stays, began_stays}
 use Rattle.law.proofs.Changes.{with_world, shard_stays}
 use Rattle.law.proofs.Sessions.{begin_holds}
 use Rattle.law.proofs.Closings.{AfterHolds, reads_hold, writes_hold, closes_hold, quits_hold, to_session_holds, look_holds}
+use Rattle.law.proofs.Logged.{each_logged}
 use Rattle.law.proofs.Recorded.{rebuilt_rows}
 use Rattle.law.proofs.Doings.{Given, given, get_among}
 use Rattle.law.proofs.Shards.{doing_holds, plain_crash_holds, crash_within_holds, failure_holds}
@@ -257,7 +258,7 @@ fresh_evidence : (sc : Scene) (n : ℕ) → ShardEvidence sc n fresh_shard
 fresh_evidence sc n = record {
   records = λ r k. elim k [ inl same ↦ subst (λ x. RecordEvidence sc fresh_log n x) same tt | inr none ↦ absurd none ];
   unsure = λ r none. absurd none;
-  state = (rebuilt_rows fresh_log sc n, refl);
+  state = (rebuilt_rows fresh_log (each_logged fresh_log refl) sc n, refl);
 }
 
 abbrev first_scene : Config → Scene

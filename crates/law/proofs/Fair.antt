@@ -142,6 +142,10 @@ module _ (t : Id) (k : Bytes) (e : ℕ) (b : Before) where
   LoggedFair (Some (Record.Opened epoch)) = Unit {0}
   LoggedFair (Some (Record.Ceiling s)) = Unit {0}
   LoggedFair (Some (Record.Horizon s)) = Unit {0}
+  LoggedFair (Some (Record.Base _ _ _)) = Unit {0}
+  LoggedFair (Some (Record.Version _)) = Unit {0}
+  LoggedFair (Some (Record.Settled _ _ _)) = Unit {0}
+  LoggedFair (Some (Record.Closed _ _ _)) = Unit {0}
   LoggedFair (Some (Record.Abort u)) = Unit {0}
   LoggedFair (Some (Record.Outcome u o)) = Unit {0}
   LoggedFair None = Unit {0}

@@ -19,6 +19,7 @@ use Rattle.law.specs.Among.{IsAmong}
 use Rattle.law.specs.Evidence.{Scene, log_at, IsOfClosing, CommitAsked, PrepareAsked, HasDecision, WasTold, WasAsked, WasQuestioned}
 use Rattle.law.specs.Evidence.{RecordEvidence, Holds}
 use Rattle.law.specs.Left.{IsLeftLog, AreLeft}
+use Rattle.law.proofs.Logged.{AreLogged, rests_logged}
 use Rattle.law.proofs.Orderly.{IsOrderly, orderly, one_decision, decided_not_aborted}
 
 -- ---- the closing of a transaction
@@ -152,8 +153,12 @@ module _ (sc : Scene) (h : Holds sc) (logs : List (List Record)) (left : AreLeft
   pub evidence : (n : ℕ) (r : Record) → IsAmong (log_in logs n) r → RecordEvidence sc (log_in logs n) n r
   evidence n r k = (left_log n r k).records r k
 
+  -- it is of the kinds that steps log
+  pub log_logged : (n : ℕ) → AreLogged (log_in logs n)
+  log_logged n r k = rests_logged sc (log_in logs n) n r (evidence n r k)
+
   pub is_orderly : (n : ℕ) (r : Record) → IsAmong (log_in logs n) r → IsOrderly (log_in logs n)
-  is_orderly n r k = orderly n (log_in logs n) (left_log n r k).follows
+  is_orderly n r k = orderly n (log_in logs n) (left_log n r k).follows (log_logged n)
 
   -- what is surely logged is in the log
   pub kept : (n : ℕ) (r : Record) → IsAmong (log_at sc.world n) r → IsAmong (log_in logs n) r

@@ -11,7 +11,7 @@ use Rattle.units.proofs.ByIdLaws.{first_passes}
 use Rattle.record.specs.History.{Txn, history, whole_txn, by_shard}
 use Rattle.record.specs.Records.{as_committed}
 use Rattle.record.specs.Serially.{OrderedByTime}
-use Rattle.record.specs.Verdict.{IsLine, is_in_at}
+use Rattle.record.specs.Lines.{IsLine, is_in_at}
 use Rattle.record.specs.declared.record.Committed.{Committed}
 use Rattle.record.specs.declared.record.Record.{Record}
 use Rattle.message.specs.declared.message.Address.{Address}
@@ -19,11 +19,12 @@ use Rattle.law.specs.Acknowledged.{committed_to}
 use Rattle.law.specs.Among.{IsAmong}
 use Rattle.law.specs.Evidence.{Scene, AckEvidence, Holds}
 use Rattle.law.specs.Left.{AreLeft}
+use Rattle.law.proofs.Logged.{AreLogged}
 use Rattle.law.proofs.Recorded.{among_first, among_gather, decision_among}
 use Rattle.law.proofs.Doings.{get_among}
 use Rattle.law.proofs.Homes.{log_in, evidence, kept, decision_home}
 use Rattle.law.proofs.AllWhole.{when_head}
-use Rattle.law.proofs.Decisions.{log_of_number, log_in-is, number_there}
+use Rattle.law.proofs.Decisions.{left_logged, log_of_number, log_in-is, number_there}
 use Rattle.law.proofs.Picked.{any_of, gather_among, join_among, among_join, some_same}
 
 -- the transaction of a decision, where it stands in the log of its least part
@@ -50,16 +51,17 @@ pub record InHistory (logs : List (List Record)) (x : Txn) : Type 0 where
   pub among : IsAmong (log_in logs shard) (Record.Commit commit)
   pub is : whole_txn logs shard commit ≡ x
 
-pub from_history : (logs : List (List Record)) (x : Txn) → IsAmong (history logs) x → InHistory logs x
+pub from_history : (logs : List (List Record)) → ((n : ℕ) (log : List Record) → slice_get logs n ≡ Some log → AreLogged log) → (x : Txn) →
+    IsAmong (history logs) x → InHistory logs x
 unfolding history
-from_history logs x h =
+from_history logs logged x h =
     let j = among_join (counted_in logs) (by_shard logs) x h in
     let s = among_gather (counted logs j.from.0) (gather as_committed j.from.1) x j.within in
     record {
       shard = j.from.0;
       commit = s.from;
       among = subst (λ l. IsAmong l (Record.Commit s.from)) (sym (log_in-is logs j.from.0 j.from.1 (log_of_number logs j.from j.among)))
-          (decision_among j.from.1 s.from s.among);
+          (decision_among j.from.1 (logged j.from.0 j.from.1 (log_of_number logs j.from j.among)) s.from s.among);
       is = by_test (when (nat_eq j.from.0) (head s.from.parts)) (whole_txn logs j.from.0 s.from) s.gives;
     }
   where
@@ -105,7 +107,7 @@ module _ (sc : Scene) (h : Holds sc) (logs : List (List Record)) (left : AreLeft
   pub ordered : ((i j a b : ℕ) → i ≤ j → slice_get sc.times i ≡ Some a → slice_get sc.times j ≡ Some b → a ≤ b) → OrderedByTime logs sc.world.lines
   ordered rises t u at m n x acked begun before found =
       let ack = ack_of_line t at m acked in
-      let p = from_history logs x (among_first (λ (y : Txn). same_id y.txn u) (history logs) x found) in
+      let p = from_history logs (left_logged sc h logs left) x (among_first (λ (y : Txn). same_id y.txn u) (history logs) x found) in
       let named : p.commit.txn ≡ u = ap (λ (y : Txn). y.txn) p.is ∙ same_id-is x.txn u (first_passes (λ (y : Txn). same_id y.txn u) (history logs) x found) in
       let e = evidence sc h logs left p.shard (Record.Commit p.commit) p.among in
       let began = e.began in

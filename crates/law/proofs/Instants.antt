@@ -1,7 +1,7 @@
 -- What holds of a lawful run at each moment: of its world, and of the logs that a crash may leave there.
 use Rattle.std.specs.List.{list_all}
 use Rattle.std.proofs.Common.{◌≡◌, inl, inr, ℕ, suc, ◌<◌, ◌≤◌, true, ◌&&◌, nat_lt, nat_le, List, [], ◌∷◌, ◌++◌, Option, Some, None, slice_get, refl}
-use Rattle.std.proofs.Common.{sym, ap, subst, ◌∙◌, arith}
+use Rattle.std.proofs.Common.{sym, ap, subst, ◌∙◌, arith, flat_map}
 use Rattle.std.proofs.lemmas.Bool.{leb-true, and_parts}
 use Rattle.std.proofs.lemmas.Bool.Decides.{nat_tests}
 use Rattle.units.specs.Lists.{gather}
@@ -11,9 +11,9 @@ use Rattle.units.specs.declared.writes.Install.{Install}
 use Rattle.units.specs.declared.writes.Write.{Write}
 use Rattle.units.specs.Versions.{versions}
 use Rattle.record.specs.Installs.{installs_of, installed_by, writes_by}
-use Rattle.record.specs.Records.{as_ended, committed_of, prepared_of}
+use Rattle.record.specs.Records.{as_ended, as_version, committed_of, prepared_of}
 use Rattle.record.specs.Serially.{OrderedByTime}
-use Rattle.record.specs.Verdict.{IsLine}
+use Rattle.record.specs.Lines.{IsLine}
 use Rattle.record.specs.declared.record.Record.{Record}
 use Rattle.world.specs.World.{World, ShardNow, run, run_from, start, happens}
 use Rattle.world.specs.Lawful.{lawful, lawful_from, may_happen, may_act}
@@ -26,7 +26,9 @@ use Rattle.law.specs.Evidence.{Scene, AckEvidence, Holds}
 use Rattle.law.specs.Left.{AreLeft}
 use Rattle.world.specs.Steady.{IsSteady}
 use Rattle.world.proofs.EveryRun.{is_steady}
-use Rattle.law.proofs.Recorded.{outcome_among}
+use Rattle.law.proofs.Logged.{AreLogged, rests_logged}
+use Rattle.law.proofs.Members.{among_cases}
+use Rattle.law.proofs.Recorded.{none_listed, outcome_among}
 use Rattle.law.proofs.Doings.{get_among}
 use Rattle.law.proofs.Every.{RunEvidence, every_run_holds, tick_holds, present_now, rises_now}
 use Rattle.law.proofs.InHistory.{acknowledged, ordered}
@@ -129,8 +131,14 @@ installed_in_the_past config es fair =
 
     by_shard : {w : World} (r : RunEvidence w) (n : ℕ) (s : ShardNow) → slice_get r.scene.world.shards n ≡ Some s → installed_before r.scene.world.time s ≡ true
     by_shard r n s there = each_of (λ i. nat_lt i.at r.scene.world.time) (installs_of s.log)
-        (λ i k. from_join i (among_join (installed_by s.log) (gather as_ended s.log) i k))
+        (λ i k. elim (among_cases (gather as_version s.log) (flat_map (installed_by s.log) (gather as_ended s.log)) i k) [
+          | inl listed ↦ absurd (none_listed s.log of_steps i listed)
+          | inr made ↦ from_join i (among_join (installed_by s.log) (gather as_ended s.log) i made)
+        ])
       where
+        of_steps : AreLogged s.log
+        of_steps q h = rests_logged r.scene s.log n q ((r.holds.shards n s there).records q h)
+
         by_outcome : (t : Id) (o : Option ℕ) (i : Install) → IsAmong s.log (Record.Outcome t o) →
             IsAmong (elim o as (λ x. List Install) [ None ↦ [] | Some at ↦ versions (writes_by (committed_of s.log t) (prepared_of s.log t)) at ]) i →
             nat_lt i.at r.scene.world.time ≡ true
@@ -142,7 +150,7 @@ installed_in_the_past config es fair =
             less i.at r.scene.world.time (omega (arith, passed, stamp, time))
 
         from_join : (i : Install) → Joined (installed_by s.log) (gather as_ended s.log) i → nat_lt i.at r.scene.world.time ≡ true
-        from_join i j = by_outcome j.from.txn j.from.outcome i (outcome_among s.log j.from j.among) j.within
+        from_join i j = by_outcome j.from.txn j.from.outcome i (outcome_among s.log of_steps j.from j.among) j.within
 
 -- a beginning of lawful events is lawful
 pub lawful_front : (w : World) (es more : List Event) → lawful_from w (es ++ more) ≡ true → lawful_from w es ≡ true

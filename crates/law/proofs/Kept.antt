@@ -34,12 +34,13 @@ use Rattle.world.proofs.Openings.{opening_taken, opening_follows}
 use Rattle.protocol.proofs.RowChanges.{by_id-claims}
 use Rattle.law.proofs.Orderly.{IsOrderly, orderly, same_claim, one_decision, one_promise, decided_not_promised}
 use Rattle.law.proofs.Picked.{gather_among, map_among}
-use Rattle.law.proofs.Quiet.{HasEnd, IsQuiet, IsAbove, quiet_stays, answer_stays}
+use Rattle.law.proofs.Logged.{AreLogged, each_logged}
+use Rattle.law.proofs.Quiet.{HasEnd, IsQuiet, IsAbove, above_logged, quiet_stays, answer_stays}
 use Rattle.law.proofs.Recorded.{among_first, outcome_among, is_aborted_among}
 use Rattle.law.proofs.Resolved.{committed_is, prepared_is, not_committed, not_prepared}
 use Rattle.law.proofs.Rising.{Rises, LoggedAbove, rising}
 use Rattle.world.proofs.Sounds.{SoundLog, SoundShard, SoundWorld}
-use Rattle.world.proofs.EveryRun.{InLimit, IsWell, WellShard, WellWorld, keeps, opens, logs, shard_with}
+use Rattle.world.proofs.EveryRun.{InLimit, IsTaken, IsWell, WellShard, WellWorld, keeps, opening_keeps, opens, logs, shard_with}
 
 -- ---- what a log shows up to a time stays
 
@@ -54,11 +55,11 @@ quiet_lower log at low q h = record {
   decisions = λ c k e. q.decisions c k (omega (arith, h, e));
 }
 
-shown_stays : (shard : ℕ) (log : List Record) (r : Record) (v : View) → followed shard (log ++ r ∷ []) ≡ true → IsAbove v.safe r → IsShown log v →
+shown_stays : (shard : ℕ) (log : List Record) (r : Record) (v : View) → AreLogged log → followed shard (log ++ r ∷ []) ≡ true → IsAbove v.safe r → IsShown log v →
     IsShown (log ++ r ∷ []) v
-shown_stays shard log r v h above s = record {
+shown_stays shard log r v logged h above s = record {
   quiet = quiet_stays log r v.safe s.quiet above;
-  same = λ k at low. answer_stays shard log r k at h (quiet_lower log v.safe at s.quiet low) ∙ s.same k at low;
+  same = λ k at low. answer_stays shard log r k at logged (above_logged v.safe r above) h (quiet_lower log v.safe at s.quiet low) ∙ s.same k at low;
 }
 
 -- ---- as what a step keeps
@@ -71,7 +72,7 @@ module _ (n : ℕ) (v : View) where
 
   -- and its log shows the view
   pub record Shows (setup : Setup) (log : List Record) : Type 0 where
-    pub accepted : taken setup log ≡ Accepted
+    pub accepted : IsTaken setup log
     pub shown : setup.shard ≡ n → IsShown log v
 
   pub rises : (setup : Setup) (f : Facts) (m : Memory) (now : Interval) (i : Input) (p : Plan) → IsWell setup f m →
@@ -94,7 +95,7 @@ module _ (n : ℕ) (v : View) where
   }
 
   pub shows_follows : (setup : Setup) (log : List Record) → Shows setup log → followed setup.shard log ≡ true
-  shows_follows setup log s = accepted_follows setup log s.accepted
+  shows_follows setup log s = accepted_follows setup log s.accepted.0
 
   pub shows_logs : (setup : Setup) (log : List Record) (m : Memory) (now : Interval) (i : Input) (p : Plan) (r : Record) → IsInLimit i →
       Shows setup log → Serves setup (facts_of log) m →
@@ -103,15 +104,15 @@ module _ (n : ℕ) (v : View) where
       let more = logs setup log m now i p r limit shows.accepted serves.well e logged in
       record {
         accepted = more;
-        shown = λ here. shown_stays setup.shard log r v (accepted_follows setup (log ++ r ∷ []) more)
+        shown = λ here. shown_stays setup.shard log r v (each_logged log shows.accepted.1) (accepted_follows setup (log ++ r ∷ []) more.0)
             (subst (LoggedAbove v.safe) logged (rises setup (facts_of log) m now i p serves.well e (serves.served here)).1) (shows.shown here);
       }
 
   pub shows_opens : (setup : Setup) (log : List Record) → Shows setup log → Shows setup (log ++ Record.Opened ((facts_of log).epoch + 1) ∷ [])
   shows_opens setup log s = record {
-    accepted = opening_taken setup log s.accepted;
-    shown = λ here. shown_stays setup.shard log (Record.Opened ((facts_of log).epoch + 1)) v
-        (opening_follows setup.shard log (accepted_follows setup log s.accepted)) tt (s.shown here);
+    accepted = opening_keeps setup log s.accepted;
+    shown = λ here. shown_stays setup.shard log (Record.Opened ((facts_of log).epoch + 1)) v (each_logged log s.accepted.1)
+        (opening_follows setup.shard log (accepted_follows setup log s.accepted.0)) tt (s.shown here);
   }
 
 -- a view of a shard is kept: over whatever log a crash may leave
@@ -144,7 +145,7 @@ module _ (shard : ℕ) (log : List Record) (m : Memory) (sound : IsSound shard (
   ended_there t e is = record {
     outcome = e.outcome;
     among = subst (λ u. IsAmong log (Outcome u e.outcome)) (same_id-is e.txn t (first_passes (λ (y : Ended). same_id y.txn t) (gather as_ended log) e is))
-        (outcome_among log e (among_first (λ (y : Ended). same_id y.txn t) (gather as_ended log) e is));
+        (outcome_among log o.1 e (among_first (λ (y : Ended). same_id y.txn t) (gather as_ended log) e is));
   }
 
   -- a row that stands holds back the served time
@@ -188,10 +189,10 @@ module _ (shard : ℕ) (log : List Record) (m : Memory) (sound : IsSound shard (
       by_parts a ha c hc q hq (Some e) he = ended_there p.txn e he
       by_parts true ha c hc q hq None he =
           absurd (let same = same_claim log o p.txn (Prepare p) (Abort p.txn) h (is_aborted_among log p.txn ha) (same_id-refl p.txn) (same_id-refl p.txn) in cc)
-      by_parts false ha (Some c) hc q hq None he = let i = committed_is log p.txn c hc in absurd (decided_not_promised log o c p i.0 h (sym i.1))
+      by_parts false ha (Some c) hc q hq None he = let i = committed_is log o.1 p.txn c hc in absurd (decided_not_promised log o c p i.0 h (sym i.1))
       by_parts false ha None hc None hq None he = absurd (not_prepared log p.txn p hq h refl)
       by_parts false ha None hc (Some q) hq None he =
-          let i = prepared_is log p.txn q hq in
+          let i = prepared_is log o.1 p.txn q hq in
           absurd (standing q (one_promise log o p q h i.0 i.1) (agrees_at p.txn false None (Some q) None ha hc hq he))
 
   decision_ends : (c : Committed) → IsAmong log (Commit c) → c.at ≤ safe m → HasEnd log c.txn
@@ -217,7 +218,7 @@ module _ (shard : ℕ) (log : List Record) (m : Memory) (sound : IsSound shard (
           absurd (let same = same_claim log o c.txn (Commit c) (Abort c.txn) h (is_aborted_among log c.txn ha) (same_id-refl c.txn) (same_id-refl c.txn) in cc)
       by_parts false ha None hd q hq None he = absurd (not_committed log c.txn c hd h refl)
       by_parts false ha (Some d) hd q hq None he =
-          let i = committed_is log c.txn d hd in
+          let i = committed_is log o.1 c.txn d hd in
           absurd (standing d (one_decision log o c d h i.0 i.1) (agrees_at c.txn false (Some d) q None ha hd hq he))
 
   -- what it serves is quiet
@@ -271,11 +272,11 @@ memory_is : (a b : Memory) → Runs a ≡ Runs b → a ≡ b
 memory_is a b e = cc
 
 -- it is this one, and runs
-shown_now : (setup : Setup) (log : List Record) (m : Memory) → IsWell setup (facts_of log) m → taken setup log ≡ Accepted →
+shown_now : (setup : Setup) (log : List Record) (m : Memory) → IsWell setup (facts_of log) m → IsTaken setup log →
     IsShown log (view_of (facts_of log) m)
 unfolding facts_of
 shown_now setup log m well e = record {
-  quiet = safe_is_quiet setup.shard log m well.sound (orderly setup.shard log (accepted_follows setup log e));
+  quiet = safe_is_quiet setup.shard log m well.sound (orderly setup.shard log (accepted_follows setup log e.0) (each_logged log e.1));
   same = λ k at low. refl;
 }
 
@@ -308,7 +309,7 @@ running_kept n setup log unsure (Runs q) views m e h = record {
     well : IsWell setup (facts_of log) m
     well = subst (IsWell setup (facts_of log)) (memory_is q m e) h.state.0
 
-    good : taken setup log ≡ Accepted
+    good : IsTaken setup log
     good = (h.left log (inl refl)).good
 
 some_shard : (a b : ShardNow) → Some a ≡ Some b → a ≡ b

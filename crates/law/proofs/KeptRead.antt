@@ -30,7 +30,7 @@ use Rattle.world.proofs.Sounds.{SoundWorld}
 use Rattle.law.proofs.HeldRead.{Held, held_keeps, held_logs}
 use Rattle.law.proofs.ReadBefore.{Claims}
 use Rattle.law.proofs.Stamps.{last_split}
-use Rattle.world.proofs.EveryRun.{IsWell, keeps, opens, logs}
+use Rattle.world.proofs.EveryRun.{IsTaken, IsWell, keeps, opening_keeps, opens, logs}
 
 -- a row that an opening finds waits for nothing
 no_reads : (entries : List TxnStatus) (t : Id) (k : Bytes) (row : Row) → find_row (gather standing_row entries) t ≡ Some row
@@ -66,7 +66,7 @@ module _ (n : ℕ) (t : Id) (k : Bytes) (e : ℕ) (x : Option Bytes) where
       Claims r t at ks ws → IsAmong ks k → latest (installs_of front) k ≡ x
 
   pub record Told (setup : Setup) (log : List Record) : Type 0 where
-    pub accepted : taken setup log ≡ Accepted
+    pub accepted : IsTaken setup log
     pub right : setup.shard ≡ n → ReadsRightly log
 
   fair_plan : (setup : Setup) (f : Facts) (m : Memory) (now : Interval) (i : Input) (p : Plan) → IsFairInput t k e i → Held t k e x f m →
@@ -103,7 +103,7 @@ module _ (n : ℕ) (t : Id) (k : Bytes) (e : ℕ) (x : Option Bytes) where
       opens_well = opens setup f m s.well
 
   pub told_follows : (setup : Setup) (log : List Record) → Told setup log → followed setup.shard log ≡ true
-  told_follows setup log s = accepted_follows setup log s.accepted
+  told_follows setup log s = accepted_follows setup log s.accepted.0
 
   pub told_logs : (setup : Setup) (log : List Record) (m : Memory) (now : Interval) (i : Input) (p : Plan) (r : Record) → IsAllowed setup i →
       Told setup log → Tells setup (facts_of log) m →
@@ -122,7 +122,7 @@ module _ (n : ℕ) (t : Id) (k : Bytes) (e : ℕ) (x : Option Bytes) where
 
   pub told_opens : (setup : Setup) (log : List Record) → Told setup log → Told setup (log ++ Record.Opened ((facts_of log).epoch + 1) ∷ [])
   told_opens setup log good = record {
-    accepted = opening_taken setup log good.accepted;
+    accepted = opening_keeps setup log good.accepted;
     right = λ here front q back at ks ws split claims there. elim (last_split log (Record.Opened ((facts_of log).epoch + 1)) front q back split) [
       | inl end ↦ absurd (subst (λ z. Claims z t at ks ws) (sym end.0) claims)
       | inr more ↦ good.right here front q more.0 at ks ws more.1 claims there

@@ -22,7 +22,8 @@ use Rattle.world.specs.declared.event.Act.{Act}
 use Rattle.world.specs.declared.event.Config.{Config}
 use Rattle.world.specs.declared.event.Doing.{Doing}
 use Rattle.world.specs.declared.event.Event.{Event}
-use Rattle.world.proofs.EveryRun.{InLimit, IsWell, IsTaken, keeps, opens, logs, always_well, in_limit}
+use Rattle.world.proofs.EveryRun.{InLimit, IsWell, IsTaken, keeps, opening_keeps, opens, logs, always_well, in_limit, taken_follows}
+use Rattle.law.proofs.Logged.{AreLogged, each_logged}
 use Rattle.world.proofs.Openings.{opening_taken}
 use Rattle.world.proofs.Sounds.{ActAllowed, DoingAllowed, SoundWorld, left_good, logged_good}
 use Rattle.world.proofs.Untouched.{run_settings}
@@ -103,9 +104,18 @@ module _ (Allowed : Setup → Input → Type 0) (Sound : Setup → Facts → Mem
             (subst (λ z. slice_get (run config es).shards z ≡ Some p.shard) here.0 p.there) ok here.1.1.0.2))
       ]
 
+-- each log is taken by an opening of its shard, and of the kinds that steps log
+left_taken : (config : Config) (es : List Event) (ls : List (List Record)) → lawful config es ≡ true → MayBeLeft config es ls →
+    (n : ℕ) (log : List Record) → slice_get ls n ≡ Some log → IsTaken (setup_of (run config es).config n) log
+left_taken config es ls fair may =
+    left_is_good InLimit IsWell IsTaken keeps opens taken_follows logs opening_keeps config es ls may (always_well config es fair)
+    (in_limit (run config es))
+
 -- an opening of each shard takes its log
 pub recovered : (config : Config) (es : List Event) (ls : List (List Record)) → lawful config es ≡ true → MayBeLeft config es ls → AllAccepted config ls
 recovered config es ls fair may =
-    subst (λ c. AllAccepted c ls) (run_settings config es)
-    (left_is_good InLimit IsWell IsTaken keeps opens accepted_follows logs opening_taken config es ls may (always_well config es fair)
-    (in_limit (run config es)))
+    subst (λ c. AllAccepted c ls) (run_settings config es) (λ n log there. (left_taken config es ls fair may n log there).0)
+
+pub all_logged : (config : Config) (es : List Event) (ls : List (List Record)) → lawful config es ≡ true → MayBeLeft config es ls →
+    (n : ℕ) (log : List Record) → slice_get ls n ≡ Some log → AreLogged log
+all_logged config es ls fair may n log there = each_logged log (left_taken config es ls fair may n log there).1

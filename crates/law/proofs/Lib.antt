@@ -19,6 +19,7 @@ pub mod Kept
 pub mod KeptRead
 pub mod LeftGood
 pub mod Lefts
+pub mod Logged
 pub mod LookedAt
 pub mod LooksHold
 pub mod Members

@@ -10,7 +10,7 @@ use Rattle.record.specs.Accepted.{belongs}
 use Rattle.record.specs.History.{Txn, history, upto}
 use Rattle.record.specs.Installs.{installs_of}
 use Rattle.record.specs.declared.record.Record.{Record}
-use Rattle.record.specs.declared.record.Record.TheVariants.{Opened, Ceiling, Prepare, Commit, Abort, Outcome, Horizon}
+use Rattle.record.specs.declared.record.Record.TheVariants.{Opened, Ceiling, Prepare, Commit, Abort, Outcome, Horizon, Base, Version, Settled, Closed}
 use Rattle.world.specs.World.{setup_of}
 use Rattle.world.specs.declared.event.Config.{Config}
 use Rattle.law.specs.Among.{IsAmong}
@@ -39,6 +39,10 @@ module _ (sc : Scene) (h : Holds sc) (logs : List (List Record)) (left : AreLeft
     ends t w low (Opened x) j wrote = absurd wrote
     ends t w low (Ceiling x) j wrote = absurd wrote
     ends t w low (Horizon x) j wrote = absurd wrote
+    ends t w low (Base _ _ _) j wrote = absurd wrote
+    ends t w low (Version _) j wrote = absurd wrote
+    ends t w low (Settled _ _ _) j wrote = absurd wrote
+    ends t w low (Closed _ _ _) j wrote = absurd wrote
     ends t w low (Abort x) j wrote = absurd wrote
     ends t w low (Outcome x o) j wrote = absurd wrote
 

@@ -30,7 +30,7 @@ use Rattle.world.specs.declared.event.Config.{Config}
 use Rattle.world.specs.declared.event.Event.{Event}
 use Rattle.law.proofs.Decisions.{log_in-is, there_in}
 use Rattle.law.proofs.Doings.{get_among}
-use Rattle.law.proofs.Homes.{log_in, evidence}
+use Rattle.law.proofs.Homes.{log_in, log_logged, evidence}
 use Rattle.law.proofs.Instants.{Moment, moment}
 use Rattle.world.proofs.Openings.{opening_taken}
 use Rattle.law.proofs.Orderly.{orderly}
@@ -41,7 +41,7 @@ use Rattle.law.proofs.Changed.{AcksAreLines, AllOnce, Changes, HasShard, Offers,
 use Rattle.law.proofs.Kept.{IsPresent, IsShown, KeptView, Serves, Shows, present_is_kept, quiet_lower, serves_keeps, serves_opens, shows_follows}
 use Rattle.law.proofs.Kept.{shows_logs, shows_opens}
 use Rattle.law.proofs.LookedAt.{shows_serially}
-use Rattle.world.proofs.EveryRun.{WellWorld, InLimit, IsWell, IsTaken, keeps, opens, logs, always_well, in_limit}
+use Rattle.world.proofs.EveryRun.{WellWorld, InLimit, IsWell, IsTaken, keeps, opening_keeps, opens, logs, always_well, in_limit, taken_follows}
 use Rattle.law.proofs.LeftGood.{left_is_good, recovered}
 
 -- ---- what holds at every moment
@@ -72,7 +72,7 @@ kept_on w e n v limit kept = acts_sound InLimit (Serves n v) (Shows n v) (serves
 
 well_on : (w : World) (e : Event) → ActAllowed InLimit w e.act → WellWorld w → WellWorld (happens w e).0
 unfolding happens
-well_on w e limit well = acts_sound InLimit IsWell IsTaken keeps opens accepted_follows logs opening_taken w well e.act limit
+well_on w e limit well = acts_sound InLimit IsWell IsTaken keeps opens taken_follows logs opening_keeps w well e.act limit
 
 -- the clock changes none of it
 pub changes : (w : World) (e : Event) → WellWorld w → may_happen w e ≡ true → Changes w (happens w e).0
@@ -220,6 +220,7 @@ module _ (sc : Scene) (h : Holds sc) (logs : List (List Record)) (left : AreLeft
   all_write_once n = record {
     promises = λ p k. let asked = evidence sc h logs left n (Prepare p) k in sent_once p.txn _ (h.messages _ asked.sent);
     decisions = λ c k. let asked = (evidence sc h logs left n (Commit c) k).asked in sent_once c.txn _ (h.messages _ asked.sent);
+    logged = log_logged sc h logs left n;
   }
 
 -- ---- the logs that a crash may leave
@@ -251,7 +252,7 @@ module _ (config : Config) (es : List Event) (ls : List (List Record)) (fair : l
       ((left_shows config es ls may l.shard l.view l.kept l.shard there.0 there.1).shown refl) in
       let once : AllOnce m.scene.world = subst AllOnce (sym m.same) (always_kept config es fair).once in
       shows_serially m.scene m.holds ls m.left config owns l.shard (orderly l.shard (log_in ls l.shard)
-      (accepted_follows (setup_of config l.shard) (log_in ls l.shard) taken_there))
+      (accepted_follows (setup_of config l.shard) (log_in ls l.shard) taken_there) (log_logged m.scene m.holds ls m.left l.shard))
       (one_value (setup_of config l.shard) (log_in ls l.shard) taken_there (all_write_once m.scene m.holds ls m.left once l.shard))
       at (quiet_lower (log_in ls l.shard) l.view.safe at shown.quiet l.served) k l.own
       ∙ shown.same k at l.served ∙ l.value

@@ -14,7 +14,7 @@ use Rattle.record.specs.Records.{as_prepared}
 use Rattle.record.specs.Accepted.{belongs}
 use Rattle.record.specs.declared.record.Prepared.{Prepared}
 use Rattle.record.specs.declared.record.Record.{Record}
-use Rattle.record.specs.declared.record.Record.TheVariants.{Opened, Ceiling, Prepare, Commit, Abort, Outcome, Horizon}
+use Rattle.record.specs.declared.record.Record.TheVariants.{Opened, Ceiling, Prepare, Commit, Abort, Outcome, Horizon, Base, Version, Settled, Closed}
 use Rattle.message.specs.declared.message.Address.TheVariants.{Shard}
 use Rattle.message.specs.declared.message.Envelope.{Envelope}
 use Rattle.message.specs.declared.message.Message.{Message}
@@ -24,7 +24,7 @@ use Rattle.law.specs.Among.{IsAmong}
 use Rattle.law.specs.Evidence.{Scene, CommitAsked, Holds, IsOfClosing}
 use Rattle.law.specs.Left.{AreLeft}
 use Rattle.world.specs.World.{World, client_of, run, setup_of}
-use Rattle.law.proofs.Decisions.{number_there}
+use Rattle.law.proofs.Decisions.{left_logged, number_there}
 use Rattle.law.proofs.Homes.{log_in, evidence, decision_home, promised}
 use Rattle.law.proofs.Instants.{Moment, moment}
 use Rattle.law.proofs.Members.{among_left, among_right}
@@ -107,7 +107,7 @@ module _ (sc : Scene) (h : Holds sc) (logs : List (List Record)) (left : AreLeft
   splits = sc.world.config.splits
 
   abbrev d : InHistory logs u
-  d = from_history logs u there
+  d = from_history logs (left_logged sc h logs left) u there
 
   txn_is : d.commit.txn ≡ u.txn
   txn_is = ap (λ (z : Txn). z.txn) d.is
@@ -157,6 +157,10 @@ module _ (sc : Scene) (h : Holds sc) (logs : List (List Record)) (left : AreLeft
   at_home n (Opened e) w k wrote = absurd wrote
   at_home n (Ceiling e) w k wrote = absurd wrote
   at_home n (Horizon e) w k wrote = absurd wrote
+  at_home n (Base _ _ _) w k wrote = absurd wrote
+  at_home n (Version _) w k wrote = absurd wrote
+  at_home n (Settled _ _ _) w k wrote = absurd wrote
+  at_home n (Closed _ _ _) w k wrote = absurd wrote
   at_home n (Abort e) w k wrote = absurd wrote
   at_home n (Outcome e q) w k wrote = absurd wrote
 

@@ -13,10 +13,11 @@ use Rattle.record.specs.Records.{Ended, Status, Unrecorded, as_committed, as_pre
 use Rattle.record.specs.declared.record.Committed.{Committed}
 use Rattle.record.specs.declared.record.Prepared.{Prepared}
 use Rattle.record.specs.declared.record.Record.{Record}
-use Rattle.record.specs.declared.record.Record.TheVariants.{Opened, Ceiling, Prepare, Commit, Abort, Outcome, Horizon}
+use Rattle.record.specs.declared.record.Record.TheVariants.{Opened, Ceiling, Prepare, Commit, Abort, Outcome, Horizon, Base, Version, Settled, Closed}
 use Rattle.law.specs.Among.{IsAmong}
+use Rattle.law.proofs.Logged.{AreLogged}
 
--- the record is a promise, a decision or an abort of the id
+-- the record is a promise, a decision or an abort of the id, or what is left of one
 abbrev pub is_claim : Id → Record → Bool
 is_claim t (Prepare p) = same_id p.txn t
 is_claim t (Commit c) = same_id c.txn t
@@ -24,6 +25,10 @@ is_claim t (Abort u) = same_id t u
 is_claim t (Record.Opened epoch) = false
 is_claim t (Record.Ceiling s) = false
 is_claim t (Record.Horizon s) = false
+is_claim t (Record.Base _ _ _) = false
+is_claim t (Record.Version _) = false
+is_claim t (Settled u at parts) = same_id u t
+is_claim t (Closed u coordinator outcome) = same_id u t
 is_claim t (Record.Outcome u o) = false
 
 -- those of an id
@@ -36,8 +41,12 @@ IsOne (x ∷ y ∷ rest) = ⊥
 IsOne _ = Unit {0}
 
 -- of each id
+abbrev pub HasOneEach : List Record → Type 0
+HasOneEach log = (t : Id) → IsOne (claims_of log t)
+
+-- and all records are of the kinds that steps log
 abbrev pub IsOrderly : List Record → Type 0
-IsOrderly log = (t : Id) → IsOne (claims_of log t)
+IsOrderly log = HasOneEach log × AreLogged log
 
 -- ---- an id that is new has none
 
@@ -51,6 +60,12 @@ none_of t [] a c p = refl
 none_of t (Opened epoch ∷ rs) a c p = none_of t rs a c p
 none_of t (Ceiling at ∷ rs) a c p = none_of t rs a c p
 none_of t (Horizon at ∷ rs) a c p = none_of t rs a c p
+none_of t (Base _ _ _ ∷ rs) a c p = none_of t rs a c p
+none_of t (Version _ ∷ rs) a c p = none_of t rs a c p
+none_of t (Settled u at parts ∷ rs) a c p =
+    dropped (same_id u t) (Settled u at parts) (claims_of rs t) (or_parts _ _ c).0 (none_of t rs a (or_parts _ _ c).1 p)
+none_of t (Closed u k outcome ∷ rs) a c p =
+    dropped (same_id u t) (Closed u k outcome) (claims_of rs t) (or_parts _ _ p).0 (none_of t rs a c (or_parts _ _ p).1)
 none_of t (Prepare q ∷ rs) a c p = dropped (same_id q.txn t) (Prepare q) (claims_of rs t) (or_parts _ _ p).0 (none_of t rs a c (or_parts _ _ p).1)
 none_of t (Commit q ∷ rs) a c p = dropped (same_id q.txn t) (Commit q) (claims_of rs t) (or_parts _ _ c).0 (none_of t rs a (or_parts _ _ c).1 p)
 none_of t (Abort u ∷ rs) a c p = dropped (same_id t u) (Abort u) (claims_of rs t) (or_parts _ _ a).0 (none_of t rs (or_parts _ _ a).1 c p)
@@ -96,6 +111,12 @@ claims_new shard before (Abort u) t h k = subst (λ v. is_new before v ≡ true)
 claims_new shard before (Opened epoch) t h k = cc
 claims_new shard before (Ceiling at) t h k = cc
 claims_new shard before (Horizon at) t h k = cc
+claims_new shard before (Base _ _ _) t h k = cc
+claims_new shard before (Version _) t h k = cc
+claims_new shard before (Settled u at parts) t h k =
+    subst (λ v. is_new before v ≡ true) (same_id-is u t k) (and_parts _ _ (and_parts _ _ h).0).1
+claims_new shard before (Closed u coordinator outcome) t h k =
+    subst (λ v. is_new before v ≡ true) (same_id-is u t k) (and_parts _ _ (and_parts _ _ h).0).1
 claims_new shard before (Outcome u o) t h k = cc
 
 one_more : (shard : ℕ) (before : List Record) (r : Record) (t : Id) → follows shard before r ≡ true → IsOne (claims_of before t) →
@@ -106,16 +127,16 @@ one_more shard before r t h one = subst IsOne (sym (claims_append t before (r �
     by_test true k = subst (λ l. IsOne (l ++ r ∷ [])) (sym (new_none before t (claims_new shard before r t h k))) tt
     by_test false k = subst IsOne (sym (append-nil (claims_of before t))) one
 
-orderly_from : (shard : ℕ) (before rest : List Record) → followed_from shard before rest ≡ true → IsOrderly before → IsOrderly (before ++ rest)
+orderly_from : (shard : ℕ) (before rest : List Record) → followed_from shard before rest ≡ true → HasOneEach before → HasOneEach (before ++ rest)
 orderly_from shard before [] h o t = subst (λ l. IsOne (claims_of l t)) (sym (append-nil before)) (o t)
 orderly_from shard before (r ∷ rs) h o t =
     let p = and_parts _ _ h in
     subst (λ l. IsOne (claims_of l t)) (append_assoc before (r ∷ []) rs)
     (orderly_from shard (before ++ r ∷ []) rs p.1 (λ u. one_more shard before r u (and_parts _ _ p.0).1 (o u)) t)
 
-pub orderly : (shard : ℕ) (log : List Record) → followed shard log ≡ true → IsOrderly log
+pub orderly : (shard : ℕ) (log : List Record) → followed shard log ≡ true → AreLogged log → IsOrderly log
 unfolding followed
-orderly shard log h = orderly_from shard [] log h (λ t. tt)
+orderly shard log h logged = (orderly_from shard [] log h (λ t. tt), logged)
 
 -- ---- what it means
 
@@ -140,7 +161,7 @@ one_same (x ∷ y ∷ rest) a b o h k = absurd o
 -- two claims of one id are one record
 pub same_claim : (log : List Record) → IsOrderly log → (t : Id) (a b : Record) → IsAmong log a → IsAmong log b → is_claim t a ≡ true →
     is_claim t b ≡ true → a ≡ b
-same_claim log o t a b h k p q = one_same (claims_of log t) a b (o t) (among_kept t log a h p) (among_kept t log b k q)
+same_claim log o t a b h k p q = one_same (claims_of log t) a b (o.0 t) (among_kept t log a h p) (among_kept t log b k q)
 
 some_same : {A : Type 0} (a b : A) → Some a ≡ Some b → a ≡ b
 some_same a b e = cc

@@ -7,7 +7,7 @@ use Rattle.units.specs.Locks.{holds}
 use Rattle.units.specs.declared.writes.Write.{Write}
 use Rattle.record.specs.Facts.{facts_of}
 use Rattle.record.specs.declared.record.Record.{Record}
-use Rattle.record.specs.declared.record.Record.TheVariants.{Opened, Ceiling, Prepare, Commit, Abort, Outcome, Horizon}
+use Rattle.record.specs.declared.record.Record.TheVariants.{Opened, Ceiling, Prepare, Commit, Abort, Outcome, Horizon, Base, Version, Settled, Closed}
 use Rattle.message.specs.declared.message.Address.{Address}
 use Rattle.message.specs.declared.message.Address.TheVariants.{Shard}
 use Rattle.message.specs.declared.message.Envelope.{Envelope}
@@ -34,7 +34,7 @@ use Rattle.law.proofs.Homes.{log_in, outcome_stamp}
 use Rattle.law.proofs.Decisions.{log_in-is}
 use Rattle.law.proofs.Instants.{Moment, all_or_nothing, moment}
 use Rattle.law.proofs.KeptRead.{IsAllowed, KeptRead, Tells, Told as Right, tells_keeps, tells_opens, told_follows, told_logs, told_opens}
-use Rattle.law.proofs.LeftGood.{left_is_good, recovered}
+use Rattle.law.proofs.LeftGood.{all_logged, left_is_good, recovered}
 use Rattle.law.proofs.LooksHold.{start_kept}
 use Rattle.law.proofs.OfLogs.{memory_is, of_its_log}
 use Rattle.law.proofs.ReadBefore.{Claims}
@@ -136,6 +136,10 @@ with_writes (Commit p) t at ks c = (p.writes, (c.0, c.1, c.2, refl))
 with_writes (Opened x) t at ks c = absurd c
 with_writes (Ceiling x) t at ks c = absurd c
 with_writes (Horizon x) t at ks c = absurd c
+with_writes (Base _ _ _) t at ks c = absurd c
+with_writes (Version _) t at ks c = absurd c
+with_writes (Settled _ _ _) t at ks c = absurd c
+with_writes (Closed _ _ _) t at ks c = absurd c
 with_writes (Abort x) t at ks c = absurd c
 with_writes (Outcome x y) t at ks c = absurd c
 
@@ -213,7 +217,8 @@ module _ (config : Config) (es : List Event) (ls : List (List Record)) (fair : l
       record {
         value = (right log is).right refl front r back at ks c.0 split c.1 reads;
         above = (stamped front r back a.txn at ks c.0 split c.1).versions;
-        between = undisturbed (setup_of config a.from) log (recovered config es ls fair may a.from log is) stamped
+        between = undisturbed (setup_of config a.from) log (recovered config es ls fair may a.from log is)
+            (all_logged config es ls fair may a.from log is) stamped
             (λ d s h k. outcome_stamp m.scene m.holds ls m.left a.from a.from d s (subst (λ l. IsAmong l (Commit d)) (sym place) h)
             (subst (λ l. IsAmong l (Outcome d.txn (Some s))) (sym place) k))
             front r back split a.txn at ks c.0 c.1 a.key reads;

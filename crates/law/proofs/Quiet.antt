@@ -22,10 +22,12 @@ use Rattle.record.proofs.LearnAgrees.{learn_agrees, followed_more}
 use Rattle.record.specs.declared.record.Committed.{Committed}
 use Rattle.record.specs.declared.record.Prepared.{Prepared}
 use Rattle.record.specs.declared.record.Record.{Record}
-use Rattle.record.specs.declared.record.Record.TheVariants.{Opened, Ceiling, Prepare, Commit, Abort, Outcome, Horizon}
+use Rattle.record.specs.declared.record.Record.TheVariants.{Opened, Ceiling, Prepare, Commit, Abort, Outcome, Horizon, Base, Version, Settled, Closed}
 use Rattle.law.specs.Among.{IsAmong}
 use Rattle.law.proofs.Members.{among_left, among_cases}
 use Rattle.law.proofs.Picked.{any_of, gather_among}
+use Rattle.world.proofs.StepKinds.{is_logged}
+use Rattle.law.proofs.Logged.{AreLogged}
 use Rattle.law.proofs.Resolved.{committed_is, prepared_is}
 
 -- the log has an outcome of the id
@@ -38,15 +40,32 @@ pub record IsQuiet (log : List Record) (at : ℕ) : Type 0 where
   pub promises : (p : Prepared) → IsAmong log (Prepare p) → p.at ≤ at → HasEnd log p.txn
   pub decisions : (c : Committed) → IsAmong log (Commit c) → c.at ≤ at → HasEnd log c.txn
 
--- a promise and a decision are above a time
+-- a promise and a decision are above a time; steps and openings log no records of a renewed log's head
 abbrev pub IsAbove : ℕ → Record → Type 0
 IsAbove at (Prepare p) = at < p.at
 IsAbove at (Commit c) = at < c.at
 IsAbove at (Record.Opened epoch) = Unit {0}
 IsAbove at (Record.Ceiling s) = Unit {0}
 IsAbove at (Record.Horizon s) = Unit {0}
+IsAbove at (Record.Base _ _ _) = ⊥
+IsAbove at (Record.Version _) = ⊥
+IsAbove at (Record.Settled _ _ _) = ⊥
+IsAbove at (Record.Closed _ _ _) = ⊥
 IsAbove at (Record.Abort u) = Unit {0}
 IsAbove at (Record.Outcome u o) = Unit {0}
+
+pub above_logged : (at : ℕ) (r : Record) → IsAbove at r → is_logged r ≡ true
+above_logged at (Prepare p) h = refl
+above_logged at (Commit c) h = refl
+above_logged at (Opened epoch) h = refl
+above_logged at (Ceiling s) h = refl
+above_logged at (Horizon s) h = refl
+above_logged at (Abort u) h = refl
+above_logged at (Outcome u o) h = refl
+above_logged at (Base _ _ _) h = absurd h
+above_logged at (Version _) h = absurd h
+above_logged at (Settled _ _ _) h = absurd h
+above_logged at (Closed _ _ _) h = absurd h
 
 -- ---- one more record keeps the quiet
 
@@ -77,18 +96,18 @@ not_ended log t e h = both_ways (when (λ x. true) (ended_of log t)) h
     both_ways true k l = cc
     both_ways false k l = cc
 
-pub outcome_above : (log : List Record) (at : ℕ) (t : Id) (s : ℕ) → IsQuiet log at → not (when (λ e. true) (ended_of log t)) ≡ true →
+pub outcome_above : (log : List Record) → AreLogged log → (at : ℕ) (t : Id) (s : ℕ) → IsQuiet log at → not (when (λ e. true) (ended_of log t)) ≡ true →
     (p : Option Prepared) → prepared_of log t ≡ p → (c : Option Committed) → committed_of log t ≡ c → outcome_fits p c (Some s) ≡ true → at < s
-outcome_above log at t s q fresh p hp c hc fits = elim (cases_lt at s) [
+outcome_above log logged at t s q fresh p hp c hc fits = elim (cases_lt at s) [
   | inl above ↦ above
   | inr below ↦ absurd (by_parts p hp c hc fits below)
 ]
   where
     promised : (x : Prepared) → prepared_of log t ≡ Some x → x.at ≤ at → ⊥
-    promised x is low = let k = prepared_is log t x is in not_ended log t (subst (HasEnd log) k.1 (q.promises x k.0 low)) fresh
+    promised x is low = let k = prepared_is log logged t x is in not_ended log t (subst (HasEnd log) k.1 (q.promises x k.0 low)) fresh
 
     decided : (x : Committed) → committed_of log t ≡ Some x → x.at ≤ at → ⊥
-    decided x is low = let k = committed_is log t x is in not_ended log t (subst (HasEnd log) k.1 (q.decisions x k.0 low)) fresh
+    decided x is low = let k = committed_is log logged t x is in not_ended log t (subst (HasEnd log) k.1 (q.decisions x k.0 low)) fresh
 
     one_of : (a b : Bool) → (a || b) ≡ true → (a ≡ true) ⊎ (b ≡ true)
     one_of true b e = inl refl
@@ -131,21 +150,25 @@ same_answer is more k at none =
     ∙ append-nil (filter (λ (i : Install). nat_le i.at at) is))
 
 -- the answer of a log at a time, after one more record that follows
-pub answer_stays : (shard : ℕ) (log : List Record) (r : Record) (k : Bytes) (at : ℕ) → followed shard (log ++ r ∷ []) ≡ true → IsQuiet log at →
+pub answer_stays : (shard : ℕ) (log : List Record) (r : Record) (k : Bytes) (at : ℕ) → AreLogged log → is_logged r ≡ true → followed shard (log ++ r ∷ []) ≡ true → IsQuiet log at →
     at_time (installs_of (log ++ r ∷ [])) k at ≡ at_time (installs_of log) k at
 unfolding facts_of learn follows
-answer_stays shard log r k at h q =
+answer_stays shard log r k at logged of_step h q =
     ap (λ (f : Facts). at_time f.installs k at) (learn_agrees shard log r h)
-    ∙ by_kind r (and_parts _ _ (and_parts _ _ (sym (followed_more shard log r) ∙ h)).1).1
+    ∙ by_kind r of_step (and_parts _ _ (and_parts _ _ (sym (followed_more shard log r) ∙ h)).1).1
   where
-    by_kind : (x : Record) → follows shard log x ≡ true → at_time (learn (facts_of log) x).installs k at ≡ at_time (installs_of log) k at
-    by_kind (Opened epoch) e = refl
-    by_kind (Ceiling s) e = refl
-    by_kind (Horizon s) e = refl
-    by_kind (Prepare p) e = refl
-    by_kind (Commit c) e = refl
-    by_kind (Abort t) e = refl
-    by_kind (Outcome t None) e = same_answer (installs_of log) (installs_at (recorded (facts_of log) t) None) k at (none_installed (recorded (facts_of log) t))
+    by_kind : (x : Record) → is_logged x ≡ true → follows shard log x ≡ true → at_time (learn (facts_of log) x).installs k at ≡ at_time (installs_of log) k at
+    by_kind (Opened epoch) l e = refl
+    by_kind (Ceiling s) l e = refl
+    by_kind (Horizon s) l e = refl
+    by_kind (Base _ _ _) l e = cc
+    by_kind (Version _) l e = cc
+    by_kind (Settled _ _ _) l e = cc
+    by_kind (Closed _ _ _) l e = cc
+    by_kind (Prepare p) l e = refl
+    by_kind (Commit c) l e = refl
+    by_kind (Abort t) l e = refl
+    by_kind (Outcome t None) l e = same_answer (installs_of log) (installs_at (recorded (facts_of log) t) None) k at (none_installed (recorded (facts_of log) t))
       where
         none_installed : (st : Status) → filter (λ (i : Install). nat_le i.at at) (installs_at st None) ≡ []
         none_installed (StandsPrepared p) = refl
@@ -154,9 +177,9 @@ answer_stays shard log r k at h q =
         none_installed HasAborted = refl
         none_installed (HasSettled x ps) = refl
         none_installed (HasClosed c o) = refl
-    by_kind (Outcome t (Some s)) e =
+    by_kind (Outcome t (Some s)) l e =
         same_answer (installs_of log) (installs_at (recorded (facts_of log) t) (Some s)) k at
         (installed_unseen (recorded (facts_of log) t) at s
-        (outcome_above log at t s q (and_parts (not (when (λ x. true) (ended_of log t))) (outcome_fits (prepared_of log t) (committed_of log t) (Some s)) e).0
+        (outcome_above log logged at t s q (and_parts (not (when (λ x. true) (ended_of log t))) (outcome_fits (prepared_of log t) (committed_of log t) (Some s)) e).0
         (prepared_of log t) refl (committed_of log t) refl (and_parts (not (when (λ x. true) (ended_of log t)))
         (outcome_fits (prepared_of log t) (committed_of log t) (Some s)) e).1))

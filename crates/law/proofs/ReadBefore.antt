@@ -29,7 +29,7 @@ use Rattle.record.specs.Records.{status_by, status_of, horizon_of}
 use Rattle.record.specs.declared.record.Committed.{Committed}
 use Rattle.record.specs.declared.record.Prepared.{Prepared}
 use Rattle.record.specs.declared.record.Record.{Record}
-use Rattle.record.specs.declared.record.Record.TheVariants.{Opened, Ceiling, Prepare, Commit, Abort, Outcome, Horizon}
+use Rattle.record.specs.declared.record.Record.TheVariants.{Opened, Ceiling, Prepare, Commit, Abort, Outcome, Horizon, Base, Version, Settled, Closed}
 use Rattle.record.proofs.LearnAgrees.{accepted_follows}
 use Rattle.protocol.specs.Sound.{holds_alone, is_exclusive}
 use Rattle.protocol.proofs.RecordLocks.{holds_reads}
@@ -41,9 +41,11 @@ use Rattle.law.specs.Left.{AreLeft}
 use Rattle.law.proofs.Members.{among_left, among_right, some_passes}
 use Rattle.law.proofs.Orderly.{IsOrderly, orderly, same_claim, one_decision, one_promise, decided_not_promised}
 use Rattle.law.proofs.Picked.{any_of, gather_among}
+use Rattle.law.proofs.Logged.{AreLogged}
 use Rattle.law.proofs.Recorded.{among_first, is_aborted_among, outcome_among}
 use Rattle.law.proofs.Resolved.{committed_is, prepared_is, not_committed, not_prepared}
-use Rattle.law.proofs.Homes.{log_in, no_aborted, one_place, outcome_stamp}
+use Rattle.law.proofs.Decisions.{left_logged}
+use Rattle.law.proofs.Homes.{log_in, log_logged, no_aborted, one_place, outcome_stamp}
 use Rattle.law.proofs.Quiet.{HasEnd}
 use Rattle.protocol.proofs.InWay.{holds_exclusive}
 use Rattle.law.proofs.Accepts.{AllWriteOnce, Place, place_of, each_at, each_taken, front_taken, one_value}
@@ -60,6 +62,10 @@ Claims (Commit c) t at ks ws = (c.txn ≡ t) × (c.at ≡ at) × (c.reads ≡ ks
 Claims (Record.Opened epoch) t at ks ws = ⊥
 Claims (Record.Ceiling s) t at ks ws = ⊥
 Claims (Record.Horizon s) t at ks ws = ⊥
+Claims (Record.Base _ _ _) t at ks ws = ⊥
+Claims (Record.Version _) t at ks ws = ⊥
+Claims (Record.Settled _ _ _) t at ks ws = ⊥
+Claims (Record.Closed _ _ _) t at ks ws = ⊥
 Claims (Record.Abort u) t at ks ws = ⊥
 Claims (Record.Outcome u o) t at ks ws = ⊥
 
@@ -160,8 +166,8 @@ has_end : (log : List Record) (t : Id) → EndIs log t → HasEnd log t
 has_end log t x = record { outcome = x.ended.outcome; among = x.among }
 
 -- the log has an outcome of an id, or none
-end_or_none : (log : List Record) (t : Id) → EndIs log t ⊎ (ended_of log t ≡ None)
-end_or_none log t = by_value (ended_of log t) refl
+end_or_none : (log : List Record) → AreLogged log → (t : Id) → EndIs log t ⊎ (ended_of log t ≡ None)
+end_or_none log logged t = by_value (ended_of log t) refl
   where
     by_value : (o : Option Ended) → ended_of log t ≡ o → EndIs log t ⊎ (o ≡ None)
     by_value None e = inr refl
@@ -169,7 +175,7 @@ end_or_none log t = by_value (ended_of log t) refl
       ended = x;
       is = e;
       among = subst (λ u. IsAmong log (Outcome u x.outcome)) (same_id-is x.txn t (first_passes (λ (y : Ended). same_id y.txn t) (gather as_ended log) x e))
-          (outcome_among log x (among_first (λ (y : Ended). same_id y.txn t) (gather as_ended log) x e));
+          (outcome_among log logged x (among_first (λ (y : Ended). same_id y.txn t) (gather as_ended log) x e));
     })
 
 -- a promise or a decision without outcome stands
@@ -185,10 +191,10 @@ stands_there log o (Prepare p) t at ks ws h c none = by_parts (is_aborted log t)
     by_parts true ha d hd q hq None he =
         absurd (let same = same_claim log o t (Prepare p) (Abort t) h (is_aborted_among log t ha)
         (subst (λ u. same_id u t ≡ true) (sym c.0) (same_id-refl t)) (same_id-refl t) in cc)
-    by_parts false ha (Some d) hd q hq None he = let i = committed_is log t d hd in absurd (decided_not_promised log o d p i.0 h (c.0 ∙ sym i.1))
+    by_parts false ha (Some d) hd q hq None he = let i = committed_is log o.1 t d hd in absurd (decided_not_promised log o d p i.0 h (c.0 ∙ sym i.1))
     by_parts false ha None hd None hq None he = absurd (not_prepared log t p hq h c.0)
     by_parts false ha None hd (Some q) hq None he =
-        let i = prepared_is log t q hq in
+        let i = prepared_is log o.1 t q hq in
         let same : p ≡ q = one_promise log o p q h i.0 (i.1 ∙ sym c.0) in
         ap (λ (z : Prepared). Some (locks_of z.reads z.writes)) (sym same) ∙ ap (λ l. Some (locks_of l p.writes)) c.2 ∙ ap (λ l. Some (locks_of ks l)) c.3
 stands_there log o (Commit p) t at ks ws h c none = by_parts (is_aborted log t) refl (committed_of log t) refl (prepared_of log t) refl (ended_of log t) none
@@ -201,12 +207,16 @@ stands_there log o (Commit p) t at ks ws h c none = by_parts (is_aborted log t) 
         (subst (λ u. same_id u t ≡ true) (sym c.0) (same_id-refl t)) (same_id-refl t) in cc)
     by_parts false ha None hd q hq None he = absurd (not_committed log t p hd h c.0)
     by_parts false ha (Some d) hd q hq None he =
-        let i = committed_is log t d hd in
+        let i = committed_is log o.1 t d hd in
         let same : p ≡ d = one_decision log o p d h i.0 (i.1 ∙ sym c.0) in
         ap (λ (z : Committed). Some (locks_of z.reads z.writes)) (sym same) ∙ ap (λ l. Some (locks_of l p.writes)) c.2 ∙ ap (λ l. Some (locks_of ks l)) c.3
 stands_there log o (Opened x) t at ks ws h c none = absurd c
 stands_there log o (Ceiling x) t at ks ws h c none = absurd c
 stands_there log o (Horizon x) t at ks ws h c none = absurd c
+stands_there log o (Base _ _ _) t at ks ws h c none = absurd c
+stands_there log o (Version _) t at ks ws h c none = absurd c
+stands_there log o (Settled _ _ _) t at ks ws h c none = absurd c
+stands_there log o (Closed _ _ _) t at ks ws h c none = absurd c
 stands_there log o (Abort x) t at ks ws h c none = absurd c
 stands_there log o (Outcome x y) t at ks ws h c none = absurd c
 
@@ -224,7 +234,7 @@ stamp_of_end log o (Prepare p) t at ks ws s h c x is own = by_parts (is_aborted 
     by_parts true ha d hd q hq (Some e) he =
         absurd (let same = same_claim log o t (Prepare p) (Abort t) h (is_aborted_among log t ha)
         (subst (λ u. same_id u t ≡ true) (sym c.0) (same_id-refl t)) (same_id-refl t) in cc)
-    by_parts false ha (Some d) hd q hq (Some e) he = let i = committed_is log t d hd in absurd (decided_not_promised log o d p i.0 h (c.0 ∙ sym i.1))
+    by_parts false ha (Some d) hd q hq (Some e) he = let i = committed_is log o.1 t d hd in absurd (decided_not_promised log o d p i.0 h (c.0 ∙ sym i.1))
     by_parts false ha None hd None hq (Some e) he = absurd (not_prepared log t p hq h c.0)
     by_parts false ha None hd (Some q) hq (Some e) he = ap (λ (z : Ended). z.outcome) (same_end e x.ended he) ∙ is
       where
@@ -241,11 +251,15 @@ stamp_of_end log o (Commit p) t at ks ws s h c x is own = by_parts (is_aborted l
         (subst (λ u. same_id u t ≡ true) (sym c.0) (same_id-refl t)) (same_id-refl t) in cc)
     by_parts false ha None hd q hq (Some e) he = absurd (not_committed log t p hd h c.0)
     by_parts false ha (Some d) hd q hq (Some e) he =
-        let i = committed_is log t d hd in
+        let i = committed_is log o.1 t d hd in
         ap (λ z. Some z) (sym (ap (λ (z : Committed). z.at) (one_decision log o p d h i.0 (i.1 ∙ sym c.0))) ∙ own p refl)
 stamp_of_end log o (Opened y) t at ks ws s h c x is own = absurd c
 stamp_of_end log o (Ceiling y) t at ks ws s h c x is own = absurd c
 stamp_of_end log o (Horizon y) t at ks ws s h c x is own = absurd c
+stamp_of_end log o (Base _ _ _) t at ks ws s h c x is own = absurd c
+stamp_of_end log o (Version _) t at ks ws s h c x is own = absurd c
+stamp_of_end log o (Settled _ _ _) t at ks ws s h c x is own = absurd c
+stamp_of_end log o (Closed _ _ _) t at ks ws s h c x is own = absurd c
 stamp_of_end log o (Abort y) t at ks ws s h c x is own = absurd c
 stamp_of_end log o (Outcome y z) t at ks ws s h c x is own = absurd c
 
@@ -255,6 +269,10 @@ claim_id (Commit p) t at ks ws c = ap (λ u. Some u) c.0
 claim_id (Opened x) t at ks ws c = absurd c
 claim_id (Ceiling x) t at ks ws c = absurd c
 claim_id (Horizon x) t at ks ws c = absurd c
+claim_id (Base _ _ _) t at ks ws c = absurd c
+claim_id (Version _) t at ks ws c = absurd c
+claim_id (Settled _ _ _) t at ks ws c = absurd c
+claim_id (Closed _ _ _) t at ks ws c = absurd c
 claim_id (Abort x) t at ks ws c = absurd c
 claim_id (Outcome x y) t at ks ws c = absurd c
 
@@ -306,19 +324,24 @@ free_beside front (Commit p) t at ks ws c e =
 free_beside front (Opened x) t at ks ws c e = absurd c
 free_beside front (Ceiling x) t at ks ws c e = absurd c
 free_beside front (Horizon x) t at ks ws c e = absurd c
+free_beside front (Base _ _ _) t at ks ws c e = absurd c
+free_beside front (Version _) t at ks ws c e = absurd c
+free_beside front (Settled _ _ _) t at ks ws c e = absurd c
+free_beside front (Closed _ _ _) t at ks ws c e = absurd c
 free_beside front (Abort x) t at ks ws c e = absurd c
 free_beside front (Outcome x y) t at ks ws c e = absurd c
 
-module _ (setup : Setup) (log : List Record) (accepted : taken setup log ≡ Accepted) where
+module _ (setup : Setup) (log : List Record) (accepted : taken setup log ≡ Accepted) (logged : AreLogged log) where
   front_orderly : (front back : List Record) → log ≡ front ++ back → IsOrderly front
   front_orderly front back same = orderly setup.shard front (accepted_follows setup front
       (front_taken setup front back (subst (λ l. taken setup l ≡ Accepted) same accepted)))
+      (λ r h. logged r (subst (λ l. IsAmong l r) (sym same) (among_left front back r h)))
 
   -- of two in conflict the first has its outcome before the second is logged
   pub ended_between : (f mid b : List Record) (r q : Record) (t u : Id) (at bt : ℕ) (rs ks : List Bytes) (vs ws : List Write) →
       log ≡ (f ++ r ∷ mid) ++ q ∷ b → Claims r t at rs vs → Claims q u bt ks ws →
       clash (locks_of ks ws) (locks_of rs vs) ≡ true → EndIs (f ++ r ∷ mid) t
-  ended_between f mid b r q t u at bt rs ks vs ws same cr cq clashes = elim (end_or_none (f ++ r ∷ mid) t) [
+  ended_between f mid b r q t u at bt rs ks vs ws same cr cq clashes = elim (end_or_none (f ++ r ∷ mid) (front_orderly (f ++ r ∷ mid) (q ∷ b) same).1 t) [
     | inl end ↦ end
     | inr none ↦ absurd (clashes_none (locks_of ks ws) (locks_standing (f ++ r ∷ mid)) (locks_of rs vs)
         (free_beside (f ++ r ∷ mid) q u bt ks ws cq (each_taken setup (f ++ r ∷ mid) q b (subst (λ l. taken setup l ≡ Accepted) same accepted)).fits)
@@ -334,6 +357,10 @@ claim_of_wrote (Commit c) v w h = (c.at, c.reads, c.writes, (h.0, refl, refl, re
 claim_of_wrote (Opened x) v w h = absurd h
 claim_of_wrote (Ceiling x) v w h = absurd h
 claim_of_wrote (Horizon x) v w h = absurd h
+claim_of_wrote (Base _ _ _) v w h = absurd h
+claim_of_wrote (Version _) v w h = absurd h
+claim_of_wrote (Settled _ _ _) v w h = absurd h
+claim_of_wrote (Closed _ _ _) v w h = absurd h
 claim_of_wrote (Abort x) v w h = absurd h
 claim_of_wrote (Outcome x y) v w h = absurd h
 
@@ -343,6 +370,10 @@ same_claim_id (Commit c) t u at bt ks js ws vs a b = sym a.0 ∙ b.0
 same_claim_id (Opened x) t u at bt ks js ws vs a b = absurd a
 same_claim_id (Ceiling x) t u at bt ks js ws vs a b = absurd a
 same_claim_id (Horizon x) t u at bt ks js ws vs a b = absurd a
+same_claim_id (Base _ _ _) t u at bt ks js ws vs a b = absurd a
+same_claim_id (Version _) t u at bt ks js ws vs a b = absurd a
+same_claim_id (Settled _ _ _) t u at bt ks js ws vs a b = absurd a
+same_claim_id (Closed _ _ _) t u at bt ks js ws vs a b = absurd a
 same_claim_id (Abort x) t u at bt ks js ws vs a b = absurd a
 same_claim_id (Outcome x y) t u at bt ks js ws vs a b = absurd a
 
@@ -373,7 +404,7 @@ module _ (sc : Scene) (h : Holds sc) (logs : List (List Record)) (left : AreLeft
     (at : ℕ) (ks : List Bytes) (ws : List Write)
     (claims : Claims r u.txn at ks ws) (low : at ≤ u.at) (k : Bytes) (own : shard_of config.splits k ≡ n) (reads : IsAmong ks k) where
   d : InHistory logs u
-  d = from_history logs u there
+  d = from_history logs (left_logged sc h logs left) u there
 
   -- its outcome has its timestamp
   outcome_is : (o : Option ℕ) → IsAmong (log_in logs n) (Outcome u.txn o) → o ≡ Some u.at
@@ -387,7 +418,7 @@ module _ (sc : Scene) (h : Holds sc) (logs : List (List Record)) (left : AreLeft
   front_within q j = subst (λ l. IsAmong l q) (sym same) (among_left front (r ∷ back) q j)
 
   front_is_orderly : IsOrderly front
-  front_is_orderly = front_orderly (setup_of config n) (log_in logs n) accepted front (r ∷ back) same
+  front_is_orderly = front_orderly (setup_of config n) (log_in logs n) accepted (log_logged sc h logs left n) front (r ∷ back) same
 
   -- who wrote the key and comes before it has its outcome before the record
   ends_before : (v : Txn) (w : Write) → IsAmong (history logs) v → serial_before v u ≡ true → w.key ≡ k → (q : Record) → IsAmong (log_in logs n) q →
@@ -403,7 +434,7 @@ module _ (sc : Scene) (h : Holds sc) (logs : List (List Record)) (left : AreLeft
       one_txn : r ≡ q → ⊥
       one_txn e =
           let ids : u.txn ≡ v.txn = same_claim_id q u.txn v.txn at c.0 ks c.1 ws c.2 (subst (λ z. Claims z u.txn at ks ws) e claims) c.3 in
-          let f = from_history logs v in_it in
+          let f = from_history logs (left_logged sc h logs left) v in_it in
           let one = one_place sc h logs left d.shard f.shard d.commit f.commit d.among f.among
           (ap (λ (z : Txn). z.txn) f.is ∙ sym ids ∙ sym (ap (λ (z : Txn). z.txn) d.is)) in
           before_itself v u (sym (ap (λ (z : Txn). z.at) f.is) ∙ sym (ap (λ (z : Committed). z.at) one.1) ∙ ap (λ (z : Txn). z.at) d.is) (sym ids) earlier
@@ -422,7 +453,7 @@ module _ (sc : Scene) (h : Holds sc) (logs : List (List Record)) (left : AreLeft
           let split : log_in logs n ≡ (front ++ r ∷ mid) ++ q ∷ p.back = p.same ∙ ap (λ l. l ++ q ∷ p.back) is in
           let o : end.ended.outcome ≡ Some u.at = outcome_is end.ended.outcome (subst (λ l. IsAmong l (Outcome u.txn end.ended.outcome)) (sym split)
           (among_left (front ++ r ∷ mid) (q ∷ p.back) (Outcome u.txn end.ended.outcome) end.among)) in
-          let stamp = stamp_of_end (front ++ r ∷ mid) (front_orderly (setup_of config n) (log_in logs n) accepted (front ++ r ∷ mid)
+          let stamp = stamp_of_end (front ++ r ∷ mid) (front_orderly (setup_of config n) (log_in logs n) accepted (log_logged sc h logs left n) (front ++ r ∷ mid)
           (q ∷ p.back) split) r u.txn at ks ws u.at (among_right front (r ∷ mid) r (inl refl)) claims end o own_commit in
           let above = (stamped (front ++ r ∷ mid) q p.back v.txn c.0 c.1 c.2 split c.3).ends u.txn u.at stamp in
           let below = c.4 in
@@ -433,11 +464,11 @@ module _ (sc : Scene) (h : Holds sc) (logs : List (List Record)) (left : AreLeft
       by_order (IsEarlier mid e) = (
         subst (λ l. IsAmong l q) (sym e) (among_right p.front (q ∷ mid) q (inl refl)),
         subst (λ l. HasEnd l v.txn) (sym e) (has_end (p.front ++ q ∷ mid) v.txn (ended_between (setup_of config n)
-            (log_in logs n) accepted p.front mid back q r v.txn u.txn c.0 at c.1 ks c.2 ws (same ∙ ap (λ l. l ++ r ∷ back) e) c.3 claims
+            (log_in logs n) accepted (log_logged sc h logs left n) p.front mid back q r v.txn u.txn c.0 at c.1 ks c.2 ws (same ∙ ap (λ l. l ++ r ∷ back) e) c.3 claims
             (read_clashes ks c.1 ws c.2 k w reads c.5 key))),
       )
       by_order (IsLater mid e) = absurd (later_end mid e
-          (ended_between (setup_of config n) (log_in logs n) accepted front mid p.back r q u.txn v.txn at c.0 ks c.1 ws c.2
+          (ended_between (setup_of config n) (log_in logs n) accepted (log_logged sc h logs left n) front mid p.back r q u.txn v.txn at c.0 ks c.1 ws c.2
           (p.same ∙ ap (λ l. l ++ q ∷ p.back) e) claims c.3
           (clash_comm (locks_of c.1 c.2) (locks_of ks ws) ∙ read_clashes ks c.1 ws c.2 k w reads c.5 key)))
 
@@ -452,7 +483,11 @@ module _ (sc : Scene) (h : Holds sc) (logs : List (List Record)) (left : AreLeft
     once = λ i j hi hj ki kj stamp.
         one_value (setup_of config n) front (front_taken (setup_of config n) front (r ∷ back)
         (subst (λ l. taken (setup_of config n) l ≡ Accepted) same accepted))
-        (record { promises = λ p e. once.promises p (front_within (Prepare p) e); decisions = λ c e. once.decisions c (front_within (Commit c) e) })
+        (record {
+          promises = λ p e. once.promises p (front_within (Prepare p) e);
+          decisions = λ c e. once.decisions c (front_within (Commit c) e);
+          logged = λ q e. once.logged q (front_within q e);
+        })
         i j hi hj (ki ∙ sym kj) stamp;
   }
 

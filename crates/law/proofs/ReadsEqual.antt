@@ -15,7 +15,7 @@ use Rattle.record.specs.Accepted.{belongs}
 use Rattle.record.specs.History.{Txn, history, before, find_txn}
 use Rattle.record.specs.Serially.{ReadsSerially}
 use Rattle.record.specs.declared.record.Record.{Record}
-use Rattle.record.specs.declared.record.Record.TheVariants.{Opened, Ceiling, Prepare, Commit, Abort, Outcome, Horizon}
+use Rattle.record.specs.declared.record.Record.TheVariants.{Opened, Ceiling, Prepare, Commit, Abort, Outcome, Horizon, Base, Version, Settled, Closed}
 use Rattle.message.specs.ReadSet.{ReadSet}
 use Rattle.message.specs.declared.message.Address.TheVariants.{Shard}
 use Rattle.message.specs.declared.message.Envelope.{Envelope}
@@ -32,7 +32,7 @@ use Rattle.law.specs.Left.{AreLeft}
 use Rattle.world.specs.World.{World, setup_of, start, run}
 use Rattle.world.specs.declared.event.Config.{Config}
 use Rattle.world.specs.declared.event.Event.{Event}
-use Rattle.law.proofs.Decisions.{there_in}
+use Rattle.law.proofs.Decisions.{left_logged, there_in}
 use Rattle.law.proofs.Doings.{get_among}
 use Rattle.law.proofs.Homes.{log_in, evidence, decision_home, promised}
 use Rattle.law.proofs.Instants.{Moment, moment}
@@ -158,7 +158,7 @@ module _ (sc : Scene) (h : Holds sc) (own : OwnIds sc.world) (epochs : AllOneEpo
   reader_logged logs left u there named = elim (cases_eq a.from d.shard) [ inl same ↦ decides same | inr other ↦ promises other ]
     where
       d : InHistory logs u
-      d = from_history logs u there
+      d = from_history logs (left_logged sc h logs left) u there
 
       txn_is : d.commit.txn ≡ u.txn
       txn_is = ap (λ (z : Txn). z.txn) d.is
@@ -220,6 +220,10 @@ own_read config n (Commit p) t at ks ws k c b there = eqb-true _ _ (each_at (λ 
 own_read config n (Opened y) t at ks ws k c b there = absurd c
 own_read config n (Ceiling y) t at ks ws k c b there = absurd c
 own_read config n (Horizon y) t at ks ws k c b there = absurd c
+own_read config n (Base _ _ _) t at ks ws k c b there = absurd c
+own_read config n (Version _) t at ks ws k c b there = absurd c
+own_read config n (Settled _ _ _) t at ks ws k c b there = absurd c
+own_read config n (Closed _ _ _) t at ks ws k c b there = absurd c
 own_read config n (Abort y) t at ks ws k c b there = absurd c
 own_read config n (Outcome y z) t at ks ws k c b there = absurd c
 

@@ -6,15 +6,18 @@ use Rattle.units.proofs.IdLaws.{same_id-is}
 use Rattle.units.proofs.ByIdLaws.{first_passes}
 use Rattle.record.specs.Facts.{facts_of, recorded}
 use Rattle.record.specs.Records.{Ended, Status, Unrecorded, StandsPrepared, StandsDecided, HasAborted, HasSettled, HasClosed, as_committed}
-use Rattle.record.specs.Records.{as_prepared, as_aborted, as_ended, status_by, status_of, is_aborted, committed_of, prepared_of, ended_of, ids_of}
+use Rattle.record.specs.Records.{as_prepared, as_aborted, as_ended, as_version, status_by, status_of, is_aborted, committed_of, prepared_of, ended_of, ids_of}
 use Rattle.record.proofs.Statuses.{recorded_is}
+use Rattle.units.specs.declared.writes.Install.{Install}
 use Rattle.record.specs.declared.record.Committed.{Committed}
 use Rattle.record.specs.declared.record.Prepared.{Prepared}
 use Rattle.record.specs.declared.record.Record.{Record}
-use Rattle.record.specs.declared.record.Record.TheVariants.{Opened, Ceiling, Prepare, Commit, Abort, Outcome, Horizon}
+use Rattle.record.specs.declared.record.Record.TheVariants.{Opened, Ceiling, Prepare, Commit, Abort, Outcome, Horizon, Base, Version, Settled, Closed}
 use Rattle.protocol.specs.Rows.{Row, IsPrepared, IsDecided, standing_row, rebuilt}
 use Rattle.law.specs.Among.{IsAmong}
 use Rattle.law.specs.Evidence.{Scene, RecordEvidence, StatusEvidence, PhaseEvidence, RowsEvidence, HasDecision, HasOutcome, WasTold}
+use Rattle.world.proofs.StepKinds.{is_logged}
+use Rattle.law.proofs.Logged.{AreLogged}
 use Rattle.law.proofs.Members.{some_passes}
 use Rattle.law.proofs.Orderly.{IsOrderly, one_decision, decided_not_promised}
 
@@ -58,62 +61,97 @@ among_gather {A} {B} f (x ∷ xs) y h = by_value (f x) refl h (λ k. among_gathe
     by_value (Some z) e (inl same) rest = record { from = x; among = inl refl; gives = e ∙ ap (λ w. Some w) same }
     by_value (Some z) e (inr k) rest = later (rest k)
 
-prepare_is : (r : Record) (p : Prepared) → as_prepared r ≡ Some p → r ≡ Prepare p
-prepare_is (Prepare q) p e = cc
-prepare_is (Opened x) p e = cc
-prepare_is (Ceiling x) p e = cc
-prepare_is (Horizon x) p e = cc
-prepare_is (Commit x) p e = cc
-prepare_is (Abort x) p e = cc
-prepare_is (Outcome x y) p e = cc
+prepare_is : (r : Record) (p : Prepared) → is_logged r ≡ true → as_prepared r ≡ Some p → r ≡ Prepare p
+prepare_is (Prepare q) p l e = cc
+prepare_is (Opened x) p l e = cc
+prepare_is (Ceiling x) p l e = cc
+prepare_is (Horizon x) p l e = cc
+prepare_is (Base _ _ _) p l e = cc
+prepare_is (Version _) p l e = cc
+prepare_is (Settled _ _ _) p l e = cc
+prepare_is (Closed _ _ _) p l e = cc
+prepare_is (Commit x) p l e = cc
+prepare_is (Abort x) p l e = cc
+prepare_is (Outcome x y) p l e = cc
 
-commit_is : (r : Record) (c : Committed) → as_committed r ≡ Some c → r ≡ Commit c
-commit_is (Commit q) c e = cc
-commit_is (Opened x) c e = cc
-commit_is (Ceiling x) c e = cc
-commit_is (Horizon x) c e = cc
-commit_is (Prepare x) c e = cc
-commit_is (Abort x) c e = cc
-commit_is (Outcome x y) c e = cc
+commit_is : (r : Record) (c : Committed) → is_logged r ≡ true → as_committed r ≡ Some c → r ≡ Commit c
+commit_is (Commit q) c l e = cc
+commit_is (Opened x) c l e = cc
+commit_is (Ceiling x) c l e = cc
+commit_is (Horizon x) c l e = cc
+commit_is (Base _ _ _) c l e = cc
+commit_is (Version _) c l e = cc
+commit_is (Settled _ _ _) c l e = cc
+commit_is (Closed _ _ _) c l e = cc
+commit_is (Prepare x) c l e = cc
+commit_is (Abort x) c l e = cc
+commit_is (Outcome x y) c l e = cc
 
 abort_is : (r : Record) (t : Id) → as_aborted r ≡ Some t → r ≡ Abort t
 abort_is (Abort q) t e = cc
 abort_is (Opened x) t e = cc
 abort_is (Ceiling x) t e = cc
 abort_is (Horizon x) t e = cc
+abort_is (Base _ _ _) t e = cc
+abort_is (Version _) t e = cc
+abort_is (Settled _ _ _) t e = cc
+abort_is (Closed _ _ _) t e = cc
 abort_is (Prepare x) t e = cc
 abort_is (Commit x) t e = cc
 abort_is (Outcome x y) t e = cc
 
-outcome_is : (r : Record) (x : Ended) → as_ended r ≡ Some x → r ≡ Outcome x.txn x.outcome
-outcome_is (Outcome u o) x e = let same : record { txn = u; outcome = o } ≡ x = some_is _ x e in ap (λ (y : Ended). Outcome y.txn y.outcome) same
+outcome_is : (r : Record) (x : Ended) → is_logged r ≡ true → as_ended r ≡ Some x → r ≡ Outcome x.txn x.outcome
+outcome_is (Outcome u o) x l e = let same : record { txn = u; outcome = o } ≡ x = some_is _ x e in ap (λ (y : Ended). Outcome y.txn y.outcome) same
   where
     some_is : (a b : Ended) → Some a ≡ Some b → a ≡ b
     some_is a b l = cc
-outcome_is (Opened q) x e = cc
-outcome_is (Ceiling q) x e = cc
-outcome_is (Horizon q) x e = cc
-outcome_is (Prepare q) x e = cc
-outcome_is (Commit q) x e = cc
-outcome_is (Abort q) x e = cc
+outcome_is (Opened q) x l e = cc
+outcome_is (Ceiling q) x l e = cc
+outcome_is (Horizon q) x l e = cc
+outcome_is (Base _ _ _) x l e = cc
+outcome_is (Version _) x l e = cc
+outcome_is (Settled _ _ _) x l e = cc
+outcome_is (Closed _ _ _) x l e = cc
+outcome_is (Prepare q) x l e = cc
+outcome_is (Commit q) x l e = cc
+outcome_is (Abort q) x l e = cc
 
 module _ (log : List Record) where
-  pub promise_among : (p : Prepared) → IsAmong (gather as_prepared log) p → IsAmong log (Prepare p)
-  promise_among p h = let s = among_gather as_prepared log p h in subst (λ r. IsAmong log r) (prepare_is s.from p s.gives) s.among
-
-  pub decision_among : (c : Committed) → IsAmong (gather as_committed log) c → IsAmong log (Commit c)
-  decision_among c h = let s = among_gather as_committed log c h in subst (λ r. IsAmong log r) (commit_is s.from c s.gives) s.among
-
-  pub abort_among : (t : Id) → IsAmong (gather as_aborted log) t → IsAmong log (Abort t)
+  abort_among : (t : Id) → IsAmong (gather as_aborted log) t → IsAmong log (Abort t)
   abort_among t h = let s = among_gather as_aborted log t h in subst (λ r. IsAmong log r) (abort_is s.from t s.gives) s.among
-
-  pub outcome_among : (x : Ended) → IsAmong (gather as_ended log) x → IsAmong log (Outcome x.txn x.outcome)
-  outcome_among x h = let s = among_gather as_ended log x h in subst (λ r. IsAmong log r) (outcome_is s.from x s.gives) s.among
 
   pub is_aborted_among : (t : Id) → is_aborted log t ≡ true → IsAmong log (Abort t)
   is_aborted_among t e =
       let p = some_passes (gather as_aborted log) (same_id t) e in
       abort_among t (subst (λ u. IsAmong (gather as_aborted log) u) (sym (same_id-is t p.member p.passes)) p.among)
+
+no_version : (r : Record) (i : Install) → is_logged r ≡ true → as_version r ≡ Some i → ⊥
+no_version (Opened x) i l e = cc
+no_version (Ceiling x) i l e = cc
+no_version (Horizon x) i l e = cc
+no_version (Prepare x) i l e = cc
+no_version (Commit x) i l e = cc
+no_version (Abort x) i l e = cc
+no_version (Outcome x y) i l e = cc
+no_version (Base _ _ _) i l e = cc
+no_version (Version _) i l e = cc
+no_version (Settled _ _ _) i l e = cc
+no_version (Closed _ _ _) i l e = cc
+
+-- a log of the kinds that steps log
+module _ (log : List Record) (logged : AreLogged log) where
+  pub promise_among : (p : Prepared) → IsAmong (gather as_prepared log) p → IsAmong log (Prepare p)
+  promise_among p h = let s = among_gather as_prepared log p h in subst (λ r. IsAmong log r) (prepare_is s.from p (logged s.from s.among) s.gives) s.among
+
+  pub decision_among : (c : Committed) → IsAmong (gather as_committed log) c → IsAmong log (Commit c)
+  decision_among c h = let s = among_gather as_committed log c h in subst (λ r. IsAmong log r) (commit_is s.from c (logged s.from s.among) s.gives) s.among
+
+  pub outcome_among : (x : Ended) → IsAmong (gather as_ended log) x → IsAmong log (Outcome x.txn x.outcome)
+  outcome_among x h = let s = among_gather as_ended log x h in subst (λ r. IsAmong log r) (outcome_is s.from x (logged s.from s.among) s.gives) s.among
+
+  -- it lists no version
+  pub none_listed : (i : Install) → IsAmong (gather as_version log) i → ⊥
+  none_listed i h = let s = among_gather as_version log i h in no_version s.from i (logged s.from s.among) s.gives
 
   -- what a status rests on in the log
   pub record SettledBy (t : Id) (s : ℕ) : Type 0 where
@@ -133,7 +171,7 @@ module _ (log : List Record) where
 
   by_parts : (t : Id) (a : Bool) (c : Option Committed) (p : Option Prepared) (e : Option Ended) → is_aborted log t ≡ a → committed_of log t ≡ c →
       prepared_of log t ≡ p → ended_of log t ≡ e → Rests t (status_by a c p e)
-  by_parts t true c p e ha hc hp he = is_aborted_among t ha
+  by_parts t true c p e ha hc hp he = is_aborted_among log t ha
   by_parts t false (Some c) p None ha hc hp he = decision_among c (among_first (λ (x : Committed). same_id x.txn t) (gather as_committed log) c hc)
   by_parts t false None (Some p) None ha hc hp he = promise_among p (among_first (λ (x : Prepared). same_id x.txn t) (gather as_prepared log) p hp)
   by_parts t false None (Some p) (Some e) ha hc hp he = tt
@@ -214,7 +252,7 @@ module _ (sc : Scene) (log : List Record) (n : ℕ) (orderly : IsOrderly log) (r
           let same : s ≡ c.at = ap (λ (x : Committed). x.at) (sym (one_decision log orderly c _ h d.among refl)) in
           subst (λ x. HasOutcome log sc.now c.txn x) same (record { decided = d; ended = ended; passed = passed })
 
-  by_status : (t : Id) (st : Status) → Rests log t st → StatusEvidence log sc.now t st
+  by_status : (t : Id) (st : Status) → Rests log orderly.1 t st → StatusEvidence log sc.now t st
   by_status t HasAborted h = h
   by_status t (HasSettled s ps) h =
       let e : IsAmong log (Outcome h.commit.txn h.outcome) = subst (λ u. IsAmong log (Outcome u h.outcome)) (sym h.named) h.ended in
@@ -225,4 +263,4 @@ module _ (sc : Scene) (log : List Record) (n : ℕ) (orderly : IsOrderly log) (r
   by_status t (HasClosed c o) h = tt
 
   pub statuses : (t : Id) → StatusEvidence log sc.now t (recorded (facts_of log) t)
-  statuses t = subst (λ st. StatusEvidence log sc.now t st) (sym (recorded_is log t)) (by_status t (status_of log t) (rests log t))
+  statuses t = subst (λ st. StatusEvidence log sc.now t st) (sym (recorded_is log t)) (by_status t (status_of log t) (rests log orderly.1 t))

@@ -19,32 +19,34 @@ use Rattle.law.specs.Among.{IsAmong}
 use Rattle.law.specs.Evidence.{Scene, Holds, HasDecision, WasTold}
 use Rattle.law.specs.Left.{AreLeft}
 use Rattle.law.proofs.Recorded.{among_first, promise_among, decision_among, outcome_among}
-use Rattle.law.proofs.Homes.{log_in, evidence, decision_home, no_aborted, outcome_decided, outcome_stamp, one_place, promised, promise_of_part}
+use Rattle.law.proofs.Logged.{AreLogged}
+use Rattle.law.proofs.Homes.{log_in, log_logged, evidence, decision_home, no_aborted, outcome_decided, outcome_stamp, one_place, promised, promise_of_part}
 use Rattle.law.proofs.Homes.{promise_home, one_home, TakesPart, ClosesOver}
 use Rattle.law.proofs.AllWhole.{has_head}
-use Rattle.law.proofs.Decisions.{decision_stands, stands_decided, one_decided, log_of_number, log_in-is}
+use Rattle.law.proofs.Decisions.{decision_stands, left_logged, stands_decided, one_decided, log_of_number, log_in-is}
 use Rattle.law.proofs.Picked.{each_of, any_of, gather_among, AtMostOne}
 
 -- ---- what a log holds of an id
 
-module _ (log : List Record) (t : Id) where
+module _ (log : List Record) (logged : AreLogged log) (t : Id) where
   pub committed_is : (c : Committed) → committed_of log t ≡ Some c → IsAmong log (Record.Commit c) × (c.txn ≡ t)
   committed_is c e = (
-    decision_among log c (among_first (λ (x : Committed). same_id x.txn t) (gather as_committed log) c e),
+    decision_among log logged c (among_first (λ (x : Committed). same_id x.txn t) (gather as_committed log) c e),
     same_id-is c.txn t (first_passes (λ (x : Committed). same_id x.txn t) (gather as_committed log) c e),
   )
 
   pub prepared_is : (p : Prepared) → prepared_of log t ≡ Some p → IsAmong log (Record.Prepare p) × (p.txn ≡ t)
   prepared_is p e = (
-    promise_among log p (among_first (λ (x : Prepared). same_id x.txn t) (gather as_prepared log) p e),
+    promise_among log logged p (among_first (λ (x : Prepared). same_id x.txn t) (gather as_prepared log) p e),
     same_id-is p.txn t (first_passes (λ (x : Prepared). same_id x.txn t) (gather as_prepared log) p e),
   )
 
   ended_is : (x : Ended) → ended_of log t ≡ Some x → IsAmong log (Record.Outcome t x.outcome)
   ended_is x e =
       subst (λ u. IsAmong log (Record.Outcome u x.outcome)) (same_id-is x.txn t (first_passes (λ (y : Ended). same_id y.txn t) (gather as_ended log) x e))
-      (outcome_among log x (among_first (λ (y : Ended). same_id y.txn t) (gather as_ended log) x e))
+      (outcome_among log logged x (among_first (λ (y : Ended). same_id y.txn t) (gather as_ended log) x e))
 
+module _ (log : List Record) (t : Id) where
   none_there : {A : Type 0} (o : Option A) → o ≡ None → is_there o ≡ true → ⊥
   none_there None e k = cc
   none_there (Some x) e k = cc
@@ -79,14 +81,14 @@ module _ (sc : Scene) (h : Holds sc) (logs : List (List Record)) (left : AreLeft
         by_parts : (c : Option Committed) → committed_of (log_in logs n) t ≡ c → (e : Option Ended) → ended_of (log_in logs n) t ≡ e →
             (p : Option Prepared) → prepared_of (log_in logs n) t ≡ p →
             not (when (λ s. true) (stands_by logs c e p)) ≡ true
-        by_parts (Some c) hc e he p hp = let k = committed_is (log_in logs n) t c hc in absurd (no_commit n c k.0 k.1)
-        by_parts None hc (Some x) he p hp = by_outcome x.outcome (ended_is (log_in logs n) t x he)
+        by_parts (Some c) hc e he p hp = let k = committed_is (log_in logs n) (log_logged sc h logs left n) t c hc in absurd (no_commit n c k.0 k.1)
+        by_parts None hc (Some x) he p hp = by_outcome x.outcome (ended_is (log_in logs n) (log_logged sc h logs left n) t x he)
           where
             by_outcome : (o : Option ℕ) → IsAmong (log_in logs n) (Record.Outcome t o) → not (when (λ s. true) o) ≡ true
             by_outcome None k = refl
             by_outcome (Some s) k = let d = outcome_decided sc h logs left n t s k in absurd (no_commit d.shard d.commit d.among d.named)
         by_parts None hc None he (Some p) hp =
-            let k = prepared_is (log_in logs n) t p hp in
+            let k = prepared_is (log_in logs n) (log_logged sc h logs left n) t p hp in
             subst (λ (ds : List Decision). not (when (λ s. true)
             (head (map (λ (d : Decision). d.commit.at) (filter (λ (d : Decision). nat_eq d.shard p.coordinator) ds)))) ≡ true)
             (sym (ap (decisions logs) k.1 ∙ none)) refl
@@ -121,15 +123,15 @@ module _ (sc : Scene) (h : Holds sc) (logs : List (List Record)) (left : AreLeft
             (p : Option Prepared) → prepared_of (log_in logs m) t ≡ p →
             when (nat_eq d.commit.at) (stands_by logs c e p) ≡ true
         by_parts (Some c) hc e he p hp =
-            let k = committed_is (log_in logs m) t c hc in
+            let k = committed_is (log_in logs m) (log_logged sc h logs left m) t c hc in
             same_number d.commit.at c.at (ap (λ (x : Committed). x.at) (one_place sc h logs left d.shard m d.commit c stands k.0 (k.1 ∙ sym named)).1)
-        by_parts None hc (Some x) he p hp = by_outcome x.outcome (ended_is (log_in logs m) t x he)
+        by_parts None hc (Some x) he p hp = by_outcome x.outcome (ended_is (log_in logs m) (log_logged sc h logs left m) t x he)
           where
             by_outcome : (o : Option ℕ) → IsAmong (log_in logs m) (Record.Outcome t o) → when (nat_eq d.commit.at) o ≡ true
             by_outcome None k = absurd (no_aborted sc h logs left d.shard m d.commit stands (of_this m None k))
             by_outcome (Some s) k = same_number d.commit.at s (outcome_stamp sc h logs left d.shard m d.commit s stands (of_this m (Some s) k))
         by_parts None hc None he (Some p) hp =
-            let k = prepared_is (log_in logs m) t p hp in
+            let k = prepared_is (log_in logs m) (log_logged sc h logs left m) t p hp in
             subst (λ o. when (nat_eq d.commit.at) o ≡ true) (sym (by_coordinator m p k.0 k.1)) (same_number d.commit.at d.commit.at refl)
         by_parts None hc None he None hp = elim (cases_eq m d.shard) [
           | inl same ↦ absurd (not_committed (log_in logs m) t d.commit hc (subst (λ j. IsAmong (log_in logs j) (Record.Commit d.commit))
@@ -174,13 +176,13 @@ module _ (sc : Scene) (h : Holds sc) (logs : List (List Record)) (left : AreLeft
         by_parts : (c : Option Committed) → committed_of (log_in logs m) t ≡ c → (e : Option Ended) → ended_of (log_in logs m) t ≡ e →
             (p : Option Prepared) → prepared_of (log_in logs m) t ≡ p →
             not (when (λ s. true) (stands_by logs c e p)) ≡ true
-        by_parts (Some c) hc e he p hp = let k = committed_is (log_in logs m) t c hc in absurd (not_here c k.0 k.1)
-        by_parts None hc (Some x) he p hp = by_outcome x.outcome (ended_is (log_in logs m) t x he)
+        by_parts (Some c) hc e he p hp = let k = committed_is (log_in logs m) (log_logged sc h logs left m) t c hc in absurd (not_here c k.0 k.1)
+        by_parts None hc (Some x) he p hp = by_outcome x.outcome (ended_is (log_in logs m) (log_logged sc h logs left m) t x he)
           where
             by_outcome : (o : Option ℕ) → IsAmong (log_in logs m) (Record.Outcome t o) → not (when (λ s. true) o) ≡ true
             by_outcome None k = refl
             by_outcome (Some s) k = absurd (no_outcome s k)
-        by_parts None hc None he (Some p) hp = let k = prepared_is (log_in logs m) t p hp in absurd (no_promise p k.0 k.1)
+        by_parts None hc None he (Some p) hp = let k = prepared_is (log_in logs m) (log_logged sc h logs left m) t p hp in absurd (no_promise p k.0 k.1)
         by_parts None hc None he None hp = refl
 
   -- ---- both
@@ -194,7 +196,7 @@ module _ (sc : Scene) (h : Holds sc) (logs : List (List Record)) (left : AreLeft
   by_decisions [] e = each_place logs (λ l. not (when (λ s. true) (stands_at logs l t))) (λ n log there. subst
       (λ l. not (when (λ s. true) (stands_at logs l t)) ≡ true) (log_in-is logs n log there) (nowhere e n))
   by_decisions (d ∷ []) e =
-      let stands = decision_stands logs t d (subst (λ ds. IsAmong ds d) (sym e) (inl refl)) in
+      let stands = decision_stands logs (left_logged sc h logs left) t d (subst (λ ds. IsAmong ds d) (sym e) (inl refl)) in
       each_of _ (by_shard logs) (λ p k. here stands.among stands.named p (log_in-is logs p.0 p.1 (log_of_number logs p k)))
     where
       by_part : IsAmong (log_in logs d.shard) (Record.Commit d.commit) → d.commit.txn ≡ t → (m : ℕ) (b : Bool) → has d.commit.parts m ≡ b →

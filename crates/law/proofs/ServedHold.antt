@@ -12,7 +12,7 @@ use Rattle.record.specs.Accepted.{follows, followed, outcome_fits}
 use Rattle.record.specs.Facts.{Facts, facts_of, learn}
 use Rattle.record.specs.Records.{committed_of, prepared_of, ended_of}
 use Rattle.record.specs.declared.record.Record.{Record}
-use Rattle.record.specs.declared.record.Record.TheVariants.{Opened, Ceiling, Prepare, Commit, Abort, Outcome, Horizon}
+use Rattle.record.specs.declared.record.Record.TheVariants.{Opened, Ceiling, Prepare, Commit, Abort, Outcome, Horizon, Base, Version, Settled, Closed}
 use Rattle.record.proofs.LearnAgrees.{learn_agrees, followed_more}
 use Rattle.message.specs.declared.message.Input.{Input}
 use Rattle.protocol.specs.Plan.{Plan, start_of_step}
@@ -36,14 +36,15 @@ use Rattle.law.proofs.LeftGood.{left_is_good}
 use Rattle.law.proofs.LooksHold.{IsKept, always_kept, changes, event_keeps, start_kept, start_present}
 use Rattle.law.proofs.Members.{among_cases, among_right}
 use Rattle.law.proofs.OfLogs.{of_its_log}
+use Rattle.law.proofs.Logged.{AreLogged, each_logged}
 use Rattle.law.proofs.Quiet.{IsAbove, IsQuiet, outcome_above}
 use Rattle.law.proofs.Rising.{LoggedAbove}
 use Rattle.law.proofs.WholeLaw.{lawful_on, run_on}
 
 -- a record that follows comes above a time up to which the log is quiet
-comes_above : (shard : ℕ) (log : List Record) (r : Record) (at : ℕ) → followed shard (log ++ r ∷ []) ≡ true → IsQuiet log at → IsAbove at r → ComesAbove at r
+comes_above : (shard : ℕ) (log : List Record) (r : Record) (at : ℕ) → AreLogged log → followed shard (log ++ r ∷ []) ≡ true → IsQuiet log at → IsAbove at r → ComesAbove at r
 unfolding follows
-comes_above shard log r at h q above = by_kind r (and_parts _ _ (and_parts _ _ (sym (followed_more shard log r) ∙ h)).1).1 above
+comes_above shard log r at logged h q above = by_kind r (and_parts _ _ (and_parts _ _ (sym (followed_more shard log r) ∙ h)).1).1 above
   where
     by_kind : (x : Record) → follows shard log x ≡ true → IsAbove at x → ComesAbove at x
     by_kind (Prepare p) e high = high
@@ -51,11 +52,15 @@ comes_above shard log r at h q above = by_kind r (and_parts _ _ (and_parts _ _ (
     by_kind (Opened epoch) e high = tt
     by_kind (Ceiling s) e high = tt
     by_kind (Horizon s) e high = tt
+    by_kind (Base _ _ _) e high = absurd high
+    by_kind (Version _) e high = absurd high
+    by_kind (Settled _ _ _) e high = absurd high
+    by_kind (Closed _ _ _) e high = absurd high
     by_kind (Abort t) e high = tt
     by_kind (Outcome t None) e high = tt
     by_kind (Outcome t (Some s)) e high =
         let p = and_parts (not (when (λ x. true) (ended_of log t))) (outcome_fits (prepared_of log t) (committed_of log t) (Some s)) e in
-        outcome_above log at t s q p.0 (prepared_of log t) refl (committed_of log t) refl p.1
+        outcome_above log logged at t s q p.0 (prepared_of log t) refl (committed_of log t) refl p.1
 
 grown_more : (base log : List Record) (r : Record) (at : ℕ) → IsAboveServed base log at → ComesAbove at r → at ≤ (facts_of (log ++ r ∷ [])).floor →
     IsAboveServed base (log ++ r ∷ []) at
@@ -87,7 +92,7 @@ module _ (n : ℕ) (v : View) (base : List Record) where
       record {
         shows = shows;
         grown = λ here. grown_more base log r v.safe (stays.grown here)
-            (comes_above setup.shard log r v.safe follows_it (stays.shows.shown here).quiet
+            (comes_above setup.shard log r v.safe (each_logged log stays.shows.accepted.1) follows_it (stays.shows.shown here).quiet
             (subst (LoggedAbove v.safe) logged (rises n v setup (facts_of log) m now i p serves.well e (serves.served here)).1))
             (floor here follows_it);
       }

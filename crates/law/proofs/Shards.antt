@@ -34,6 +34,7 @@ use Rattle.law.proofs.Grows.{Within, told_stays, record_stays, rows_stay}
 use Rattle.law.proofs.Changes.{with_world, set_holds, log_after}
 use Rattle.law.proofs.Says.{put_out_holds}
 use Rattle.law.proofs.Closings.{AfterHolds}
+use Rattle.law.proofs.Logged.{rests_logged}
 use Rattle.law.proofs.Orderly.{orderly}
 use Rattle.law.proofs.Doings.{DoesEvidence, SteppedEvidence, Given, grows_same, step_evidence, opening_evidence}
 
@@ -104,7 +105,8 @@ module _ (sc : Scene) (h : Holds sc) (steady : IsSteady sc.world) (present : sli
   running o heard (Runs m) is =
       let state : StateEvidence sc s n (Runs m) = subst (λ x. StateEvidence sc s n x) is (h.shards n s there).state in
       subst (λ l. SteppedEvidence sc n l (step_with (setup_of sc.world.config n) (facts_of s.log) m o)) (sym (no_more state.1))
-      (step_evidence sc h n s there m is (orderly n s.log (steady.follows n s s.log there (inl refl))) o heard)
+      (step_evidence sc h n s there m is (orderly n s.log (steady.follows n s s.log there (inl refl))
+      (λ r k. rests_logged sc s.log n r ((h.shards n s there).records r k))) o heard)
   running o heard (IsStopped m) is = tt
   running o heard IsDown is = tt
 

@@ -18,7 +18,7 @@ use Rattle.record.specs.Facts.{Facts, facts_of, learn, recorded, after_outcome}
 use Rattle.record.specs.Installs.{installs_of}
 use Rattle.record.specs.Records.{Status, StandsPrepared, StandsDecided, HasAborted}
 use Rattle.record.specs.declared.record.Record.{Record}
-use Rattle.record.specs.declared.record.Record.TheVariants.{Opened, Ceiling, Prepare, Commit, Abort, Outcome, Horizon}
+use Rattle.record.specs.declared.record.Record.TheVariants.{Opened, Ceiling, Prepare, Commit, Abort, Outcome, Horizon, Base, Version, Settled, Closed}
 use Rattle.record.proofs.LearnAgrees.{accepted_follows}
 use Rattle.record.proofs.Statuses.{recorded_is}
 use Rattle.message.specs.declared.message.Input.{Input}
@@ -35,7 +35,7 @@ use Rattle.law.proofs.Quiet.{IsAbove}
 use Rattle.law.proofs.Rising.{LoggedAbove, rising}
 use Rattle.law.proofs.Accepts.{each_at}
 use Rattle.law.proofs.ReadBefore.{Claims, IsAboveAll, IsStamped, end_stamp}
-use Rattle.world.proofs.EveryRun.{InLimit, IsWell, keeps, opens, fresh, fresh_taken, in_limit, limits, logs}
+use Rattle.world.proofs.EveryRun.{InLimit, IsTaken, IsWell, keeps, opening_keeps, opens, fresh, fresh_taken, in_limit, limits, logs}
 use Rattle.world.proofs.Sounds.{always_sound}
 use Rattle.world.specs.World.{fresh_log, run}
 use Rattle.world.specs.declared.event.Config.{Config}
@@ -148,7 +148,7 @@ pub record Stamps (setup : Setup) (f : Facts) (m : Memory) : Type 0 where
   pub ends : EndsBelow f m.last
 
 pub record Stamped (setup : Setup) (log : List Record) : Type 0 where
-  pub accepted : taken setup log ≡ Accepted
+  pub accepted : IsTaken setup log
   pub stamped : IsStamped log
 
 pub stamps_keeps : (setup : Setup) (f : Facts) (m : Memory) (now : Interval) (i : Input) (p : Plan) → IsInLimit i → Stamps setup f m →
@@ -171,7 +171,7 @@ stamps_opens setup f m s = record {
     opens_well = opens setup f m s.well
 
 pub stamped_follows : (setup : Setup) (log : List Record) → Stamped setup log → followed setup.shard log ≡ true
-stamped_follows setup log s = accepted_follows setup log s.accepted
+stamped_follows setup log s = accepted_follows setup log s.accepted.0
 
 claim_above : (r : Record) (t : Id) (at : ℕ) (ks : List Bytes) (ws : List Write) (low : ℕ) → Claims r t at ks ws → IsAbove low r → low < at
 claim_above (Prepare p) t at ks ws low c h = let e = c.1 in omega (arith, e, h)
@@ -179,6 +179,10 @@ claim_above (Commit p) t at ks ws low c h = let e = c.1 in omega (arith, e, h)
 claim_above (Opened x) t at ks ws low c h = absurd c
 claim_above (Ceiling x) t at ks ws low c h = absurd c
 claim_above (Horizon x) t at ks ws low c h = absurd c
+claim_above (Base _ _ _) t at ks ws low c h = absurd c
+claim_above (Version _) t at ks ws low c h = absurd c
+claim_above (Settled _ _ _) t at ks ws low c h = absurd c
+claim_above (Closed _ _ _) t at ks ws low c h = absurd c
 claim_above (Abort x) t at ks ws low c h = absurd c
 claim_above (Outcome x y) t at ks ws low c h = absurd c
 
@@ -209,7 +213,7 @@ stamped_logs setup log m now i p r limit good s e logged = record {
 
 pub stamped_opens : (setup : Setup) (log : List Record) → Stamped setup log → Stamped setup (log ++ Record.Opened ((facts_of log).epoch + 1) ∷ [])
 stamped_opens setup log good = record {
-  accepted = opening_taken setup log good.accepted;
+  accepted = opening_keeps setup log good.accepted;
   stamped = λ front q back t at ks ws is claims. elim (last_split log (Record.Opened ((facts_of log).epoch + 1)) front q back is) [
     | inl end ↦ absurd (subst (λ z. Claims z t at ks ws) (sym end.0) claims)
     | inr more ↦ good.stamped front q more.0 t at ks ws more.1 claims

@@ -16,7 +16,7 @@ use Rattle.record.specs.Records.{as_prepared, committed_of, prepared_of}
 use Rattle.record.specs.declared.record.Committed.{Committed}
 use Rattle.record.specs.declared.record.Prepared.{Prepared}
 use Rattle.record.specs.declared.record.Record.{Record}
-use Rattle.record.specs.declared.record.Record.TheVariants.{Opened, Ceiling, Prepare, Commit, Abort, Outcome, Horizon}
+use Rattle.record.specs.declared.record.Record.TheVariants.{Opened, Ceiling, Prepare, Commit, Abort, Outcome, Horizon, Base, Version, Settled, Closed}
 use Rattle.world.specs.World.{setup_of}
 use Rattle.world.specs.declared.event.Config.{Config}
 use Rattle.law.specs.Among.{IsAmong}
@@ -29,7 +29,7 @@ use Rattle.law.proofs.Recorded.{among_keep, promise_among}
 use Rattle.law.proofs.InHistory.{InHistory, from_history, history_has}
 use Rattle.law.proofs.Resolved.{committed_is, prepared_is, not_committed, not_prepared}
 use Rattle.law.proofs.Homes.{log_in, decision_home, one_place, no_aborted, outcome_decided, outcome_stamp, promise_of_part, promised, is_orderly}
-use Rattle.law.proofs.Decisions.{log_of_number, log_in-is, number_there}
+use Rattle.law.proofs.Decisions.{left_logged, log_of_number, log_in-is, number_there}
 use Rattle.law.proofs.Quiet.{HasEnd}
 use Rattle.law.proofs.Accepts.{each_at, installed_from, installs_have}
 use Rattle.law.proofs.Serial.{Writes, IsInstalled}
@@ -43,6 +43,10 @@ Wrote (Commit c) x w = (c.txn ≡ x.txn) × (c.at ≡ x.at) × IsAmong c.writes 
 Wrote (Record.Opened epoch) x w = ⊥
 Wrote (Record.Ceiling s) x w = ⊥
 Wrote (Record.Horizon s) x w = ⊥
+Wrote (Record.Base _ _ _) x w = ⊥
+Wrote (Record.Version _) x w = ⊥
+Wrote (Record.Settled _ _ _) x w = ⊥
+Wrote (Record.Closed _ _ _) x w = ⊥
 Wrote (Record.Abort u) x w = ⊥
 Wrote (Record.Outcome u o) x w = ⊥
 
@@ -54,21 +58,25 @@ wrote_by log o (Commit c) x w k wrote = by_value (committed_of log x.txn) refl
     by_value : (q : Option Committed) → committed_of log x.txn ≡ q → IsAmong (writes_by q (prepared_of log x.txn)) w
     by_value None e = absurd (not_committed log x.txn c e k wrote.0)
     by_value (Some d) e =
-        let i = committed_is log x.txn d e in
+        let i = committed_is log o.1 x.txn d e in
         subst (λ (z : Committed). IsAmong z.writes w) (one_decision log o c d k i.0 (i.1 ∙ sym wrote.0)) wrote.2
 wrote_by log o (Prepare p) x w k wrote = by_value (committed_of log x.txn) refl (prepared_of log x.txn) refl
   where
     by_value : (q : Option Committed) → committed_of log x.txn ≡ q → (m : Option Prepared) → prepared_of log x.txn ≡ m → IsAmong (writes_by q m) w
     by_value (Some d) e m f =
-        let i = committed_is log x.txn d e in
+        let i = committed_is log o.1 x.txn d e in
         absurd (decided_not_promised log o d p i.0 k (wrote.0 ∙ sym i.1))
     by_value None e None f = absurd (not_prepared log x.txn p f k wrote.0)
     by_value None e (Some q) f =
-        let i = prepared_is log x.txn q f in
+        let i = prepared_is log o.1 x.txn q f in
         subst (λ (z : Prepared). IsAmong z.writes w) (one_promise log o p q k i.0 (i.1 ∙ sym wrote.0)) wrote.2
 wrote_by log o (Opened e) x w k wrote = absurd wrote
 wrote_by log o (Ceiling e) x w k wrote = absurd wrote
 wrote_by log o (Horizon e) x w k wrote = absurd wrote
+wrote_by log o (Base _ _ _) x w k wrote = absurd wrote
+wrote_by log o (Version _) x w k wrote = absurd wrote
+wrote_by log o (Settled _ _ _) x w k wrote = absurd wrote
+wrote_by log o (Closed _ _ _) x w k wrote = absurd wrote
 wrote_by log o (Abort e) x w k wrote = absurd wrote
 wrote_by log o (Outcome e q) x w k wrote = absurd wrote
 
@@ -101,7 +109,7 @@ module _ (sc : Scene) (h : Holds sc) (logs : List (List Record)) (left : AreLeft
       (gather as_prepared m.from.1) p m.within) in
       let there : IsAmong (log_in logs m.from.0) (Prepare p) = subst (λ l. IsAmong l (Prepare p))
       (sym (log_in-is logs m.from.0 m.from.1 (log_of_number logs m.from m.among)))
-      (promise_among m.from.1 p (among_keep (λ q. same_id q.txn c.txn && not (nat_eq m.from.0 n)) (gather as_prepared m.from.1) p m.within)) in
+      (promise_among m.from.1 (left_logged sc h logs left m.from.0 m.from.1 (log_of_number logs m.from m.among)) p (among_keep (λ q. same_id q.txn c.txn && not (nat_eq m.from.0 n)) (gather as_prepared m.from.1) p m.within)) in
       let named : p.txn ≡ c.txn = same_id-is p.txn c.txn passes.0 in
       let part = promise_of_part sc h logs left n m.from.0 c p k there named in
       let below = promised sc h logs left n m.from.0 c k part (λ same. apart m.from.0 n passes.1 same) in
@@ -120,7 +128,7 @@ module _ (sc : Scene) (h : Holds sc) (logs : List (List Record)) (left : AreLeft
 
   pub write_home : (x : Txn) (w : Write) → IsAmong (history logs) x → IsAmong x.writes w → WriteHome x w
   write_home x w k j =
-      let d = from_history logs x k in
+      let d = from_history logs (left_logged sc h logs left) x k in
       subst (λ z. WriteHome z w) d.is
       (elim (among_cases d.commit.writes (flat_map (λ p. p.writes) (promised_elsewhere logs d.commit.txn d.shard)) w
       (subst (λ (z : Txn). IsAmong z.writes w) (sym d.is) j)) [
@@ -149,7 +157,7 @@ module _ (sc : Scene) (h : Holds sc) (logs : List (List Record)) (left : AreLeft
         by_outcome (e.1).outcome (e.1).among by
       where
         d : InHistory logs x
-        d = from_history logs x there
+        d = from_history logs (left_logged sc h logs left) x there
 
         by_outcome : (o : Option ℕ) → IsAmong front (Outcome x.txn o) → IsAmong (writes_by (committed_of front x.txn) (prepared_of front x.txn)) w →
             IsInstalled (installs_of front) k x.at w.value
@@ -171,7 +179,7 @@ module _ (sc : Scene) (h : Holds sc) (logs : List (List Record)) (left : AreLeft
     pub written : (i : Install) (k : Bytes) (test : Txn → Bool) → IsAmong (installs_of front) i → i.key ≡ k →
         ((x : Txn) → x.at ≡ i.at → test x ≡ true) → Writes (history logs) test k i.at
     written i k test j key passes =
-        let by = installed_from front i j in
+        let by = installed_from front orderly.1 i j in
         let d = outcome_decided sc h logs left n by.txn by.stamp (within (Outcome by.txn (Some by.stamp)) by.ended) in
         let x : Txn = whole_txn logs d.shard d.commit in
         let stamp : x.at ≡ i.at = d.stamp ∙ sym by.at in
@@ -190,12 +198,12 @@ module _ (sc : Scene) (h : Holds sc) (logs : List (List Record)) (left : AreLeft
             committed_of front t ≡ o → (q : Option Prepared) → prepared_of front t ≡ q →
             IsAmong (writes_by o q) w → IsAmong (whole_txn logs m c).writes w
         of_this m c t w stands named (Some e) f q g l =
-            let is = committed_is front t e f in
+            let is = committed_is front orderly.1 t e f in
             let one = one_place sc h logs left m n c e stands (within (Commit e) is.0) (is.1 ∙ sym named) in
             among_left c.writes (flat_map (λ p. p.writes) (promised_elsewhere logs c.txn m)) w (subst (λ (z : Committed). IsAmong z.writes w) (sym one.1) l)
         of_this m c t w stands named None f None g l = absurd l
         of_this m c t w stands named None f (Some p) g l =
-            let is = prepared_is front t p g in
+            let is = prepared_is front orderly.1 t p g in
             let there = within (Prepare p) is.0 in
             let same : p.txn ≡ c.txn = is.1 ∙ sym named in
             among_right c.writes (flat_map (λ q. q.writes) (promised_elsewhere logs c.txn m)) w
@@ -212,4 +220,4 @@ module _ (sc : Scene) (h : Holds sc) (logs : List (List Record)) (left : AreLeft
             by_place true e =
                 let here : IsAmong (log_in logs n) (Commit c) = subst (λ z. IsAmong (log_in logs z) (Commit c)) (sym (eqb-true n m e)) stands in
                 absurd (decided_not_promised (log_in logs n) (is_orderly sc h logs left n (Commit c) here) c p here
-                (within (Prepare p) (prepared_is front t p g).0) ((prepared_is front t p g).1 ∙ sym named))
+                (within (Prepare p) (prepared_is front orderly.1 t p g).0) ((prepared_is front orderly.1 t p g).1 ∙ sym named))

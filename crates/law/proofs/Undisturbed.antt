@@ -17,13 +17,14 @@ use Rattle.record.specs.Records.{committed_of, prepared_of, ended_of}
 use Rattle.record.specs.declared.record.Committed.{Committed}
 use Rattle.record.specs.declared.record.Prepared.{Prepared}
 use Rattle.record.specs.declared.record.Record.{Record}
-use Rattle.record.specs.declared.record.Record.TheVariants.{Opened, Ceiling, Prepare, Commit, Abort, Outcome, Horizon}
+use Rattle.record.specs.declared.record.Record.TheVariants.{Opened, Ceiling, Prepare, Commit, Abort, Outcome, Horizon, Base, Version, Settled, Closed}
 use Rattle.record.proofs.LearnAgrees.{accepted_follows}
 use Rattle.locks.proofs.Clashes.{clash_comm}
 use Rattle.law.specs.Among.{IsAmong}
 use Rattle.law.specs.Passes.{IsPastEnd}
 use Rattle.law.proofs.Accepts.{IsNew, Place, each_taken, front_taken, installs_by, installs_more, new_from, place_of}
 use Rattle.law.proofs.Members.{among_cases, among_left, among_right}
+use Rattle.law.proofs.Logged.{AreLogged}
 use Rattle.law.proofs.Orderly.{IsOrderly, orderly, decided_not_promised}
 use Rattle.law.proofs.Quiet.{not_ended}
 use Rattle.law.proofs.ReadBefore.{Claims, EndIs, IsStamped, Order, IsSame, IsEarlier, IsLater, ended_between, order, read_clashes, same_claim_id}
@@ -52,11 +53,11 @@ claim_of log u at w o = by_parts (committed_of log u) refl (prepared_of log u) r
     by_parts : (c : Option Committed) → committed_of log u ≡ c → (p : Option Prepared) → prepared_of log u ≡ p → outcome_fits p c (Some at) ≡ true →
         IsAmong (writes_by c p) w → ClaimOf log u at w
     by_parts (Some c) hc (Some p) hp fits h =
-        let d = committed_is log u c hc in
-        let q = prepared_is log u p hp in
+        let d = committed_is log o.1 u c hc in
+        let q = prepared_is log o.1 u p hp in
         absurd (decided_not_promised log o c p d.0 q.0 (q.1 ∙ sym d.1))
     by_parts (Some c) hc None hp fits h =
-        let d = committed_is log u c hc in
+        let d = committed_is log o.1 u c hc in
         let same = eqb-true c.at at fits in
         record {
           claim = Commit c;
@@ -69,7 +70,7 @@ claim_of log u at w o = by_parts (committed_of log u) refl (prepared_of log u) r
           below = omega (arith, same);
         }
     by_parts None hc (Some p) hp fits h =
-        let q = prepared_is log u p hp in
+        let q = prepared_is log o.1 u p hp in
         let low = leb-true p.at at (left_only (nat_le p.at at) fits) in
         record {
           claim = Prepare p;
@@ -83,7 +84,7 @@ claim_of log u at w o = by_parts (committed_of log u) refl (prepared_of log u) r
         }
     by_parts None hc None hp fits h = cc
 
-module _ (setup : Setup) (log : List Record) (accepted : taken setup log ≡ Accepted) (stamped : IsStamped log)
+module _ (setup : Setup) (log : List Record) (accepted : taken setup log ≡ Accepted) (of_steps : AreLogged log) (stamped : IsStamped log)
     -- a decision's outcome has its timestamp
     (own_stamp : (c : Committed) (s : ℕ) → IsAmong log (Commit c) → IsAmong log (Outcome c.txn (Some s)) → c.at ≡ s)
     -- a promise or a decision of a transaction that read a key
@@ -94,6 +95,7 @@ module _ (setup : Setup) (log : List Record) (accepted : taken setup log ≡ Acc
 
   front_orderly : (before rest : List Record) → log ≡ before ++ rest → IsOrderly before
   front_orderly before rest e = orderly setup.shard before (accepted_follows setup before (front_takes before rest e))
+      (λ q h. of_steps q (subst (λ l. IsAmong l q) (sym e) (among_left before rest q h)))
 
   within : (before rest : List Record) → log ≡ before ++ rest → (q : Record) → IsAmong before q → IsAmong log q
   within before rest e q h = subst (λ l. IsAmong l q) (sym e) (among_left before rest q h)
@@ -133,7 +135,7 @@ module _ (setup : Setup) (log : List Record) (accepted : taken setup log ≡ Acc
     -- one that had been logged before it had ended before it
     earlier : (m : List Record) → front ≡ p.front ++ c.claim ∷ m → ⊥
     earlier m e =
-        let end = ended_between setup log accepted p.front m back c.claim r new.txn t c.stamp at c.reads ks c.writes ws
+        let end = ended_between setup log accepted of_steps p.front m back c.claim r new.txn t c.stamp at c.reads ks c.writes ws
         (same ∙ ap (λ l. l ++ r ∷ back) e) c.claims claims
         (read_clashes ks c.reads ws c.writes k new.write reads c.within (sym new.key ∙ key)) in
         not_ended before new.txn (record {
@@ -163,7 +165,7 @@ module _ (setup : Setup) (log : List Record) (accepted : taken setup log ≡ Acc
         place = whole ∙ ap (λ l. l ++ c.claim ∷ (p.back ++ q ∷ rest)) e
 
         end : EndIs (front ++ r ∷ m) t
-        end = ended_between setup log accepted front m (p.back ++ q ∷ rest) r c.claim t new.txn at c.stamp ks c.reads ws c.writes place claims c.claims
+        end = ended_between setup log accepted of_steps front m (p.back ++ q ∷ rest) r c.claim t new.txn at c.stamp ks c.reads ws c.writes place claims c.claims
             (clash_comm (locks_of c.reads c.writes) (locks_of ks ws)
             ∙ read_clashes ks c.reads ws c.writes k new.write reads c.within (sym new.key ∙ key))
 
@@ -195,7 +197,8 @@ module _ (setup : Setup) (log : List Record) (accepted : taken setup log ≡ Acc
       (subst (λ l. IsAmong l i) (installs_more setup.shard (front ++ r ∷ mid) q
       (accepted_follows setup ((front ++ r ∷ mid) ++ q ∷ []) (front_takes ((front ++ r ∷ mid) ++ q ∷ []) rest assoc))) h)) [
         | inl there ↦ old i there key
-        | inr new ↦ inr (new_is_past mid q rest split i (new_from (front ++ r ∷ mid) q i new) key)
+        | inr new ↦ inr (new_is_past mid q rest split i (new_from (front ++ r ∷ mid) q i (of_steps q
+            (subst (λ l. IsAmong l q) (sym split) (among_right (front ++ r ∷ mid) (q ∷ rest) q (inl refl)))) new) key)
       ]
 
   -- the claim installs nothing
@@ -214,6 +217,10 @@ module _ (setup : Setup) (log : List Record) (accepted : taken setup log ≡ Acc
       nothing (Opened x) c h2 = absurd c
       nothing (Ceiling x) c h2 = absurd c
       nothing (Horizon x) c h2 = absurd c
+      nothing (Base _ _ _) c h2 = absurd c
+      nothing (Version _) c h2 = absurd c
+      nothing (Settled _ _ _) c h2 = absurd c
+      nothing (Closed _ _ _) c h2 = absurd c
       nothing (Abort x) c h2 = absurd c
       nothing (Outcome x y) c h2 = absurd c
 

@@ -7,7 +7,7 @@ use Rattle.units.specs.declared.fault.Fault.TheVariants.{Stranger}
 use Rattle.units.specs.declared.line.Line.{Line}
 use Rattle.units.specs.declared.setup.Setup.{Setup}
 use Rattle.record.specs.History.{Txn, find_txn, history}
-use Rattle.record.specs.Verdict.{IsLine}
+use Rattle.record.specs.Lines.{IsLine}
 use Rattle.record.specs.declared.record.Record.{Record}
 use Rattle.world.specs.Headline.{ExternalConsistency, MayBeLeft, MayLeaveLogs}
 use Rattle.world.specs.Lawful.{lawful, lawful_from, may_happen}

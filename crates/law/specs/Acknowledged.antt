@@ -4,7 +4,7 @@
 use Rattle.std.specs.Prelude.{ℕ, IsTrue, List, Some}
 use Rattle.units.specs.Ids.{Id}
 use Rattle.units.specs.declared.line.Line.{Line}
-use Rattle.record.specs.Verdict.{IsLine}
+use Rattle.record.specs.Lines.{IsLine}
 use Rattle.message.specs.declared.message.Address.{Address}
 use Rattle.message.specs.declared.message.Envelope.{Envelope}
 use Rattle.message.specs.declared.message.Message.{Message}

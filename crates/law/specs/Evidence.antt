@@ -135,11 +135,15 @@ pub record WasQuestioned (w : World) (n : ℕ) (t : Id) : Type 0 where
   pub from : ℕ
   pub sent : Sent w n (Message.Ask (record { from = from; txn = t }))
 
--- what stands behind a record of a shard's log
+-- what stands behind a record of a shard's log: the kinds of a renewed log's head are none that a step logs
 abbrev pub RecordEvidence : Scene → List Record → ℕ → Record → Type 0
 RecordEvidence sc log n (Record.Opened epoch) = Unit {0}
 RecordEvidence sc log n (Record.Ceiling at) = Unit {0}
 RecordEvidence sc log n (Record.Horizon at) = Unit {0}
+RecordEvidence sc log n (Record.Base epoch floor horizon) = ⊥
+RecordEvidence sc log n (Record.Version install) = ⊥
+RecordEvidence sc log n (Record.Settled u s parts) = ⊥
+RecordEvidence sc log n (Record.Closed u coordinator outcome) = ⊥
 RecordEvidence sc log n (Record.Prepare p) = PrepareAsked sc.world n p.txn p.coordinator p.reads p.writes
 RecordEvidence sc log n (Record.Commit c) = CommitEvidence sc n c
 RecordEvidence sc log n (Record.Abort t) = WasAsked sc.world n t ⊎ WasQuestioned sc.world n t

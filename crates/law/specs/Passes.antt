@@ -96,6 +96,10 @@ IsClaim (Record.Commit c) t at ks = (c.txn ≡ t) × (c.at ≡ at) × (c.reads �
 IsClaim (Record.Opened epoch) t at ks = ⊥
 IsClaim (Record.Ceiling s) t at ks = ⊥
 IsClaim (Record.Horizon s) t at ks = ⊥
+IsClaim (Record.Base epoch floor horizon) t at ks = ⊥
+IsClaim (Record.Version install) t at ks = ⊥
+IsClaim (Record.Settled u s parts) t at ks = ⊥
+IsClaim (Record.Closed u coordinator outcome) t at ks = ⊥
 IsClaim (Record.Abort u) t at ks = ⊥
 IsClaim (Record.Outcome u o) t at ks = ⊥
 
@@ -136,12 +140,21 @@ view_in IsDown log = None
 abbrev pub ShowsView : ShardNow → View → Type 0
 ShowsView s v = IsAmong s.views v ⊎ (view_in s.state s.log ≡ Some v)
 
--- a promise, a decision and an outcome that commits are above a time
+-- a promise, a decision, an outcome that commits and a version are above a time
 abbrev pub ComesAbove : ℕ → Record → Type 0
 ComesAbove at (Record.Prepare p) = at < p.at
 ComesAbove at (Record.Commit c) = at < c.at
 ComesAbove at (Record.Outcome u (Some s)) = at < s
-ComesAbove at _ = Unit {0}
+ComesAbove at (Record.Outcome u None) = Unit {0}
+ComesAbove at (Record.Opened epoch) = Unit {0}
+ComesAbove at (Record.Ceiling s) = Unit {0}
+ComesAbove at (Record.Horizon s) = Unit {0}
+ComesAbove at (Record.Abort u) = Unit {0}
+ComesAbove at (Record.Base epoch floor horizon) = Unit {0}
+ComesAbove at (Record.Version install) = at < install.at
+ComesAbove at (Record.Settled u s parts) = at < s
+ComesAbove at (Record.Closed u coordinator (Some s)) = at < s
+ComesAbove at (Record.Closed u coordinator None) = Unit {0}
 
 -- a log is another with more behind it, all of it above a time that its floor keeps
 pub record IsAboveServed (before log : List Record) (at : ℕ) : Type 0 where

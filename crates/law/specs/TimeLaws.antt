@@ -6,7 +6,7 @@ use Rattle.units.specs.Ids.{Id}
 use Rattle.units.specs.Keys.{Bytes}
 use Rattle.record.specs.History.{history, upto}
 use Rattle.record.specs.Installs.{installs_of}
-use Rattle.record.specs.Verdict.{IsLine, is_in_at}
+use Rattle.record.specs.Lines.{IsLine, is_in_at}
 use Rattle.record.specs.declared.record.Record.{Record}
 use Rattle.world.specs.Headline.{MayBeLeft}
 use Rattle.world.specs.Lawful.{lawful}

@@ -1,7 +1,8 @@
 -- The places of the versions, as a record is learnt.
-use Rattle.std.proofs.Common.{◌≡◌, ℕ, ◌+◌, ◌≤◌, arith, max, Bool, true, List, [], ◌++◌, Some, None, length, refl, sym, ap, subst, ◌∙◌}
+use Rattle.std.proofs.Common.{◌≡◌, ℕ, ◌+◌, ◌≤◌, arith, max, Bool, true, not, ◌||◌, List, [], ◌++◌, Some, None, length, refl, sym, ap, subst, ◌∙◌}
+use Rattle.std.proofs.lemmas.Bool.{and_from, and_parts, or_right}
 use Rattle.std.proofs.lemmas.List.{append-nil, length-append, length-map}
-use Rattle.units.specs.Versions.{versions, above_versions}
+use Rattle.units.specs.Versions.{versions, above_versions, version_before}
 use Rattle.units.specs.Keys.{write_before}
 use Rattle.units.specs.Lists.{ascends}
 use Rattle.units.specs.declared.writes.Install.{Install}
@@ -9,12 +10,17 @@ use Rattle.record.specs.Facts.{Facts, facts_of, learn, recorded, installs_at}
 use Rattle.record.specs.Installs.{installs_of}
 use Rattle.record.specs.Records.{Status, Unrecorded, StandsPrepared, StandsDecided, HasAborted, HasSettled, HasClosed}
 use Rattle.record.specs.declared.record.Record.{Record}
-use Rattle.record.specs.declared.record.Record.TheVariants.{Opened, Ceiling, Prepare, Commit, Abort, Outcome, Horizon}
+use Rattle.record.specs.declared.record.Record.TheVariants.{Opened, Ceiling, Prepare, Commit, Abort, Outcome, Horizon, Base, Version, Settled, Closed}
 use Rattle.versions.specs.Headed.{Headed}
 use Rattle.versions.specs.Orders.{Orders, AreBehind}
 use Rattle.versions.proofs.Orders.{orders_more, behind_written}
 use Rattle.protocol.specs.Sound.{writes_standing}
-use Rattle.ledger.specs.Ledger.{writes_given, CanInstall}
+use Rattle.facts.specs.Stages.{comes_behind, follows_head, follows_next, is_head, past_head, stage_after, stage_of}
+use Rattle.facts.specs.Rules.{follows_facts}
+use Rattle.facts.specs.declared.stage.Stage.{Stage}
+use Rattle.facts.specs.declared.stage.Stage.TheVariants.{Head, Early, Open}
+use Rattle.facts.proofs.Heads.{ascends_more, behind_above}
+use Rattle.ledger.specs.Ledger.{writes_given, CanInstall, head_ascends}
 
 abbrev pub is_up : Facts → Record → Bool
 is_up facts item = ascends write_before (writes_given facts item)
@@ -45,7 +51,7 @@ installs_none (HasSettled at parts) = refl
 installs_none (HasClosed c o) = refl
 
 -- what a record installs: writes at a timestamp, above the versions of their keys
-record Installs (facts : Facts) (item : Record) : Type 0 where
+pub record Installs (facts : Facts) (item : Record) : Type 0 where
   at : ℕ
   all : (learn facts item).installs ≡ facts.installs ++ versions (writes_given facts item) at
   above : above_versions facts.installs at (writes_given facts item) ≡ true
@@ -57,21 +63,70 @@ nothing facts item same none = record {
   above = ap (above_versions facts.installs 0) none;
 }
 
-installs : (facts : Facts) (item : Record) → CanInstall facts item → Installs facts item
+-- a version of a head is above those of its key, since they are in order
+listed : (shard : ℕ) (stage : Stage) (facts : Facts) (i : Install) → head_ascends stage facts.installs ≡ true
+    → follows_next shard stage facts (Version i) ≡ true → (is_head stage ≡ true) × (ascends version_before facts.installs ≡ true)
+    × (comes_behind facts.installs i ≡ true)
+unfolding follows_next follows_facts follows_head
+listed shard stage facts i rising may =
+    let p = and_parts _ _ may in
+    let heads : is_head stage ≡ true = (and_parts _ _ p.0).1 in
+    (heads, sym (ap (λ b. not b || ascends version_before facts.installs) heads) ∙ rising, p.1)
+
+pub installs : (shard : ℕ) (stage : Stage) (facts : Facts) (item : Record) → head_ascends stage facts.installs ≡ true
+    → follows_next shard stage facts item ≡ true → CanInstall facts item → Installs facts item
 unfolding learn
-installs facts (Opened e) can = nothing facts (Opened e) refl refl
-installs facts (Ceiling at) can = nothing facts (Ceiling at) refl refl
-installs facts (Horizon at) can = nothing facts (Horizon at) refl refl
-installs facts (Prepare p) can = nothing facts (Prepare p) refl refl
-installs facts (Commit c) can = nothing facts (Commit c) refl refl
-installs facts (Abort t) can = nothing facts (Abort t) refl refl
-installs facts (Outcome t None) can =
+installs shard stage facts (Opened e) rising may can = nothing facts (Opened e) refl refl
+installs shard stage facts (Ceiling at) rising may can = nothing facts (Ceiling at) refl refl
+installs shard stage facts (Horizon at) rising may can = nothing facts (Horizon at) refl refl
+installs shard stage facts (Prepare p) rising may can = nothing facts (Prepare p) refl refl
+installs shard stage facts (Commit c) rising may can = nothing facts (Commit c) refl refl
+installs shard stage facts (Abort t) rising may can = nothing facts (Abort t) refl refl
+installs shard stage facts (Outcome t None) rising may can =
     nothing facts (Outcome t None) (ap (λ is. facts.installs ++ is) (installs_none (recorded facts t)) ∙ append-nil facts.installs) refl
-installs facts (Outcome t (Some s)) can = record {
+installs shard stage facts (Outcome t (Some s)) rising may can = record {
   at = s;
   all = ap (λ is. facts.installs ++ is) (installs_standing (recorded facts t) s);
   above = can;
 }
+installs shard stage facts (Base e f n) rising may can = nothing facts (Base e f n) refl refl
+installs shard stage facts (Version i) rising may can =
+    let is = listed shard stage facts i rising may in
+    record {
+      at = i.at;
+      all = refl;
+      above = and_from _ _ (behind_above facts.installs i is.1 is.2) refl;
+    }
+installs shard stage facts (Settled t at parts) rising may can = nothing facts (Settled t at parts) refl refl
+installs shard stage facts (Closed t coordinator outcome) rising may can = nothing facts (Closed t coordinator outcome) refl refl
+
+-- ---- the order of a head's versions
+
+past_head_rises : (stage : Stage) (b : Bool) → (not (is_head (past_head stage)) || b) ≡ true
+past_head_rises Head b = refl
+past_head_rises Early b = refl
+past_head_rises Open b = refl
+
+pub still_rising : (shard : ℕ) (stage : Stage) (facts : Facts) (item : Record) → head_ascends stage facts.installs ≡ true
+    → follows_next shard stage facts item ≡ true → head_ascends (stage_after stage item) (learn facts item).installs ≡ true
+unfolding learn
+still_rising shard stage facts (Opened e) rising may = refl
+still_rising shard stage facts (Ceiling at) rising may = past_head_rises stage _
+still_rising shard stage facts (Horizon at) rising may = past_head_rises stage _
+still_rising shard stage facts (Prepare p) rising may = past_head_rises stage _
+still_rising shard stage facts (Commit c) rising may = past_head_rises stage _
+still_rising shard stage facts (Abort t) rising may = past_head_rises stage _
+still_rising shard stage facts (Outcome t o) rising may = past_head_rises stage _
+still_rising shard stage facts (Base e f n) rising may = rising
+still_rising shard stage facts (Version i) rising may =
+    let is = listed shard stage facts i rising may in
+    or_right (not (is_head stage)) _ (ascends_more facts.installs i is.1 is.2)
+still_rising shard stage facts (Settled t at parts) rising may = past_head_rises stage _
+still_rising shard stage facts (Closed t coordinator outcome) rising may = past_head_rises stage _
+
+pub none_rising : head_ascends (stage_of []) (facts_of []).installs ≡ true
+unfolding stage_of facts_of installs_of
+none_rising = refl
 
 -- ---- the horizon
 
@@ -99,6 +154,10 @@ horizon_rises facts (Commit c) = omega arith
 horizon_rises facts (Abort t) = omega arith
 horizon_rises facts (Outcome t o) = omega arith
 horizon_rises facts (Horizon at) = omega arith
+horizon_rises facts (Base e f n) = omega arith
+horizon_rises facts (Version i) = omega arith
+horizon_rises facts (Settled t at parts) = omega arith
+horizon_rises facts (Closed t coordinator outcome) = omega arith
 
 pub risen_orders : (facts : Facts) (item : Record) (t : List Install) (known : ℕ) (p : Headed) → Orders facts.horizon t known p
     → Orders (learn facts item).horizon t known p
@@ -118,19 +177,16 @@ unfolding learn
 forgotten_horizon facts at = refl
 
 -- what is installed comes behind the versions whose places are known
-module _ (facts : Facts) (item : Record) (can : CanInstall facts item) where
+module _ (facts : Facts) (item : Record) (i : Installs facts item) where
   pub still_orders : (h : ℕ) (p : Headed) → Orders h facts.installs (length facts.installs) p → Orders h (learn facts item).installs (length facts.installs) p
   still_orders h p o =
-      let i = installs facts item can in
       subst (λ t. Orders h t (length facts.installs) p) (sym i.all) (orders_more h facts.installs (versions (writes_given facts item) i.at) p o)
 
   pub are_behind : ascends write_before (writes_given facts item) ≡ true → AreBehind (learn facts item).installs (length facts.installs)
   are_behind up =
-      let i = installs facts item can in
       subst (λ t. AreBehind t (length facts.installs)) (sym i.all) (behind_written facts.installs (writes_given facts item) i.at up i.above)
 
   pub as_many_more : length (learn facts item).installs ≡ length facts.installs + length (writes_given facts item)
   as_many_more =
-      let i = installs facts item can in
       ap length i.all ∙ length-append facts.installs (versions (writes_given facts item) i.at)
       ∙ ap (λ n. length facts.installs + n) (length-map (writes_given facts item) (λ w. record { key = w.key; at = i.at; value = w.value }))

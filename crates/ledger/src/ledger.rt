@@ -7,6 +7,7 @@ ghost use Rattle.units.specs.Versions.{latest, at_time, above_versions};
 ghost use Rattle.record.specs.Facts.{facts_of, learn, recorded};
 ghost use Rattle.facts.specs.Rules.{follows_facts};
 ghost use Rattle.facts.specs.Shown.{meant};
+ghost use Rattle.facts.specs.Stages.{follows_head, follows_next, stage_after, stage_of};
 ghost use Rattle.protocol.specs.Sound.{writes_standing};
 ghost use Rattle.versions.specs.Orders.{Orders};
 ghost use Rattle.ledger.specs.Ledger.{writes_given, CanInstall};
@@ -37,20 +38,23 @@ impl Drop for Ledger {
 }
 
 impl Model for Ledger {
-    ghost use Rattle.std.specs.Prelude.{length};
+    ghost use Rattle.std.specs.Prelude.{IsTrue, length};
     ghost use Rattle.facts.specs.Known.{Known, room_for};
     ghost use Rattle.versions.specs.Orders.{Orders};
+    ghost use Rattle.ledger.specs.Ledger.{head_ascends};
 
     ghost Value = { Known };
 
     ghost view = { λ l. record {
       shard = l.facts.shard;
       facts = l.facts.facts;
+      stage = l.facts.stage;
       room = room_for l.facts.room l.places.room;
     } };
 
     ghost invariant = { λ l. Orders l.facts.facts.horizon l.facts.facts.installs
-        (length l.facts.facts.installs) l.places };
+        (length l.facts.facts.installs) l.places
+        × IsTrue (head_ascends l.facts.stage l.facts.facts.installs) };
 }
 
 impl Ledger {
@@ -58,6 +62,7 @@ impl Ledger {
     pub fn new(alloc: Global, shard: ShardNo) -> Ledger
         ensures shard { result.shard ≡ shard }
         ensures facts { result.facts ≡ facts_of [] }
+        ensures stage { result.stage ≡ stage_of [] }
     {
         Ledger {
             facts: Facts::new(alloc, shard),
@@ -123,11 +128,27 @@ impl Ledger {
         self.places.at(self.facts.installs(), key, at)
     }
 
-    /// The record may come next in the log, by the rules of one transaction and of openings.
+    /// The record may come next in the log.
+    pub fn may_come(&self, item: &Record) -> bool
+        ensures { result ≡
+            follows_next self.now.shard self.now.stage self.now.facts item.now }
+    {
+        self.facts.may_come(item)
+    }
+
+    /// The record is of a kind that steps log, and may come next in the log, by the rules of one transaction and of openings.
     pub fn follows(&self, item: &Record) -> bool
         ensures { result ≡ follows_facts self.now.shard self.now.facts item.now }
     {
         self.facts.follows(item)
+    }
+
+    /// The record is of a kind of a renewed log's head, and may come next in the log.
+    pub fn follows_head(&self, item: &Record) -> bool
+        ensures { result ≡
+            follows_head self.now.shard self.now.stage self.now.facts item.now }
+    {
+        self.facts.follows_head(item)
     }
 
     /// The timestamp is above all versions of the keys that are written.
@@ -152,7 +173,8 @@ impl Ledger {
     /// Takes the memory in which one more record is learnt.
     pub fn reserve(&mut self) -> Result<(), Fault>
         ensures room { OnOk result (1 ≤ self.new.room) }
-        ensures same { (self.new.facts ≡ self.old.facts) × (self.new.shard ≡ self.old.shard) }
+        ensures same { (self.new.facts ≡ self.old.facts) × (self.new.shard ≡ self.old.shard)
+            × (self.new.stage ≡ self.old.stage) }
         ensures keeps { self.old.room ≤ self.new.room }
         ensures succeeds { 1 ≤ self.old.room → IsOk result }
         ensures memory { IfErr result (λ fault. fault ≡ Fault.Memory) }
@@ -170,10 +192,12 @@ impl Ledger {
     /// the places of the versions below it go, and leaves their room.
     pub fn learn(&mut self, item: Record)
         requires room { 1 ≤ self.old.room }
-        requires follows { IsTrue (follows_facts self.old.shard self.old.facts item) }
+        requires follows { IsTrue
+            (follows_next self.old.shard self.old.stage self.old.facts item) }
         requires installs { CanInstall self.old.facts item }
         ensures facts { self.new.facts ≡ learn self.old.facts item }
         ensures shard { self.new.shard ≡ self.old.shard }
+        ensures stage { self.new.stage ≡ stage_after self.old.stage item }
     {
         if let Record::Horizon { at } = item {
             self.forget(at);
@@ -189,9 +213,10 @@ impl Ledger {
     fn forget(&mut self, at: Stamp)
         requires room { 1 ≤ self.old.room }
         requires follows { IsTrue
-            (follows_facts self.old.shard self.old.facts (Record.Horizon at)) }
+            (follows_next self.old.shard self.old.stage self.old.facts (Record.Horizon at)) }
         ensures facts { self.new.facts ≡ learn self.old.facts (Record.Horizon at) }
         ensures shard { self.new.shard ≡ self.old.shard }
+        ensures stage { self.new.stage ≡ stage_after self.old.stage (Record.Horizon at) }
     {
         self.facts.learn_next(Record::Horizon { at });
         self.places.forget(self.facts.installs(), at);

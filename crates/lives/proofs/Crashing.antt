@@ -1,12 +1,15 @@
 -- A crash in a call is that call's failure, and then a crash.
 use Rattle.std.proofs.Common.{◌≡◌, ℕ, Bool, true, false, cond, nat_le, nat_lt, [], ◌∷◌, ◌++◌, Some, None, Ok, refl, sym, ap}
-use Rattle.std.proofs.Common.{◌∙◌, arith}
+use Rattle.std.proofs.Common.{◌∙◌, subst, arith}
 use Rattle.std.proofs.lemmas.Bool.Decides.{nat_tests}
 use Rattle.std.proofs.lemmas.List.{append-nil}
 use Rattle.disk.specs.File.{surface, crash_leaves}
+use Rattle.disk.specs.Image.{MayLeave}
+use Rattle.disk.proofs.Crashes.{crashed_may}
 use Rattle.disk.specs.declared.plan.FailurePlan.{FailurePlan}
 use Rattle.disk.specs.declared.plan.Fate.{Fate}
 use Rattle.gatelog.specs.Gates.{is_left}
+use Rattle.gatelog.specs.Slots.{begins_in}
 use Rattle.protocol.specs.Rows.{Memory}
 use Rattle.protocol.specs.Step.{Stepped, Refuses, Does}
 use Rattle.shard.specs.Logs.{records_in}
@@ -79,4 +82,7 @@ holds_crashed s fate old new never file h =
       never = never;
       read = ap (λ f. records_in (surface f).seen) file ∙ image;
       left = λ fates. ap (λ f. records_in (crash_leaves fates f)) file ∙ image;
+      begins = λ left may.
+          let settled_may = subst (λ f. MayLeave (surface f) left) file may in
+          ap begins_in (settled_may.unchanged refl) ∙ h.begins (crash_leaves (fate ∷ []) (disk_file old)) (crashed_may (fate ∷ []) (disk_file old));
     }

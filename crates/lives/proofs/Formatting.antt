@@ -9,7 +9,8 @@ use Rattle.units.specs.declared.setup.Setup.{Setup}
 use Rattle.disk.specs.File.{surface, crash_leaves}
 use Rattle.disk.specs.declared.plan.FailurePlan.{FailurePlan}
 use Rattle.disk.proofs.Crashes.{crashed_may}
-use Rattle.gatelog.specs.Crash.{Stands}
+use Rattle.gatelog.specs.Crash.{Begins, Stands}
+use Rattle.gatelog.specs.Gates.{first_gate}
 use Rattle.gatelog.specs.Log.{log}
 use Rattle.message.specs.declared.message.Envelope.{Envelope}
 use Rattle.protocol.specs.Rows.{Memory as Kept, rebuilt}
@@ -32,19 +33,20 @@ use Rattle.lives.specs.declared.run_shard.RunShard.{RunShard}
 
 -- a formatted disk holds the empty log
 holds_none : (disk : SimDisk) → disk_plan disk ≡ FailurePlan.Never → Stands (surface (disk_file disk)) (Ok []) → log (surface (disk_file disk)).seen ≡ Ok []
-    → HoldsLog unopened_shard disk
-holds_none disk never stands read = record {
+    → Begins (surface (disk_file disk)) first_gate → HoldsLog unopened_shard disk
+holds_none disk never stands read begins = record {
   never = never;
   read = ap items_of read;
   left = λ fates. ap items_of (stands (crash_leaves fates (disk_file disk)) (crashed_may fates (disk_file disk)));
+  begins = begins;
 }
 
 pub formatted_stands : (setup : Setup) (disk : SimDisk) (shard : RunShard) → disk_plan disk ≡ FailurePlan.Never → Stands (surface (disk_file disk)) (Ok [])
-    → log (surface (disk_file disk)).seen ≡ Ok [] → shard.setup ≡ setup → shard.life ≡ Down disk → shard.installs.items ≡ [] → shard.views.items ≡ []
+    → log (surface (disk_file disk)).seen ≡ Ok [] → Begins (surface (disk_file disk)) first_gate → shard.setup ≡ setup → shard.life ≡ Down disk → shard.installs.items ≡ [] → shard.views.items ≡ []
     → StandsFor setup shard unopened_shard
-formatted_stands setup disk shard never stands read told life installs views = record {
+formatted_stands setup disk shard never stands read begins told life installs views = record {
   setup_is = told;
-  lives = subst (λ l. LivesAs setup unopened_shard l) (sym life) (holds_none disk never stands read);
+  lives = subst (λ l. LivesAs setup unopened_shard l) (sym life) (holds_none disk never stands read begins);
   views = (λ i. map (shown_view (installs i)) (views i));
   within = (λ i. list_all (is_within (installs i)) (views i));
   apart = λ rises. (λ i. list_all (is_apart (installs i) shard.high) (views i));

@@ -12,8 +12,10 @@ use Rattle.units.specs.declared.setup.Setup.{Setup}
 use Rattle.disk.specs.File.{surface}
 use Rattle.disk.specs.Image.{after_sync}
 use Rattle.disk.specs.Planned.{armed}
+use Rattle.disk.proofs.Crashes.{seen_may}
 use Rattle.disk.specs.declared.plan.FailurePlan.{FailurePlan}
-use Rattle.gatelog.specs.Frames.{IsFull, end_of, next_gate}
+use Rattle.gatelog.specs.Frames.{IsFull, end_from, end_of, next_gate}
+use Rattle.gatelog.specs.Slots.{begins_in}
 use Rattle.gatelog.specs.Gates.{first_gate}
 use Rattle.gatelog.specs.Log.{log as scanned_log}
 use Rattle.gatelog.specs.Placed.{Placed}
@@ -29,7 +31,7 @@ use Rattle.protocol.specs.Step.{Stepped, Refuses, Does}
 use Rattle.shard.specs.Armed.{AreArmed, HasPlace}
 use Rattle.shard.specs.Logs.{KeepsRecords, records_in, and_logged, items_of}
 use Rattle.shard.specs.On.{CoreView}
-use Rattle.shard.specs.Opened.{HasOpened, HasNotOpened, IsReason, IsTaken, fault_of, is_reason, next_opening, opening_of}
+use Rattle.shard.specs.Opened.{HasOpened, HasNotOpened, IsReason, IsTaken, fault_of, is_reason, next_opening, opening_of, end_in}
 use Rattle.simdisk.specs.State.{disk_clock, disk_failures, disk_file, disk_plan, LeftSince}
 use Rattle.simdisk.specs.declared.simdisk.SimDisk.{SimDisk}
 use Rattle.world.specs.World.{ShardNow, State, Runs, IsStopped, IsDown, crashed, failed_in, step_of_opening}
@@ -39,7 +41,7 @@ use Rattle.world.proofs.Openings.{opening_follows}
 use Rattle.world.proofs.Rooms.{full_is, room_is}
 use Rattle.lives.specs.Lives.{HoldsLog, IsCoreIn, IsDiskIn, IsRunningAs, disk_log}
 use Rattle.lives.specs.Carries.{Comes, answer_of, comes_to, opened_by, opens_as, stepped_shard}
-use Rattle.lives.proofs.Holding.{holds_failed, holds_kept}
+use Rattle.lives.proofs.Holding.{begins_kept, holds_failed, holds_kept}
 use Rattle.lives.proofs.Stepping.{IsArmedFrom, IsPast, past_answer, past_left}
 
 pub epoch_is : (log : List Record) → (facts_of log).epoch ≡ epoch_of log
@@ -138,6 +140,13 @@ module _ (disk armed_disk : SimDisk) (call : Option ℕ) (plan : disk_plan armed
   records : records_in (surface (disk_file armed_disk)).seen ≡ Ok (disk_log s)
   records = ap (λ f. records_in (surface f).seen) file ∙ holds.read
 
+  -- it is that of the first area
+  here : begins_in (surface (disk_file armed_disk)).seen ≡ first_gate
+  here = ap (λ f. begins_in (surface f).seen) file ∙ holds.begins (surface (disk_file disk)).seen (seen_may (disk_file disk))
+
+  ends : (rs : List Record) → end_in (surface (disk_file armed_disk)).seen rs ≡ end_of rs
+  ends rs = ap (λ n. end_from n rs) here
+
   -- ---- the log was taken up
 
   module _ (core new : CoreView SimDisk) (disarms : IsArmedFrom core new None)
@@ -158,11 +167,13 @@ module _ (disk armed_disk : SimDisk) (call : Option ℕ) (plan : disk_plan armed
             setup_is = disarms.setup ∙ h.setup;
             knows = disarms.facts ∙ facts_are;
             memory = disarms.memory ∙ h.memory ∙ ap rebuilt (facts_are ∙ learnt s setup accepted) ∙ rebuilt_same (facts_of (disk_log s)) (epoch_of (disk_log s) + 1);
-            disk = holds_kept (stepped_shard s (Some (next_opening (disk_log s))) (rebuilt (facts_of (disk_log s)))) new.disk disarms.plan refl kept read;
+            disk = holds_kept (stepped_shard s (Some (next_opening (disk_log s))) (rebuilt (facts_of (disk_log s)))) new.disk disarms.plan refl kept read
+                (begins_kept disk armed_disk core.disk new.disk file (h.begins tt) disarms.file holds.begins);
           };
           runs = disarms.stopped ∙ h.running;
           sure = refl;
-          gate = disarms.gate ∙ (h.gate (disk_log s) tt records).0 ∙ sym (fold-append next_gate first_gate (disk_log s) (next_opening (disk_log s) ∷ []))
+          gate = disarms.gate ∙ (h.gate (disk_log s) tt records).0 ∙ ap (λ n. next_gate n (next_opening (disk_log s))) (ends (disk_log s))
+              ∙ sym (fold-append next_gate first_gate (disk_log s) (next_opening (disk_log s) ∷ []))
               ∙ ap end_of (sym (append-nil whole));
         }
 
@@ -172,7 +183,8 @@ module _ (disk armed_disk : SimDisk) (call : Option ℕ) (plan : disk_plan armed
 
     pub opened : Comes call (opens_as s) (Ok []) (IsCoreIn setup (opened_by s call) new (opened_by s call).state)
     opened =
-        let is = does s (h.epoch (disk_log s) tt records) ((h.gate (disk_log s) tt records).1) in
+        let is = does s (h.epoch (disk_log s) tt records)
+        (subst (λ n. HasPlace n (Some (next_opening (disk_log s)))) (ends (disk_log s)) (h.gate (disk_log s) tt records).1) in
         let is_past = past call plan in
         let refused = crashed s (disk_log s) in
         subst (λ x. Comes call x (Ok []) (IsCoreIn setup (comes_to s refused call x) new (comes_to s refused call x).state)) (sym is)
@@ -204,8 +216,9 @@ module _ (disk armed_disk : SimDisk) (call : Option ℕ) (plan : disk_plan armed
         let f = told.0 device in
         let q = next_opening (disk_log s) in
         let memory = rebuilt (facts_of (disk_log s)) in
-        let whole = does s (told.1 device) f.1 in
-        let disk_holds : HoldsLog (failed_in s c q) new = holds_failed s c q new never f.0 (subst (AreArmed c (Ok (disk_log s)) q) (sym same) f.2) in
+        let whole = does s (told.1 device) (subst (λ n. HasPlace n (Some q)) (ends (disk_log s)) f.1) in
+        let disk_holds : HoldsLog (failed_in s c q) new = holds_failed s c q new never f.0
+        (subst (AreArmed c (Ok (disk_log s)) q) (sym same) f.2) (begins_kept disk armed_disk back new file (h.begins tt) same holds.begins) in
         let left : comes_to s (crashed s (disk_log s)) call (Does (Some q) memory []) ≡ failed_in s c q =
         ap (λ k. comes_to s (crashed s (disk_log s)) k (Does (Some q) memory [])) (sym e)
         ∙ ap (λ b. cond b (failed_in s c q) (stepped_shard s (Some q) memory)) f.0 in
@@ -229,12 +242,14 @@ module _ (disk armed_disk : SimDisk) (call : Option ℕ) (plan : disk_plan armed
             let kept : KeepsRecords (surface (disk_file new)) (Ok (disk_log s)) =
             subst (λ f. KeepsRecords f (Ok (disk_log s))) (sym surface_is) (λ image may. ap records_in (may.unchanged refl) ∙ records) in
             holds_kept (crashed s (disk_log s)) new never refl kept (ap (λ f. records_in f.seen) surface_is ∙ records)
+            (begins_kept disk armed_disk back new file (h.begins tt) same holds.begins)
 
     reason : IsReason setup (surface (disk_file armed_disk)) fault → Left (opens_as s)
     reason (inl found) = absurd (no_fault setup (scanned_log (surface (disk_file armed_disk)).seen) (disk_log s) fault records accepted found)
     reason (inr (is, (others, no_room))) =
         let same_log : others ≡ disk_log s = ok_same others (disk_log s) (records_in (surface (disk_file armed_disk)).seen) no_room.read records in
-        spent is (subst (λ l. (2 ^ 62 ≤ epoch_of l + 1) ⊎ IsFull (end_of l) (next_opening l)) same_log no_room.spent)
+        spent is (subst (λ n. (2 ^ 62 ≤ epoch_of (disk_log s) + 1) ⊎ IsFull n (next_opening (disk_log s))) (ends (disk_log s))
+        (subst (λ l. (2 ^ 62 ≤ epoch_of l + 1) ⊎ IsFull (end_in (surface (disk_file armed_disk)).seen l) (next_opening l)) same_log no_room.spent))
 
     pub not_opened : Left (opens_as s)
     not_opened =

@@ -112,6 +112,10 @@ added facts None = ([], sym (append-nil facts.installs))
 added facts (Some (Record.Opened epoch)) = ([], sym (append-nil facts.installs))
 added facts (Some (Record.Ceiling at)) = ([], sym (append-nil facts.installs))
 added facts (Some (Record.Horizon at)) = ([], sym (append-nil facts.installs))
+added facts (Some (Record.Base _ _ _)) = ([], sym (append-nil facts.installs))
+added facts (Some (Record.Version install)) = (install ∷ [], refl)
+added facts (Some (Record.Settled _ _ _)) = ([], sym (append-nil facts.installs))
+added facts (Some (Record.Closed _ _ _)) = ([], sym (append-nil facts.installs))
 added facts (Some (Record.Prepare p)) = ([], sym (append-nil facts.installs))
 added facts (Some (Record.Commit c)) = ([], sym (append-nil facts.installs))
 added facts (Some (Record.Abort t)) = ([], sym (append-nil facts.installs))
@@ -162,7 +166,7 @@ lives_with setup s vs (Up core) h = by_state s.state h
       setup_is = k.setup_is;
       knows = k.knows;
       memory = k.memory;
-      disk = record { never = k.disk.never; read = k.disk.read; left = k.disk.left };
+      disk = record { begins = k.disk.begins; never = k.disk.never; read = k.disk.read; left = k.disk.left };
     }
 
     by_state : (st : State) → IsCoreIn setup s (seen core) st → IsCoreIn setup (record s { views = vs }) (seen core) st
@@ -174,7 +178,7 @@ lives_with setup s vs (Down disk) h = by_state s.state h
     by_state : (st : State) → IsDiskIn s disk st → IsDiskIn (record s { views = vs }) disk st
     by_state (Runs m) k = k
     by_state (IsStopped m) k = k
-    by_state IsDown k = record { never = k.never; read = k.read; left = k.left }
+    by_state IsDown k = record { begins = k.begins; never = k.never; read = k.read; left = k.left }
 
 -- nothing is unsure while it runs
 pub sure_of : (setup : Setup) (s : ShardNow) (life : Life) → LivesAs setup s life → (m : Kept) → s.state ≡ Runs m → s.unsure ≡ Nothing

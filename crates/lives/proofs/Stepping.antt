@@ -33,7 +33,7 @@ use Rattle.world.specs.World.{ShardNow, State, Runs, IsStopped, IsDown, failed_i
 use Rattle.world.proofs.Rooms.{full_is, room_is}
 use Rattle.lives.specs.Lives.{IsCoreIn, IsCoreOf, IsRunningAs, IsStoppedAs, disk_log}
 use Rattle.lives.specs.Carries.{Comes, IsOrderly, TakesInput, answer_of, asked_if_room, asked_in, comes_to, stepped_shard}
-use Rattle.lives.proofs.Holding.{holds_failed, holds_kept, holds_same}
+use Rattle.lives.proofs.Holding.{begins_kept, holds_failed, holds_kept, holds_same}
 
 -- a step for whose record, where it has one, there is room
 pub room_for : (gate : ℕ) (logged : Option Record) (memory : Memory) (out : List Envelope) → HasPlace gate logged →
@@ -196,7 +196,8 @@ module _ (old before after new : CoreView SimDisk) (call : Option ℕ) (arms : I
             knows = disarms.facts ∙ k.done.2.0 ∙ ap (λ f. facts_after f logged) (arms.facts ∙ h.core_of.knows ∙ ap facts_of (sym log_is))
                 ∙ facts_with setup.shard (read_log s) logged follows;
             memory = disarms.memory ∙ k.done.2.1;
-            disk = holds_kept (stepped_shard s logged memory) new.disk disarms.plan refl kept read;
+            disk = holds_kept (stepped_shard s logged memory) new.disk disarms.plan refl kept read
+                (begins_kept old.disk before.disk after.disk new.disk arms.file (k.written.begins running tt) file h.core_of.disk.begins);
           };
           runs = disarms.stopped ∙ k.done.1;
           sure = refl;
@@ -230,7 +231,8 @@ module _ (old before after new : CoreView SimDisk) (call : Option ℕ) (arms : I
             setup_is = disarms.setup ∙ k.written.setup ∙ arms.setup ∙ h.core_of.setup_is;
             knows = disarms.facts ∙ k.written.kept.0 ∙ arms.facts ∙ h.core_of.knows ∙ ap facts_of (sym log_is);
             memory = disarms.memory ∙ k.written.kept.1 ∙ arms.memory ∙ h.core_of.memory;
-            disk = holds_failed s c r new.disk disarms.plan f.0 armed_so;
+            disk = holds_failed s c r new.disk disarms.plan f.0 armed_so
+                (begins_kept old.disk before.disk after.disk new.disk arms.file (k.written.begins running tt) disarms.file h.core_of.disk.begins);
           };
           stopped = disarms.stopped ∙ stopped;
         } in

@@ -6,7 +6,9 @@ use Rattle.disk.specs.declared.plan.FailurePlan.{FailurePlan}
 use Rattle.disk.specs.declared.plan.Fate.{Fate}
 use Rattle.record.specs.Facts.{Facts, facts_of}
 use Rattle.record.specs.declared.record.Record.{Record}
+use Rattle.gatelog.specs.Crash.{Begins}
 use Rattle.gatelog.specs.Frames.{end_of}
+use Rattle.gatelog.specs.Gates.{first_gate}
 use Rattle.protocol.specs.Rows.{Memory}
 use Rattle.shard.specs.Core.{seen}
 use Rattle.shard.specs.Logs.{records_in}
@@ -35,6 +37,8 @@ pub record HoldsLog (s : ShardNow) (disk : SimDisk) : Type 0 where
   pub never : disk_plan disk ≡ FailurePlan.Never
   pub read : records_in (surface (disk_file disk)).seen ≡ Ok (disk_log s)
   pub left : (fates : List Fate) → records_in (crash_leaves fates (disk_file disk)) ≡ Ok (left_log (get_or fates 0 Fate.Old) s)
+  -- the log is that of the first area
+  pub begins : Begins (surface (disk_file disk)) first_gate
 
 -- how what a core knows agrees with its log. Today it is what the whole log says
 abbrev pub KnowsLog : Facts → List Record → Type 0

@@ -33,6 +33,17 @@ pub struct RunShard {
     pub rises: bool,
 }
 
+// The shard of a number.
+fn numbered(number: usize) -> ShardNo
+    requires { number ≤ 15 }
+    ensures { result ≡ number }
+{
+    match ShardNo::new(number as u8) {
+        Some(shard) => shard,
+        None => unreachable!(),
+    }
+}
+
 impl RunShard {
     ghost use Rattle.std.specs.Prelude.{nat_eq, slice_get, take, drop};
     ghost use Rattle.units.specs.Keys.{shard_of};
@@ -48,9 +59,7 @@ impl RunShard {
             (λ shard. StandsFor (setup_of config.now number) shard fresh_shard) }
         ensures memory { IfErr result (λ fault. fault ≡ Fault.Memory) }
     {
-        let Some(shard) = ShardNo::new(number as u8) else {
-            unreachable!()
-        };
+        let shard = numbered(number);
         let setup = match setup_with(alloc, shard, &config.splits, config.stride, Book::Off) {
             Ok(setup) => setup,
             Err(fault) => return Err(fault),

@@ -1,7 +1,7 @@
 //! The bytes of records.
 ghost use Rattle.std.specs.Prelude.{◌≡◌, ◌↔◌, Some, IfOk, IfErr};
 ghost use Rattle.record.specs.declared.record.Record.{Record};
-ghost use Rattle.spelling.specs.Grammar.{Spells};
+ghost use Rattle.spelling.specs.Limits.{Spells};
 
 use record::Record;
 use std::alloc::Global;

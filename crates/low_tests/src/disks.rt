@@ -220,14 +220,14 @@ pub static ROWS: [Named<Asked>; 20] = [
             wanted: Ok(0),
             steps: &[
                 Step::Reserve(20),
-                Step::Write(0, b"SPNLOG01"),
+                Step::Write(0, b"SPNLOG02"),
                 Step::Write(8, b"\0frame"),
                 Step::Write(8, b"\xa5"),
                 Step::Write(14, b""),
-                Step::Holds(b"SPNLOG01\xa5frame"),
+                Step::Holds(b"SPNLOG02\xa5frame"),
                 Step::Sync,
             ],
-            left: Left::Bytes(b"SPNLOG01\xa5frame"),
+            left: Left::Bytes(b"SPNLOG02\xa5frame"),
         },
     },
     Named {
@@ -238,7 +238,7 @@ pub static ROWS: [Named<Asked>; 20] = [
             call: Call::Create,
             wanted: Ok(0),
             steps: &[
-                Step::Write(0, b"SPNLOG01"),
+                Step::Write(0, b"SPNLOG02"),
                 Step::Cut(8),
                 Step::Cut(3),
                 Step::Holds(b"SPN"),

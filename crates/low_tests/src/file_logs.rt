@@ -5,12 +5,12 @@ use crate::lines::Line;
 use crate::spellings::OPENED;
 use filedisk::FileDisk;
 use gatelog::GateLog;
-use made::FIRST_GATE;
+use made::{FIRST_GATE, with_slots};
 use units::Fault;
 
-// The header; Opened 1; Opened 2; a closed gate.
+// The header; Opened 1; Opened 2; a closed gate. The slots are left out.
 const TWO_OPENINGS: &[u8] = &[
-    0x53, 0x50, 0x4e, 0x4c, 0x4f, 0x47, 0x30, 0x31, 0xa5, 0, 0, 0, 9, 1, 0, 0, 0, 0, 0, 0, 0, 1,
+    0x53, 0x50, 0x4e, 0x4c, 0x4f, 0x47, 0x30, 0x32, 0xa5, 0, 0, 0, 9, 1, 0, 0, 0, 0, 0, 0, 0, 1,
     0xa5, 0, 0, 0, 9, 1, 0, 0, 0, 0, 0, 0, 0, 2, 0,
 ];
 
@@ -55,10 +55,22 @@ pub fn is_no_log(rt: &HostRuntime, path: &str) -> bool {
     }
 }
 
+// The file has the bytes of both openings.
+fn is_kept(rt: &HostRuntime, path: &str) -> bool {
+    match with_slots(rt.alloc(), TWO_OPENINGS) {
+        Ok(bytes) => {
+            let kept = keeps(rt, path, &bytes);
+            drop(bytes);
+            kept
+        }
+        Err(_) => false,
+    }
+}
+
 /// Whether the file, once it was formatted, is opened as a log, and opened again with what was put behind.
 pub fn is_opened_again(rt: &HostRuntime, path: &str) -> bool {
     begins(rt, path)
-        && goes_on(rt, path, &[(8, OPENED)], &[Line::Opened(2)])
+        && goes_on(rt, path, &[(FIRST_GATE, OPENED)], &[Line::Opened(2)])
         && goes_on(rt, path, OPENINGS, &[])
-        && keeps(rt, path, TWO_OPENINGS)
+        && is_kept(rt, path)
 }

@@ -6,19 +6,11 @@ use crate::spellings::{CEILING, COMMIT, OPENED, OUTCOME};
 use crate::steps::read_back;
 use disk::{Disk, Fate};
 use gatelog::{Entry, GateLog};
-use made::{FIRST_GATE, stamp};
+use made::{FIRST_GATE, ONE_COMMIT, stamp, with_slots};
 use record::Record;
 use simdisk::SimDisk;
 use std::alloc::Global;
 use units::Fault;
-
-// The header; Opened 1; Commit 1.1 at 111, parts 0, no reads, a=1; Outcome 1.1 committed 111; a closed gate.
-const WHOLE: &[u8] = &[
-    0x53, 0x50, 0x4e, 0x4c, 0x4f, 0x47, 0x30, 0x31, 0xa5, 0, 0, 0, 9, 1, 0, 0, 0, 0, 0, 0, 0, 1,
-    0xa5, 0, 0, 0, 37, 4, 0, 0, 0, 0, 0, 0, 0, 1, 0, 0, 0, 0, 0, 0, 0, 1, 0, 0, 0, 0, 0, 0, 0,
-    0x6f, 0, 1, 0, 0, 0, 1, 1, 0x61, 1, 0, 1, 0x31, 0xa5, 0, 0, 0, 26, 6, 0, 0, 0, 0, 0, 0, 0, 1,
-    0, 0, 0, 0, 0, 0, 0, 1, 1, 0, 0, 0, 0, 0, 0, 0, 0x6f, 0,
-];
 
 /// Where an entry stands, and the bytes of its record.
 pub type Place = (u64, &'static [u8]);
@@ -108,7 +100,7 @@ pub struct Case {
     is_stopped: bool,
     // The fate of what is not synced, where there is a crash then.
     fate: Option<Fate>,
-    // All bytes of the file.
+    // All bytes of the file, told without its slots.
     bytes: Option<&'static [u8]>,
     places: &'static [Place],
     // More records that are logged then, and the entries with these.
@@ -152,7 +144,7 @@ pub static CASES: [Named<Case>; 11] = [
         what: "an empty log",
         row: Case {
             lines: &[],
-            bytes: Some(b"SPNLOG01\0"),
+            bytes: Some(b"SPNLOG02\0"),
             places: &[],
             places_with_more: &[],
             ..OPENED_ONCE
@@ -166,7 +158,7 @@ pub static CASES: [Named<Case>; 11] = [
                 Line::Commit(1, 111, b'a', 1),
                 Line::Committed(1, 111),
             ],
-            bytes: Some(WHOLE),
+            bytes: Some(&ONE_COMMIT),
             places: COMMITTED,
             places_with_more: COMMITTED,
             ..OPENED_ONCE
@@ -278,13 +270,25 @@ fn is_filled(alloc: Global, log: &mut GateLog<SimDisk>, row: &Case) -> bool {
     log.is_stopped() == row.is_stopped
 }
 
+/// The file on the disk is the one that is told without its slots.
+pub fn is_file<D: Disk>(alloc: Global, disk: &mut D, told: &[u8]) -> bool {
+    match with_slots(alloc, told) {
+        Ok(bytes) => {
+            let same = read_back(alloc, disk, &bytes).is_ok();
+            drop(bytes);
+            same
+        }
+        Err(_) => false,
+    }
+}
+
 // The file is left so, by the crash where there is one.
 fn is_left(alloc: Global, disk: &mut SimDisk, row: &Case) -> bool {
     if let Some(fate) = row.fate {
         crash(alloc, disk, &[fate]);
     }
     match row.bytes {
-        Some(bytes) => read_back(alloc, disk, bytes).is_ok(),
+        Some(told) => is_file(alloc, disk, told),
         None => true,
     }
 }
@@ -308,71 +312,205 @@ impl Row for Case {
     }
 }
 
-/// How a file is refused.
+/// A file that is told without its slots, of which so many bytes are left, where they are not all; and how it is refused.
 pub struct Refused {
-    bytes: &'static [u8],
+    told: &'static [u8],
+    len: Option<u64>,
     fault: Option<Fault>,
 }
 
+// A file of no record.
+const EMPTY: Refused = Refused {
+    told: b"SPNLOG02\0",
+    len: None,
+    fault: None,
+};
+
 const DAMAGED: Option<Fault> = Some(Fault::Damaged { offset: FIRST_GATE });
 
-pub static REFUSED: [Named<Refused>; 7] = [
+pub static REFUSED: [Named<Refused>; 12] = [
     Named {
         what: "past the end",
         row: Refused {
-            bytes: b"SPNLOG01\xa5\0\0\0\x09",
+            told: b"SPNLOG02\xa5\0\0\0\x09",
             fault: DAMAGED,
+            ..EMPTY
         },
     },
     Named {
         what: "no gate",
         row: Refused {
-            bytes: b"SPNLOG01",
+            told: b"SPNLOG02",
             fault: DAMAGED,
+            ..EMPTY
         },
     },
     Named {
         what: "length 0",
         row: Refused {
-            bytes: b"SPNLOG01\xa5\0\0\0\0",
+            told: b"SPNLOG02\xa5\0\0\0\0",
             fault: DAMAGED,
+            ..EMPTY
         },
     },
     Named {
         what: "no record",
         row: Refused {
-            bytes: b"SPNLOG01\xa5\0\0\0\x01\x09",
+            told: b"SPNLOG02\xa5\0\0\0\x01\x09",
             fault: DAMAGED,
+            ..EMPTY
         },
     },
     Named {
-        what: "another header",
+        what: "no slot",
         row: Refused {
-            bytes: b"SPNLOG02\0",
+            len: Some(8),
+            fault: Some(Fault::Damaged { offset: 8 }),
+            ..EMPTY
+        },
+    },
+    Named {
+        what: "the first slot is not whole",
+        row: Refused {
+            len: Some(16),
+            fault: Some(Fault::Damaged { offset: 8 }),
+            ..EMPTY
+        },
+    },
+    Named {
+        what: "the last slot is not whole",
+        row: Refused {
+            len: Some(FIRST_GATE - 1),
+            fault: Some(Fault::Damaged {
+                offset: FIRST_GATE - 9,
+            }),
+            ..EMPTY
+        },
+    },
+    Named {
+        what: "a part of the header",
+        row: Refused {
+            len: Some(7),
             fault: Some(Fault::NotALog),
+            ..EMPTY
+        },
+    },
+    Named {
+        what: "version 1",
+        row: Refused {
+            told: b"SPNLOG01\0",
+            fault: Some(Fault::NotALog),
+            ..EMPTY
+        },
+    },
+    Named {
+        what: "version 3",
+        row: Refused {
+            told: b"SPNLOG03\0",
+            fault: Some(Fault::NotALog),
+            ..EMPTY
         },
     },
     Named {
         what: "no byte",
         row: Refused {
-            bytes: b"",
+            told: b"",
             fault: Some(Fault::NotALog),
+            ..EMPTY
         },
     },
     Named {
         what: "an empty log",
-        row: Refused {
-            bytes: b"SPNLOG01\0",
-            fault: None,
-        },
+        row: EMPTY,
     },
 ];
+
+/// A disk with a file that is told without its slots, and which is cut to so many bytes, where it is; nothing where memory is wanting.
+pub fn disk_of(alloc: Global, told: &[u8], len: Option<u64>) -> Option<SimDisk> {
+    let Ok(bytes) = with_slots(alloc, told) else {
+        return None;
+    };
+    let mut disk = SimDisk::new(alloc);
+    let written = disk.write_at(0, &bytes).is_ok();
+    drop(bytes);
+    let cut = match len {
+        Some(len) => disk.cut(len).is_ok(),
+        None => true,
+    };
+    if written && cut {
+        Some(disk)
+    } else {
+        drop(disk);
+        None
+    }
+}
 
 impl Row for Refused {
     fn holds(&self, rt: &HostRuntime) -> bool {
         let alloc = rt.alloc();
-        let mut disk = SimDisk::new(alloc);
-        let written = disk.write_at(0, self.bytes).is_ok();
-        refusal(alloc, disk, &[]) == self.fault && written
+        match disk_of(alloc, self.told, self.len) {
+            Some(disk) => refusal(alloc, disk, &[]) == self.fault,
+            None => false,
+        }
+    }
+}
+
+/// The file of one commit whose slots begin with these bytes, and the log that it has then.
+pub struct Area {
+    slots: &'static [u8],
+    places: &'static [Place],
+}
+
+// In hexadecimal digits the commit's gate is at 2416, its outcome's at 2440, the closed one at 245f.
+pub static AREAS: [Named<Area>; 5] = [
+    Named {
+        what: "no slot is open",
+        row: Area {
+            slots: &[],
+            places: COMMITTED,
+        },
+    },
+    Named {
+        what: "an area that begins at the commit",
+        row: Area {
+            slots: &[0xa5, 0, 0, 0, 0, 0, 0, 0x24, 0x16],
+            places: &[(BEHIND_ONE, COMMIT), (FIRST_GATE + 56, OUTCOME)],
+        },
+    },
+    Named {
+        what: "the last open slot counts",
+        row: Area {
+            slots: &[
+                0xa5, 0, 0, 0, 0, 0, 0, 0x24, 0x16, 0xa5, 0, 0, 0, 0, 0, 0, 0x24, 0x40,
+            ],
+            places: &[(FIRST_GATE + 56, OUTCOME)],
+        },
+    },
+    Named {
+        what: "a filled gate is closed",
+        row: Area {
+            slots: &[
+                0xa5, 0, 0, 0, 0, 0, 0, 0x24, 0x40, 0x37, 0, 0, 0, 0, 0, 0, 0x24, 0x16,
+            ],
+            places: &[(FIRST_GATE + 56, OUTCOME)],
+        },
+    },
+    Named {
+        what: "an area of no record",
+        row: Area {
+            slots: &[0xa5, 0, 0, 0, 0, 0, 0, 0x24, 0x5f],
+            places: &[],
+        },
+    },
+];
+
+impl Row for Area {
+    fn holds(&self, rt: &HostRuntime) -> bool {
+        let alloc = rt.alloc();
+        let Some(mut disk) = disk_of(alloc, &ONE_COMMIT, None) else {
+            return false;
+        };
+        let written = disk.write_at(8, self.slots).is_ok();
+        refusal(alloc, disk, self.places).is_none() && written
     }
 }

@@ -19,7 +19,7 @@ fn comes(alloc: Global, facts: &mut Facts, line: Line, learnt: bool) -> bool {
     match facts.learn(64, item) {
         Ok(()) => learnt,
         Err((fault, back)) => {
-            let follows = facts.follows(&back);
+            let follows = facts.may_come(&back);
             drop(back);
             !learnt && !follows && fault == Fault::Damaged { offset: 64 }
         }
@@ -253,6 +253,8 @@ pub static CASES: [Named<Case>; 18] = [
                 Line::Abort(1),
                 Line::Ceiling(5),
                 Line::Horizon(0),
+                Line::Version(5, b'a'),
+                Line::Settled(1, 5, 1),
             ],
             determined: None,
         },
@@ -424,6 +426,105 @@ pub static CASES: [Named<Case>; 18] = [
             lines: &[Line::Opened(1), PROMISE, Line::Aborted(1)],
             refused: &[Line::Committed(1, 6)],
             determined: None,
+        },
+    },
+];
+
+/// What renewed logs determine.
+pub static RENEWED: [Named<Case>; 3] = [
+    Named {
+        what: "behind a base",
+        row: Case {
+            shard: 0,
+            lines: &[Line::Base(3, 111, 50)],
+            refused: &[
+                Line::Base(3, 111, 50),
+                Line::Opened(3),
+                Line::Opened(5),
+                Line::Horizon(50),
+                Line::Horizon(112),
+                Line::Settled(1, 0, 1),
+                Line::Settled(1, 5, 2),
+                Line::ClosedAborted(1, 0),
+            ],
+            determined: Some(Determined {
+                epoch: 3,
+                floor: 111,
+                horizon: 50,
+                installs: &[],
+                known: &[UNKNOWN],
+            }),
+        },
+    },
+    Named {
+        what: "one settled commit",
+        row: Case {
+            shard: 0,
+            lines: &[
+                Line::Base(1, 111, 0),
+                Line::Version(111, b'a'),
+                Line::Settled(1, 111, 1),
+            ],
+            refused: &[
+                Line::Version(112, b'a'),
+                Line::Settled(1, 111, 1),
+                Line::Commit(1, 111, b'a', 1),
+                Line::Abort(1),
+                Line::Committed(1, 111),
+                Line::Opened(1),
+            ],
+            determined: Some(Determined {
+                epoch: 1,
+                floor: 111,
+                horizon: 0,
+                installs: &[(111, b'a')],
+                known: &[Known {
+                    number: 1,
+                    outcome: Some(Some(111)),
+                    settled: true,
+                    ..UNKNOWN
+                }],
+            }),
+        },
+    },
+    Named {
+        what: "two closed promises",
+        row: Case {
+            shard: 1,
+            lines: &[
+                Line::Base(2, 200, 50),
+                Line::Version(100, b'y'),
+                Line::Erased(90, b'z'),
+                Line::Closed(1, 0, 211),
+                Line::ClosedAborted(2, 0),
+                Line::Opened(3),
+            ],
+            refused: &[
+                Line::Closed(3, 0, 211),
+                Line::ClosedAborted(3, 0),
+                Line::Settled(3, 211, 2),
+                Line::Version(300, b'z'),
+                Line::Aborted(2),
+                Line::Prepare(2, 300, b'a', 0),
+            ],
+            determined: Some(Determined {
+                epoch: 3,
+                floor: 211,
+                horizon: 50,
+                installs: &[(100, b'y'), (90, b'z')],
+                known: &[
+                    Known {
+                        number: 1,
+                        outcome: Some(Some(211)),
+                        ..UNKNOWN
+                    },
+                    Known {
+                        number: 2,
+                        outcome: Some(None),
+                        ..UNKNOWN
+                    },
+                ],
+            }),
         },
     },
 ];

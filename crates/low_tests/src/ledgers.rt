@@ -16,7 +16,7 @@ fn learn(ledger: &mut Ledger, item: Record) -> bool
         drop(item);
         return false;
     };
-    let follows = ledger.follows(&item);
+    let follows = ledger.may_come(&item);
     if follows {
         ledger.learn(item);
     } else {
@@ -35,7 +35,7 @@ fn settle(ledger: &mut Ledger) -> bool {
         txn,
         outcome: Some(at),
     };
-    let fits = ledger.follows(&item) && ledger.takes_standing(txn, at);
+    let fits = ledger.may_come(&item) && ledger.takes_standing(txn, at);
     if fits {
         ledger.learn(item);
     } else {

@@ -27,20 +27,21 @@ fn setup(alloc: Global, number: u8) -> Option<Setup> {
     })
 }
 
-// What a log leaves: the first that is prepared and the first that is decided, each by its number and timestamp (0 where there
-// is none), the greatest timestamp, the safe time, the horizon, the epoch, and how many versions there are.
+/// What a log leaves: the first that is prepared and the first that is decided, each by its number and timestamp (0 where there
+/// is none), the greatest timestamp, the safe time, the horizon, the epoch, and how many versions there are.
 #[derive(Clone, Copy, PartialEq, Eq)]
-struct Shown {
-    prepared: (u64, u64),
-    decided: (u64, u64),
-    last: u64,
-    safe: u64,
-    horizon: u64,
-    epoch: u64,
-    installs: usize,
+pub struct Shown {
+    pub prepared: (u64, u64),
+    pub decided: (u64, u64),
+    pub last: u64,
+    pub safe: u64,
+    pub horizon: u64,
+    pub epoch: u64,
+    pub installs: usize,
 }
 
-const NOTHING: Shown = Shown {
+/// Nothing stands, in the first epoch.
+pub const NOTHING: Shown = Shown {
     prepared: (0, 0),
     decided: (0, 0),
     last: 0,
@@ -73,10 +74,10 @@ type Rebuilt = Result<Option<Shown>, Fault>;
 
 /// The log of a shard with so many promises at its end, and what it leaves.
 pub struct Reopened {
-    shard: u8,
-    lines: &'static [Line],
-    promises: u16,
-    left: Rebuilt,
+    pub shard: u8,
+    pub lines: &'static [Line],
+    pub promises: u16,
+    pub left: Rebuilt,
 }
 
 pub static REOPENED: [Named<Reopened>; 23] = [

@@ -31,6 +31,8 @@ mod folder;
 #[cfg(test)]
 mod forgotten;
 #[cfg(test)]
+mod heads;
+#[cfg(test)]
 mod horizons;
 #[cfg(test)]
 mod ids;
@@ -49,11 +51,15 @@ mod looks;
 #[cfg(test)]
 mod messages;
 #[cfg(test)]
+mod migrated;
+#[cfg(test)]
 mod plain;
 #[cfg(test)]
 mod records;
 #[cfg(test)]
 mod refusals;
+#[cfg(test)]
+mod renewed;
 #[cfg(test)]
 mod screens;
 #[cfg(test)]
@@ -74,6 +80,8 @@ mod tests;
 mod text_logs;
 #[cfg(test)]
 mod tokens;
+#[cfg(test)]
+mod turned;
 #[cfg(test)]
 mod verdicts;
 #[cfg(test)]

@@ -3,7 +3,7 @@ use made::{id, key, shard, stamp};
 use record::{Committed, Prepared, Record};
 use spelling::encode;
 use std::alloc::Global;
-use units::{Epoch, Key, Keys, Parts, Value, Write, Writes};
+use units::{Epoch, Install, Key, Keys, Parts, Stamp, Value, Write, Writes};
 
 /// A record, those of transactions by their numbers in run 1. A promise or a decision reads nothing and writes `1` to a key.
 #[derive(Clone, Copy)]
@@ -19,6 +19,18 @@ pub enum Line {
     Committed(u16, u64),
     Aborted(u16),
     Horizon(u64),
+    /// The epoch, the greatest timestamp and the horizon.
+    Base(u64, u64, u64),
+    /// The timestamp and the letter of the key, which holds `1`.
+    Version(u64, u8),
+    /// The same, of an erasure.
+    Erased(u64, u8),
+    /// The number, the timestamp and the mask of the parts.
+    Settled(u16, u64, u16),
+    /// The number, the coordinator and the timestamp.
+    Closed(u16, u8, u64),
+    /// The number and the coordinator of what was aborted.
+    ClosedAborted(u16, u8),
 }
 
 fn one_write(alloc: Global, key: Key) -> Option<Writes> {
@@ -92,6 +104,55 @@ pub fn record_of(alloc: Global, line: Line) -> Option<Record> {
             outcome: None,
         }),
         Line::Horizon(at) => Some(Record::Horizon { at: stamp(at) }),
+        Line::Base(epoch, floor, horizon) => base(epoch, floor, horizon),
+        Line::Version(at, letter) => match Value::new(alloc, b"1") {
+            Ok(value) => Some(version(at, letter, Some(value))),
+            Err(_) => None,
+        },
+        Line::Erased(at, letter) => Some(version(at, letter, None)),
+        Line::Settled(number, at, mask) => settled(number, at, mask),
+        Line::Closed(number, coordinator, at) => {
+            Some(closed(number, coordinator, Some(stamp(at))))
+        }
+        Line::ClosedAborted(number, coordinator) => Some(closed(number, coordinator, None)),
+    }
+}
+
+fn base(epoch: u64, floor: u64, horizon: u64) -> Option<Record> {
+    match Epoch::new(epoch) {
+        Some(epoch) => Some(Record::Base {
+            epoch,
+            floor: stamp(floor),
+            horizon: stamp(horizon),
+        }),
+        None => None,
+    }
+}
+
+fn version(at: u64, letter: u8, value: Option<Value>) -> Record {
+    Record::Version(Install {
+        key: key(letter),
+        at: stamp(at),
+        value,
+    })
+}
+
+fn settled(number: u16, at: u64, mask: u16) -> Option<Record> {
+    match Parts::from_mask(mask) {
+        Some(parts) => Some(Record::Settled {
+            txn: id(number),
+            at: stamp(at),
+            parts,
+        }),
+        None => None,
+    }
+}
+
+fn closed(number: u16, coordinator: u8, outcome: Option<Stamp>) -> Record {
+    Record::Closed {
+        txn: id(number),
+        coordinator: shard(coordinator),
+        outcome,
     }
 }
 

@@ -17,6 +17,14 @@ outcome 1.1 committed 111
 outcome 1.2 aborted
 horizon 0
 horizon 200
+base 1 111 0
+base 4611686018427387903 4611686018427387903 200
+version 111 a=1
+version 0 key_1!
+settled 1.1 111 0
+settled 7.3 200 1,15
+closed 1.2 0 committed 200
+closed 7.3 15 aborted
 ";
 
 // How many lines a text has, or else which of them is refused. A value may be empty of bytes only where there is none.
@@ -108,7 +116,7 @@ fn is_read(alloc: Global, row: &Row) -> bool {
 /// The first row that is wrong.
 pub fn wrong(alloc: Global) -> &'static str {
     let mut log = Vec::new(alloc);
-    let printed = reads(alloc, RECORDS, &mut log) && log.len() == 11;
+    let printed = reads(alloc, RECORDS, &mut log) && log.len() == 19;
     drop(log);
     if !printed {
         return "a record of each kind";

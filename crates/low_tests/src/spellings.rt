@@ -7,8 +7,8 @@ use std::alloc::Global;
 
 /// A record, and its bytes.
 pub struct Vector {
-    line: Line,
-    bytes: &'static [u8],
+    pub line: Line,
+    pub bytes: &'static [u8],
 }
 
 /// An opening of epoch 1.
@@ -124,8 +124,8 @@ impl Row for Vector {
 
 /// Bytes that are a record, or not.
 pub struct Read {
-    bytes: &'static [u8],
-    is_record: bool,
+    pub bytes: &'static [u8],
+    pub is_record: bool,
 }
 
 pub static READ: [Named<Read>; 21] = [
@@ -144,9 +144,9 @@ pub static READ: [Named<Read>; 21] = [
         },
     },
     Named {
-        what: "kind 8",
+        what: "kind 12",
         row: Read {
-            bytes: &[8, 0, 0, 0, 0, 0, 0, 0, 1],
+            bytes: &[12, 0, 0, 0, 0, 0, 0, 0, 1],
             is_record: false,
         },
     },

@@ -2,8 +2,9 @@
 use crate::checks::{check, check_rows};
 use crate::{
     clocks, crowd, devices, disks, documents, drawers, drive_lines, figures, files, forgotten,
-    horizons, known, ledgers, left, limits, looks, messages, plain, records, refusals, screens,
-    seated, sessions, spellings, tables, terminals, verdicts, versioned,
+    heads, horizons, known, ledgers, left, limits, looks, messages, migrated, plain, records,
+    refusals, renewed, screens, seated, sessions, spellings, tables, terminals, turned, verdicts,
+    versioned,
 };
 
 #[test]
@@ -42,6 +43,19 @@ fn disks_and_logs(rt: HostRuntime) {
     check_rows(&rt, &rt, "bytes that are read", &spellings::READ);
     check_rows(&rt, &rt, "the log in its file", &files::CASES);
     check_rows(&rt, &rt, "files that are no logs", &files::REFUSED);
+    check_rows(&rt, &rt, "areas of logs", &files::AREAS);
+}
+
+#[test]
+fn turned_logs(rt: HostRuntime) {
+    check_rows(&rt, &rt, "logs that are turned over", &turned::TURNED);
+    assert!(&rt; turned::ends(&rt), "a log without a slot left");
+}
+
+#[test]
+fn migrated_files(rt: HostRuntime) {
+    check_rows(&rt, &rt, "files of version 1", &migrated::MIGRATED);
+    check_rows(&rt, &rt, "migrations that fail", &migrated::FAILING);
 }
 
 #[test]
@@ -49,6 +63,20 @@ fn forgotten_versions(rt: HostRuntime) {
     check_rows(&rt, &rt, "versions behind a horizon", &forgotten::FORGOTTEN);
     check_rows(&rt, &rt, "many versions behind a horizon", &horizons::MANY);
     check_rows(&rt, &rt, "drawn versions behind horizons", &horizons::DRAWN);
+}
+
+#[test]
+fn renewed_logs(rt: HostRuntime) {
+    check_rows(&rt, &rt, "spellings of heads", &heads::VECTORS);
+    check_rows(&rt, &rt, "bytes of heads", &heads::READ);
+    check_rows(&rt, &rt, "what renewed logs determine", &known::RENEWED);
+}
+
+#[test]
+fn renewed_logs_that_are_opened(rt: HostRuntime) {
+    check_rows(&rt, &rt, "renewed logs", &renewed::TAKEN);
+    check_rows(&rt, &rt, "bases and versions", &renewed::MISPLACED);
+    check_rows(&rt, &rt, "what ended", &renewed::ENDED);
 }
 
 #[test]

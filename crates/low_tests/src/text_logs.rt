@@ -5,7 +5,7 @@ use made::{shard, stamp};
 use record::{Committed, Prepared, Record};
 use std::alloc::Global;
 use texts::Text;
-use units::{Epoch, Key, Keys, Parts, TxnId, Value, Write, Writes};
+use units::{Epoch, Install, Key, Keys, Parts, TxnId, Value, Write, Writes};
 
 /// Adds the records of a text to a log, one a line. Says whether each is printed as its line.
 pub fn reads(alloc: Global, text: &str, log: &mut Vec<Record>) -> bool {
@@ -62,8 +62,38 @@ pub fn record_of(alloc: Global, line: &str) -> Record {
             outcome: Some(stamp(third)),
         },
         "outcome" => Record::Outcome { txn, outcome: None },
+        "base" => Record::Base {
+            epoch: Epoch::new(first).unwrap_or(Epoch::first()),
+            floor: stamp(second),
+            horizon: stamp(third),
+        },
+        "version" => version_of(alloc, first, words[2]),
+        "settled" => Record::Settled {
+            txn,
+            at: stamp(second),
+            parts: parts_of(words[3]),
+        },
+        "closed" => Record::Closed {
+            txn,
+            coordinator: shard((second % 16) as u8),
+            outcome: if words[3] == "committed" {
+                Some(stamp(number(words[4])))
+            } else {
+                None
+            },
+        },
         _ => Record::Abort { txn },
     }
+}
+
+// The version that a word writes.
+fn version_of(alloc: Global, at: u64, word: &str) -> Record {
+    let write = write_of(alloc, word);
+    Record::Version(Install {
+        key: write.key,
+        at: stamp(at),
+        value: write.value,
+    })
 }
 
 /// The id of a word.

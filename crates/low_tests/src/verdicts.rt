@@ -43,6 +43,19 @@ const VERSIONS: &[&str] = &[
     "opened 1\ncommit 1.3 30 0 - a=3\ncommit 1.1 10 0 - a=1,b=1\ncommit 1.2 20 0 - a!\n",
 ];
 
+// Renewed logs: of a settled commit, of a commit of two shards, and of one beside a shard whose log was not renewed.
+const RENEWED: &[&str] = &["base 1 111 0\nversion 111 a=1\nsettled 1.1 111 0\n"];
+
+const TWO_RENEWED: &[&str] = &[
+    "base 1 200 0\nversion 200 a=1\nsettled 1.2 200 0,1\n",
+    "base 1 200 0\nversion 200 z=2\nclosed 1.2 0 committed 200\n",
+];
+
+const ONE_RENEWED: &[&str] = &[
+    "opened 1\ncommit 1.2 200 0,1 - a=1\noutcome 1.2 committed 200\n",
+    "base 1 200 0\nversion 200 z=2\nclosed 1.2 0 committed 200\nopened 2\n",
+];
+
 static CASES: [Case; 27] = [
     Case {
         name: "a whole report",
@@ -220,6 +233,131 @@ static CASES: [Case; 27] = [
     },
 ];
 
+// Of these nothing is read. The places of lines are those of all lines.
+static OF_RENEWED: [Case; 17] = [
+    Case {
+        name: "a renewed log",
+        logs: RENEWED,
+        lines: "begin 1.1 0\nack 1.1 111 5\nlook a 111 =1\n",
+        verdict: "yes",
+    },
+    Case {
+        name: "a renewed log without lines",
+        logs: RENEWED,
+        lines: "",
+        verdict: "yes",
+    },
+    Case {
+        name: "a look at a renewed log",
+        logs: RENEWED,
+        lines: "look a 111 none\nlook b 5 =1\n",
+        verdict: "yes",
+    },
+    Case {
+        name: "a read of a renewed log",
+        logs: RENEWED,
+        lines: "read 1.1 a =7\nread 1.9 a none\n",
+        verdict: "yes",
+    },
+    Case {
+        name: "lost in a renewed log",
+        logs: RENEWED,
+        lines: "look a 111 none\nack 1.2 111 5\n",
+        verdict: "no lost 1.2",
+    },
+    Case {
+        name: "another timestamp in a renewed log",
+        logs: RENEWED,
+        lines: "ack 1.1 110 5\n",
+        verdict: "no lost 1.1",
+    },
+    Case {
+        name: "out of order in renewed logs",
+        logs: &["base 1 111 0\nsettled 1.1 111 0\nsettled 1.2 105 0\n"],
+        lines: "look a 5 =1\nack 1.1 111 5\nread 1.1 a none\nbegin 1.2 9\n",
+        verdict: "no order 3 1",
+    },
+    Case {
+        name: "two renewed logs",
+        logs: TWO_RENEWED,
+        lines: "begin 1.2 0\nack 1.2 200 7\nlook z 199 =2\n",
+        verdict: "yes",
+    },
+    Case {
+        name: "one renewed log of two",
+        logs: ONE_RENEWED,
+        lines: "begin 1.2 0\nack 1.2 200 7\nlook z 200 none\nread 1.2 a =9\n",
+        verdict: "yes",
+    },
+    Case {
+        name: "a renewed log beside a promise",
+        logs: &[
+            "base 1 200 0\nsettled 1.2 200 0,1\n",
+            "opened 1\nprepare 1.2 0 200 - z=2\n",
+        ],
+        lines: "ack 1.2 200 7\n",
+        verdict: "yes",
+    },
+    Case {
+        name: "closed without its decision",
+        logs: &[
+            "base 1 200 0\n",
+            "base 1 200 0\nclosed 1.2 0 committed 200\n",
+        ],
+        lines: "",
+        verdict: "no torn 1.2",
+    },
+    Case {
+        name: "closed by an abort alone",
+        logs: &[
+            "base 1 200 0\nabort 1.2\n",
+            "base 1 200 0\nclosed 1.2 0 aborted\n",
+        ],
+        lines: "",
+        verdict: "yes",
+    },
+    Case {
+        name: "settled and closed by an abort",
+        logs: &[
+            "base 1 200 0\nsettled 1.2 200 0,1\n",
+            "base 1 200 0\nclosed 1.2 0 aborted\n",
+        ],
+        lines: "",
+        verdict: "no torn 1.2",
+    },
+    Case {
+        name: "closed at another timestamp",
+        logs: &[
+            "base 1 200 0\nsettled 1.2 200 0,1\n",
+            "base 1 200 0\nclosed 1.2 0 committed 199\n",
+        ],
+        lines: "",
+        verdict: "no torn 1.2",
+    },
+    Case {
+        name: "closed by another coordinator",
+        logs: &[
+            "base 1 200 0\nsettled 1.2 200 0,2\n",
+            "base 1 200 0\n",
+            "base 1 200 0\nclosed 1.2 1 committed 200\n",
+        ],
+        lines: "",
+        verdict: "no torn 1.2",
+    },
+    Case {
+        name: "settled without its part",
+        logs: &["base 1 200 0\nsettled 1.2 200 0,1\n", "base 1 200 0\n"],
+        lines: "",
+        verdict: "no torn 1.2",
+    },
+    Case {
+        name: "settled in the log of another part",
+        logs: &["base 1 200 0\n", "base 1 200 0\nsettled 1.2 200 0\n"],
+        lines: "",
+        verdict: "no torn 1.2",
+    },
+];
+
 // The logs of all shards.
 fn read_logs(alloc: Global, texts: &[&str], logs: &mut Vec<Vec<Record>>) -> bool {
     let mut read = true;
@@ -254,6 +392,11 @@ fn has_its_verdict(alloc: Global, case: &Case) -> bool {
 /// The first row that is wrong.
 pub fn wrong(alloc: Global) -> &'static str {
     for case in &CASES {
+        if !has_its_verdict(alloc, case) {
+            return case.name;
+        }
+    }
+    for case in &OF_RENEWED {
         if !has_its_verdict(alloc, case) {
             return case.name;
         }

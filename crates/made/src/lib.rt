@@ -3,19 +3,44 @@
 
 ghost use Rattle.std.specs.Prelude.{◌≡◌, ◌<◌, ◌^◌};
 
+use std::alloc::{AllocError, Global};
 use units::{Key, ShardNo, Stamp, TxnId};
 
-/// Where the first gate stands in the file of a log.
-pub const FIRST_GATE: u64 = 8;
+/// How many bytes the slots take in the file of a log.
+pub const SLOTS: u64 = 9_216;
 
-/// The file of one settled commit: the header; Opened 1; Commit 1.1 at 111, parts 0, no reads, a=1; Outcome 1.1 committed 111; a closed
-/// gate. The gates stand 14, 56 and 87 bytes behind the first.
+/// Where the first gate stands there, behind the header and the slots.
+pub const FIRST_GATE: u64 = OLD_FIRST_GATE + SLOTS;
+
+/// Where it stands in a file of version 1, which has no slots.
+pub const OLD_FIRST_GATE: u64 = 8;
+
+/// The file of one settled commit, told without its slots: the header; Opened 1; Commit 1.1 at 111, parts 0, no reads, a=1; Outcome 1.1
+/// committed 111; a closed gate. The gates stand 14, 56 and 87 bytes behind the first.
 pub const ONE_COMMIT: [u8; 96] = [
-    0x53, 0x50, 0x4e, 0x4c, 0x4f, 0x47, 0x30, 0x31, 0xa5, 0, 0, 0, 9, 1, 0, 0, 0, 0, 0, 0, 0, 1,
+    0x53, 0x50, 0x4e, 0x4c, 0x4f, 0x47, 0x30, 0x32, 0xa5, 0, 0, 0, 9, 1, 0, 0, 0, 0, 0, 0, 0, 1,
     0xa5, 0, 0, 0, 37, 4, 0, 0, 0, 0, 0, 0, 0, 1, 0, 0, 0, 0, 0, 0, 0, 1, 0, 0, 0, 0, 0, 0, 0,
     0x6f, 0, 1, 0, 0, 0, 1, 1, 0x61, 1, 0, 1, 0x31, 0xa5, 0, 0, 0, 26, 6, 0, 0, 0, 0, 0, 0, 0, 1,
     0, 0, 0, 0, 0, 0, 0, 1, 1, 0, 0, 0, 0, 0, 0, 0, 0x6f, 0,
 ];
+
+/// The bytes of a file that is told without its slots: where it begins as one of version 2, they stand behind the header, all closed.
+pub fn with_slots(alloc: Global, told: &[u8]) -> Result<Vec<u8>, AllocError> {
+    let Some(frames) = told.strip_prefix(b"SPNLOG02".as_slice()) else {
+        return told.to_vec(alloc);
+    };
+    let mut bytes = b"SPNLOG02".as_slice().to_vec(alloc)?;
+    bytes.resize(FIRST_GATE as usize, 0)?;
+    bytes.extend_from_slice(frames)?;
+    Ok(bytes)
+}
+
+/// The same file in version 1.
+pub fn in_version_1(told: [u8; 96]) -> [u8; 96] {
+    let mut bytes = told;
+    bytes[7] = b'1';
+    bytes
+}
 
 /// A key of one letter.
 pub fn key(letter: u8) -> Key {

@@ -10,7 +10,7 @@ use Rattle.units.specs.Locks.{wounded, with_locks}
 use Rattle.units.specs.declared.lock.Lock.{Lock}
 use Rattle.units.proofs.ByIdLaws.{by_id-keep, first_none, without_none}
 use Rattle.record.specs.declared.record.Record.{Record}
-use Rattle.record.specs.declared.record.Record.TheVariants.{Opened, Ceiling, Prepare, Commit, Abort, Outcome, Horizon}
+use Rattle.record.specs.declared.record.Record.TheVariants.{Opened, Ceiling, Prepare, Commit, Abort, Outcome, Horizon, Base, Version, Settled, Closed}
 use Rattle.safetime.specs.Safe.{lifted}
 use Rattle.protocol.specs.Rows.{Row, Memory, Phase, Idle, WaitsRead, WaitsPrepare, WaitsCommit, Collecting, IsPrepared, IsDecided, claims, find_row}
 use Rattle.protocol.specs.Rows.{without_row, held_stamp, held_by, with_vote, held_in, without_rows}
@@ -312,6 +312,10 @@ can_stand rows t (Outcome u outcome) may dated idle = absurd may
 can_stand rows t (Opened e) may dated idle = absurd may
 can_stand rows t (Ceiling at) may dated idle = absurd may
 can_stand rows t (Horizon at) may dated idle = absurd may
+can_stand rows t (Base e f n) may dated idle = absurd may
+can_stand rows t (Version i) may dated idle = absurd may
+can_stand rows t (Settled u at parts) may dated idle = absurd may
+can_stand rows t (Closed u coordinator outcome) may dated idle = absurd may
 
 -- nor does who waits
 pub wait_holds_none : (w : Wait) → held_stamp (phase_of_wait (Some w)) ≡ None

@@ -8,6 +8,8 @@ use Rattle.units.specs.declared.lock.Lock.{Lock}
 use Rattle.record.specs.Facts.{Facts}
 use Rattle.record.specs.declared.record.Record.{Record}
 use Rattle.facts.specs.Rules.{follows_facts}
+use Rattle.facts.specs.Stages.{stage_after}
+use Rattle.facts.specs.declared.stage.Stage.{Stage}
 use Rattle.protocol.specs.Rows.{Row, Memory, Idle, claims, find_row, needs_of, held_in, without_rows}
 use Rattle.protocol.specs.Plan.{carried}
 use Rattle.rows.specs.CodeRows.{is_reading, is_collecting, is_idle, may_decide, may_abort, may_close, phase_of_wait}
@@ -46,6 +48,10 @@ IsServing (Some (Record.Prepare p)) = ⊥
 IsServing (Some (Record.Commit c)) = ⊥
 IsServing (Some (Record.Abort u)) = ⊥
 IsServing (Some (Record.Outcome u o)) = ⊥
+IsServing (Some (Record.Base epoch floor horizon)) = ⊥
+IsServing (Some (Record.Version install)) = ⊥
+IsServing (Some (Record.Settled u at parts)) = ⊥
+IsServing (Some (Record.Closed u coordinator outcome)) = ⊥
 
 -- a row goes by an abort, or by its outcome
 abbrev pub MayDrop : List Row → Id → Option Record → Type 0
@@ -57,6 +63,10 @@ MayDrop rows t (Some (Record.Ceiling at)) = ⊥
 MayDrop rows t (Some (Record.Horizon at)) = ⊥
 MayDrop rows t (Some (Record.Prepare p)) = ⊥
 MayDrop rows t (Some (Record.Commit c)) = ⊥
+MayDrop rows t (Some (Record.Base epoch floor horizon)) = ⊥
+MayDrop rows t (Some (Record.Version install)) = ⊥
+MayDrop rows t (Some (Record.Settled u at parts)) = ⊥
+MayDrop rows t (Some (Record.Closed u coordinator outcome)) = ⊥
 
 -- a row stands by a promise or a decision of its transaction
 abbrev pub MayStand : Id → Option Record → Type 0
@@ -68,6 +78,10 @@ MayStand t (Some (Record.Ceiling at)) = ⊥
 MayStand t (Some (Record.Horizon at)) = ⊥
 MayStand t (Some (Record.Abort u)) = ⊥
 MayStand t (Some (Record.Outcome u o)) = ⊥
+MayStand t (Some (Record.Base epoch floor horizon)) = ⊥
+MayStand t (Some (Record.Version install)) = ⊥
+MayStand t (Some (Record.Settled u at parts)) = ⊥
+MayStand t (Some (Record.Closed u coordinator outcome)) = ⊥
 
 -- a decision of the transaction is logged
 abbrev pub IsDecision : Id → Option Record → Type 0
@@ -79,6 +93,10 @@ IsDecision t (Some (Record.Horizon at)) = ⊥
 IsDecision t (Some (Record.Prepare p)) = ⊥
 IsDecision t (Some (Record.Abort u)) = ⊥
 IsDecision t (Some (Record.Outcome u o)) = ⊥
+IsDecision t (Some (Record.Base epoch floor horizon)) = ⊥
+IsDecision t (Some (Record.Version install)) = ⊥
+IsDecision t (Some (Record.Settled u at parts)) = ⊥
+IsDecision t (Some (Record.Closed u coordinator outcome)) = ⊥
 
 -- a change that may be made of these rows
 abbrev pub FitsRows : List Row → List Id → List Lock → Option Record → Change → Type 0
@@ -127,6 +145,11 @@ abbrev pub MayFollow : ℕ → Facts → Option Record → Type 0
 MayFollow shard facts None = Unit {0}
 MayFollow shard facts (Some r) = follows_facts shard facts r ≡ true
 
+-- where in the log one is behind a record, where there is one
+abbrev pub stage_behind : Stage → Option Record → Stage
+stage_behind stage None = stage
+stage_behind stage (Some r) = stage_after stage r
+
 -- what a record installs is above the versions of its keys
 abbrev pub MayInstall : Facts → Option Record → Type 0
 MayInstall facts None = Unit {0}
@@ -136,6 +159,7 @@ MayInstall facts (Some r) = CanInstall facts r
 pub record HasMemoryFor (old new : Kept) (p : Plan) : Type 0 where
   pub setup : new.setup ≡ old.setup
   pub facts : new.facts ≡ old.facts
+  pub stage : new.stage ≡ old.stage
   pub memory : new.memory ≡ admitted_to old.memory (asker p.change)
   pub records : 1 ≤ new.records
   pub ends : length p.wounded < new.ends
@@ -176,6 +200,10 @@ CanStand rows t (Record.Ceiling at) = ⊥
 CanStand rows t (Record.Horizon at) = ⊥
 CanStand rows t (Record.Abort u) = ⊥
 CanStand rows t (Record.Outcome u o) = ⊥
+CanStand rows t (Record.Base epoch floor horizon) = ⊥
+CanStand rows t (Record.Version install) = ⊥
+CanStand rows t (Record.Settled u at parts) = ⊥
+CanStand rows t (Record.Closed u coordinator outcome) = ⊥
 
 -- a promise or a decision that is logged has a timestamp above 0
 abbrev pub IsDated : Option Record → Type 0
@@ -187,6 +215,10 @@ IsDated (Some (Record.Ceiling at)) = Unit {0}
 IsDated (Some (Record.Horizon at)) = Unit {0}
 IsDated (Some (Record.Abort u)) = Unit {0}
 IsDated (Some (Record.Outcome u o)) = Unit {0}
+IsDated (Some (Record.Base epoch floor horizon)) = Unit {0}
+IsDated (Some (Record.Version install)) = Unit {0}
+IsDated (Some (Record.Settled u at parts)) = Unit {0}
+IsDated (Some (Record.Closed u coordinator outcome)) = Unit {0}
 
 -- who asks for locks by a step that fits may do so
 abbrev pub FitStepsMayAsk : Type 0

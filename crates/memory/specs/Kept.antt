@@ -4,17 +4,19 @@ use Rattle.units.specs.Limits.{most_rows}
 use Rattle.units.specs.declared.fault.Fault.{Fault}
 use Rattle.units.specs.declared.setup.Setup.{Setup}
 use Rattle.record.specs.Facts.{Facts}
+use Rattle.facts.specs.declared.stage.Stage.{Stage}
 use Rattle.locks.specs.Table.{Token}
 use Rattle.protocol.specs.Rows.{Memory}
 use Rattle.protocol.specs.Plan as protocol
 use Rattle.memory.specs.Plans.{plan_of}
 use Rattle.memory.specs.declared.plan.Step.{Step}
 
--- what a shard was told, the facts of its log and the rest; and for what it has memory: to learn so many records, to end so
+-- what a shard was told, the facts of its log, where in that one is, and the rest; and for what it has memory: to learn so many records, to end so
 -- many transactions, and to grant each transaction what its token has room for
 pub record Kept : Type 0 where
   pub setup : Setup
   pub facts : Facts
+  pub stage : Stage
   pub memory : Memory
   pub records : ℕ
   pub ends : ℕ

@@ -1,12 +1,15 @@
 //! Carrying out a plan: first all memory is taken; then, once its record is logged, nothing can fail.
-ghost use Rattle.std.specs.Prelude.{◌≡◌, ◌≤◌, ◌<◌, ◌+◌, Some, None, true, false, OnOk, OnErr, IfOk, IfErr, IsSome, length, List, ℕ};
+ghost use Rattle.std.specs.Prelude.{◌≡◌, ◌≤◌, ◌<◌, ◌+◌, Some, None, true, false, OnOk, OnErr, IfOk, IfErr, IsSome, IsTrue, length, List, ℕ};
 ghost use Rattle.protocol.specs.Rows.{Memory, without_row, held_in, without_rows};
 ghost use Rattle.protocol.specs.Plan.{carried, after_change, ended_by, with_ids};
 ghost use Rattle.protocol.specs.Step.{facts_after};
+ghost use Rattle.record.specs.Facts.{learn, or_floor};
+ghost use Rattle.record.specs.Records.{stamp_in};
+ghost use Rattle.facts.specs.Stages.{follows_head, stage_after};
 ghost use Rattle.rows.specs.RowTable.{put_row, phase_by, room};
 ghost use Rattle.memory.specs.Carry.{AdmissionIsUnseen, FitStepsMayAsk, ReadyIsCarriable, MayAsk, HasMemoryFor, IsCarriable, IsDated, Admits, MayUndo};
 ghost use Rattle.memory.specs.Carry.{MayDrop, MayFollow, MayInstall, CanStand, FitsRows, AskerHasRoom, asker, admitted, admitted_to};
-ghost use Rattle.memory.specs.Carry.{may_ask, may_end};
+ghost use Rattle.memory.specs.Carry.{may_ask, may_end, stage_behind};
 ghost use Rattle.memory.specs.Plans.{plan_of, change_of};
 ghost use Rattle.memory.specs.Served.{IsHolding, stamp_held};
 
@@ -85,6 +88,7 @@ impl State {
         requires ready { IsCarriable self.old (record { plan = plan; logged = logged }) }
         ensures setup { self.new.setup ≡ self.old.setup }
         ensures facts { self.new.facts ≡ facts_after self.old.facts logged }
+        ensures stage { self.new.stage ≡ stage_behind self.old.stage logged }
         ensures memory { self.new.memory ≡
             carried (plan_of self.old.memory.rows (record { plan = plan; logged = logged }))
             self.old.memory }
@@ -111,6 +115,32 @@ impl State {
         drop(needs);
         learn(&mut self.ledger, item);
         outbox
+    }
+
+    /// Learns a record of a renewed log's head: a version, or a transaction that ended. No row changes. It is refused for want of
+    /// memory alone, and all is as it was then.
+    pub fn keep(&mut self, logged: Logged) -> Result<(), Fault>
+        requires follows { IsTrue
+            (follows_head self.old.setup.shard self.old.stage self.old.facts logged) }
+        ensures setup { self.new.setup ≡ self.old.setup }
+        ensures facts { OnOk result (self.new.facts ≡ learn self.old.facts logged) }
+        ensures stage { OnOk result (self.new.stage ≡ stage_after self.old.stage logged) }
+        ensures memory { OnOk result (self.new.memory ≡
+            record self.old.memory { last = or_floor self.old.memory.last (stamp_in logged) }) }
+        ensures refused { IfErr result (λ fault. fault ≡ Fault.Memory) }
+    {
+        match self.ledger.reserve() {
+            Ok(()) => {}
+            Err(fault) => {
+                drop(logged.spend());
+                return Err(fault);
+            }
+        }
+        let item = logged.spend();
+        let last = later_of(self.times.last(), stamp_in(&item));
+        self.times.raise(last);
+        self.ledger.learn(item);
+        Ok(())
     }
 }
 
@@ -296,6 +326,8 @@ fn stand(rows: &mut Rows, times: &mut SafeTime, txn: TxnId, logged: Logged) -> R
         }
         Record::Opened { .. } | Record::Ceiling { .. } | Record::Horizon { .. } => unreachable!(),
         Record::Abort { .. } | Record::Outcome { .. } => unreachable!(),
+        Record::Base { .. } | Record::Version(_) => unreachable!(),
+        Record::Settled { .. } | Record::Closed { .. } => unreachable!(),
     }
 }
 
@@ -310,6 +342,45 @@ fn note_ended(ended: &mut Ended, txns: &[TxnId])
     }
 }
 
+// The later of a timestamp and one that there may be.
+fn later_of(last: Stamp, at: Option<Stamp>) -> Stamp
+    ensures { result ≡ or_floor last at }
+{
+    match at {
+        Some(at) => last.later(at),
+        None => last,
+    }
+}
+
+// The timestamp that a record brings.
+fn stamp_in(item: &Record) -> Option<Stamp>
+    ensures { result ≡ stamp_in item.now }
+{
+    match item {
+        Record::Opened { .. } | Record::Abort { .. } | Record::Horizon { .. } => None,
+        Record::Ceiling { at } => Some(*at),
+        Record::Prepare(prepared) => Some(prepared.at),
+        Record::Commit(committed) => Some(committed.at),
+        Record::Outcome { txn: _, outcome } => *outcome,
+        Record::Base {
+            epoch: _,
+            floor,
+            horizon: _,
+        } => Some(*floor),
+        Record::Version(install) => Some(install.at),
+        Record::Settled {
+            txn: _,
+            at,
+            parts: _,
+        } => Some(*at),
+        Record::Closed {
+            txn: _,
+            coordinator: _,
+            outcome,
+        } => *outcome,
+    }
+}
+
 // Learns the record that was logged, where there is one.
 fn learn(ledger: &mut Ledger, item: Option<Record>)
     requires room { 1 ≤ ledger.old.room }
@@ -319,6 +390,7 @@ fn learn(ledger: &mut Ledger, item: Option<Record>)
     ensures facts { ledger.new.facts ≡ facts_after ledger.old.facts item }
     ensures shard { ledger.new.shard ≡ ledger.old.shard }
     ensures opened { 0 < ledger.new.facts.epoch }
+    ensures stage { ledger.new.stage ≡ stage_behind ledger.old.stage item }
 {
     if let Some(item) = item {
         ledger.learn(item);

@@ -1,6 +1,9 @@
 //! How a state is made and ended, and what it shows of its rows.
-ghost use Rattle.std.specs.Prelude.{◌≡◌, ◌<◌, ◌≤◌, [], ◌∷◌, IfOk, IfErr};
-ghost use Rattle.record.specs.Facts.{facts_of};
+ghost use Rattle.std.specs.Prelude.{◌≡◌, ◌<◌, ◌≤◌, [], ◌∷◌, IsTrue, IfOk, IfErr};
+ghost use Rattle.record.specs.Facts.{facts_of, learn};
+ghost use Rattle.facts.specs.Stages.{follows_next, stage_after, stage_of};
+ghost use Rattle.facts.specs.declared.stage.Stage.{Stage};
+ghost use Rattle.ledger.specs.Ledger.{CanInstall};
 ghost use Rattle.rows.specs.RowTable.{nth_prepared, nth_decided, decided_row, IsEarliest};
 ghost use Rattle.units.specs.Lists.{gather};
 
@@ -13,15 +16,51 @@ use std::alloc::Global;
 use units::{Epoch, Fault, Setup, ShardNo, Stamp, TxnId};
 
 impl State {
+    /// What a shard keeps of a renewed log's base, before any version. It is refused for want of memory alone.
+    pub fn based(
+        alloc: Global,
+        setup: Setup,
+        epoch: Epoch,
+        floor: Stamp,
+        horizon: Stamp,
+    ) -> Result<State, Fault>
+        requires { (0 < epoch) × (horizon ≤ floor) }
+        ensures setup { IfOk result (λ s. s.setup ≡ setup) }
+        ensures facts { IfOk result
+            (λ s. s.facts ≡ learn (facts_of []) (Record.Base epoch floor horizon)) }
+        ensures stage { IfOk result (λ s. s.stage ≡ Stage.Head) }
+        ensures empty { IfOk result
+            (λ s. s.memory ≡ record { last = floor; rows = []; ended = [] }) }
+        ensures memory { IfErr result (λ fault. fault ≡ Fault.Memory) }
+    {
+        let times = SafeTime::new(alloc, floor)?;
+        let base = Record::Base {
+            epoch,
+            floor,
+            horizon,
+        };
+        match begun_ledger(alloc, setup.shard, base) {
+            Ok(ledger) => State::without_rows(alloc, setup, ledger, times),
+            Err(fault) => {
+                drop(times);
+                Err(fault)
+            }
+        }
+    }
+
     /// What a shard keeps once its first opening is logged. It is refused for want of memory alone.
     pub fn fresh(alloc: Global, setup: Setup) -> Result<State, Fault>
         ensures setup { IfOk result (λ s. s.setup ≡ setup) }
         ensures facts { IfOk result (λ s. s.facts ≡ facts_of (Record.Opened 1 ∷ [])) }
+        ensures stage { IfOk result (λ s. s.stage ≡ Stage.Open) }
         ensures empty { IfOk result (λ s. s.memory ≡ record { last = 0; rows = []; ended = [] }) }
         ensures memory { IfErr result (λ fault. fault ≡ Fault.Memory) }
     {
         let times = SafeTime::new(alloc, Stamp::zero())?;
-        match opened_ledger(alloc, setup.shard) {
+        let first = Record::Opened {
+            epoch: Epoch::first(),
+        };
+        match begun_ledger(alloc, setup.shard, first) {
             Ok(ledger) => State::without_rows(alloc, setup, ledger, times),
             Err(fault) => {
                 drop(times);
@@ -39,10 +78,12 @@ impl State {
     ) -> Result<State, Fault>
         requires shard { ledger.shard ≡ setup.shard }
         requires opened { 0 < ledger.facts.epoch }
-        requires times { times ≡ record { last = 0; holds = [] } }
+        requires times { times.holds ≡ [] }
         ensures setup { IfOk result (λ s. s.setup ≡ setup) }
         ensures facts { IfOk result (λ s. s.facts ≡ ledger.facts) }
-        ensures empty { IfOk result (λ s. s.memory ≡ record { last = 0; rows = []; ended = [] }) }
+        ensures stage { IfOk result (λ s. s.stage ≡ ledger.stage) }
+        ensures empty { IfOk result
+            (λ s. s.memory ≡ record { last = times.last; rows = []; ended = [] }) }
         ensures memory { IfErr result (λ fault. fault ≡ Fault.Memory) }
     {
         match Rows::new(alloc) {
@@ -98,34 +139,25 @@ impl State {
     }
 }
 
-// The ledger of a log that holds its first opening alone.
-fn opened_ledger(alloc: Global, shard: ShardNo) -> Result<Ledger, Fault>
+// The ledger of a log that holds its first record alone.
+fn begun_ledger(alloc: Global, shard: ShardNo, first: Record) -> Result<Ledger, Fault>
+    requires begins { IsTrue (follows_next shard (stage_of []) (facts_of []) first) }
+    requires installs { CanInstall (facts_of []) first }
     ensures shard { IfOk result (λ ledger. ledger.shard ≡ shard) }
-    ensures facts { IfOk result (λ ledger. ledger.facts ≡ facts_of (Record.Opened 1 ∷ [])) }
+    ensures facts { IfOk result (λ ledger. ledger.facts ≡ learn (facts_of []) first) }
+    ensures stage { IfOk result (λ ledger. ledger.stage ≡ stage_after (stage_of []) first) }
     ensures memory { IfErr result (λ fault. fault ≡ Fault.Memory) }
 {
     let mut ledger = Ledger::new(alloc, shard);
     match ledger.reserve() {
         Ok(()) => {
-            learn_opening(&mut ledger);
+            ledger.learn(first);
             Ok(ledger)
         }
         Err(fault) => {
             drop(ledger);
+            drop(first);
             Err(fault)
         }
     }
-}
-
-// Learns the first opening of a log, as its first record. It takes no memory.
-fn learn_opening(ledger: &mut Ledger)
-    requires room { 1 ≤ ledger.old.room }
-    requires none { ledger.old.facts ≡ facts_of [] }
-    ensures facts { ledger.new.facts ≡ facts_of (Record.Opened 1 ∷ []) }
-    ensures shard { ledger.new.shard ≡ ledger.old.shard }
-{
-    let first = Record::Opened {
-        epoch: Epoch::first(),
-    };
-    ledger.learn(first);
 }

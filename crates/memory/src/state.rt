@@ -6,6 +6,7 @@ ghost use Rattle.units.specs.LockLaws.{IsLawfulTable};
 ghost use Rattle.units.specs.Locks.{exclusive, holds, ready};
 ghost use Rattle.units.specs.Versions.{latest, at_time, above_versions};
 ghost use Rattle.facts.specs.Rules.{follows_facts};
+ghost use Rattle.facts.specs.Stages.{follows_next};
 ghost use Rattle.record.specs.Facts.{recorded};
 ghost use Rattle.protocol.specs.Rows.{safe, claims, find_row, held_in};
 ghost use Rattle.protocol.specs.Plan.{in_way, opens, is_crowded};
@@ -48,6 +49,7 @@ impl Model for State {
     ghost view = { λ s. record {
       setup = s.setup;
       facts = s.ledger.facts;
+      stage = s.ledger.stage;
       memory = record { last = s.times.last; rows = s.rows.rows; ended = s.ended.ids };
       records = s.ledger.room;
       ends = s.ended.room;
@@ -127,7 +129,15 @@ impl State {
         self.ledger.at(key, at)
     }
 
-    /// The record may come next in the log, by the rules of one transaction and of openings.
+    /// The record may come next in the log.
+    pub fn may_come(&self, item: &Record) -> bool
+        ensures { result ≡
+            follows_next self.now.setup.shard self.now.stage self.now.facts item.now }
+    {
+        self.ledger.may_come(item)
+    }
+
+    /// The record is of a kind that steps log, and may come next in the log, by the rules of one transaction and of openings.
     pub fn follows(&self, item: &Record) -> bool
         ensures { result ≡ follows_facts self.now.setup.shard self.now.facts item.now }
     {

@@ -5,7 +5,9 @@ use Rattle.units.specs.declared.fault.Fault.{Fault}
 use Rattle.units.specs.declared.fault.Fault.TheVariants.{Memory}
 use Rattle.disk.specs.File.{surface}
 use Rattle.disk.specs.declared.plan.FailurePlan.TheVariants.{Never}
-use Rattle.gatelog.specs.Frames.{IsFull, end_of, next_gate}
+use Rattle.gatelog.specs.Frames.{IsFull, end_from, end_of, next_gate}
+use Rattle.gatelog.specs.Gates.{first_gate}
+use Rattle.gatelog.specs.Slots.{begins_in}
 use Rattle.gatelog.specs.Log.{log as scanned_log}
 use Rattle.gatelog.specs.Placed.{Placed}
 use Rattle.protocol.specs.Rows.{rebuilt}
@@ -15,7 +17,7 @@ use Rattle.record.specs.Installs.{installs_of}
 use Rattle.record.specs.declared.record.Record.{Record}
 use Rattle.shard.specs.Logs.{KeepsRecords, and_logged, items_of, learned, records_in}
 use Rattle.shard.specs.On.{CoreView}
-use Rattle.shard.specs.Opened.{HasNotOpened, HasOpened, IsReason, IsTaken, IsToldReason, fault_of, next_opening, opening_of}
+use Rattle.shard.specs.Opened.{HasNotOpened, HasOpened, IsReason, IsTaken, IsToldReason, end_in, fault_of, next_opening, opening_of}
 use Rattle.record.specs.Records.{epoch_of}
 use Rattle.simdisk.specs.State.{LeftSince, disk_clock, disk_failures, disk_file, disk_plan}
 use Rattle.simdisk.specs.declared.simdisk.SimDisk.{SimDisk}
@@ -35,14 +37,16 @@ first_facts : facts_of (next_opening [] ∷ []) ≡ learned new_log
 unfolding facts_of installs_of learn
 first_facts = refl
 
-module _ (disk : SimDisk) (never : disk_plan disk ≡ Never) (empty : records_in (surface (disk_file disk)).seen ≡ Ok []) where
+module _ (disk : SimDisk) (never : disk_plan disk ≡ Never) (empty : records_in (surface (disk_file disk)).seen ≡ Ok [])
+    (begins : begins_in (surface (disk_file disk)).seen ≡ first_gate) where
   pub is_opened : (core : CoreView SimDisk)
       → HasOpened (Unit {0}) (Unit {0}) disk_file disk_clock LeftSince disk_failures disk_plan disk only_setup core → HasLog new_log core
   is_opened core h =
       let facts : core.facts ≡ learned new_log = (subst (λ x. IsTaken only_setup x core.facts) empty (h.taken tt)).1 ∙ first_facts in
       let whole : and_logged (records_in (surface (disk_file disk)).seen) (opening_of (records_in (surface (disk_file disk)).seen)) ≡ Ok new_log =
       ap (λ x. and_logged x (opening_of x)) empty in
-      let gate : core.gate ≡ next_gate (end_of []) (next_opening []) = (h.gate [] tt empty).0 in
+      let gate : core.gate ≡ next_gate (end_of []) (next_opening []) =
+      (h.gate [] tt empty).0 ∙ ap (λ n. next_gate (end_from n []) (next_opening [])) begins in
       record {
         setup = h.setup;
         facts = facts;
@@ -75,7 +79,8 @@ module _ (disk : SimDisk) (never : disk_plan disk ≡ Never) (empty : records_in
       by_reason (inl found) = absurd (no_fault (scanned_log (surface (disk_file disk)).seen) fault empty found)
       by_reason (inr (is, (others, spent))) =
           let none : others ≡ [] = ok_same others [] (records_in (surface (disk_file disk)).seen) spent.read empty in
-          absurd (no_spent (subst (λ l. (2 ^ 62 ≤ epoch_of l + 1) ⊎ IsFull (end_of l) (next_opening l)) none spent.spent))
+          absurd (no_spent (subst (λ n. (2 ^ 62 ≤ epoch_of [] + 1) ⊎ IsFull (end_from n []) (next_opening [])) begins
+          (subst (λ l. (2 ^ 62 ≤ epoch_of l + 1) ⊎ IsFull (end_in (surface (disk_file disk)).seen l) (next_opening l)) none spent.spent)))
         where
           ok_same : (a b : List Record) (x : Result (List Record) Fault) → x ≡ Ok a → x ≡ Ok b → a ≡ b
           ok_same a b x p q = cc

@@ -2,7 +2,7 @@
 use crate::given::{AMPLE, Asked, File, comes_to};
 use std::alloc::Global;
 
-pub static FILES: [File<'static>; 23] = [
+pub static FILES: [File<'static>; 24] = [
     File {
         path: "empty",
         bytes: b"",
@@ -34,58 +34,62 @@ pub static FILES: [File<'static>; 23] = [
     // Opened 1.
     File {
         path: "opened.log",
-        bytes: b"SPNLOG01\xa5\0\0\0\x09\x01\0\0\0\0\0\0\0\x01\0",
+        bytes: b"SPNLOG02\xa5\0\0\0\x09\x01\0\0\0\0\0\0\0\x01\0",
     },
     // Opened 1; Commit 1.2 at 200 by shards 0 and 1.
     File {
         path: "torn.log",
-        bytes: b"SPNLOG01\xa5\0\0\0\x09\x01\0\0\0\0\0\0\0\x01\
+        bytes: b"SPNLOG02\xa5\0\0\0\x09\x01\0\0\0\0\0\0\0\x01\
             \xa5\0\0\0\x1f\x04\0\0\0\0\0\0\0\x01\0\0\0\0\0\0\0\x02\0\0\0\0\0\0\0\xc8\0\x03\0\0\0\0\0",
     },
     // Opened 1; Commit 1.2 at 200 by shard 0, with a=1; its outcome.
     File {
         path: "done.log",
-        bytes: b"SPNLOG01\xa5\0\0\0\x09\x01\0\0\0\0\0\0\0\x01\
+        bytes: b"SPNLOG02\xa5\0\0\0\x09\x01\0\0\0\0\0\0\0\x01\
             \xa5\0\0\0%\x04\0\0\0\0\0\0\0\x01\0\0\0\0\0\0\0\x02\0\0\0\0\0\0\0\xc8\0\x01\0\0\0\x01\x01a\x01\0\x011\
             \xa5\0\0\0\x1a\x06\0\0\0\0\0\0\0\x01\0\0\0\0\0\0\0\x02\x01\0\0\0\0\0\0\0\xc8\0",
     },
     // Opened 1; Prepare 1.2 of coordinator 0 at 200.
     File {
         path: "promised.log",
-        bytes: b"SPNLOG01\xa5\0\0\0\x09\x01\0\0\0\0\0\0\0\x01\
+        bytes: b"SPNLOG02\xa5\0\0\0\x09\x01\0\0\0\0\0\0\0\x01\
             \xa5\0\0\0\x1e\x03\0\0\0\0\0\0\0\x01\0\0\0\0\0\0\0\x02\0\0\0\0\0\0\0\0\xc8\0\0\0\0\0",
     },
     File {
-        path: "next_version.log",
-        bytes: b"SPNLOG02\xa5\0\0\0\x09\x01\0\0\0\0\0\0\0\x01\0",
+        path: "old_version.log",
+        bytes: b"SPNLOG01\xa5\0\0\0\x09\x01\0\0\0\0\0\0\0\x01\0",
+    },
+    File {
+        path: "old_cut.log",
+        bytes: b"SPNLOG01\xa5\0\0\0\x09",
     },
     File {
         path: "cut.log",
-        bytes: b"SPNLOG01\xa5\0\0\0\x09",
+        bytes: b"SPNLOG02\xa5\0\0\0\x09",
     },
     // No opening.
     File {
         path: "unopened.log",
-        bytes: b"SPNLOG01\xa5\0\0\0\x09\x02\0\0\0\0\0\0\0\xc8\0",
+        bytes: b"SPNLOG02\xa5\0\0\0\x09\x02\0\0\0\0\0\0\0\xc8\0",
     },
     File {
         path: "bare.log",
-        bytes: b"SPNLOG01\0",
+        bytes: b"SPNLOG02\0",
     },
     // Opened 1, and behind the closed gate what a crash left of Opened 2.
     File {
         path: "unfinished.log",
-        bytes: b"SPNLOG01\xa5\0\0\0\x09\x01\0\0\0\0\0\0\0\x01\0\0\0\0\x09\x01\0\0",
+        bytes: b"SPNLOG02\xa5\0\0\0\x09\x01\0\0\0\0\0\0\0\x01\0\0\0\0\x09\x01\0\0",
     },
     // Opened 1, and a gate that a crash filled.
     File {
         path: "filled.log",
-        bytes: b"SPNLOG01\xa5\0\0\0\x09\x01\0\0\0\0\0\0\0\x01\x5a",
+        bytes: b"SPNLOG02\xa5\0\0\0\x09\x01\0\0\0\0\0\0\0\x01\x5a",
     },
     // Opened 1; Commit 1.2 at 200 by shard 0, with a=1; Abort 1.3; Ceiling 300; Opened 2.
     File {
         path: "many.log",
-        bytes: b"SPNLOG01\xa5\0\0\0\x09\x01\0\0\0\0\0\0\0\x01\
+        bytes: b"SPNLOG02\xa5\0\0\0\x09\x01\0\0\0\0\0\0\0\x01\
             \xa5\0\0\0%\x04\0\0\0\0\0\0\0\x01\0\0\0\0\0\0\0\x02\0\0\0\0\0\0\0\xc8\0\x01\0\0\0\x01\x01a\x01\0\x011\
             \xa5\0\0\0\x11\x05\0\0\0\0\0\0\0\x01\0\0\0\0\0\0\0\x03\
             \xa5\0\0\0\x09\x02\0\0\0\0\0\0\x01,\
@@ -94,7 +98,7 @@ pub static FILES: [File<'static>; 23] = [
     // Opened 1; Ceiling 300; Horizon 200.
     File {
         path: "forgotten.log",
-        bytes: b"SPNLOG01\xa5\0\0\0\x09\x01\0\0\0\0\0\0\0\x01\
+        bytes: b"SPNLOG02\xa5\0\0\0\x09\x01\0\0\0\0\0\0\0\x01\
             \xa5\0\0\0\x09\x02\0\0\0\0\0\0\x01,\
             \xa5\0\0\0\x09\x07\0\0\0\0\0\0\0\xc8\0",
     },
@@ -322,33 +326,33 @@ static ASKED: [Asked; 38] = [
         text: "inspect empty promised.log",
         words: &["inspect", "empty", "promised.log"],
         printed: "",
-        refused: "fault: 11 Damaged at 22\n",
+        refused: "fault: 11 Damaged at 9238\n",
         status: 2,
     },
     Asked {
         text: "inspect empty opened.log done.log",
         words: &["inspect", "empty", "opened.log", "done.log"],
         printed: "",
-        refused: "fault: 11 Damaged at 22\n",
+        refused: "fault: 11 Damaged at 9238\n",
         status: 2,
     },
     Asked {
         text: "inspect empty unopened.log",
         words: &["inspect", "empty", "unopened.log"],
         printed: "",
-        refused: "fault: 11 Damaged at 8\n",
+        refused: "fault: 11 Damaged at 9224\n",
         status: 2,
     },
     Asked {
         text: "inspect empty cut.log",
         words: &["inspect", "empty", "cut.log"],
         printed: "",
-        refused: "fault: 11 Damaged at 8\n",
+        refused: "fault: 11 Damaged at 9224\n",
         status: 2,
     },
     Asked {
-        text: "inspect empty next_version.log",
-        words: &["inspect", "empty", "next_version.log"],
+        text: "inspect empty old_version.log",
+        words: &["inspect", "empty", "old_version.log"],
         printed: "",
         refused: "fault: 12 NotALog\n",
         status: 2,
@@ -364,7 +368,7 @@ static ASKED: [Asked; 38] = [
         text: "inspect empty cut.log empty",
         words: &["inspect", "empty", "cut.log", "empty"],
         printed: "",
-        refused: "fault: 11 Damaged at 8\n",
+        refused: "fault: 11 Damaged at 9224\n",
         status: 2,
     },
     Asked {
@@ -430,49 +434,49 @@ static DUMPED: [Asked; 13] = [
     Asked {
         text: "dump done.log",
         words: &["dump", "done.log"],
-        printed: "8 opened 1\n22 commit 1.2 200 0 - a=1\n64 outcome 1.2 committed 200\nclosed at 95\n",
+        printed: "9224 opened 1\n9238 commit 1.2 200 0 - a=1\n9280 outcome 1.2 committed 200\nclosed at 9311\n",
         refused: "",
         status: 0,
     },
     Asked {
         text: "dump many.log",
         words: &["dump", "many.log"],
-        printed: "8 opened 1\n22 commit 1.2 200 0 - a=1\n64 abort 1.3\n86 ceiling 300\n100 opened 2\nclosed at 114\n",
+        printed: "9224 opened 1\n9238 commit 1.2 200 0 - a=1\n9280 abort 1.3\n9302 ceiling 300\n9316 opened 2\nclosed at 9330\n",
         refused: "",
         status: 0,
     },
     Asked {
         text: "dump forgotten.log",
         words: &["dump", "forgotten.log"],
-        printed: "8 opened 1\n22 ceiling 300\n36 horizon 200\nclosed at 50\n",
+        printed: "9224 opened 1\n9238 ceiling 300\n9252 horizon 200\nclosed at 9266\n",
         refused: "",
         status: 0,
     },
     Asked {
         text: "dump promised.log",
         words: &["dump", "promised.log"],
-        printed: "8 opened 1\n22 prepare 1.2 0 200 - -\nclosed at 57\n",
+        printed: "9224 opened 1\n9238 prepare 1.2 0 200 - -\nclosed at 9273\n",
         refused: "",
         status: 0,
     },
     Asked {
         text: "dump bare.log",
         words: &["dump", "bare.log"],
-        printed: "closed at 8\n",
+        printed: "closed at 9224\n",
         refused: "",
         status: 0,
     },
     Asked {
         text: "dump unfinished.log",
         words: &["dump", "unfinished.log"],
-        printed: "8 opened 1\ntorn at 22\n",
+        printed: "9224 opened 1\ntorn at 9238\n",
         refused: "",
         status: 0,
     },
     Asked {
         text: "dump filled.log",
         words: &["dump", "filled.log"],
-        printed: "8 opened 1\ntorn at 22\n",
+        printed: "9224 opened 1\ntorn at 9238\n",
         refused: "",
         status: 0,
     },
@@ -487,12 +491,12 @@ static DUMPED: [Asked; 13] = [
         text: "dump cut.log",
         words: &["dump", "cut.log"],
         printed: "",
-        refused: "fault: 11 Damaged at 8\n",
+        refused: "fault: 11 Damaged at 9224\n",
         status: 2,
     },
     Asked {
-        text: "dump next_version.log",
-        words: &["dump", "next_version.log"],
+        text: "dump old_version.log",
+        words: &["dump", "old_version.log"],
         printed: "",
         refused: "fault: 12 NotALog\n",
         status: 2,
@@ -526,7 +530,7 @@ static COUNTED: [Asked; 7] = [
         text: "stats done.log",
         words: &["stats", "done.log"],
         printed: "log done.log
-bytes 96
+bytes 9312
 records 3
 opened 1
 ceiling 0
@@ -535,6 +539,10 @@ commit 1
 abort 0
 outcome 1
 horizon 0
+base 0
+version 0
+settled 0
+closed 0
 keys 1
 versions 1
 epoch 1
@@ -548,7 +556,7 @@ in doubt 0
         text: "stats promised.log done.log",
         words: &["stats", "promised.log", "done.log"],
         printed: "log promised.log
-bytes 58
+bytes 9274
 records 2
 opened 1
 ceiling 0
@@ -557,6 +565,10 @@ commit 0
 abort 0
 outcome 0
 horizon 0
+base 0
+version 0
+settled 0
+closed 0
 keys 0
 versions 0
 epoch 1
@@ -564,7 +576,7 @@ floor 200
 in doubt 1
 promised 1.2 200
 log done.log
-bytes 96
+bytes 9312
 records 3
 opened 1
 ceiling 0
@@ -573,13 +585,17 @@ commit 1
 abort 0
 outcome 1
 horizon 0
+base 0
+version 0
+settled 0
+closed 0
 keys 1
 versions 1
 epoch 1
 floor 200
 in doubt 0
 all 2
-bytes 154
+bytes 18586
 records 5
 opened 2
 ceiling 0
@@ -588,6 +604,10 @@ commit 1
 abort 0
 outcome 1
 horizon 0
+base 0
+version 0
+settled 0
+closed 0
 keys 1
 versions 1
 in doubt 1
@@ -599,7 +619,7 @@ in doubt 1
         text: "stats forgotten.log",
         words: &["stats", "forgotten.log"],
         printed: "log forgotten.log
-bytes 51
+bytes 9267
 records 3
 opened 1
 ceiling 1
@@ -608,6 +628,10 @@ commit 0
 abort 0
 outcome 0
 horizon 1
+base 0
+version 0
+settled 0
+closed 0
 keys 0
 versions 0
 epoch 1
@@ -625,8 +649,8 @@ in doubt 0
         status: 2,
     },
     Asked {
-        text: "stats done.log next_version.log",
-        words: &["stats", "done.log", "next_version.log"],
+        text: "stats done.log old_version.log",
+        words: &["stats", "done.log", "old_version.log"],
         printed: "",
         refused: "fault: 12 NotALog\n",
         status: 2,

@@ -1,7 +1,7 @@
 //! Files in memory, and drives and writes of nothing, for commands that ask for them.
 use cli::{Driven, Ended, Engine, Files, Hints, NoVerdict, Put, Stream, System, answer};
 use disk::Disk;
-use made::{id, stamp};
+use made::{id, stamp, with_slots};
 use settings::Settings;
 use showing::stats_files;
 use simdisk::SimDisk;
@@ -10,7 +10,7 @@ use std::io;
 use std::io::Write;
 use units::{Fault, Verdict};
 
-/// A file.
+/// A file. One of a log is told without its slots.
 #[derive(Clone, Copy)]
 pub struct File<'f> {
     pub path: &'static str,
@@ -52,11 +52,12 @@ impl Files for Memory<'_> {
     }
 
     fn open(&self, alloc: Global, path: &str) -> Result<SimDisk, Fault> {
-        let Some(bytes) = self.file(path) else {
+        let Some(told) = self.file(path) else {
             return Err(Fault::Device);
         };
+        let bytes = with_slots(alloc, told)?;
         let mut disk = SimDisk::new(alloc);
-        match disk.write_at(0, bytes) {
+        match disk.write_at(0, &bytes) {
             Ok(()) => Ok(disk),
             Err(_) => Err(Fault::Device),
         }

@@ -20,6 +20,10 @@ mod of_keys;
 #[cfg(test)]
 mod of_logs;
 #[cfg(test)]
+mod of_migrations;
+#[cfg(test)]
+mod of_renewed;
+#[cfg(test)]
 mod outside;
 #[cfg(test)]
 mod places;

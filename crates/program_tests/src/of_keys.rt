@@ -9,7 +9,7 @@ pub static FILES: [File<'static>; 19] = [
     // Opened 1; Commit 1.1 at 111 by shard 0, with a=1; its outcome.
     File {
         path: "one/shard-0.log",
-        bytes: b"SPNLOG01\xa5\0\0\0\x09\x01\0\0\0\0\0\0\0\x01\
+        bytes: b"SPNLOG02\xa5\0\0\0\x09\x01\0\0\0\0\0\0\0\x01\
             \xa5\0\0\0\x25\x04\0\0\0\0\0\0\0\x01\0\0\0\0\0\0\0\x01\0\0\0\0\0\0\0o\0\x01\0\0\0\x01\x01a\x01\0\x011\
             \xa5\0\0\0\x1a\x06\0\0\0\0\0\0\0\x01\0\0\0\0\0\0\0\x01\x01\0\0\0\0\0\0\0o\0",
     },
@@ -21,7 +21,7 @@ pub static FILES: [File<'static>; 19] = [
     // Commit 1.4 at 400, with a line feed and a backslash.
     File {
         path: "two/shard-0.log",
-        bytes: b"SPNLOG01\xa5\0\0\0\x09\x01\0\0\0\0\0\0\0\x01\
+        bytes: b"SPNLOG02\xa5\0\0\0\x09\x01\0\0\0\0\0\0\0\x01\
             \xa5\0\0\0\x25\x04\0\0\0\0\0\0\0\x01\0\0\0\0\0\0\0\x02\0\0\0\0\0\0\0\xc8\0\x03\0\0\0\x01\x01a\x01\0\x011\
             \xa5\0\0\0\x1a\x06\0\0\0\0\0\0\0\x01\0\0\0\0\0\0\0\x02\x01\0\0\0\0\0\0\0\xc8\
             \xa5\0\0\0\x22\x04\0\0\0\0\0\0\0\x01\0\0\0\0\0\0\0\x03\0\0\0\0\0\0\x01\x2c\0\x01\0\0\0\x01\x01a\0\
@@ -32,7 +32,7 @@ pub static FILES: [File<'static>; 19] = [
     // y=4; its outcome, aborted.
     File {
         path: "two/shard-1.log",
-        bytes: b"SPNLOG01\xa5\0\0\0\x09\x01\0\0\0\0\0\0\0\x01\
+        bytes: b"SPNLOG02\xa5\0\0\0\x09\x01\0\0\0\0\0\0\0\x01\
             \xa5\0\0\0\x24\x03\0\0\0\0\0\0\0\x01\0\0\0\0\0\0\0\x02\0\0\0\0\0\0\0\0\x96\0\0\0\x01\x01z\x01\0\x012\
             \xa5\0\0\0\x1a\x06\0\0\0\0\0\0\0\x01\0\0\0\0\0\0\0\x02\x01\0\0\0\0\0\0\0\xc8\
             \xa5\0\0\0\x24\x03\0\0\0\0\0\0\0\x01\0\0\0\0\0\0\0\x05\0\0\0\0\0\0\0\x01\xf4\0\0\0\x01\x01z\x01\0\x013\
@@ -46,7 +46,7 @@ pub static FILES: [File<'static>; 19] = [
     // The log of shard 1.
     File {
         path: "swapped/shard-0.log",
-        bytes: b"SPNLOG01\xa5\0\0\0\x09\x01\0\0\0\0\0\0\0\x01\
+        bytes: b"SPNLOG02\xa5\0\0\0\x09\x01\0\0\0\0\0\0\0\x01\
             \xa5\0\0\0\x24\x03\0\0\0\0\0\0\0\x01\0\0\0\0\0\0\0\x02\0\0\0\0\0\0\0\0\x96\0\0\0\x01\x01z\x01\0\x012\
             \xa5\0\0\0\x1a\x06\0\0\0\0\0\0\0\x01\0\0\0\0\0\0\0\x02\x01\0\0\0\0\0\0\0\xc8\
             \xa5\0\0\0\x24\x03\0\0\0\0\0\0\0\x01\0\0\0\0\0\0\0\x05\0\0\0\0\0\0\0\x01\xf4\0\0\0\x01\x01z\x01\0\x013\
@@ -60,7 +60,7 @@ pub static FILES: [File<'static>; 19] = [
     // Opened 1; the outcome of 1.1 at 111, which nobody promised.
     File {
         path: "unpromised/shard-0.log",
-        bytes: b"SPNLOG01\xa5\0\0\0\x09\x01\0\0\0\0\0\0\0\x01\
+        bytes: b"SPNLOG02\xa5\0\0\0\x09\x01\0\0\0\0\0\0\0\x01\
             \xa5\0\0\0\x1a\x06\0\0\0\0\0\0\0\x01\0\0\0\0\0\0\0\x01\x01\0\0\0\0\0\0\0o\0",
     },
     File {
@@ -69,7 +69,7 @@ pub static FILES: [File<'static>; 19] = [
     },
     File {
         path: "bare/shard-0.log",
-        bytes: b"SPNLOG01\0",
+        bytes: b"SPNLOG02\0",
     },
     File {
         path: "cut/store.toml",
@@ -77,7 +77,7 @@ pub static FILES: [File<'static>; 19] = [
     },
     File {
         path: "cut/shard-0.log",
-        bytes: b"SPNLOG01\xa5\0\0\0\x09",
+        bytes: b"SPNLOG02\xa5\0\0\0\x09",
     },
     File {
         path: "none/store.toml",
@@ -102,7 +102,7 @@ pub static FILES: [File<'static>; 19] = [
     },
     File {
         path: "bytes/shard-0.log",
-        bytes: b"SPNLOG01\0",
+        bytes: b"SPNLOG02\0",
     },
 ];
 
@@ -293,14 +293,14 @@ pub static ASKED: [Asked; 53] = [
         text: "get unpromised a",
         words: &["get", "unpromised", "a"],
         printed: "",
-        refused: "fault: 11 Damaged at 22\n",
+        refused: "fault: 11 Damaged at 9238\n",
         status: 2,
     },
     Asked {
         text: "get cut a",
         words: &["get", "cut", "a"],
         printed: "",
-        refused: "fault: 11 Damaged at 8\n",
+        refused: "fault: 11 Damaged at 9224\n",
         status: 2,
     },
     Asked {
@@ -314,7 +314,7 @@ pub static ASKED: [Asked; 53] = [
         text: "history unpromised a",
         words: &["history", "unpromised", "a"],
         printed: "",
-        refused: "fault: 11 Damaged at 22\n",
+        refused: "fault: 11 Damaged at 9238\n",
         status: 2,
     },
     Asked {

@@ -2,6 +2,7 @@
 use crate::given::{File, Memory};
 use crate::{asked, of_keys};
 use cli::place_of;
+use made::FIRST_GATE;
 use std::alloc::Global;
 use units::{Fault, Reason};
 
@@ -33,15 +34,15 @@ static FILES: [File<'static>; 6] = [
     },
     File {
         path: "kept/shard-0.log",
-        bytes: b"SPNLOG01\0",
+        bytes: b"SPNLOG02\0",
     },
     File {
         path: "kept/shard-1.log",
-        bytes: b"SPNLOG01\xa5\0\0\0\x09",
+        bytes: b"SPNLOG02\xa5\0\0\0\x09",
     },
 ];
 
-static OF_FILES: [Row; 11] = [
+static OF_FILES: [Row; 14] = [
     Row {
         name: "play, not there",
         words: &["play", "missing"],
@@ -57,7 +58,7 @@ static OF_FILES: [Row; 11] = [
     Row {
         name: "dump, cut",
         words: &["dump", "cut.log"],
-        fault: Fault::Damaged { offset: 8 },
+        fault: Fault::Damaged { offset: FIRST_GATE },
         place: "--> cut.log",
     },
     Row {
@@ -80,15 +81,33 @@ static OF_FILES: [Row; 11] = [
     },
     Row {
         name: "inspect, the second is no log",
-        words: &["inspect", "empty", "done.log", "next_version.log"],
+        words: &["inspect", "empty", "done.log", "old_version.log"],
         fault: Fault::NotALog,
-        place: "--> next_version.log",
+        place: "--> old_version.log",
     },
     Row {
         name: "stats, the second is no log",
-        words: &["stats", "done.log", "next_version.log"],
+        words: &["stats", "done.log", "old_version.log"],
         fault: Fault::NotALog,
-        place: "--> next_version.log",
+        place: "--> old_version.log",
+    },
+    Row {
+        name: "migrate, the old one is cut",
+        words: &["migrate", "old_cut.log", "new.log"],
+        fault: Fault::Damaged { offset: 8 },
+        place: "--> old_cut.log",
+    },
+    Row {
+        name: "migrate, the old one is not there",
+        words: &["migrate", "missing", "opened.log"],
+        fault: Fault::Device,
+        place: "--> missing",
+    },
+    Row {
+        name: "migrate, the new one is there",
+        words: &["migrate", "old_version.log", "opened.log"],
+        fault: Fault::Device,
+        place: "--> opened.log",
     },
     Row {
         name: "dump, no memory",
@@ -207,7 +226,7 @@ static OF_DRIVES: [Row; 9] = [
     Row {
         name: "drive, the second log is cut",
         words: &["drive", "files.settings"],
-        fault: Fault::Damaged { offset: 8 },
+        fault: Fault::Damaged { offset: FIRST_GATE },
         place: "--> kept/shard-1.log",
     },
 ];

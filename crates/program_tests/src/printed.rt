@@ -1,6 +1,6 @@
 //! What the program prints.
 use crate::given::{AMPLE, Asked, Writes, comes_to};
-use crate::of_keys;
+use crate::{of_keys, of_renewed};
 use cli::{Command, command};
 use std::alloc::Global;
 use units::{Fault, Reason};
@@ -200,6 +200,16 @@ pub fn wrong_answer(alloc: Global) -> &'static str {
 pub fn wrong_of_keys(alloc: Global) -> &'static str {
     for row in &of_keys::ASKED {
         if !comes_to(alloc, &of_keys::FILES, row, AMPLE) {
+            return row.text;
+        }
+    }
+    ""
+}
+
+/// The first command over renewed logs that does not come to what its row says.
+pub fn wrong_of_renewed(alloc: Global) -> &'static str {
+    for row in &of_renewed::ASKED {
+        if !comes_to(alloc, &of_renewed::FILES, row, AMPLE) {
             return row.text;
         }
     }

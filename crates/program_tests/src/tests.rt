@@ -5,8 +5,8 @@ use crate::horizons::HORIZONS;
 use crate::stops::FAILED;
 use crate::whole_schedules::SCHEDULES;
 use crate::{
-    asked, comparing, each_call, horizons, of_logs, outside, places, played, printed,
-    schedule_texts, stops, unlawful,
+    asked, comparing, each_call, horizons, of_logs, of_migrations, outside, places, played,
+    printed, schedule_texts, stops, unlawful,
 };
 use std::process::Abort;
 
@@ -24,8 +24,14 @@ fn answers(rt: HostRuntime) {
     check(&rt, "dumps", asked::wrong_dump(alloc));
     check(&rt, "numbers", asked::wrong_count(alloc));
     check(&rt, "commands over keys", printed::wrong_of_keys(alloc));
+    check(
+        &rt,
+        "commands over renewed logs",
+        printed::wrong_of_renewed(alloc),
+    );
     check(&rt, "words", printed::wrong_words(alloc));
     check(&rt, "numbers of logs", of_logs::wrong(alloc));
+    check(&rt, "migrations", of_migrations::wrong(alloc));
     check(&rt, "files that are played", played::wrong(alloc));
     for place in places::wrong(alloc) {
         check(&rt, "places of faults", place);

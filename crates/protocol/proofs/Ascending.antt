@@ -100,6 +100,11 @@ entries_after facts None known up all = all
 entries_after facts (Some (Record.Opened epoch)) known up all = all
 entries_after facts (Some (Record.Ceiling at)) known up all = all
 entries_after facts (Some (Record.Horizon at)) known up all = all
+entries_after facts (Some (Record.Base epoch floor horizon)) known up all = all
+entries_after facts (Some (Record.Version install)) known up all = all
+entries_after facts (Some (Record.Settled t at parts)) known up all = ascends-with_status facts.entries t (HasSettled at parts) refl all
+entries_after facts (Some (Record.Closed t coordinator outcome)) known up all =
+    ascends-with_status facts.entries t (HasClosed coordinator outcome) refl all
 entries_after facts (Some (Record.Prepare p)) known up all = ascends-with_status facts.entries p.txn (StandsPrepared p) up all
 entries_after facts (Some (Record.Commit c)) known up all = ascends-with_status facts.entries c.txn (StandsDecided c) up all
 entries_after facts (Some (Record.Abort t)) known up all = ascends-with_status facts.entries t HasAborted refl all

@@ -322,6 +322,10 @@ Forgets b (Some (Record.Prepare p)) = Unit {0}
 Forgets b (Some (Record.Commit c)) = Unit {0}
 Forgets b (Some (Record.Abort t)) = Unit {0}
 Forgets b (Some (Record.Outcome t outcome)) = Unit {0}
+Forgets b (Some (Record.Base epoch floor horizon)) = Unit {0}
+Forgets b (Some (Record.Version install)) = Unit {0}
+Forgets b (Some (Record.Settled t at parts)) = Unit {0}
+Forgets b (Some (Record.Closed t coordinator outcome)) = Unit {0}
 
 ForgetsBy : Before → Plan → Type 0
 ForgetsBy b p = Forgets b p.logged
@@ -379,6 +383,10 @@ is_ceiling (Record.Prepare p) = false
 is_ceiling (Record.Commit c) = false
 is_ceiling (Record.Abort t) = false
 is_ceiling (Record.Outcome t outcome) = false
+is_ceiling (Record.Base epoch floor horizon) = false
+is_ceiling (Record.Version install) = false
+is_ceiling (Record.Settled t at parts) = false
+is_ceiling (Record.Closed t coordinator outcome) = false
 
 -- the plan of an advance
 abbrev advanced : Bool → Bool → (ceiling last : ℕ) → Planned
@@ -462,6 +470,10 @@ logged_fits_beside setup log memory now i p r sound few e logged = by_record r l
     by_record (Record.Commit c) k = fits_commit setup.shard log memory (carried p memory) c sound (next (Record.Commit c) k refl) room
         (follows (Record.Commit c) k)
     by_record (Record.Abort t) k = refl
+    by_record (Record.Base epoch floor horizon) k = refl
+    by_record (Record.Version install) k = refl
+    by_record (Record.Settled t at parts) k = refl
+    by_record (Record.Closed t coordinator outcome) k = refl
     by_record (Record.Outcome t None) k = refl
     by_record (Record.Outcome t (Some s)) k =
         fits_outcome setup.shard log t s (follows (Record.Outcome t (Some s)) k) (installs_above most_rows setup (facts_of log) memory now i p t s sound e k)

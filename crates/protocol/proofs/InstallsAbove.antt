@@ -27,6 +27,10 @@ LogAbove b (Some (Record.Horizon at)) = Unit {0}
 LogAbove b (Some (Record.Prepare p)) = Unit {0}
 LogAbove b (Some (Record.Commit c)) = Unit {0}
 LogAbove b (Some (Record.Abort t)) = Unit {0}
+LogAbove b (Some (Record.Base epoch floor horizon)) = Unit {0}
+LogAbove b (Some (Record.Version install)) = Unit {0}
+LogAbove b (Some (Record.Settled t at parts)) = Unit {0}
+LogAbove b (Some (Record.Closed t coordinator outcome)) = Unit {0}
 LogAbove b None = Unit {0}
 
 Above : Before → Plan → Type 0

@@ -331,6 +331,10 @@ grows facts (Some (Record.Prepare p)) = sym (append-nil facts.installs)
 grows facts (Some (Record.Commit c)) = sym (append-nil facts.installs)
 grows facts (Some (Record.Abort t)) = sym (append-nil facts.installs)
 grows facts (Some (Record.Outcome t outcome)) = refl
+grows facts (Some (Record.Base epoch floor horizon)) = sym (append-nil facts.installs)
+grows facts (Some (Record.Version install)) = refl
+grows facts (Some (Record.Settled t at parts)) = sym (append-nil facts.installs)
+grows facts (Some (Record.Closed t coordinator outcome)) = sym (append-nil facts.installs)
 
 -- what holds of list_all status holds of that of an id
 abbrev ascends_in : TxnStatus → Bool

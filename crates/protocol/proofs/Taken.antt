@@ -1,11 +1,13 @@
 -- What a log that is taken leaves of its shard.
 use Rattle.std.proofs.Common.{◌≡◌, ℕ, ◌+◌, Bool, true, false, not, ◌&&◌, cond, List, [], ◌∷◌, ◌++◌, Some, None, refl, ap, sym, subst, ◌∙◌}
 use Rattle.std.specs.List.{list_all}
-use Rattle.std.proofs.lemmas.Bool.{and_parts}
+use Rattle.std.specs.Prelude.{nat_lt}
+use Rattle.std.proofs.lemmas.Bool.{and_from, and_parts}
 use Rattle.std.proofs.lemmas.List.{append-nil, append_assoc}
 use Rattle.units.specs.Lists.{gather}
 use Rattle.units.specs.Ids.{Id}
-use Rattle.units.specs.Versions.{versions, above_versions}
+use Rattle.units.specs.Versions.{of_key, versions, above_versions}
+use Rattle.units.specs.declared.writes.Install.{Install}
 use Rattle.units.specs.declared.setup.Setup.{Setup}
 use Rattle.record.specs.Accepted.{Taken, Accepted, DamagedAt, StrangerAt, begins, belongs, fits_beside, followed, follows, taken, taken_from}
 use Rattle.record.specs.Computing.{computing}
@@ -17,7 +19,9 @@ use Rattle.record.specs.declared.record.Record.{Record}
 use Rattle.record.proofs.LearnAgrees.{followed_more, learn_agrees}
 use Rattle.record.proofs.Statuses.{recorded_is}
 use Rattle.facts.specs.Rules.{allows, follows_facts}
-use Rattle.facts.proofs.Known.{follows_as_known}
+use Rattle.facts.specs.Stages.{follows_next, stage_of}
+use Rattle.facts.proofs.Known.{follows_as_known, version_above}
+use Rattle.facts.proofs.Nexts.{outcome_next}
 use Rattle.protocol.specs.Rows.{rebuilt, standing_row}
 use Rattle.protocol.specs.Sound.{writes_standing}
 use Rattle.protocol.proofs.FitsBeside.{installs_are, writes_are}
@@ -62,29 +66,40 @@ installed_at HasAborted s = refl
 installed_at (HasSettled at ps) s = refl
 installed_at (HasClosed c o) s = refl
 
-added_rises : (shard : ℕ) (log : List Record) (r : Record) → follows_facts shard (facts_of log) r ≡ true → fits_beside log r ≡ true
+rise_one : (installs : List Install) (i : Install) → list_all (λ j. nat_lt j.at i.at) (of_key installs i.key) ≡ true →
+    rises_by_key installs (i ∷ []) ≡ true
+unfolding rises_by_key
+rise_one installs i above = and_from _ _ above refl
+
+added_rises : (shard : ℕ) (log : List Record) (r : Record) → followed shard log ≡ true
+    → follows_next shard (stage_of log) (facts_of log) r ≡ true → fits_beside log r ≡ true
     → each_ascends (facts_of log).entries ≡ true → rises_by_key (facts_of log).installs (added (facts_of log) (Some r)) ≡ true
-added_rises shard log (Record.Opened epoch) follows fits up = rise_none (facts_of log).installs
-added_rises shard log (Record.Ceiling at) follows fits up = rise_none (facts_of log).installs
-added_rises shard log (Record.Horizon at) follows fits up = rise_none (facts_of log).installs
-added_rises shard log (Record.Prepare p) follows fits up = rise_none (facts_of log).installs
-added_rises shard log (Record.Commit c) follows fits up = rise_none (facts_of log).installs
-added_rises shard log (Record.Abort t) follows fits up = rise_none (facts_of log).installs
-added_rises shard log (Record.Outcome t None) follows fits up =
+added_rises shard log (Record.Opened epoch) before follows fits up = rise_none (facts_of log).installs
+added_rises shard log (Record.Ceiling at) before follows fits up = rise_none (facts_of log).installs
+added_rises shard log (Record.Horizon at) before follows fits up = rise_none (facts_of log).installs
+added_rises shard log (Record.Prepare p) before follows fits up = rise_none (facts_of log).installs
+added_rises shard log (Record.Commit c) before follows fits up = rise_none (facts_of log).installs
+added_rises shard log (Record.Abort t) before follows fits up = rise_none (facts_of log).installs
+added_rises shard log (Record.Outcome t None) before follows fits up =
     ap (rises_by_key (facts_of log).installs) (installed_none (recorded (facts_of log) t)) ∙ rise_none (facts_of log).installs
-added_rises shard log (Record.Outcome t (Some s)) follows fits up =
+added_rises shard log (Record.Outcome t (Some s)) before follows fits up =
     ap (rises_by_key (facts_of log).installs) (installed_at (recorded (facts_of log) t) s)
     ∙ versions_follow (facts_of log).installs s (writes_standing (recorded (facts_of log) t)) (ascend_in (facts_of log).entries t up)
-    (above_standing shard log t s follows fits)
+    (above_standing shard log t s (outcome_next shard (stage_of log) (facts_of log) t (Some s) follows) fits)
+added_rises shard log (Record.Base epoch floor horizon) before follows fits up = rise_none (facts_of log).installs
+added_rises shard log (Record.Version install) before follows fits up =
+    rise_one (facts_of log).installs install (version_above shard log install before follows)
+added_rises shard log (Record.Settled t at parts) before follows fits up = rise_none (facts_of log).installs
+added_rises shard log (Record.Closed t coordinator outcome) before follows fits up = rise_none (facts_of log).installs
 
 learned : (setup : Setup) (log : List Record) (r : Record) → followed setup.shard log ≡ true → followed setup.shard (log ++ r ∷ []) ≡ true
     → fits_beside log r ≡ true → record_ascends r ≡ true → Along (facts_of log) → Along (facts_of (log ++ r ∷ []))
 learned setup log r before more fits up along =
-    let known : follows_facts setup.shard (facts_of log) r ≡ true = sym (follows_as_known setup.shard log r before) ∙ more in
+    let known : follows_next setup.shard (stage_of log) (facts_of log) r ≡ true = sym (follows_as_known setup.shard log r before) ∙ more in
     subst Along (sym (learn_agrees setup.shard log r more)) (record {
       entries = entries_after (facts_of log) (Some r) (λ t. ascend_in (facts_of log).entries t along.entries) up along.entries;
       installs = ap (rises_by_key []) (grows (facts_of log) (Some r)) ∙ installs_rise (facts_of log).installs (added (facts_of log) (Some r))
-          along.installs (added_rises setup.shard log r known fits along.entries);
+          along.installs (added_rises setup.shard log r before known fits along.entries);
     })
 
 -- ---- all records

@@ -43,9 +43,10 @@ WritesAscend (Input.Deliver (Message.Prepare p)) = IsTrue (ascends write_before 
 WritesAscend (Input.Deliver (Message.Commit c)) = IsTrue (ascends write_before c.writes)
 WritesAscend _ = Unit {0}
 
--- what a step installs that logs this record
+-- what is installed by a record that is logged
 abbrev pub added : Facts → Option Record → List Install
 added facts (Some (Record.Outcome t outcome)) = installs_at (recorded facts t) outcome
+added facts (Some (Record.Version install)) = install ∷ []
 added facts _ = []
 
 -- What a step leaves of it. The served time does not fall, and what is installed is above it, and above its key's earlier versions.

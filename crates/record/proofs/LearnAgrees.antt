@@ -1,6 +1,6 @@
 -- The facts that are learnt record by record are those that are read from the set of all records.
 use Rattle.std.specs.List.{list_any, list_all}
-use Rattle.std.proofs.Common.{refl, sym, ◌∙◌, ap, subst, arith}
+use Rattle.std.proofs.Common.{refl, sym, ◌∙◌, ap, subst, arith, append_assoc}
 use Rattle.std.proofs.lemmas.Bool.{eqb-true, or_right, and_parts, or_parts, false≢true}
 use Rattle.std.specs.Prelude.{ℕ, ◌+◌, ◌≡◌, max, Bool, true, false, not, cond, ◌&&◌, ◌||◌, List, [], ◌∷◌, ◌++◌, Option, Some, None, flat_map}
 use Rattle.std.proofs.lemmas.List.{append-nil}
@@ -11,6 +11,7 @@ use Rattle.units.specs.Ids.{Id, same_id, with_id, ids_once}
 use Rattle.units.specs.Versions.{versions}
 use Rattle.units.specs.declared.setup.Setup.{Setup}
 use Rattle.units.specs.declared.writes.Install.{Install}
+use Rattle.units.specs.declared.writes.Write.{Write}
 use Rattle.units.proofs.Folds.{or_else, is_there, gather_append, greatest_append, there_first, join_same}
 use Rattle.units.proofs.IdLaws.{same_id-is, same_id-refl}
 use Rattle.units.proofs.IdOrder.{once_more, rises_once}
@@ -18,14 +19,14 @@ use Rattle.record.specs.Accepted.{Taken, Accepted, DamagedAt, StrangerAt, taken,
 use Rattle.record.specs.Facts.{Facts, TxnStatus, facts_of, learn, with_status, after_outcome, installs_at, or_floor}
 use Rattle.record.specs.FactLaws.{LearnAgrees, LearntAgrees, AcceptedFollows, learnt}
 use Rattle.record.specs.Installs.{installs_of, installed_by, writes_by}
-use Rattle.record.specs.Records.{Ended, Status, Unrecorded, StandsPrepared, StandsDecided, HasAborted, HasSettled, HasClosed, as_opened, as_ended}
+use Rattle.record.specs.Records.{Ended, Status, Unrecorded, StandsPrepared, StandsDecided, HasAborted, HasSettled, HasClosed, as_opened, as_ended, as_version, settled_decision, closed_promise}
 use Rattle.record.specs.Records.{stamp_in, as_horizon, id_in, ids_of, epoch_of, floor_of, horizon_of, prepared_of, committed_of, is_aborted, ended_of, status_by, status_of}
 use Rattle.record.specs.declared.record.Committed.{Committed}
 use Rattle.record.specs.declared.record.Prepared.{Prepared}
 use Rattle.record.specs.declared.record.Record.{Record}
-use Rattle.record.specs.declared.record.Record.TheVariants.{Opened, Ceiling, Prepare, Commit, Abort, Outcome, Horizon}
-use Rattle.record.proofs.Sound.{Sound, sound_empty, sound_more, made, new_facts, prepare_new, commit_new, outcome_follows, opened_follows}
-use Rattle.record.proofs.Sound.{committed_more, prepared_more, outcome_made}
+use Rattle.record.specs.declared.record.Record.TheVariants.{Opened, Ceiling, Prepare, Commit, Abort, Outcome, Horizon, Base, Version, Settled, Closed}
+use Rattle.record.proofs.Sound.{Sound, sound_empty, sound_more, made, new_facts, prepare_new, commit_new, settled_new, closed_new, outcome_follows, opened_follows}
+use Rattle.record.proofs.Sound.{aborted_more, committed_more, prepared_more, ended_more, outcome_made, base_first, version_next}
 use Rattle.record.proofs.Statuses.{status_more, status_same, recorded_is, entries_by, entries_with, or_none}
 
 -- ---- the epoch and the floor
@@ -39,10 +40,17 @@ max_one n e = omega arith
 max_next : (n e : ℕ) → e ≡ n + 1 → max n (max e 0) ≡ e
 max_next n e h = omega (arith, h)
 
+max_first : (n e : ℕ) → n ≡ 0 → max n (max e 0) ≡ e
+max_first n e h = omega (arith, h)
+
 epoch_after : ℕ → Record → ℕ
 epoch_after n (Opened e) = e
 epoch_after n (Ceiling at) = n
 epoch_after n (Horizon at) = n
+epoch_after n (Base epoch floor horizon) = epoch
+epoch_after n (Version install) = n
+epoch_after n (Settled t at parts) = n
+epoch_after n (Closed t coordinator outcome) = n
 epoch_after n (Prepare p) = n
 epoch_after n (Commit c) = n
 epoch_after n (Abort t) = n
@@ -57,6 +65,10 @@ epoch_more shard log r h =
     by_kind (Opened e) k = max_next (epoch_of log) e (eqb-true _ _ (opened_follows shard log e k))
     by_kind (Ceiling at) k = max_none _
     by_kind (Horizon at) k = max_none _
+    by_kind (Base epoch floor horizon) k = max_first (epoch_of log) epoch (ap epoch_of (base_first shard log epoch floor horizon k))
+    by_kind (Version install) k = max_none _
+    by_kind (Settled t at parts) k = max_none _
+    by_kind (Closed t coordinator outcome) k = max_none _
     by_kind (Prepare p) k = max_none _
     by_kind (Commit c) k = max_none _
     by_kind (Abort t) k = max_none _
@@ -162,6 +174,56 @@ decided_status log c u =
     (ap (λ o. or_else o None) u.prepared)
     (ap (λ o. or_else o None) u.ended)
 
+-- what is read of an id that came with its outcome
+settled_committed : (log : List Record) (t : Id) (at : ℕ) (parts : List ℕ) → Untouched log t →
+    committed_of (log ++ Settled t at parts ∷ []) t ≡ Some (settled_decision t at parts)
+settled_committed log t at parts u =
+    committed_more log (Settled t at parts) t
+    ∙ ap (λ o. or_else o (committed_of (Settled t at parts ∷ []) t)) u.committed
+    ∙ found_one (same_id t t) (settled_decision t at parts) (same_id-refl t)
+
+settled_prepared : (log : List Record) (t : Id) (at : ℕ) (parts : List ℕ) → Untouched log t → prepared_of (log ++ Settled t at parts ∷ []) t ≡ None
+settled_prepared log t at parts u = prepared_more log (Settled t at parts) t ∙ ap (λ o. or_else o None) u.prepared
+
+settled_bare : (log : List Record) (t : Id) (at : ℕ) (parts : List ℕ) → Untouched log t →
+    writes_by (committed_of (log ++ Settled t at parts ∷ []) t) (prepared_of (log ++ Settled t at parts ∷ []) t) ≡ []
+settled_bare log t at parts u = ap (λ c. writes_by c (prepared_of (log ++ Settled t at parts ∷ []) t)) (settled_committed log t at parts u)
+
+ended_there : (log : List Record) (r : Record) (t : Id) (o : Option ℕ) → Untouched log t →
+    ended_of (r ∷ []) t ≡ Some (record { txn = t; outcome = o }) → ended_of (log ++ r ∷ []) t ≡ Some (record { txn = t; outcome = o })
+ended_there log r t o u is = ended_more log r t ∙ ap (λ e. or_else e (ended_of (r ∷ []) t)) u.ended ∙ is
+
+settled_status : (log : List Record) (t : Id) (at : ℕ) (parts : List ℕ) → Untouched log t → status_of (log ++ Settled t at parts ∷ []) t ≡ HasSettled at parts
+unfolding status_of
+settled_status log t at parts u =
+    by_parts _ false _ (Some (settled_decision t at parts)) _ None _ (Some (record { txn = t; outcome = Some at }))
+    (aborted_more log (Settled t at parts) t ∙ ap (λ b. b || false) u.aborted)
+    (settled_committed log t at parts u) (settled_prepared log t at parts u)
+    (ended_there log (Settled t at parts) t (Some at) u (found_one (same_id t t) _ (same_id-refl t)))
+
+closed_committed : (log : List Record) (t : Id) (coordinator : ℕ) (o : Option ℕ) → Untouched log t → committed_of (log ++ Closed t coordinator o ∷ []) t ≡ None
+closed_committed log t coordinator o u = committed_more log (Closed t coordinator o) t ∙ ap (λ c. or_else c None) u.committed
+
+closed_prepared : (log : List Record) (t : Id) (coordinator : ℕ) (o : Option ℕ) → Untouched log t →
+    prepared_of (log ++ Closed t coordinator o ∷ []) t ≡ Some (closed_promise t coordinator o)
+closed_prepared log t coordinator o u =
+    prepared_more log (Closed t coordinator o) t
+    ∙ ap (λ p. or_else p (prepared_of (Closed t coordinator o ∷ []) t)) u.prepared
+    ∙ found_one (same_id t t) (closed_promise t coordinator o) (same_id-refl t)
+
+closed_bare : (log : List Record) (t : Id) (coordinator : ℕ) (o : Option ℕ) → Untouched log t →
+    writes_by (committed_of (log ++ Closed t coordinator o ∷ []) t) (prepared_of (log ++ Closed t coordinator o ∷ []) t) ≡ []
+closed_bare log t coordinator o u = λ i. writes_by (closed_committed log t coordinator o u i) (closed_prepared log t coordinator o u i)
+
+closed_status : (log : List Record) (t : Id) (coordinator : ℕ) (o : Option ℕ) → Untouched log t →
+    status_of (log ++ Closed t coordinator o ∷ []) t ≡ HasClosed coordinator o
+unfolding status_of
+closed_status log t coordinator o u =
+    by_parts _ false _ None _ (Some (closed_promise t coordinator o)) _ (Some (record { txn = t; outcome = o }))
+    (aborted_more log (Closed t coordinator o) t ∙ ap (λ b. b || false) u.aborted)
+    (closed_committed log t coordinator o u) (closed_prepared log t coordinator o u)
+    (ended_there log (Closed t coordinator o) t o u (found_one (same_id t t) _ (same_id-refl t)))
+
 aborted_status : (log : List Record) (t : Id) → status_of (log ++ Abort t ∷ []) t ≡ HasAborted
 aborted_status log t =
     status_more log (Abort t) t
@@ -213,6 +275,18 @@ single_none : (shard : ℕ) (log : List Record) (r : Record) (t : Id) → follow
 single_none shard log (Opened e) t h m = (refl, refl)
 single_none shard log (Ceiling at) t h m = (refl, refl)
 single_none shard log (Horizon at) t h m = (refl, refl)
+single_none shard log (Base epoch floor horizon) t h m = (refl, refl)
+single_none shard log (Version install) t h m = (refl, refl)
+single_none shard log (Settled u at parts) t h m = (
+  no_single (same_id u t) (settled_decision u at parts) (λ e. sym (subst (λ v. made log v ≡ false) (same_id-is u t e)
+      ((new_facts log u (settled_new shard log u at parts h)).1)) ∙ m),
+  refl,
+)
+single_none shard log (Closed u coordinator outcome) t h m = (
+  refl,
+  no_single (same_id u t) (closed_promise u coordinator outcome) (λ e. sym (subst (λ v. made log v ≡ false) (same_id-is u t e)
+      ((new_facts log u (closed_new shard log u coordinator outcome h)).1)) ∙ m),
+)
 single_none shard log (Prepare p) t h m = (
   refl,
   no_single (same_id p.txn t) p (λ e. sym (subst (λ v. made log v ≡ false) (same_id-is p.txn t e)
@@ -246,14 +320,57 @@ installed_all : (shard : ℕ) (log : List Record) (r : Record) → Sound log →
 installed_all shard log r s h =
     join_same (installed_by (log ++ r ∷ [])) (installed_by log) (λ e. made log e.txn) (installed_same shard log r h) (gather as_ended log) (all_made log s)
 
--- a record that is no outcome installs nothing
-installs_stay : (shard : ℕ) (log : List Record) (r : Record) → Sound log → follows shard log r ≡ true → gather as_ended (r ∷ []) ≡ [] →
-    installs_of (log ++ r ∷ []) ≡ installs_of log
-unfolding installs_of
-installs_stay shard log r s h none =
+-- what the head lists, with one record more
+listed_more : (log : List Record) (r : Record) (vs : List Install) → gather as_version (r ∷ []) ≡ vs →
+    gather as_version (log ++ r ∷ []) ≡ gather as_version log ++ vs
+listed_more log r vs is = gather_append as_version log (r ∷ []) ∙ ap (λ l. gather as_version log ++ l) is
+
+listed_same : (log : List Record) (r : Record) → gather as_version (r ∷ []) ≡ [] → gather as_version (log ++ r ∷ []) ≡ gather as_version log
+listed_same log r none = listed_more log r [] none ∙ append-nil (gather as_version log)
+
+-- what outcomes install, where the record is none
+ended_stay : (shard : ℕ) (log : List Record) (r : Record) → Sound log → follows shard log r ≡ true → gather as_ended (r ∷ []) ≡ [] →
+    flat_map (installed_by (log ++ r ∷ [])) (gather as_ended (log ++ r ∷ [])) ≡ flat_map (installed_by log) (gather as_ended log)
+ended_stay shard log r s h none =
     ap (λ l. flat_map (installed_by (log ++ r ∷ [])) l) (gather_append as_ended log (r ∷ []) ∙ ap (λ l. gather as_ended log ++ l) none
     ∙ append-nil (gather as_ended log))
     ∙ installed_all shard log r s h
+
+-- a record that is no version and no outcome installs nothing
+installs_stay : (shard : ℕ) (log : List Record) (r : Record) → Sound log → follows shard log r ≡ true → gather as_version (r ∷ []) ≡ [] →
+    gather as_ended (r ∷ []) ≡ [] → installs_of (log ++ r ∷ []) ≡ installs_of log
+unfolding installs_of
+installs_stay shard log r s h unlisted none = λ i. listed_same log r unlisted i ++ ended_stay shard log r s h none i
+
+-- a version stands where nobody ended, so it is the last that is installed
+pub version_installs : (shard : ℕ) (log : List Record) (v : Install) → Sound log → follows shard log (Version v) ≡ true →
+    installs_of (log ++ Version v ∷ []) ≡ installs_of log ++ v ∷ []
+unfolding installs_of
+version_installs shard log v s h =
+    let none : flat_map (installed_by log) (gather as_ended log) ≡ [] = ap (flat_map (installed_by log)) (s.head v (version_next shard log v h)) in
+    (λ i. listed_more log (Version v) (v ∷ []) refl i ++ (ended_stay shard log (Version v) s h refl ∙ none) i)
+    ∙ append-nil (gather as_version log ++ v ∷ [])
+    ∙ ap (λ l. l ++ v ∷ []) (sym (append-nil (gather as_version log)) ∙ ap (λ l. gather as_version log ++ l) (sym none))
+
+-- of what came with its outcome no writes are left
+ended_installs : (shard : ℕ) (log : List Record) (r : Record) (e : Ended) → Sound log → follows shard log r ≡ true → gather as_version (r ∷ []) ≡ [] →
+    gather as_ended (r ∷ []) ≡ e ∷ [] → writes_by (committed_of (log ++ r ∷ []) e.txn) (prepared_of (log ++ r ∷ []) e.txn) ≡ [] →
+    installs_of (log ++ r ∷ []) ≡ installs_of log
+unfolding installs_of
+ended_installs shard log r e s h unlisted one bare =
+    (λ i. listed_same log r unlisted i ++ ended i)
+  where
+    bare_by : (o : Option ℕ) (ws : List Write) → ws ≡ [] → (elim o as (λ q. List Install) [ None ↦ [] | Some s ↦ versions ws s ]) ≡ []
+    bare_by None ws none = refl
+    bare_by (Some s) ws none = ap (λ l. versions l s) none
+
+    ended : flat_map (installed_by (log ++ r ∷ [])) (gather as_ended (log ++ r ∷ [])) ≡ flat_map (installed_by log) (gather as_ended log)
+    ended =
+        ap (λ l. flat_map (installed_by (log ++ r ∷ [])) l) (gather_append as_ended log (r ∷ []) ∙ ap (λ l. gather as_ended log ++ l) one)
+        ∙ flat_map-append (installed_by (log ++ r ∷ [])) (gather as_ended log) (e ∷ [])
+        ∙ (λ i. installed_all shard log r s h i
+        ++ (append-nil _ ∙ bare_by e.outcome (writes_by (committed_of (log ++ r ∷ []) e.txn) (prepared_of (log ++ r ∷ []) e.txn)) bare) i)
+        ∙ append-nil _
 
 none_installed : (s : Status) → installs_at s None ≡ []
 none_installed Unrecorded = refl
@@ -279,16 +396,24 @@ outcome_installs log t (Some v) s none m =
     installs_by (is_aborted log t) (committed_of log t) (prepared_of log t) v (not_there _ (λ a. sym (s.apart t a) ∙ m)) m
     ∙ ap (λ e. installs_at (status_by (is_aborted log t) (committed_of log t) (prepared_of log t) e) (Some v)) (sym none)
 
-installs_change : (shard : ℕ) (log : List Record) (t : Id) (o : Option ℕ) → Sound log → follows shard log (Outcome t o) ≡ true →
+ended_change : (shard : ℕ) (log : List Record) (t : Id) (o : Option ℕ) → Sound log → follows shard log (Outcome t o) ≡ true →
     ended_of log t ≡ None → made log t ≡ true →
-    installs_of (log ++ Outcome t o ∷ []) ≡ installs_of log ++ installs_at (status_of log t) o
-unfolding installs_of
-installs_change shard log t o s h none m =
+    flat_map (installed_by (log ++ Outcome t o ∷ [])) (gather as_ended (log ++ Outcome t o ∷ []))
+    ≡ flat_map (installed_by log) (gather as_ended log) ++ installs_at (status_of log t) o
+ended_change shard log t o s h none m =
     ap (λ l. flat_map (installed_by (log ++ Outcome t o ∷ [])) l) (gather_append as_ended log (Outcome t o ∷ []))
     ∙ flat_map-append (installed_by (log ++ Outcome t o ∷ [])) (gather as_ended log) (record { txn = t; outcome = o } ∷ [])
     ∙ ap (λ l. l ++ (installed_by (log ++ Outcome t o ∷ []) (record { txn = t; outcome = o }) ++ [])) (installed_all shard log (Outcome t o) s h)
     ∙ ap (λ l. flat_map (installed_by log) (gather as_ended log) ++ l)
     (append-nil _ ∙ installed_same shard log (Outcome t o) h (record { txn = t; outcome = o }) m ∙ outcome_installs log t o s none m)
+
+installs_change : (shard : ℕ) (log : List Record) (t : Id) (o : Option ℕ) → Sound log → follows shard log (Outcome t o) ≡ true →
+    ended_of log t ≡ None → made log t ≡ true →
+    installs_of (log ++ Outcome t o ∷ []) ≡ installs_of log ++ installs_at (status_of log t) o
+unfolding installs_of
+installs_change shard log t o s h none m =
+    (λ i. listed_same log (Outcome t o) refl i ++ ended_change shard log t o s h none m i)
+    ∙ sym (append_assoc (gather as_version log) (flat_map (installed_by log) (gather as_ended log)) (installs_at (status_of log t) o))
 
 -- ---- all facts
 
@@ -303,27 +428,45 @@ pub learns : (shard : ℕ) (log : List Record) (r : Record) → Sound log → fo
 unfolding facts_of learn entries entries_by epoch_after
 learns shard log (Opened e) s h =
     same_facts _ _ (epoch_more shard log (Opened e) h) (floor_more log (Opened e)) (entries_stay log (Opened e) refl)
-    (installs_stay shard log (Opened e) s h refl) (horizon_more log (Opened e))
+    (installs_stay shard log (Opened e) s h refl refl) (horizon_more log (Opened e))
 learns shard log (Ceiling at) s h =
     same_facts _ _ (epoch_more shard log (Ceiling at) h) (floor_more log (Ceiling at)) (entries_stay log (Ceiling at) refl)
-    (installs_stay shard log (Ceiling at) s h refl) (horizon_more log (Ceiling at))
+    (installs_stay shard log (Ceiling at) s h refl refl) (horizon_more log (Ceiling at))
 learns shard log (Horizon at) s h =
     same_facts _ _ (epoch_more shard log (Horizon at) h) (floor_more log (Horizon at)) (entries_stay log (Horizon at) refl)
-    (installs_stay shard log (Horizon at) s h refl) (horizon_more log (Horizon at))
+    (installs_stay shard log (Horizon at) s h refl refl) (horizon_more log (Horizon at))
+learns shard log (Base epoch floor horizon) s h =
+    same_facts _ _ (epoch_more shard log (Base epoch floor horizon) h) (floor_more log (Base epoch floor horizon)) (entries_stay log (Base epoch floor horizon) refl)
+    (installs_stay shard log (Base epoch floor horizon) s h refl refl) (horizon_more log (Base epoch floor horizon))
+learns shard log (Version install) s h =
+    same_facts _ _ (epoch_more shard log (Version install) h) (floor_more log (Version install)) (entries_stay log (Version install) refl)
+    (version_installs shard log install s h) (horizon_more log (Version install))
+learns shard log (Settled t at parts) s h =
+    let r : Record = Settled t at parts in
+    let u : Untouched log t = new_untouched log t s (new_facts log t (settled_new shard log t at parts h)) in
+    same_facts _ _ (epoch_more shard log r h) (floor_more log r)
+    (entries_change log r t (HasSettled at parts) refl (settled_status log t at parts u))
+    (ended_installs shard log r (record { txn = t; outcome = Some at }) s h refl refl (settled_bare log t at parts u)) (horizon_more log r)
+learns shard log (Closed t coordinator outcome) s h =
+    let r : Record = Closed t coordinator outcome in
+    let u : Untouched log t = new_untouched log t s (new_facts log t (closed_new shard log t coordinator outcome h)) in
+    same_facts _ _ (epoch_more shard log r h) (floor_more log r)
+    (entries_change log r t (HasClosed coordinator outcome) refl (closed_status log t coordinator outcome u))
+    (ended_installs shard log r (record { txn = t; outcome = outcome }) s h refl refl (closed_bare log t coordinator outcome u)) (horizon_more log r)
 learns shard log (Prepare p) s h =
     same_facts _ _ (epoch_more shard log (Prepare p) h) (floor_more log (Prepare p))
     (entries_change log (Prepare p) p.txn (StandsPrepared p) refl
     (prepared_status log p (new_untouched log p.txn s (new_facts log p.txn (prepare_new shard log p h)))))
-    (installs_stay shard log (Prepare p) s h refl) (horizon_more log (Prepare p))
+    (installs_stay shard log (Prepare p) s h refl refl) (horizon_more log (Prepare p))
 learns shard log (Commit c) s h =
     same_facts _ _ (epoch_more shard log (Commit c) h) (floor_more log (Commit c))
     (entries_change log (Commit c) c.txn (StandsDecided c) refl
     (decided_status log c (new_untouched log c.txn s (new_facts log c.txn (commit_new shard log c h)))))
-    (installs_stay shard log (Commit c) s h refl) (horizon_more log (Commit c))
+    (installs_stay shard log (Commit c) s h refl refl) (horizon_more log (Commit c))
 learns shard log (Abort t) s h =
     same_facts _ _ (epoch_more shard log (Abort t) h) (floor_more log (Abort t))
     (entries_change log (Abort t) t HasAborted refl (aborted_status log t))
-    (installs_stay shard log (Abort t) s h refl) (horizon_more log (Abort t))
+    (installs_stay shard log (Abort t) s h refl refl) (horizon_more log (Abort t))
 learns shard log (Outcome t o) s h =
     let none : ended_of log t ≡ None = is_none _ (not_false _ ((outcome_follows shard log t o h).0)) in
     let m : made log t ≡ true = outcome_made log t o ((outcome_follows shard log t o h).1) in

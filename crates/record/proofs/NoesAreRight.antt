@@ -16,7 +16,8 @@ use Rattle.units.specs.declared.line.Line.{Line}
 use Rattle.units.specs.declared.line.Line.TheVariants.{Begin, Ack, Read, Look}
 use Rattle.record.specs.History.{Txn, history, before, upto, find_txn}
 use Rattle.record.specs.Verdict.{verdict, first_fault, first_torn, first_lost, first_wrong_read, first_wrong_order, lost_by, line_reads_right}
-use Rattle.record.specs.Verdict.{late_acks, is_late_ack, is_in_at, same_value, IsLine}
+use Rattle.record.specs.Verdict.{are_renewed, late_acks, is_late_ack, same_value, wrong_read}
+use Rattle.record.specs.Lines.{is_in_at, IsLine}
 use Rattle.record.specs.Whole.{is_whole, all_ids}
 use Rattle.record.specs.declared.record.Record.{Record}
 use Rattle.record.specs.VerdictLaws.{IsWrong, IsLost, IsLate, IsRight, EachNoIsRight}
@@ -139,6 +140,12 @@ wrong_right h lines i e = by_first (first (λ q. not (line_reads_right h q.1)) (
       wrong_line h q.1 (not_true (line_reads_right h q.1) (first_passes (λ q. not (line_reads_right h q.1)) (numbered 0 lines) q is)),
     )
 
+-- so only where no log was renewed
+judged_right : (renewed : Bool) (h : List Txn) (lines : List Line) (i : ℕ) → wrong_read renewed h lines ≡ Some i
+    → (renewed ≡ false) × (l : Line) × (slice_get lines i ≡ Some l) × IsWrong h l
+judged_right true h lines i e = cc
+judged_right false h lines i e = let w = wrong_right h lines i e in (refl, w.0, w.1, w.2)
+
 -- a late acknowledgement, by its place
 late_line : (h : List Txn) (lines : List Line) (i j : ℕ) (u : Id) (n : ℕ) (x : Txn) (q : ℕ × Line) → slice_get lines i ≡ Some (Begin u n)
     → find_txn h u ≡ Some x
@@ -194,16 +201,16 @@ late_right h lines i j e =
         late_begin h lines i j q.1 (ap (slice_get lines) (sym (ap (λ (p : ℕ × ℕ). p.0) one)) ∙ at) (is ∙ ap (λ (p : ℕ × ℕ). Some (p.1)) one)
 
 right_by : (logs : List (List Record)) (lines : List Line) (a b : Option Id) (c : Option ℕ) (d : Option (ℕ × ℕ))
-    → first_torn logs ≡ a → first_lost (history logs) lines ≡ b → first_wrong_read (history logs) lines ≡ c → first_wrong_order (history logs) lines ≡ d
+    → first_torn logs ≡ a → first_lost (history logs) lines ≡ b → wrong_read (are_renewed logs) (history logs) lines ≡ c → first_wrong_order (history logs) lines ≡ d
     → IsRight logs lines (first_fault a b c d)
 right_by logs lines (Some t) b c d torn lost wrong late = torn_right logs t torn
 right_by logs lines None (Some t) c d torn lost wrong late = lost_right (history logs) lines t lost
-right_by logs lines None None (Some i) d torn lost wrong late = wrong_right (history logs) lines i wrong
+right_by logs lines None None (Some i) d torn lost wrong late = judged_right (are_renewed logs) (history logs) lines i wrong
 right_by logs lines None None None (Some p) torn lost wrong late = late_right (history logs) lines p.0 p.1 late
 right_by logs lines None None None None torn lost wrong late = tt
 
 pub each_no_is_right : EachNoIsRight
 unfolding verdict
 each_no_is_right logs lines =
-    right_by logs lines (first_torn logs) (first_lost (history logs) lines) (first_wrong_read (history logs) lines)
+    right_by logs lines (first_torn logs) (first_lost (history logs) lines) (wrong_read (are_renewed logs) (history logs) lines)
     (first_wrong_order (history logs) lines) refl refl refl refl

@@ -3,19 +3,20 @@
 use Rattle.std.specs.List.{list_any}
 use Rattle.std.proofs.Common.{refl, sym, ◌∙◌, ap, subst}
 use Rattle.std.specs.Prelude.{ℕ, ◌+◌, ◌≡◌, Bool, true, false, not, cond, ◌||◌, nat_eq, List, [], ◌∷◌, ◌++◌, Option, Some, None}
-use Rattle.std.proofs.lemmas.Bool.{and_parts, false≢true}
+use Rattle.std.proofs.lemmas.Bool.{and_parts, or_right, false≢true}
 use Rattle.std.proofs.Math.Bool.{or-false}
 use Rattle.units.specs.Lists.{gather, first, head}
 use Rattle.units.specs.Ids.{Id, same_id}
+use Rattle.units.specs.declared.writes.Install.{Install}
 use Rattle.units.proofs.Folds.{or_else, is_there, there_or_else, gather_append, first_append, any_append}
 use Rattle.units.proofs.IdLaws.{same_id-is}
-use Rattle.record.specs.Accepted.{is_new, outcome_fits, follows}
+use Rattle.record.specs.Accepted.{is_new, outcome_fits, follows, is_next, is_start, goes_on}
 use Rattle.record.specs.Records.{Ended, Unrecorded, as_prepared, as_committed, as_aborted, as_ended, prepared_of, committed_of, is_aborted, ended_of}
-use Rattle.record.specs.Records.{status_by, status_of, epoch_of}
+use Rattle.record.specs.Records.{status_by, status_of, epoch_of, settled_decision, closed_promise}
 use Rattle.record.specs.declared.record.Committed.{Committed}
 use Rattle.record.specs.declared.record.Prepared.{Prepared}
 use Rattle.record.specs.declared.record.Record.{Record}
-use Rattle.record.specs.declared.record.Record.TheVariants.{Opened, Ceiling, Prepare, Commit, Abort, Outcome, Horizon}
+use Rattle.record.specs.declared.record.Record.TheVariants.{Opened, Ceiling, Prepare, Commit, Abort, Outcome, Horizon, Base, Version, Settled, Closed}
 
 -- ---- one more record
 
@@ -98,6 +99,15 @@ pub abort_new : (shard : ℕ) (log : List Record) (t : Id) → follows shard log
 unfolding follows
 abort_new shard log t h = h
 
+pub settled_new : (shard : ℕ) (log : List Record) (t : Id) (at : ℕ) (parts : List ℕ) → follows shard log (Settled t at parts) ≡ true → is_new log t ≡ true
+unfolding follows
+settled_new shard log t at parts h = (and_parts _ _ ((and_parts _ _ h).0)).1
+
+pub closed_new : (shard : ℕ) (log : List Record) (t : Id) (coordinator : ℕ) (outcome : Option ℕ) →
+    follows shard log (Closed t coordinator outcome) ≡ true → is_new log t ≡ true
+unfolding follows
+closed_new shard log t coordinator outcome h = (and_parts _ _ ((and_parts _ _ h).0)).1
+
 pub outcome_follows : (shard : ℕ) (log : List Record) (t : Id) (o : Option ℕ) → follows shard log (Outcome t o) ≡ true →
     (not (is_there (ended_of log t)) ≡ true) × (outcome_fits (prepared_of log t) (committed_of log t) o ≡ true)
 unfolding follows
@@ -109,27 +119,44 @@ opened_follows shard log epoch h = h
 
 -- ---- the invariant
 
--- who ended was promised or decided; who was aborted was neither
+-- who ended was promised or decided; who was aborted was neither; and nobody ended where a version may come
 pub record Sound (log : List Record) : Type 0 where
   pub closed : (t : Id) → is_there (ended_of log t) ≡ true → made log t ≡ true
   pub apart : (t : Id) → is_aborted log t ≡ true → made log t ≡ false
+  pub head : (v : Install) → is_next log v ≡ true → gather as_ended log ≡ []
+
+or_left : (a b : Bool) → a ≡ true → (a || b) ≡ true
+or_left true b e = refl
+or_left false b e = cc
+
+-- how an id ended
+ended_one : Id → Option ℕ → Ended
+ended_one t outcome = record { txn = t; outcome = outcome }
 
 -- a single record of an id
 pub single : {A : Type 0} (b : Bool) (x : A) → is_there (head (cond b (x ∷ []) [])) ≡ b
 single true x = refl
 single false x = refl
 
--- the outcome of an id follows its promise or decision
-ended_made : (shard : ℕ) (log : List Record) (r : Record) (t : Id) → follows shard log r ≡ true → is_there (ended_of (r ∷ []) t) ≡ true → made log t ≡ true
+-- the outcome of an id follows its promise or decision, or comes with what is left of it
+ended_made : (shard : ℕ) (log : List Record) (r : Record) (t : Id) → follows shard log r ≡ true → is_there (ended_of (r ∷ []) t) ≡ true →
+    (made log t || made (r ∷ []) t) ≡ true
+unfolding made ended_one
 ended_made shard log (Opened e) t h there = cc
 ended_made shard log (Ceiling at) t h there = cc
 ended_made shard log (Horizon at) t h there = cc
+ended_made shard log (Base epoch floor horizon) t h there = cc
+ended_made shard log (Version install) t h there = cc
+ended_made shard log (Settled u at parts) t h there =
+    or_right (made log t) _ (single (same_id u t) (settled_decision u at parts) ∙ sym (single (same_id u t) (ended_one u (Some at))) ∙ there)
+ended_made shard log (Closed u coordinator outcome) t h there =
+    or_right (made log t) _ (or-false _ ∙ single (same_id u t) (closed_promise u coordinator outcome) ∙ sym (single (same_id u t) (ended_one u outcome)) ∙ there)
 ended_made shard log (Prepare p) t h there = cc
 ended_made shard log (Commit c) t h there = cc
 ended_made shard log (Abort u) t h there = cc
 ended_made shard log (Outcome u o) t h there =
     let same : u ≡ t = same_id-is u t (sym (single (same_id u t) _) ∙ there) in
-    subst (λ v. made log v ≡ true) same (outcome_made log u o ((outcome_follows shard log u o h).1))
+    or_left (made log t) _ (subst (λ v. made log v ≡ true) same (outcome_made log u o ((outcome_follows shard log u o h).1)))
 
 -- an abort makes nothing, and comes of an id of which nothing is made
 aborted_unmade : (shard : ℕ) (log : List Record) (r : Record) (t : Id) → follows shard log r ≡ true → is_aborted (r ∷ []) t ≡ true →
@@ -138,6 +165,10 @@ unfolding made
 aborted_unmade shard log (Opened e) t h there = cc
 aborted_unmade shard log (Ceiling at) t h there = cc
 aborted_unmade shard log (Horizon at) t h there = cc
+aborted_unmade shard log (Base epoch floor horizon) t h there = cc
+aborted_unmade shard log (Version install) t h there = cc
+aborted_unmade shard log (Settled u at parts) t h there = cc
+aborted_unmade shard log (Closed u coordinator outcome) t h there = cc
 aborted_unmade shard log (Prepare p) t h there = cc
 aborted_unmade shard log (Commit c) t h there = cc
 aborted_unmade shard log (Abort u) t h there =
@@ -151,6 +182,14 @@ unfolding made
 made_unaborted shard log (Opened e) t h there = cc
 made_unaborted shard log (Ceiling at) t h there = cc
 made_unaborted shard log (Horizon at) t h there = cc
+made_unaborted shard log (Base epoch floor horizon) t h there = cc
+made_unaborted shard log (Version install) t h there = cc
+made_unaborted shard log (Settled u at parts) t h there =
+    let same : u ≡ t = same_id-is u t (sym (single (same_id u t) (settled_decision u at parts)) ∙ there) in
+    subst (λ v. is_aborted log v ≡ false) same ((new_facts log u (settled_new shard log u at parts h)).0)
+made_unaborted shard log (Closed u coordinator outcome) t h there =
+    let same : u ≡ t = same_id-is u t (sym (single (same_id u t) (closed_promise u coordinator outcome)) ∙ (sym (or-false _) ∙ there)) in
+    subst (λ v. is_aborted log v ≡ false) same ((new_facts log u (closed_new shard log u coordinator outcome h)).0)
 made_unaborted shard log (Prepare p) t h there =
     let same : p.txn ≡ t = same_id-is p.txn t (sym (single (same_id p.txn t) p) ∙ (sym (or-false _) ∙ there)) in
     subst (λ v. is_aborted log v ≡ false) same ((new_facts log p.txn (prepare_new shard log p h)).0)
@@ -160,17 +199,53 @@ made_unaborted shard log (Commit c) t h there =
 made_unaborted shard log (Abort u) t h there = cc
 made_unaborted shard log (Outcome u o) t h there = cc
 
-closed_by : (e f m n : Bool) → (e ≡ true → m ≡ true) → (f ≡ true → m ≡ true) → (e || f) ≡ true → (m || n) ≡ true
-closed_by e f true n g h k = refl
-closed_by true f false n g h k = absurd (false≢true (g refl))
-closed_by false true false n g h k = absurd (false≢true (h refl))
-closed_by false false false n g h k = cc
+closed_by : (e f m n : Bool) → (e ≡ true → m ≡ true) → (f ≡ true → (m || n) ≡ true) → (e || f) ≡ true → (m || n) ≡ true
+closed_by true f m n g h k = or_left m n (g refl)
+closed_by false true m n g h k = h refl
+closed_by false false m n g h k = cc
 
 apart_by : (a b m n : Bool) → (a ≡ true → m ≡ false) → (b ≡ true → (m ≡ false) × (n ≡ false)) → (n ≡ true → a ≡ false) → (a || b) ≡ true → (m || n) ≡ false
 apart_by true b m true g h k there = absurd (false≢true (sym (k refl)))
 apart_by true b m false g h k there = ap (λ x. x || false) (g refl)
 apart_by false true m n g h k there = ap (λ x. x || n) ((h refl).0) ∙ (h refl).1
 apart_by false false m n g h k there = cc
+
+-- ---- the head
+
+-- a version comes behind the last record
+pub next_last : (log : List Record) (r : Record) (v : Install) → is_next (log ++ r ∷ []) v ≡ goes_on r v
+next_last [] r v = refl
+next_last (x ∷ []) r v = refl
+next_last (x ∷ y ∷ rest) r v = next_last (y ∷ rest) r v
+
+-- a base comes first
+pub start_none : (log : List Record) → is_start log ≡ true → log ≡ []
+start_none [] h = refl
+start_none (x ∷ xs) h = cc
+
+pub base_first : (shard : ℕ) (log : List Record) (e f n : ℕ) → follows shard log (Base e f n) ≡ true → log ≡ []
+unfolding follows
+base_first shard log e f n h = start_none log ((and_parts _ _ ((and_parts _ _ h).0)).0)
+
+pub version_next : (shard : ℕ) (log : List Record) (v : Install) → follows shard log (Version v) ≡ true → is_next log v ≡ true
+unfolding follows
+version_next shard log v h = h
+
+head_more : (shard : ℕ) (log : List Record) (r : Record) → Sound log → follows shard log r ≡ true → (v : Install) → goes_on r v ≡ true →
+    gather as_ended (log ++ r ∷ []) ≡ []
+head_more shard log (Opened e) s h v goes = cc
+head_more shard log (Ceiling at) s h v goes = cc
+head_more shard log (Horizon at) s h v goes = cc
+head_more shard log (Prepare p) s h v goes = cc
+head_more shard log (Commit c) s h v goes = cc
+head_more shard log (Abort t) s h v goes = cc
+head_more shard log (Outcome t o) s h v goes = cc
+head_more shard log (Base e f n) s h v goes =
+    ap (λ l. gather as_ended (l ++ Base e f n ∷ [])) (base_first shard log e f n h)
+head_more shard log (Version w) s h v goes =
+    gather_append as_ended log (Version w ∷ []) ∙ ap (λ l. l ++ []) (s.head w (version_next shard log w h))
+head_more shard log (Settled t at parts) s h v goes = cc
+head_more shard log (Closed t coordinator outcome) s h v goes = cc
 
 pub sound_more : (shard : ℕ) (log : List Record) (r : Record) → Sound log → follows shard log r ≡ true → Sound (log ++ r ∷ [])
 sound_more shard log r s h =
@@ -181,8 +256,9 @@ sound_more shard log r s h =
       apart = λ t there. made_more log r t ∙ apart_by (is_aborted log t) (is_aborted (r ∷ []) t) (made log t) (made (r ∷ []) t)
           (s.apart t) (aborted_unmade shard log r t h) (made_unaborted shard log r t h)
           (sym (aborted_more log r t) ∙ there);
+      head = λ v there. head_more shard log r s h v (sym (next_last log r v) ∙ there);
     }
 
 pub sound_empty : Sound []
 unfolding made
-sound_empty = record { closed = λ t there. cc; apart = λ t there. refl }
+sound_empty = record { closed = λ t there. cc; apart = λ t there. refl; head = λ v there. cc }

@@ -14,7 +14,7 @@ use Rattle.record.specs.Records.{Ended, Status, Unrecorded, id_in, ids_of, prepa
 use Rattle.record.specs.declared.record.Committed.{Committed}
 use Rattle.record.specs.declared.record.Prepared.{Prepared}
 use Rattle.record.specs.declared.record.Record.{Record}
-use Rattle.record.specs.declared.record.Record.TheVariants.{Opened, Ceiling, Prepare, Commit, Abort, Outcome, Horizon}
+use Rattle.record.specs.declared.record.Record.TheVariants.{Opened, Ceiling, Prepare, Commit, Abort, Outcome, Horizon, Base, Version, Settled, Closed}
 use Rattle.record.proofs.Sound.{aborted_more, prepared_more, committed_more, ended_more}
 
 -- the status from the parts of the log and those of the record
@@ -69,6 +69,12 @@ status_same log r t apart = status_more log r t ∙ by_kind r apart
     by_kind (Opened e) h = as_before _ _ _ _ _ _ _ _ refl refl refl refl
     by_kind (Ceiling at) h = as_before _ _ _ _ _ _ _ _ refl refl refl refl
     by_kind (Horizon at) h = as_before _ _ _ _ _ _ _ _ refl refl refl refl
+    by_kind (Base epoch floor horizon) h = as_before _ _ _ _ _ _ _ _ refl refl refl refl
+    by_kind (Version install) h = as_before _ _ _ _ _ _ _ _ refl refl refl refl
+    by_kind (Settled u at parts) h =
+        as_before _ _ _ _ _ _ _ _ refl (no_single (same_id u t) _ (apart_single t u h)) refl (no_single (same_id u t) _ (apart_single t u h))
+    by_kind (Closed u coordinator outcome) h =
+        as_before _ _ _ _ _ _ _ _ refl refl (no_single (same_id u t) _ (apart_single t u h)) (no_single (same_id u t) _ (apart_single t u h))
     by_kind (Prepare p) h = as_before _ _ _ _ _ _ _ _ refl refl (no_single (same_id p.txn t) p (apart_single t p.txn h)) refl
     by_kind (Commit c) h = as_before _ _ _ _ _ _ _ _ refl (no_single (same_id c.txn t) c (apart_single t c.txn h)) refl refl
     by_kind (Abort u) h = as_before _ _ _ _ _ _ _ _ h refl refl refl
@@ -85,6 +91,10 @@ none_aborted t [] e = refl
 none_aborted t (Opened epoch ∷ rs) e = none_aborted t rs e
 none_aborted t (Ceiling at ∷ rs) e = none_aborted t rs e
 none_aborted t (Horizon at ∷ rs) e = none_aborted t rs e
+none_aborted t (Base epoch floor horizon ∷ rs) e = none_aborted t rs e
+none_aborted t (Version install ∷ rs) e = none_aborted t rs e
+none_aborted t (Settled u at parts ∷ rs) e = none_aborted t rs ((or_parts _ _ e).1)
+none_aborted t (Closed u coordinator outcome ∷ rs) e = none_aborted t rs ((or_parts _ _ e).1)
 none_aborted t (Prepare p ∷ rs) e = none_aborted t rs ((or_parts _ _ e).1)
 none_aborted t (Commit c ∷ rs) e = none_aborted t rs ((or_parts _ _ e).1)
 none_aborted t (Abort u ∷ rs) e = ap (λ b. b || is_aborted rs t) ((or_parts _ _ e).0) ∙ none_aborted t rs ((or_parts _ _ e).1)
@@ -95,6 +105,11 @@ none_prepared t [] e = refl
 none_prepared t (Opened epoch ∷ rs) e = none_prepared t rs e
 none_prepared t (Ceiling at ∷ rs) e = none_prepared t rs e
 none_prepared t (Horizon at ∷ rs) e = none_prepared t rs e
+none_prepared t (Base epoch floor horizon ∷ rs) e = none_prepared t rs e
+none_prepared t (Version install ∷ rs) e = none_prepared t rs e
+none_prepared t (Settled u at parts ∷ rs) e = none_prepared t rs ((or_parts _ _ e).1)
+none_prepared t (Closed u coordinator outcome ∷ rs) e =
+    not_first (same_id u t) _ _ (same_id_comm u t ∙ (or_parts _ _ e).0) (none_prepared t rs ((or_parts _ _ e).1))
 none_prepared t (Prepare p ∷ rs) e =
     not_first (same_id p.txn t) p _ (same_id_comm p.txn t ∙ (or_parts _ _ e).0) (none_prepared t rs ((or_parts _ _ e).1))
 none_prepared t (Commit c ∷ rs) e = none_prepared t rs ((or_parts _ _ e).1)
@@ -106,6 +121,11 @@ none_committed t [] e = refl
 none_committed t (Opened epoch ∷ rs) e = none_committed t rs e
 none_committed t (Ceiling at ∷ rs) e = none_committed t rs e
 none_committed t (Horizon at ∷ rs) e = none_committed t rs e
+none_committed t (Base epoch floor horizon ∷ rs) e = none_committed t rs e
+none_committed t (Version install ∷ rs) e = none_committed t rs e
+none_committed t (Settled u at parts ∷ rs) e =
+    not_first (same_id u t) _ _ (same_id_comm u t ∙ (or_parts _ _ e).0) (none_committed t rs ((or_parts _ _ e).1))
+none_committed t (Closed u coordinator outcome ∷ rs) e = none_committed t rs ((or_parts _ _ e).1)
 none_committed t (Prepare p ∷ rs) e = none_committed t rs ((or_parts _ _ e).1)
 none_committed t (Commit c ∷ rs) e =
     not_first (same_id c.txn t) c _ (same_id_comm c.txn t ∙ (or_parts _ _ e).0) (none_committed t rs ((or_parts _ _ e).1))

@@ -2,14 +2,15 @@
 -- run, and who began after an acknowledgement has the larger timestamp.
 use Rattle.std.proofs.Common.{refl, sym, ◌∙◌, ap, subst}
 use Rattle.std.proofs.lemmas.Bool.{eqb-true, leb-false, lt-ltb, and_parts}
-use Rattle.std.specs.Prelude.{ℕ, zero, suc, ◌≡◌, Bool, true, false, not, cond, ◌&&◌, nat_eq, nat_lt, nat_le, IsTrue, List, [], ◌∷◌, slice_get, Option}
+use Rattle.std.specs.Prelude.{ℕ, zero, suc, ◌≡◌, Bool, true, false, not, cond, ◌&&◌, nat_eq, nat_lt, nat_le, IsTrue, IsFalse, List, [], ◌∷◌, slice_get, Option}
 use Rattle.std.specs.Prelude.{Some, None, filter, option_map}
 use Rattle.units.specs.Lists.{gather, head, follow, numbered, when, same_numbers}
 use Rattle.units.specs.Ids.{Id, same_id, older, with_id, ids_once}
 use Rattle.units.specs.Keys.{Bytes}
 use Rattle.record.specs.History.{Txn, history, before}
 use Rattle.record.specs.Verdict.{verdict, first_fault, first_lost, first_wrong_read, first_wrong_order, lost_by, line_reads_right, late_acks}
-use Rattle.record.specs.Verdict.{is_late_ack, is_in_at, same_value, IsLine}
+use Rattle.record.specs.Verdict.{are_renewed, is_late_ack, same_value, wrong_read}
+use Rattle.record.specs.Lines.{is_in_at, IsLine}
 use Rattle.record.specs.Serially.{LooksSerially, ReadsSerially, OrderedByTime}
 use Rattle.record.specs.declared.record.Record.{Record}
 use Rattle.units.specs.declared.line.Line.{Line}
@@ -113,16 +114,20 @@ acknowledged logs lines told t at m line =
     let none : first_lost (history logs) lines ≡ None = (no_fault _ _ _ _ told).1 in
     in_history _ t (none_given (lost_by (history logs)) lines line.0 (Line.Ack t at m) (once_none _ (head_none _ none)) line.1)
 
-pub looks : (logs : List (List Record)) (lines : List Line) → verdict logs lines ≡ Yes → LooksSerially logs lines
+-- where no log was renewed, no line has a wrong value
+none_wrong : (logs : List (List Record)) (lines : List Line) → verdict logs lines ≡ Yes → IsFalse (are_renewed logs)
+    → first_wrong_read (history logs) lines ≡ None
 unfolding verdict
-looks logs lines told k at x line =
-    same_option _ x (reads_right (history logs) lines (Line.Look k at x) ((no_fault _ _ _ _ told).2) line)
+none_wrong logs lines told whole = sym (ap (λ b. wrong_read b (history logs) lines) whole) ∙ (no_fault _ _ _ _ told).2
 
-pub reads : (logs : List (List Record)) (lines : List Line) → verdict logs lines ≡ Yes → ReadsSerially logs lines
-unfolding verdict
-reads logs lines told t k x u line found =
+pub looks : (logs : List (List Record)) (lines : List Line) → verdict logs lines ≡ Yes → IsFalse (are_renewed logs) → LooksSerially logs lines
+looks logs lines told whole k at x line =
+    same_option _ x (reads_right (history logs) lines (Line.Look k at x) (none_wrong logs lines told whole) line)
+
+pub reads : (logs : List (List Record)) (lines : List Line) → verdict logs lines ≡ Yes → IsFalse (are_renewed logs) → ReadsSerially logs lines
+reads logs lines told whole t k x u line found =
     let right : line_reads_right (history logs) (Line.Read t k x) ≡ true =
-    reads_right (history logs) lines (Line.Read t k x) ((no_fault _ _ _ _ told).2) line in
+    reads_right (history logs) lines (Line.Read t k x) (none_wrong logs lines told whole) line in
     let shown : when (λ v. same_value (before (history logs) v k) x) (Some u) ≡ true =
     subst (λ o. when (λ v. same_value (before (history logs) v k) x) o ≡ true) found right in
     same_option _ x shown

@@ -13,7 +13,7 @@ use Rattle.record.specs.Whole.{is_whole, is_whole_by, Decision, outcomes_fit, al
 use Rattle.record.specs.Verdict.{verdict, first_torn}
 use Rattle.record.specs.VerdictLaws.{YesIsSound}
 use Rattle.record.specs.declared.record.Record.{Record}
-use Rattle.record.specs.declared.record.Record.TheVariants.{Opened, Ceiling, Prepare, Commit, Abort, Outcome, Horizon}
+use Rattle.record.specs.declared.record.Record.TheVariants.{Opened, Ceiling, Prepare, Commit, Abort, Outcome, Horizon, Base, Version, Settled, Closed}
 use Rattle.record.proofs.VerdictMeans.{head_none, kept_step, not_false, no_fault, acknowledged, looks, reads, order}
 
 -- ---- ids
@@ -37,6 +37,10 @@ no_commit t [] e = refl
 no_commit t (Opened epoch ∷ rs) e = no_commit t rs e
 no_commit t (Ceiling at ∷ rs) e = no_commit t rs e
 no_commit t (Horizon at ∷ rs) e = no_commit t rs e
+no_commit t (Base epoch floor horizon ∷ rs) e = no_commit t rs e
+no_commit t (Version install ∷ rs) e = no_commit t rs e
+no_commit t (Settled u at parts ∷ rs) e = kept_if (same_id t u) _ _ ((or_parts _ _ e).0) (no_commit t rs ((or_parts _ _ e).1))
+no_commit t (Closed u coordinator outcome ∷ rs) e = no_commit t rs ((or_parts _ _ e).1)
 no_commit t (Prepare p ∷ rs) e = no_commit t rs ((or_parts _ _ e).1)
 no_commit t (Commit c ∷ rs) e = kept_if (same_id t c.txn) c _ ((or_parts _ _ e).0) (no_commit t rs ((or_parts _ _ e).1))
 no_commit t (Abort u ∷ rs) e = no_commit t rs ((or_parts _ _ e).1)
@@ -47,6 +51,10 @@ no_end t fits [] e = refl
 no_end t fits (Opened epoch ∷ rs) e = no_end t fits rs e
 no_end t fits (Ceiling at ∷ rs) e = no_end t fits rs e
 no_end t fits (Horizon at ∷ rs) e = no_end t fits rs e
+no_end t fits (Base epoch floor horizon ∷ rs) e = no_end t fits rs e
+no_end t fits (Version install ∷ rs) e = no_end t fits rs e
+no_end t fits (Settled u at parts ∷ rs) e = passes (same_id t u) _ _ ((or_parts _ _ e).0) (no_end t fits rs ((or_parts _ _ e).1))
+no_end t fits (Closed u coordinator outcome ∷ rs) e = passes (same_id t u) _ _ ((or_parts _ _ e).0) (no_end t fits rs ((or_parts _ _ e).1))
 no_end t fits (Prepare p ∷ rs) e = no_end t fits rs ((or_parts _ _ e).1)
 no_end t fits (Commit c ∷ rs) e = no_end t fits rs ((or_parts _ _ e).1)
 no_end t fits (Abort u ∷ rs) e = no_end t fits rs ((or_parts _ _ e).1)

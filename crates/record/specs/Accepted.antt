@@ -10,13 +10,14 @@ use Rattle.record.specs.Records.{Status, Unrecorded, StandsPrepared, StandsDecid
 use Rattle.record.specs.declared.record.Prepared.{Prepared}
 use Rattle.record.specs.declared.record.Committed.{Committed}
 use Rattle.record.specs.Installs.{installs_of, writes_by}
-use Rattle.units.specs.Versions.{above_versions}
+use Rattle.units.specs.Versions.{above_versions, version_before}
 use Rattle.units.specs.Locks.{clash, locks_of}
 use Rattle.units.specs.declared.lock.Lock.{Lock}
 use Rattle.units.specs.declared.setup.Setup.{Setup}
+use Rattle.units.specs.declared.writes.Install.{Install}
 use Rattle.units.specs.declared.writes.Write.{Write}
 use Rattle.record.specs.declared.record.Record.{Record}
-use Rattle.record.specs.declared.record.Record.TheVariants.{Opened, Ceiling, Prepare, Commit, Abort, Outcome, Horizon}
+use Rattle.record.specs.declared.record.Record.TheVariants.{Opened, Ceiling, Prepare, Commit, Abort, Outcome, Horizon, Base, Version, Settled, Closed}
 
 -- no promise, decision or abort of the id stands in the log
 abbrev pub is_new : List Record → Id → Bool
@@ -27,7 +28,43 @@ abbrev pub outcome_fits : Option Prepared → Option Committed → Option ℕ �
 outcome_fits p c (Some s) = when (λ x. nat_le x.at s) p || when (λ x. nat_eq x.at s) c
 outcome_fits p c None = when (λ x. true) p
 
--- the rules of one id, of the openings, and of a horizon: it rises, and stays below what was assigned
+-- the timestamp of an outcome, where there is one, is not 0
+abbrev pub is_timed : Option ℕ → Bool
+is_timed None = true
+is_timed (Some at) = nat_lt 0 at
+
+-- a base is nowhere but first
+abbrev pub is_start : List Record → Bool
+is_start [] = true
+is_start (first ∷ before) = false
+
+-- the record is an opening
+abbrev pub opens : Record → Bool
+opens (Opened epoch) = true
+opens _ = false
+
+-- the record is a base
+abbrev pub is_base : Record → Bool
+is_base (Base epoch floor horizon) = true
+is_base _ = false
+
+-- a version comes right behind a base, or behind a version that is before it by key and timestamp
+abbrev pub goes_on : Record → Install → Bool
+goes_on (Base epoch floor horizon) install = true
+goes_on (Version former) install = version_before former install
+goes_on _ install = false
+
+-- so behind the last record
+abbrev pub is_next : List Record → Install → Bool
+is_next [] install = false
+is_next (last ∷ []) install = goes_on last install
+is_next (first ∷ second ∷ rest) install = is_next (second ∷ rest) install
+
+-- transactions that ended stand in a log with a base, before its first opening
+abbrev pub may_end : List Record → Bool
+may_end before = list_any is_base before && not (list_any opens before)
+
+-- the rules of one id, of the openings, of a horizon (it rises, and stays below what was assigned), and of the head of a renewed log
 unfoldable pub follows : ℕ → List Record → Record → Bool
 follows shard before (Opened epoch) = nat_eq epoch (epoch_of before + 1)
 follows shard before (Ceiling at) = true
@@ -37,6 +74,11 @@ follows shard before (Commit c) = nat_lt 0 c.at && is_new before c.txn && when (
 follows shard before (Abort t) = is_new before t
 follows shard before (Outcome t outcome) =
     not (when (λ e. true) (ended_of before t)) && outcome_fits (prepared_of before t) (committed_of before t) outcome
+follows shard before (Base epoch floor horizon) = is_start before && nat_lt 0 epoch && nat_le horizon floor
+follows shard before (Version install) = is_next before install
+follows shard before (Settled t at parts) = may_end before && nat_lt 0 at && is_new before t && when (nat_eq shard) (head parts)
+follows shard before (Closed t coordinator outcome) =
+    may_end before && is_timed outcome && is_new before t && nat_lt coordinator shard
 
 -- the locks of each promise or decision that stands
 abbrev pub standing_locks : Status → Option (List Lock)
@@ -77,13 +119,17 @@ fits_beside before (Abort t) = true
 fits_beside before (Outcome t None) = true
 fits_beside before (Outcome t (Some at)) =
     above_versions (installs_of before) at (writes_by (committed_of before t) (prepared_of before t))
+fits_beside before (Base epoch floor horizon) = true
+fits_beside before (Version install) = true
+fits_beside before (Settled t at parts) = true
+fits_beside before (Closed t coordinator outcome) = true
 
--- the first record is an opening
+-- the first record is an opening or a base
 abbrev pub begins : List Record → Record → Bool
 begins [] r = when (λ epoch. true) (as_opened r)
 begins (first ∷ before) r = true
 
--- each record follows those before it, and the first is an opening
+-- each record follows those before it, and the first is an opening or a base
 abbrev pub followed_from : ℕ → List Record → List Record → Bool
 followed_from shard before [] = true
 followed_from shard before (r ∷ rs) = (begins before r && follows shard before r) && followed_from shard (before ++ r ∷ []) rs
@@ -107,6 +153,10 @@ belongs setup (Prepare p) = keys_belong setup p.reads p.writes
 belongs setup (Commit c) = keys_belong setup c.reads c.writes
 belongs setup (Abort t) = true
 belongs setup (Outcome t outcome) = true
+belongs setup (Base epoch floor horizon) = true
+belongs setup (Version install) = nat_eq (shard_of setup.splits install.key) setup.shard
+belongs setup (Settled t at parts) = true
+belongs setup (Closed t coordinator outcome) = true
 
 -- the verdict on a list of records
 pub data Taken : Type 0 where

@@ -8,7 +8,7 @@ use Rattle.record.specs.Installs.{installs_of}
 use Rattle.units.specs.Versions.{versions}
 use Rattle.units.specs.declared.writes.Install.{Install}
 use Rattle.record.specs.declared.record.Record.{Record}
-use Rattle.record.specs.declared.record.Record.TheVariants.{Opened, Ceiling, Prepare, Commit, Abort, Outcome, Horizon}
+use Rattle.record.specs.declared.record.Record.TheVariants.{Opened, Ceiling, Prepare, Commit, Abort, Outcome, Horizon, Base, Version, Settled, Closed}
 
 -- an id and its status
 pub record TxnStatus : Type 0 where
@@ -93,6 +93,10 @@ with_record_noted facts (Outcome t outcome) =
     record (set_status facts t (after_outcome (recorded facts t) outcome)) {
       installs = facts.installs ++ installs_at (recorded facts t) outcome;
     }
+with_record_noted facts (Base epoch floor horizon) = record facts { epoch = epoch; horizon = max facts.horizon horizon }
+with_record_noted facts (Version install) = record facts { installs = facts.installs ++ install ∷ [] }
+with_record_noted facts (Settled t at parts) = set_status facts t (HasSettled at parts)
+with_record_noted facts (Closed t coordinator outcome) = set_status facts t (HasClosed coordinator outcome)
 
 -- the facts after one more record
 unfoldable pub learn : Facts → Record → Facts

@@ -9,3 +9,4 @@ pub mod Serially
 pub mod Verdict
 pub mod VerdictLaws
 pub mod Whole
+pub mod Lines

@@ -1,31 +1,48 @@
 -- What a log says, each fact read from the set of its records.
 use Rattle.std.specs.List.{list_any}
-use Rattle.std.specs.Prelude.{ℕ, Bool, true, false, List, Option, Some, None}
+use Rattle.std.specs.Prelude.{ℕ, Bool, true, false, List, [], Option, Some, None}
 use Rattle.units.specs.Lists.{gather, first, greatest}
 use Rattle.units.specs.Ids.{Id, same_id, ids_once}
+use Rattle.units.specs.declared.writes.Install.{Install}
 use Rattle.record.specs.declared.record.Committed.{Committed}
 use Rattle.record.specs.declared.record.Prepared.{Prepared}
 use Rattle.record.specs.declared.record.Record.{Record}
-use Rattle.record.specs.declared.record.Record.TheVariants.{Opened, Ceiling, Prepare, Commit, Abort, Outcome, Horizon}
+use Rattle.record.specs.declared.record.Record.TheVariants.{Opened, Ceiling, Prepare, Commit, Abort, Outcome, Horizon, Base, Version, Settled, Closed}
 
 -- how a transaction ended at a shard: at a timestamp, or aborted
 pub record Ended : Type 0 where
   pub txn : Id
   pub outcome : Option ℕ
 
--- the record as an opening's epoch
+-- the record as an opening's epoch; a base keeps that of the last one
 abbrev pub as_opened : Record → Option ℕ
 as_opened (Opened epoch) = Some epoch
+as_opened (Base epoch floor horizon) = Some epoch
 as_opened _ = None
+
+-- the timestamp of an outcome, 0 where there is none
+abbrev pub or_least : Option ℕ → ℕ
+or_least None = 0
+or_least (Some at) = at
+
+-- what is left of a promise that has its outcome
+abbrev pub closed_promise : Id → ℕ → Option ℕ → Prepared
+closed_promise t coordinator outcome = record { txn = t; coordinator = coordinator; at = or_least outcome; reads = []; writes = [] }
+
+-- what is left of a decision that has its outcome
+abbrev pub settled_decision : Id → ℕ → List ℕ → Committed
+settled_decision t at parts = record { txn = t; at = at; parts = parts; reads = []; writes = [] }
 
 -- the record as a prepared part
 abbrev pub as_prepared : Record → Option Prepared
 as_prepared (Prepare p) = Some p
+as_prepared (Closed t coordinator outcome) = Some (closed_promise t coordinator outcome)
 as_prepared _ = None
 
 -- the record as a commit decision
 abbrev pub as_committed : Record → Option Committed
 as_committed (Commit c) = Some c
+as_committed (Settled t at parts) = Some (settled_decision t at parts)
 as_committed _ = None
 
 -- the record as an abort decision
@@ -36,12 +53,20 @@ as_aborted _ = None
 -- the record as an outcome
 abbrev pub as_ended : Record → Option Ended
 as_ended (Outcome t o) = Some (record { txn = t; outcome = o })
+as_ended (Settled t at parts) = Some (record { txn = t; outcome = Some at })
+as_ended (Closed t coordinator outcome) = Some (record { txn = t; outcome = outcome })
 as_ended _ = None
 
 -- the record as a horizon
 abbrev pub as_horizon : Record → Option ℕ
 as_horizon (Horizon at) = Some at
+as_horizon (Base epoch floor horizon) = Some horizon
 as_horizon _ = None
+
+-- the record as a version
+abbrev pub as_version : Record → Option Install
+as_version (Version install) = Some install
+as_version _ = None
 
 -- the timestamp that a record brings; a horizon is one that the log already covers
 abbrev pub stamp_in : Record → Option ℕ
@@ -52,6 +77,10 @@ stamp_in (Prepare p) = Some p.at
 stamp_in (Commit c) = Some c.at
 stamp_in (Abort t) = None
 stamp_in (Outcome t o) = o
+stamp_in (Base epoch floor horizon) = Some floor
+stamp_in (Version install) = Some install.at
+stamp_in (Settled t at parts) = Some at
+stamp_in (Closed t coordinator outcome) = outcome
 
 -- the id that a record is about
 abbrev pub id_in : Record → Option Id
@@ -62,8 +91,12 @@ id_in (Prepare p) = Some p.txn
 id_in (Commit c) = Some c.txn
 id_in (Abort t) = Some t
 id_in (Outcome t o) = Some t
+id_in (Base epoch floor horizon) = None
+id_in (Version install) = None
+id_in (Settled t at parts) = Some t
+id_in (Closed t coordinator outcome) = Some t
 
--- the epoch: the greatest of the openings
+-- the epoch: the greatest of the openings and the base
 abbrev pub epoch_of : List Record → ℕ
 epoch_of log = greatest (gather as_opened log)
 

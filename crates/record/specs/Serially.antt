@@ -4,7 +4,7 @@ use Rattle.units.specs.Ids.{Id}
 use Rattle.units.specs.Keys.{Bytes}
 use Rattle.units.specs.declared.line.Line.{Line}
 use Rattle.record.specs.History.{Txn, history, before, upto, find_txn}
-use Rattle.record.specs.Verdict.{IsLine}
+use Rattle.record.specs.Lines.{IsLine}
 use Rattle.record.specs.declared.record.Record.{Record}
 
 -- a look equals the serial run up to its time

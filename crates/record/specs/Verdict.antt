@@ -1,10 +1,12 @@
 -- The inspector's verdict on logs and report lines. `VerdictLaws` says what a yes means.
 use Rattle.std.specs.List.{list_any}
-use Rattle.std.specs.Prelude.{ℕ, ◌≡◌, Bool, true, false, not, cond, ◌&&◌, nat_eq, nat_lt, nat_le, List, [], slice_get, Option, Some, None, option_map}
+use Rattle.std.specs.Prelude.{ℕ, Bool, true, false, not, cond, ◌&&◌, nat_lt, nat_le, List, [], Option, Some, None, option_map}
 use Rattle.units.specs.Lists.{gather, first, head, when, numbered, same_numbers}
-use Rattle.units.specs.Ids.{Id, same_id, ids_once}
+use Rattle.units.specs.Ids.{Id, ids_once}
 use Rattle.units.specs.Keys.{Bytes}
+use Rattle.record.specs.Accepted.{is_base}
 use Rattle.record.specs.History.{Txn, history, before, upto, find_txn}
+use Rattle.record.specs.Lines.{is_in_at}
 use Rattle.record.specs.Whole.{is_whole, all_ids}
 use Rattle.record.specs.declared.record.Record.{Record}
 use Rattle.units.specs.declared.line.Verdict.{Verdict}
@@ -21,10 +23,6 @@ same_value _ _ = false
 -- the least id that is not whole
 abbrev pub first_torn : List (List Record) → Option Id
 first_torn logs = first (λ t. not (is_whole t logs)) (all_ids logs)
-
--- the id is in the history at this timestamp
-abbrev pub is_in_at : List Txn → Id → ℕ → Bool
-is_in_at h t at = list_any (λ u. same_id u.txn t && nat_eq u.at at) h
 
 -- the id of an acknowledgement that the history lacks
 abbrev pub lost_by : List Txn → Line → Option Id
@@ -44,6 +42,18 @@ line_reads_right h _ = true
 -- the place of the first line with a wrong value
 abbrev pub first_wrong_read : List Txn → List Line → Option ℕ
 first_wrong_read h lines = option_map (λ l. l.0) (first (λ l. not (line_reads_right h l.1)) (numbered 0 lines))
+
+-- a log has a base, so that it was renewed, and does not hold all that was written
+abbrev pub has_base : List Record → Bool
+has_base log = list_any is_base log
+
+-- one of the logs was renewed
+abbrev pub are_renewed : List (List Record) → Bool
+are_renewed logs = list_any has_base logs
+
+-- the place of the first line with a wrong value; over renewed logs such lines are passed over
+abbrev pub wrong_read : Bool → List Txn → List Line → Option ℕ
+wrong_read renewed h lines = cond renewed None (first_wrong_read h lines)
 
 -- the line acknowledges a transaction before this moment, at a timestamp that is not below this one
 abbrev pub is_late_ack : ℕ → ℕ → Line → Bool
@@ -72,8 +82,5 @@ first_fault None None None None = Yes
 -- the verdict
 unfoldable pub verdict : List (List Record) → List Line → Verdict
 verdict logs lines =
-    first_fault (first_torn logs) (first_lost (history logs) lines) (first_wrong_read (history logs) lines) (first_wrong_order (history logs) lines)
-
--- the line is one of the report's
-abbrev pub IsLine : List Line → Line → Type 0
-IsLine lines l = (i : ℕ) × (slice_get lines i ≡ Some l)
+    first_fault (first_torn logs) (first_lost (history logs) lines) (wrong_read (are_renewed logs) (history logs) lines)
+    (first_wrong_order (history logs) lines)

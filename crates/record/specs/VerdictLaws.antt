@@ -1,5 +1,5 @@
 -- What the inspector's verdicts mean: a yes clause by clause, and each no by the fault that it names.
-use Rattle.std.specs.Prelude.{ℕ, ◌≡◌, IsTrue, true, false, nat_lt, nat_le, List, slice_get, Option, Some}
+use Rattle.std.specs.Prelude.{ℕ, ◌≡◌, IsTrue, IsFalse, true, false, nat_lt, nat_le, List, slice_get, Option, Some}
 use Rattle.units.specs.Ids.{Id}
 use Rattle.units.specs.Keys.{Bytes}
 use Rattle.units.specs.declared.line.Line.{Line}
@@ -8,17 +8,18 @@ use Rattle.units.specs.declared.line.Verdict.{Verdict}
 use Rattle.units.specs.declared.line.Verdict.TheVariants.{Yes, Torn, Lost, WrongRead, WrongOrder}
 use Rattle.record.specs.History.{Txn, history, before, upto, find_txn}
 use Rattle.record.specs.Serially.{LooksSerially, ReadsSerially, OrderedByTime}
-use Rattle.record.specs.Verdict.{IsLine, is_in_at, verdict}
+use Rattle.record.specs.Verdict.{are_renewed, verdict}
+use Rattle.record.specs.Lines.{IsLine, is_in_at}
 use Rattle.record.specs.Whole.{is_whole}
 use Rattle.record.specs.declared.record.Record.{Record}
 
 -- every transaction is whole; what was acknowledged is in the history; looks, and reads of committed transactions, are
--- those of the serial run; who began after an acknowledgement has the larger timestamp
+-- those of the serial run, where no log was renewed; who began after an acknowledgement has the larger timestamp
 pub record IsBorneOut (logs : List (List Record)) (lines : List Line) : Type 0 where
   pub whole : (t : Id) → IsTrue (is_whole t logs)
   pub acknowledged : (t : Id) (at m : ℕ) → IsLine lines (Line.Ack t at m) → IsTrue (is_in_at (history logs) t at)
-  pub looks : LooksSerially logs lines
-  pub reads : ReadsSerially logs lines
+  pub looks : IsFalse (are_renewed logs) → LooksSerially logs lines
+  pub reads : IsFalse (are_renewed logs) → ReadsSerially logs lines
   pub order : OrderedByTime logs lines
 
 -- a yes means this
@@ -58,16 +59,17 @@ abbrev pub IsRight : List (List Record) → List Line → Verdict → Type 0
 IsRight logs lines Yes = Unit {0}
 IsRight logs lines (Torn t) = is_whole t logs ≡ false
 IsRight logs lines (Lost t) = IsLost (history logs) lines t
-IsRight logs lines (WrongRead i) = (l : Line) × (slice_get lines i ≡ Some l) × IsWrong (history logs) l
+IsRight logs lines (WrongRead i) = IsFalse (are_renewed logs) × (l : Line) × (slice_get lines i ≡ Some l) × IsWrong (history logs) l
 IsRight logs lines (WrongOrder i j) = IsLate (history logs) lines i j
 
 -- each no is right
 abbrev pub EachNoIsRight : Type 0
 EachNoIsRight = (logs : List (List Record)) (lines : List Line) → IsRight logs lines (verdict logs lines)
 
--- each read that a line shows is of a committed id
+-- each read that a line shows is of a committed id; over renewed logs none is asked for
 abbrev pub ReadsCommitted : List (List Record) → List Line → Type 0
-ReadsCommitted logs lines = (t : Id) (k : Bytes) (x : Option Bytes) → IsLine lines (Read t k x) → (u : Txn) × (find_txn (history logs) t ≡ Some u)
+ReadsCommitted logs lines =
+    IsFalse (are_renewed logs) → (t : Id) (k : Bytes) (x : Option Bytes) → IsLine lines (Read t k x) → (u : Txn) × (find_txn (history logs) t ≡ Some u)
 
 -- where nothing is wrong, the verdict is yes
 abbrev pub SoundIsYes : Type 0

@@ -3,7 +3,7 @@ ghost use Rattle.record.specs.FactLaws.{AcceptedFollows, LearnAgrees, LearntAgre
 ghost use Rattle.record.specs.VerdictLaws.{EachNoIsRight, SoundIsYes, YesIsSound};
 
 /// Where the verdict is yes, every transaction is whole, what was acknowledged is in the history, every value is that of
-/// the serial run, and timestamps follow the order of acknowledging and beginning.
+/// the serial run where no log was renewed, and timestamps follow the order of acknowledging and beginning.
 pub fn a_yes_is_sound()
     ensures { YesIsSound }
 {}

@@ -2,7 +2,7 @@
 ghost use Rattle.std.specs.Prelude.{◌≡◌, IfOk, IfErr};
 
 use std::alloc::Global;
-use units::{Epoch, Fault, Keys, Parts, ShardNo, Stamp, TxnId, Writes};
+use units::{Epoch, Fault, Install, Keys, Parts, ShardNo, Stamp, TxnId, Writes};
 
 /// A transaction's part that a shard has promised at a timestamp, and the shard that decides.
 pub struct Prepared {
@@ -81,16 +81,45 @@ impl Committed {
 
 /// A record of a shard's log: an opening with its epoch, a ceiling of the served time, a promise, a commit decision, an
 /// abort decision, how a transaction ended at this shard (at a timestamp, or `None` for aborted), or a horizon, below which
-/// no value is read any more.
+/// no value is read any more. Four more kinds are those of which a renewed log is made: its base with what it keeps of the
+/// epoch, of the greatest timestamp and of the horizon, a version that was installed, a decision of this shard with its
+/// outcome, and a promise with its outcome; of what ended neither reads nor writes are left.
 #[derive(Drop)]
 pub enum Record {
-    Opened { epoch: Epoch },
-    Ceiling { at: Stamp },
+    Opened {
+        epoch: Epoch,
+    },
+    Ceiling {
+        at: Stamp,
+    },
     Prepare(Prepared),
     Commit(Committed),
-    Abort { txn: TxnId },
-    Outcome { txn: TxnId, outcome: Option<Stamp> },
-    Horizon { at: Stamp },
+    Abort {
+        txn: TxnId,
+    },
+    Outcome {
+        txn: TxnId,
+        outcome: Option<Stamp>,
+    },
+    Horizon {
+        at: Stamp,
+    },
+    Base {
+        epoch: Epoch,
+        floor: Stamp,
+        horizon: Stamp,
+    },
+    Version(Install),
+    Settled {
+        txn: TxnId,
+        at: Stamp,
+        parts: Parts,
+    },
+    Closed {
+        txn: TxnId,
+        coordinator: ShardNo,
+        outcome: Option<Stamp>,
+    },
 }
 
 impl Record {
@@ -122,6 +151,30 @@ impl Record {
                 outcome: *outcome,
             }),
             Record::Horizon { at } => Ok(Record::Horizon { at: *at }),
+            Record::Base {
+                epoch,
+                floor,
+                horizon,
+            } => Ok(Record::Base {
+                epoch: *epoch,
+                floor: *floor,
+                horizon: *horizon,
+            }),
+            Record::Version(install) => Ok(Record::Version(install.copy()?)),
+            Record::Settled { txn, at, parts } => Ok(Record::Settled {
+                txn: *txn,
+                at: *at,
+                parts: *parts,
+            }),
+            Record::Closed {
+                txn,
+                coordinator,
+                outcome,
+            } => Ok(Record::Closed {
+                txn: *txn,
+                coordinator: *coordinator,
+                outcome: *outcome,
+            }),
         }
     }
 }

@@ -37,6 +37,10 @@ names (Record.Opened epoch) = None
 names (Record.Ceiling at) = None
 names (Record.Horizon at) = None
 names (Record.Outcome t outcome) = None
+names (Record.Base e f n) = None
+names (Record.Version i) = None
+names (Record.Settled u at parts) = None
+names (Record.Closed u coordinator q) = None
 
 -- ---- records that change no row
 
@@ -132,6 +136,10 @@ id_rules shard facts (Record.Prepare p) follows = (and_parts _ _ follows).1
 id_rules shard facts (Record.Commit c) follows = (and_parts _ _ follows).1
 id_rules shard facts (Record.Abort t) follows = (and_parts _ _ follows).1
 id_rules shard facts (Record.Outcome t o) follows = (and_parts _ _ follows).1
+id_rules shard facts (Record.Base e f n) follows = absurd (false≢true follows)
+id_rules shard facts (Record.Version i) follows = absurd (false≢true follows)
+id_rules shard facts (Record.Settled u at parts) follows = absurd (false≢true follows)
+id_rules shard facts (Record.Closed u coordinator q) follows = absurd (false≢true follows)
 
 -- of a promise, a decision or an abort nothing was recorded before
 fresh_before : (shard : ℕ) (facts : Facts) (r : Record) (t : Id) → follows_facts shard facts r ≡ true → names r ≡ Some t → recorded facts t ≡ Unrecorded
@@ -149,6 +157,10 @@ fresh_before shard facts r t follows named = by_record r (id_rules shard facts r
     by_record (Record.Ceiling at) h k = cc
     by_record (Record.Horizon at) h k = cc
     by_record (Record.Outcome u o) h k = cc
+    by_record (Record.Base e f n) h k = cc
+    by_record (Record.Version i) h k = cc
+    by_record (Record.Settled u at parts) h k = cc
+    by_record (Record.Closed u coordinator q) h k = cc
 
 pub absent_before : (k : Kept) (shard : ℕ) (r : Record) (t : Id) → IsRecovered k → follows_facts shard k.facts r ≡ true → names r ≡ Some t →
     find_row k.memory.rows t ≡ None
@@ -263,13 +275,21 @@ learn_order f (Record.Prepare p) up = by_id-status f.entries p.txn (StandsPrepar
 learn_order f (Record.Commit c) up = by_id-status f.entries c.txn (StandsDecided c) up
 learn_order f (Record.Abort t) up = by_id-status f.entries t HasAborted up
 learn_order f (Record.Outcome t o) up = by_id-status f.entries t (after_outcome (recorded f t) o) up
+learn_order f (Record.Base e floor n) up = up
+learn_order f (Record.Version i) up = up
+learn_order f (Record.Settled t at parts) up = by_id-status f.entries t (HasSettled at parts) up
+learn_order f (Record.Closed t coordinator o) up = by_id-status f.entries t (HasClosed coordinator o) up
 
 pub learn_own : (shard : ℕ) (f : Facts) (r : Record) → follows_facts shard f r ≡ true → AllByRecursion IsOwn f.entries →
     AllByRecursion IsOwn (learn f r).entries
-unfolding learn
+unfolding learn follows_facts
 learn_own shard f (Record.Opened epoch) follows own = own
 learn_own shard f (Record.Ceiling at) follows own = own
 learn_own shard f (Record.Horizon at) follows own = own
+learn_own shard f (Record.Base e floor n) follows own = absurd (false≢true follows)
+learn_own shard f (Record.Version i) follows own = absurd (false≢true follows)
+learn_own shard f (Record.Settled u at parts) follows own = absurd (false≢true follows)
+learn_own shard f (Record.Closed u coordinator q) follows own = absurd (false≢true follows)
 learn_own shard f (Record.Prepare p) follows own = own-status f.entries p.txn (StandsPrepared p) refl own
 learn_own shard f (Record.Commit c) follows own = own-status f.entries c.txn (StandsDecided c) refl own
 learn_own shard f (Record.Abort t) follows own = own-status f.entries t HasAborted tt own

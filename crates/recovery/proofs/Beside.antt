@@ -1,5 +1,6 @@
 -- Whether a record has its place beside the rows that a log holds.
-use Rattle.std.proofs.Common.{◌≡◌, ℕ, ◌-◌, ◌<◌, ◌≤◌, min, Bool, true, false, not, ◌&&◌, nat_lt, nat_le, List, [], ◌∷◌, ◌++◌, map, length, Option, Some, None, refl, sym}
+use Rattle.std.proofs.Common.{◌≡◌, ℕ, ◌-◌, ◌<◌, ◌≤◌, min, Bool, true, false, not, ◌&&◌, ◌||◌}
+use Rattle.std.proofs.Common.{nat_lt, nat_le, List, [], ◌∷◌, ◌++◌, map, length, Option, Some, None, refl, sym}
 use Rattle.std.proofs.Common.{ap, ◌∙◌, arith}
 use Rattle.std.specs.List.{AllByRecursion, list_all, list_any}
 use Rattle.std.proofs.lemmas.Bool.{and_parts, le-leb}
@@ -15,7 +16,11 @@ use Rattle.units.proofs.ByIdLaws.{first_none}
 use Rattle.record.specs.Facts.{Facts, TxnStatus, or_unrecorded, recorded}
 use Rattle.record.specs.declared.record.Record.{Record}
 use Rattle.record.specs.Records.{Status, Unrecorded, StandsPrepared, StandsDecided, HasAborted, HasSettled, HasClosed}
+use Rattle.record.specs.declared.record.Committed.{Committed}
+use Rattle.record.specs.declared.record.Prepared.{Prepared}
 use Rattle.facts.specs.Rules.{follows_facts}
+use Rattle.facts.specs.Stages.{follows_head, follows_next}
+use Rattle.facts.specs.declared.stage.Stage.{Stage}
 use Rattle.protocol.specs.Rows.{without_rows, Row, claims, find_row, held_stamp, rebuilt, safe, standing_row}
 use Rattle.protocol.specs.Plan.{is_crowded, opens}
 use Rattle.memory.specs.Carry.{Asks}
@@ -132,3 +137,33 @@ horizon_rules shard facts at follows =
     let high : nat_lt facts.horizon at ≡ true = two.0 in
     let low : nat_le at facts.floor ≡ true = two.1 in
     (grind (arith, nat_tests, high), grind (arith, nat_tests, low))
+
+-- ---- the kinds of a record that may come next
+
+step_by : (a b : Bool) → b ≡ false → (a || b) ≡ true → a ≡ true
+step_by true b none h = refl
+step_by false b none h = sym none ∙ h
+
+head_by : (a b : Bool) → a ≡ false → (a || b) ≡ true → b ≡ true
+head_by a b none h = sym (ap (λ x. x || b) none) ∙ h
+
+pub promise_steps : (shard : ℕ) (s : Stage) (f : Facts) (p : Prepared) → follows_next shard s f (Record.Prepare p) ≡ true
+    → follows_facts shard f (Record.Prepare p) ≡ true
+unfolding follows_next follows_head
+promise_steps shard s f p h = step_by _ _ refl h
+
+pub decision_steps : (shard : ℕ) (s : Stage) (f : Facts) (c : Committed) → follows_next shard s f (Record.Commit c) ≡ true
+    → follows_facts shard f (Record.Commit c) ≡ true
+unfolding follows_next follows_head
+decision_steps shard s f c h = step_by _ _ refl h
+
+pub horizon_steps : (shard : ℕ) (s : Stage) (f : Facts) (at : ℕ) → follows_next shard s f (Record.Horizon at) ≡ true
+    → follows_facts shard f (Record.Horizon at) ≡ true
+unfolding follows_next follows_head
+horizon_steps shard s f at h = step_by _ _ refl h
+
+-- what no step logs is of a head
+pub of_head : (shard : ℕ) (s : Stage) (f : Facts) (r : Record) → follows_next shard s f r ≡ true → follows_facts shard f r ≡ false
+    → follows_head shard s f r ≡ true
+unfolding follows_next
+of_head shard s f r h none = head_by _ _ none h

@@ -6,6 +6,7 @@ pub mod Replayed
 pub mod First
 pub mod Verdicts
 pub mod Soundness
+pub mod Headed
 pub mod Progress
 pub mod Props
 pub mod Ended

@@ -1,12 +1,15 @@
 -- A log that is taken record by record: what is known behind one record more.
-use Rattle.std.proofs.Common.{◌≡◌, ℕ, zero, suc, ◌+◌, Bool, true, false, not, cond, ◌&&◌, List, [], ◌∷◌, ◌++◌, length, Option, Some, None, refl, sym, ap, subst, ◌∙◌, append_assoc, append-nil, arith}
+use Rattle.std.proofs.Common.{◌≡◌, ℕ, zero, suc, ◌+◌, Bool, true, false, not, cond, ◌&&◌, List, []}
+use Rattle.std.proofs.Common.{◌∷◌, ◌++◌, length, Option, Some, None, refl, sym, ap, subst, ◌∙◌, append_assoc, append-nil, arith}
 use Rattle.std.proofs.lemmas.Bool.{false≢true}
 use Rattle.std.specs.Prelude.{slice_get, is_some, IsSome}
 use Rattle.std.proofs.Common.{◌⊎◌, inl, inr, reverse}
 use Rattle.std.proofs.lemmas.List.{reverse-append}
 use Rattle.memory.specs.Kept.{Kept}
 use Rattle.units.specs.declared.fault.Fault.TheVariants.{Memory}
-use Rattle.recovery.specs.Rebuilding.{Goes, IsStateOf, Progresses, known_of}
+use Rattle.recovery.specs.Rebuilding.{Goes, IsStateOf, Progresses, known_of, stage_known}
+use Rattle.facts.specs.Stages.{stage_after, stage_of}
+use Rattle.facts.specs.declared.stage.Stage.{Stage}
 use Rattle.units.specs.Lists.{follow}
 use Rattle.units.specs.declared.fault.Fault.{Fault}
 use Rattle.units.specs.declared.setup.Setup.{Setup}
@@ -57,7 +60,8 @@ taken_stays setup before place (r ∷ xs) ys refused =
     by_tests (belongs setup r) (begins before r && follows setup.shard before r && fits_beside before r) refused
     (taken_stays setup (before ++ r ∷ []) (place + 1) xs ys)
   where
-    by_tests : (a b : Bool) → is_refused (cond (not a) (StrangerAt place) (cond b (taken_from setup (before ++ r ∷ []) (place + 1) xs) (DamagedAt place))) ≡ true
+    by_tests : (a b : Bool) →
+        is_refused (cond (not a) (StrangerAt place) (cond b (taken_from setup (before ++ r ∷ []) (place + 1) xs) (DamagedAt place))) ≡ true
         → (is_refused (taken_from setup (before ++ r ∷ []) (place + 1) xs) ≡ true
         → taken_from setup (before ++ r ∷ []) (place + 1) (xs ++ ys) ≡ taken_from setup (before ++ r ∷ []) (place + 1) xs)
         → cond (not a) (StrangerAt place) (cond b (taken_from setup (before ++ r ∷ []) (place + 1) (xs ++ ys)) (DamagedAt place))
@@ -68,12 +72,14 @@ taken_stays setup before place (r ∷ xs) ys refused =
 
 -- ---- by what was taken
 
-one_left : (setup : Setup) (ts : List Placed) (e : Placed) (facts : Facts) → AllStand setup ts facts → Stands setup (ts ++ e ∷ []) ts (e ∷ []) facts
+one_left : (setup : Setup) (ts : List Placed) (e : Placed) (stage : Stage) (facts : Facts) → AllStand setup ts stage facts →
+    Stands setup (ts ++ e ∷ []) ts (e ∷ []) stage facts
 unfolding taken
-one_left setup ts e facts may_stand = record {
+one_left setup ts e stage facts may_stand = record {
   whole = refl;
   before = may_stand.before;
   known = may_stand.known;
+  staged = may_stand.staged;
   verdict =
       ap (taken setup) (items-append ts (e ∷ []))
       ∙ taken_behind setup [] 0 (items ts) (e.item ∷ []) may_stand.verdict
@@ -85,14 +91,17 @@ one_left setup ts e facts may_stand = record {
     length-items (t ∷ ts) = let more = length-items ts in omega (arith, more)
 
 -- one more is taken
-pub stands_more : (setup : Setup) (ts : List Placed) (e : Placed) (facts : Facts) → AllStand setup ts facts → fault_next setup facts e ≡ None
-    → AllStand setup (ts ++ e ∷ []) (learn facts e.item)
-stands_more setup ts e facts may_stand none = at_next setup (ts ++ e ∷ []) ts e [] facts (one_left setup ts e facts may_stand) none
+pub stands_more : (setup : Setup) (ts : List Placed) (e : Placed) (stage : Stage) (facts : Facts) → AllStand setup ts stage facts →
+    fault_next setup stage facts e ≡ None
+    → AllStand setup (ts ++ e ∷ []) (stage_after stage e.item) (learn facts e.item)
+stands_more setup ts e stage facts may_stand none = at_next setup (ts ++ e ∷ []) ts e [] stage facts (one_left setup ts e stage facts may_stand) none
 
 -- one more is refused
-pub refused_more : (setup : Setup) (ts : List Placed) (e : Placed) (facts : Facts) (fault : Fault) → AllStand setup ts facts → fault_next setup facts e ≡ Some fault
+pub refused_more : (setup : Setup) (ts : List Placed) (e : Placed) (stage : Stage) (facts : Facts) (fault : Fault) → AllStand setup ts stage facts →
+    fault_next setup stage facts e ≡ Some fault
     → fault_in (taken setup (items (ts ++ e ∷ []))) (ts ++ e ∷ []) ≡ Some fault
-refused_more setup ts e facts fault may_stand refused = at_fault setup (ts ++ e ∷ []) ts e [] facts fault (one_left setup ts e facts may_stand) refused
+refused_more setup ts e stage facts fault may_stand refused =
+    at_fault setup (ts ++ e ∷ []) ts e [] stage facts fault (one_left setup ts e stage facts may_stand) refused
 
 -- one was refused before
 pub refused_stays : (setup : Setup) (ts : List Placed) (e : Placed) (fault : Fault) → fault_in (taken setup (items ts)) ts ≡ Some fault
@@ -122,13 +131,16 @@ refused_stays setup ts e fault refused =
 -- ---- what a rebuild keeps
 
 -- one more is taken
-goes_more : (setup : Setup) (ts : List Placed) (e : Placed) (state state' : Option Kept) → fault_next setup (known_of state) e ≡ None → IsSome state'
-    → IsStateOf setup state' → known_of state' ≡ learn (known_of state) e.item → Goes setup ts state → Goes setup (ts ++ e ∷ []) state'
-goes_more setup ts e state None none there of known goes = absurd (false≢true there)
-goes_more setup ts e state (Some k) none there of known goes = record {
+goes_more : (setup : Setup) (ts : List Placed) (e : Placed) (state state' : Option Kept) → fault_next setup (stage_known state) (known_of state) e
+    ≡ None → IsSome state'
+    → IsStateOf setup state' → stage_known state' ≡ stage_after (stage_known state) e.item → known_of state' ≡ learn (known_of state) e.item →
+    Goes setup ts state → Goes setup (ts ++ e ∷ []) state'
+goes_more setup ts e state None none there of staged known goes = absurd (false≢true there)
+goes_more setup ts e state (Some k) none there of staged known goes = record {
   begun = tt;
   state_of = of;
-  stands = subst (AllStand setup (ts ++ e ∷ [])) (sym known) (stands_more setup ts e (known_of state) goes.stands none);
+  stands = subst (λ (q : Stage × Facts). AllStand setup (ts ++ e ∷ []) q.0 q.1) (λ i. (sym staged i, sym known i))
+      (stands_more setup ts e (stage_known state) (known_of state) goes.stands none);
 }
 
 module _ (setup : Setup) (ts ts' : List Placed) (e : Placed) (more : ts' ≡ ts ++ e ∷ []) (state state' : Option Kept) where
@@ -141,16 +153,20 @@ module _ (setup : Setup) (ts ts' : List Placed) (e : Placed) (more : ts' ≡ ts 
   on_refused (Some fault) some refused = λ other.
       subst (λ l. fault_in (taken setup (items l)) l ≡ Some fault) (sym more) (refused_stays setup ts e fault (refused other))
 
-  pub on_ok : (o : Option Fault) → false ≡ is_some o → fault_next setup (known_of state) e ≡ None → IsSome state' → IsStateOf setup state'
-      → known_of state' ≡ learn (known_of state) e.item → Progresses setup ts state o → Progresses setup ts' state' o
-  on_ok None none next there of known goes = subst (λ l. Goes setup l state') (sym more) (goes_more setup ts e state state' next there of known goes)
-  on_ok (Some fault) none next there of known goes = absurd (false≢true none)
+  pub on_ok : (o : Option Fault) → false ≡ is_some o → fault_next setup (stage_known state) (known_of state) e ≡ None → IsSome state' → IsStateOf setup state'
+      → stage_known state' ≡ stage_after (stage_known state) e.item → known_of state' ≡ learn (known_of state) e.item → Progresses setup ts state o →
+      Progresses setup ts' state' o
+  on_ok None none next there of staged known goes =
+      subst (λ l. Goes setup l state') (sym more) (goes_more setup ts e state state' next there of staged known goes)
+  on_ok (Some fault) none next there of staged known goes = absurd (false≢true none)
 
-  pub on_err : (o : Option Fault) (fault : Fault) → false ≡ is_some o → (fault ≡ Memory) ⊎ (fault_next setup (known_of state) e ≡ Some fault)
+  pub on_err : (o : Option Fault) (fault : Fault) → false ≡ is_some o →
+      (fault ≡ Memory) ⊎ (fault_next setup (stage_known state) (known_of state) e ≡ Some fault)
       → Progresses setup ts state o → Progresses setup ts' state' (Some fault)
   on_err None fault none (inl memory) goes = λ other. absurd (other memory)
   on_err None fault none (inr next) goes = λ other.
-      subst (λ l. fault_in (taken setup (items l)) l ≡ Some fault) (sym more) (refused_more setup ts e (known_of state) fault goes.stands next)
+      subst (λ l. fault_in (taken setup (items l)) l
+      ≡ Some fault) (sym more) (refused_more setup ts e (stage_known state) (known_of state) fault goes.stands next)
   on_err (Some former) fault none cause goes = absurd (false≢true none)
 
 -- the entries that were taken, the newest last
@@ -182,5 +198,5 @@ pub at_none : (setup : Setup) (ts : List Placed) → ts ≡ [] → Progresses se
 at_none setup ts none = record {
   begun = none;
   state_of = tt;
-  stands = subst (λ l. AllStand setup l (facts_of [])) (sym none) (at_start setup []);
+  stands = subst (λ l. AllStand setup l (stage_of []) (facts_of [])) (sym none) (at_start setup []);
 }

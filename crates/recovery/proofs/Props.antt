@@ -12,7 +12,7 @@ use Rattle.units.specs.declared.setup.Setup.{Setup}
 use Rattle.record.specs.Records.{Status, Unrecorded, StandsPrepared, StandsDecided, HasAborted, HasSettled, HasClosed}
 use Rattle.record.specs.Facts.{TxnStatus, Facts}
 use Rattle.memory.specs.Kept.{Kept}
-use Rattle.recovery.specs.Recovered.{IsRecovered, IsOwn, IsGood, IsGoodPart, Part, part_of}
+use Rattle.recovery.specs.Recovered.{IsRecovered, IsOwn, IsGood, IsGoodPart, Part, head_is_bare, part_of}
 use Rattle.recovery.specs.Rebuilding.{IsStateOf}
 
 by_id-prop : {A : Type 0} (id : A → Id) (xs : List A) → IsProp (IsById id xs)
@@ -40,6 +40,7 @@ recovered-prop k x y = λ i. record {
   good = AllByRecursion-prop (IsGood k.facts) (λ e. part-prop k.facts (part_of e.status)) k.facts.entries x.good y.good i;
   covered = covered-prop x.covered y.covered i;
   horizon = horizon-prop x.horizon y.horizon i;
+  bare = bare-prop x.bare y.bare i;
 }
   where
     memory-prop : IsProp (k.memory ≡ rebuilt k.facts)
@@ -50,6 +51,9 @@ recovered-prop k x y = λ i. record {
 
     covered-prop : IsProp (IsTrue (list_all (λ i. nat_le i.at k.facts.floor) k.facts.installs))
     covered-prop = hlevel props
+
+    bare-prop : IsProp (IsTrue (head_is_bare k.stage k.facts.entries))
+    bare-prop = hlevel props
 
     horizon-prop : IsProp (k.facts.horizon ≤ k.facts.floor)
     horizon-prop = hlevel props

@@ -4,7 +4,8 @@ use Rattle.std.proofs.Common.{◌≡◌, ℕ, ◌+◌, ◌<◌, ◌≤◌, Bool,
 use Rattle.std.proofs.Common.{ap, subst, ◌∙◌, arith}
 use Rattle.std.specs.Prelude.{IsTrue}
 use Rattle.std.specs.List.{AllByRecursion, list_all}
-use Rattle.std.proofs.lemmas.Bool.{false≢true, and_parts}
+use Rattle.std.specs.Prelude.{nat_eq}
+use Rattle.std.proofs.lemmas.Bool.{false≢true, and_from, and_parts, eqb-true, le-leb}
 use Rattle.std.proofs.lemmas.Bool.Decides.{nat_tests}
 use Rattle.units.specs.Lists.{ascends, follow, gather}
 use Rattle.units.specs.Ids.{Id, older, same_id}
@@ -21,6 +22,8 @@ use Rattle.record.specs.Facts.{TxnStatus, Facts, after_outcome, installs_at, lea
 use Rattle.record.specs.Records.{Status, Unrecorded, StandsPrepared, StandsDecided, HasAborted, HasSettled, HasClosed, stamp_in}
 use Rattle.record.specs.declared.record.Record.{Record}
 use Rattle.facts.specs.Rules.{allows, follows_facts}
+use Rattle.facts.specs.Stages.{follows_head, is_head}
+use Rattle.facts.specs.declared.stage.Stage.{Stage}
 use Rattle.protocol.specs.Rows.{Row, IsPrepared, IsDecided, claims, find_row, held_stamp, rebuilt, standing_row}
 use Rattle.protocol.specs.Sound.{Agrees, IsSound, fits, holds_writes}
 use Rattle.protocol.proofs.AboveVersions.{above_more, each_append, rows_apart, writes_apart}
@@ -32,7 +35,7 @@ use Rattle.protocol.proofs.RowChanges.{find_members}
 use Rattle.protocol.proofs.Serves.{AllOver, Over, under_safe}
 use Rattle.protocol.proofs.StatusChanges.{by_id-status, entry_other, entry_same}
 use Rattle.memory.specs.Kept.{Kept}
-use Rattle.recovery.specs.Recovered.{MayStandNext, IsGood, IsGoodPart, IsOwn, IsRecovered, Part, fits_facts, part_of, standing_rows}
+use Rattle.recovery.specs.Recovered.{MayStandNext, IsGood, IsGoodPart, IsOwn, IsRecovered, Part, fits_facts, head_is_bare, part_of, standing_rows}
 use Rattle.recovery.proofs.Again.{id_rules}
 use Rattle.recovery.proofs.StandingRows.{found}
 
@@ -154,7 +157,8 @@ noted_good f g t s up put installs horizon low new good =
 installed_good : (f g : Facts) (t : Id) (s : Status) (y : Part) (at : ℕ) (d : TxnStatus) → IsById (λ e. e.txn) f.entries →
     AllByRecursion IsOwn f.entries → IsLawfulTable (claims (standing_rows f))
     → find_member (λ e. e.txn) f.entries t ≡ Some d → part_of d.status ≡ Some y → g.entries ≡ with_status f.entries t s → part_of s ≡ None
-    → g.installs ≡ f.installs ++ versions y.writes at → f.horizon ≡ g.horizon → f.floor ≤ g.floor → AllByRecursion (IsGood f) f.entries → AllByRecursion (IsGood g) g.entries
+    → g.installs ≡ f.installs ++ versions y.writes at → f.horizon ≡ g.horizon → f.floor ≤ g.floor → AllByRecursion (IsGood f) f.entries →
+    AllByRecursion (IsGood g) g.entries
 installed_good f g t s y at d up own lawful there part put gone installs horizon low good =
     subst (λ es. AllByRecursion (IsGood g) es) (sym put)
     (all_status (IsGood f) (IsGood g) f.entries t s up (subst (IsGoodPart g) (sym gone) tt) keeps good)
@@ -356,6 +360,62 @@ taken_more shard f (Record.Horizon at) up own lawful follows fit taken = record 
       let low : nat_le at f.floor ≡ true = (and_parts _ _ (and_parts _ _ follows).1).1 in
       let before : f.horizon ≤ f.floor = taken.horizon in
       (let l : at ≤ f.floor = grind (arith, nat_tests) in omega (arith, l, before));
+}
+taken_more shard f (Record.Base e floor n) up own lawful follows fit taken = absurd (false≢true follows)
+taken_more shard f (Record.Version i) up own lawful follows fit taken = absurd (false≢true follows)
+taken_more shard f (Record.Settled u at parts) up own lawful follows fit taken = absurd (false≢true follows)
+taken_more shard f (Record.Closed u coordinator q) up own lawful follows fit taken = absurd (false≢true follows)
+
+-- ---- a record of a head
+
+-- where a version may come no transaction has a record
+pub bare_none : (s : Stage) (es : List TxnStatus) → is_head s ≡ true → head_is_bare s es ≡ true → es ≡ []
+bare_none s [] heads bare = refl
+bare_none s (e ∷ es) heads bare = absurd (false≢true (sym (ap not heads) ∙ bare))
+
+base_first : (n : ℕ) → 0 < n → nat_eq n 0 ≡ true → ⊥
+base_first n above none = omega (arith, above, eqb-true n 0 none)
+
+pub headed_more : (shard : ℕ) (s : Stage) (f : Facts) (r : Record) → IsById (λ e. e.txn) f.entries → head_is_bare s f.entries ≡ true
+    → follows_head shard s f r ≡ true → IsTaken f → IsTaken (learn f r)
+unfolding learn follows_head
+headed_more shard s f (Record.Opened e) up bare follows taken = absurd (false≢true follows)
+headed_more shard s f (Record.Ceiling at) up bare follows taken = absurd (false≢true follows)
+headed_more shard s f (Record.Horizon at) up bare follows taken = absurd (false≢true follows)
+headed_more shard s f (Record.Prepare p) up bare follows taken = absurd (false≢true follows)
+headed_more shard s f (Record.Commit c) up bare follows taken = absurd (false≢true follows)
+headed_more shard s f (Record.Abort t) up bare follows taken = absurd (false≢true follows)
+headed_more shard s f (Record.Outcome t o) up bare follows taken = absurd (false≢true follows)
+headed_more shard s f (Record.Base e floor n) up bare follows taken =
+    absurd (base_first f.epoch taken.opened ((and_parts _ _ ((and_parts _ _ follows).0)).0))
+headed_more shard s f (Record.Version i) up bare follows taken =
+    let heads : is_head s ≡ true = (and_parts _ _ ((and_parts _ _ follows).0)).1 in
+    record {
+      opened = taken.opened;
+      good = subst (AllByRecursion (IsGood (learn f (Record.Version i)))) (sym (bare_none s f.entries heads bare)) tt;
+      covered =
+          each_append (λ (j : Install). nat_le j.at (max f.floor i.at)) f.installs (i ∷ [])
+          (covered_later f.floor (max f.floor i.at) f.installs (up_left f.floor i.at) taken.covered)
+          (and_from _ _ (le-leb i.at (max f.floor i.at) (up_right f.floor i.at)) refl);
+      horizon = under_later f.horizon f.floor i.at taken.horizon;
+    }
+headed_more shard s f (Record.Settled t at parts) up bare follows taken = record {
+  opened = taken.opened;
+  good = noted_good f (learn f (Record.Settled t at parts)) t (HasSettled at parts) up refl refl refl (up_left f.floor at) tt taken.good;
+  covered = covered_later f.floor (max f.floor at) f.installs (up_left f.floor at) taken.covered;
+  horizon = under_later f.horizon f.floor at taken.horizon;
+}
+headed_more shard s f (Record.Closed t c None) up bare follows taken = record {
+  opened = taken.opened;
+  good = noted_good f (learn f (Record.Closed t c None)) t (HasClosed c None) up refl refl refl (omega arith) tt taken.good;
+  covered = taken.covered;
+  horizon = taken.horizon;
+}
+headed_more shard s f (Record.Closed t c (Some at)) up bare follows taken = record {
+  opened = taken.opened;
+  good = noted_good f (learn f (Record.Closed t c (Some at))) t (HasClosed c (Some at)) up refl refl refl (up_left f.floor at) tt taken.good;
+  covered = covered_later f.floor (max f.floor at) f.installs (up_left f.floor at) taken.covered;
+  horizon = under_later f.horizon f.floor at taken.horizon;
 }
 
 -- ---- so it is sound

@@ -23,7 +23,10 @@ use Rattle.record.specs.declared.record.Record.{Record}
 use Rattle.record.proofs.LearnAgrees.{followed_more, learn_agrees}
 use Rattle.record.proofs.Statuses.{recorded_is}
 use Rattle.facts.specs.Rules.{allows, follows_facts}
-use Rattle.facts.proofs.Known.{follows_as_known}
+use Rattle.facts.specs.Stages.{follows_next, stage_after, stage_of}
+use Rattle.facts.specs.declared.stage.Stage.{Stage}
+use Rattle.facts.proofs.Known.{follows_as_known, stage_agrees}
+use Rattle.facts.proofs.Nexts.{outcome_next}
 use Rattle.gatelog.specs.Placed.{Placed}
 use Rattle.protocol.specs.Sound.{writes_standing}
 use Rattle.protocol.proofs.FitsBeside.{horizon_is, installs_are, length-held, stamps_are, standing_is, writes_are}
@@ -58,7 +61,8 @@ installs_is shard log t s follows =
     ap (λ is. above_versions is s (writes_by (committed_of log t) (prepared_of log t))) (sym (installs_are log))
     ∙ ap (above_versions (facts_of log).installs s) (sym same)
 
-beside_is : (shard : ℕ) (log : List Record) (r : Record) → follows_facts shard (facts_of log) r ≡ true → fits_beside log r ≡ fits_facts (facts_of log) r
+beside_is : (shard : ℕ) (log : List Record) (r : Record) → follows_next shard (stage_of log) (facts_of log) r ≡ true → fits_beside log r
+    ≡ fits_facts (facts_of log) r
 unfolding fits_beside
 beside_is shard log (Record.Opened epoch) follows = refl
 beside_is shard log (Record.Ceiling at) follows = refl
@@ -67,73 +71,90 @@ beside_is shard log (Record.Prepare p) follows = stands_is log p.at p.reads p.wr
 beside_is shard log (Record.Commit c) follows = stands_is log c.at c.reads c.writes
 beside_is shard log (Record.Abort t) follows = refl
 beside_is shard log (Record.Outcome t None) follows = refl
-beside_is shard log (Record.Outcome t (Some s)) follows = installs_is shard log t s follows
+beside_is shard log (Record.Outcome t (Some s)) follows =
+    installs_is shard log t s (outcome_next shard (stage_of log) (facts_of log) t (Some s) follows)
+beside_is shard log (Record.Base e f n) follows = refl
+beside_is shard log (Record.Version i) follows = refl
+beside_is shard log (Record.Settled t at parts) follows = refl
+beside_is shard log (Record.Closed t coordinator outcome) follows = refl
 
 -- and it follows by the log where it does by the facts
 follows_is : (shard : ℕ) (log : List Record) (r : Record) → followed shard log ≡ true → (begins log r && follows shard log r) ≡
-    follows_facts shard (facts_of log) r
+    follows_next shard (stage_of log) (facts_of log) r
 follows_is shard log r before =
     sym (ap (λ b. b && (begins log r && follows shard log r)) before) ∙ sym (followed_more shard log r) ∙ follows_as_known shard log r before
 
 -- so both
 place_is : (shard : ℕ) (log : List Record) (r : Record) → followed shard log ≡ true
-    → (begins log r && follows shard log r && fits_beside log r) ≡ (follows_facts shard (facts_of log) r && fits_facts (facts_of log) r)
-place_is shard log r before = ap (λ b. b && fits_beside log r) (follows_is shard log r before) ∙ by_test (follows_facts shard (facts_of log) r) refl
+    → (begins log r && follows shard log r && fits_beside log r) ≡ (follows_next shard (stage_of log) (facts_of log) r && fits_facts (facts_of log) r)
+place_is shard log r before = ap (λ b. b && fits_beside log r) (follows_is shard log r before)
+    ∙ by_test (follows_next shard (stage_of log) (facts_of log) r) refl
   where
-    by_test : (b : Bool) → follows_facts shard (facts_of log) r ≡ b → (b && fits_beside log r) ≡ (b && fits_facts (facts_of log) r)
+    by_test : (b : Bool) → follows_next shard (stage_of log) (facts_of log) r ≡ b → (b && fits_beside log r) ≡ (b && fits_facts (facts_of log) r)
     by_test true k = beside_is shard log r k
     by_test false k = refl
 
 -- ---- a log of which some records were taken
 
-pub at_start : (setup : Setup) (entries : List Placed) → Stands setup entries [] entries (facts_of [])
+pub at_start : (setup : Setup) (entries : List Placed) → Stands setup entries [] entries (stage_of []) (facts_of [])
 unfolding taken followed
-at_start setup entries = record { whole = refl; before = refl; known = refl; verdict = refl }
+at_start setup entries = record { whole = refl; before = refl; known = refl; staged = refl; verdict = refl }
 
 pub items-append : (a b : List Placed) → items (a ++ b) ≡ items a ++ items b
 items-append [] b = refl
 items-append (e ∷ es) b = ap (λ rs. e.item ∷ rs) (items-append es b)
 
+-- where one is and what is known, of a log of which some records were taken
+known_both : {setup : Setup} {entries done left : List Placed} {stage : Stage} {facts : Facts} → Stands setup entries done left stage facts
+    → ◌≡◌ {A = Stage × Facts} (stage_of (items done), facts_of (items done)) (stage, facts)
+known_both s = λ i. (sym s.staged i, sym s.known i)
+
 -- the verdict there, by the facts
-verdict_here : (setup : Setup) (entries done : List Placed) (e : Placed) (left : List Placed) (facts : Facts) → Stands setup entries done (e ∷ left) facts
+verdict_here : (setup : Setup) (entries done : List Placed) (e : Placed) (left : List Placed) (stage : Stage) (facts : Facts) →
+    Stands setup entries done (e ∷ left) stage facts
     → taken setup (items entries)
     ≡ cond (not (belongs setup e.item)) (StrangerAt (length done))
-    (cond (follows_facts setup.shard facts e.item && fits_facts facts e.item) (taken_from setup (items done ++ e.item ∷ []) (length done + 1)
+    (cond (follows_next setup.shard stage facts e.item && fits_facts facts e.item) (taken_from setup (items done ++ e.item ∷ []) (length done + 1)
     (items left)) (DamagedAt (length done)))
-verdict_here setup entries done e left facts may_stand =
+verdict_here setup entries done e left stage facts may_stand =
     may_stand.verdict
     ∙ ap (λ b. cond (not (belongs setup e.item)) (StrangerAt (length done))
     (cond b (taken_from setup (items done ++ e.item ∷ []) (length done + 1) (items left)) (DamagedAt (length done))))
-    (place_is setup.shard (items done) e.item may_stand.before ∙ ap (λ f. follows_facts setup.shard f e.item && fits_facts f e.item) (sym may_stand.known))
+    (place_is setup.shard (items done) e.item may_stand.before
+    ∙ ap (λ (q : Stage × Facts). follows_next setup.shard q.0 q.1 e.item && fits_facts q.1 e.item) (known_both may_stand))
 
 -- a record that is not refused belongs here, follows and has its place
-record Fits (setup : Setup) (facts : Facts) (e : Placed) : Type 0 where
+record Fits (setup : Setup) (stage : Stage) (facts : Facts) (e : Placed) : Type 0 where
   own : belongs setup e.item ≡ true
-  follows : follows_facts setup.shard facts e.item ≡ true
+  follows : follows_next setup.shard stage facts e.item ≡ true
   fits : fits_facts facts e.item ≡ true
 
-not_refused : (setup : Setup) (facts : Facts) (e : Placed) → fault_next setup facts e ≡ None → Fits setup facts e
-not_refused setup facts e none = by_tests (belongs setup e.item) (follows_facts setup.shard facts e.item) (fits_facts facts e.item) refl refl refl none
+not_refused : (setup : Setup) (stage : Stage) (facts : Facts) (e : Placed) → fault_next setup stage facts e ≡ None → Fits setup stage facts e
+not_refused setup stage facts e none =
+    by_tests (belongs setup e.item) (follows_next setup.shard stage facts e.item) (fits_facts facts e.item) refl refl refl none
   where
-    by_tests : (a b c : Bool) → belongs setup e.item ≡ a → follows_facts setup.shard facts e.item ≡ b → fits_facts facts e.item ≡ c
-        → cond (not a) (Some Fault.Stranger) (cond (b && c) None (Some (Fault.Damaged e.offset))) ≡ None → Fits setup facts e
+    by_tests : (a b c : Bool) → belongs setup e.item ≡ a → follows_next setup.shard stage facts e.item ≡ b → fits_facts facts e.item ≡ c
+        → cond (not a) (Some Fault.Stranger) (cond (b && c) None (Some (Fault.Damaged e.offset))) ≡ None → Fits setup stage facts e
     by_tests true true true i j k none = record { own = i; follows = j; fits = k }
     by_tests true true false i j k none = cc
     by_tests true false c i j k none = cc
     by_tests false b c i j k none = cc
 
 -- one more
-pub at_next : (setup : Setup) (entries done : List Placed) (e : Placed) (left : List Placed) (facts : Facts) → Stands setup entries done (e ∷ left) facts
-    → fault_next setup facts e ≡ None → Stands setup entries (done ++ e ∷ []) left (learn facts e.item)
-at_next setup entries done e left facts may_stand none = record {
+pub at_next : (setup : Setup) (entries done : List Placed) (e : Placed) (left : List Placed) (stage : Stage) (facts : Facts) →
+    Stands setup entries done (e ∷ left) stage facts
+    → fault_next setup stage facts e ≡ None → Stands setup entries (done ++ e ∷ []) left (stage_after stage e.item) (learn facts e.item)
+at_next setup entries done e left stage facts may_stand none = record {
   whole = may_stand.whole ∙ sym (append_assoc done (e ∷ []) left);
   before = ap (followed setup.shard) (items-append done (e ∷ [])) ∙ more;
   known =
       ap (λ f. learn f e.item) may_stand.known ∙ sym (learn_agrees setup.shard (items done) e.item more)
       ∙ ap facts_of (sym (items-append done (e ∷ [])));
+  staged =
+      ap (λ s. stage_after s e.item) may_stand.staged ∙ sym (stage_agrees (items done) e.item) ∙ ap stage_of (sym (items-append done (e ∷ [])));
   verdict =
-      verdict_here setup entries done e left facts may_stand
-      ∙ ap (λ b. cond (not b) (StrangerAt (length done)) (cond (follows_facts setup.shard facts e.item && fits_facts facts e.item) rest
+      verdict_here setup entries done e left stage facts may_stand
+      ∙ ap (λ b. cond (not b) (StrangerAt (length done)) (cond (follows_next setup.shard stage facts e.item && fits_facts facts e.item) rest
       (DamagedAt (length done)))) fit.own
       ∙ ap (λ b. cond (b && fits_facts facts e.item) rest (DamagedAt (length done))) fit.follows
       ∙ ap (λ b. cond b rest (DamagedAt (length done))) fit.fits
@@ -141,26 +162,27 @@ at_next setup entries done e left facts may_stand none = record {
       ∙ ap (λ n. taken_from setup (items (done ++ e ∷ [])) n (items left)) (sym (length-append done (e ∷ [])));
 }
   where
-    fit : Fits setup facts e
-    fit = not_refused setup facts e none
+    fit : Fits setup stage facts e
+    fit = not_refused setup stage facts e none
 
     rest : Taken
     rest = taken_from setup (items done ++ e.item ∷ []) (length done + 1) (items left)
 
     more : followed setup.shard (items done ++ e.item ∷ []) ≡ true
-    more = follows_as_known setup.shard (items done) e.item may_stand.before ∙ ap (λ f. follows_facts setup.shard f e.item) (sym may_stand.known) ∙ fit.follows
+    more = follows_as_known setup.shard (items done) e.item may_stand.before
+        ∙ ap (λ (q : Stage × Facts). follows_next setup.shard q.0 q.1 e.item) (known_both may_stand) ∙ fit.follows
 
 get_there : (done : List Placed) (e : Placed) (left : List Placed) → slice_get (done ++ e ∷ left) (length done) ≡ Some e
 get_there [] e left = refl
 get_there (d ∷ ds) e left = get_there ds e left
 
 -- a refused one is the verdict
-pub at_fault : (setup : Setup) (entries done : List Placed) (e : Placed) (left : List Placed) (facts : Facts) (fault : Fault) →
-    Stands setup entries done (e ∷ left) facts
-    → fault_next setup facts e ≡ Some fault → fault_in (taken setup (items entries)) entries ≡ Some fault
-at_fault setup entries done e left facts fault may_stand refused =
-    ap (λ v. fault_in v entries) (verdict_here setup entries done e left facts may_stand)
-    ∙ by_tests (belongs setup e.item) (follows_facts setup.shard facts e.item && fits_facts facts e.item) refused
+pub at_fault : (setup : Setup) (entries done : List Placed) (e : Placed) (left : List Placed) (stage : Stage) (facts : Facts) (fault : Fault) →
+    Stands setup entries done (e ∷ left) stage facts
+    → fault_next setup stage facts e ≡ Some fault → fault_in (taken setup (items entries)) entries ≡ Some fault
+at_fault setup entries done e left stage facts fault may_stand refused =
+    ap (λ v. fault_in v entries) (verdict_here setup entries done e left stage facts may_stand)
+    ∙ by_tests (belongs setup e.item) (follows_next setup.shard stage facts e.item && fits_facts facts e.item) refused
   where
     by_tests : (a b : Bool) → cond (not a) (Some Fault.Stranger) (cond b None (Some (Fault.Damaged e.offset))) ≡ Some fault
         → fault_in (cond (not a) (StrangerAt (length done)) (cond b (taken_from setup (items done ++ e.item ∷ []) (length done + 1) (items left))
@@ -172,11 +194,13 @@ at_fault setup entries done e left facts fault may_stand refused =
     by_tests true true k = cc
 
 -- where none is left, all were taken
-pub at_end : (setup : Setup) (entries done : List Placed) (facts : Facts) → Stands setup entries done [] facts → taken setup (items entries) ≡ Accepted
-at_end setup entries done facts may_stand = may_stand.verdict
+pub at_end : (setup : Setup) (entries done : List Placed) (stage : Stage) (facts : Facts) → Stands setup entries done [] stage facts →
+    taken setup (items entries) ≡ Accepted
+at_end setup entries done stage facts may_stand = may_stand.verdict
 
-pub all_known : (setup : Setup) (entries done : List Placed) (facts : Facts) → Stands setup entries done [] facts → facts ≡ facts_of (items entries)
-all_known setup entries done facts may_stand = may_stand.known ∙ ap (λ es. facts_of (items es)) (sym (all_done done) ∙ sym may_stand.whole)
+pub all_known : (setup : Setup) (entries done : List Placed) (stage : Stage) (facts : Facts) → Stands setup entries done [] stage facts → facts
+    ≡ facts_of (items entries)
+all_known setup entries done stage facts may_stand = may_stand.known ∙ ap (λ es. facts_of (items es)) (sym (all_done done) ∙ sym may_stand.whole)
   where
     all_done : (es : List Placed) → es ++ [] ≡ es
     all_done [] = refl
@@ -185,24 +209,28 @@ all_known setup entries done facts may_stand = may_stand.known ∙ ap (λ es. fa
 -- ---- along the entries behind the first
 
 -- the first was taken
-pub after_first : (setup : Setup) (entries : List Placed) (first : Placed) (rest : List Placed) (facts : Facts) → entries ≡ first ∷ rest
-    → fault_next setup (facts_of []) first ≡ None → facts ≡ learn (facts_of []) first.item → Stands setup entries (take 1 entries) rest facts
-after_first setup entries first rest facts whole none learnt =
-    subst (λ f. Stands setup entries (take 1 entries) rest f) (sym learnt)
-    (subst (λ done. Stands setup entries done rest (learn (facts_of []) first.item)) (sym (ap (take 1) whole))
-    (at_next setup entries [] first rest (facts_of []) (subst (λ left. Stands setup entries [] left (facts_of [])) whole (at_start setup entries)) none))
+pub after_first : (setup : Setup) (entries : List Placed) (first : Placed) (rest : List Placed) (stage : Stage) (facts : Facts) → entries ≡ first ∷ rest
+    → fault_next setup (stage_of []) (facts_of []) first ≡ None → stage ≡ stage_after (stage_of []) first.item → facts ≡ learn (facts_of []) first.item
+    → Stands setup entries (take 1 entries) rest stage facts
+after_first setup entries first rest stage facts whole none staged learnt =
+    subst (λ (q : Stage × Facts). Stands setup entries (take 1 entries) rest q.0 q.1) (λ i. (sym staged i, sym learnt i))
+    (subst (λ done. Stands setup entries done rest (stage_after (stage_of []) first.item) (learn (facts_of []) first.item)) (sym (ap (take 1) whole))
+    (at_next setup entries [] first rest (stage_of []) (facts_of [])
+    (subst (λ left. Stands setup entries [] left (stage_of []) (facts_of [])) whole (at_start setup entries)) none))
 
 -- or it is refused
 pub fault_first : (setup : Setup) (entries : List Placed) (first : Placed) (rest : List Placed) (fault : Fault) → entries ≡ first ∷ rest
-    → fault_next setup (facts_of []) first ≡ Some fault → fault_in (taken setup (items entries)) entries ≡ Some fault
+    → fault_next setup (stage_of []) (facts_of []) first ≡ Some fault → fault_in (taken setup (items entries)) entries ≡ Some fault
 fault_first setup entries first rest fault whole refused =
-    at_fault setup entries [] first rest (facts_of []) fault (subst (λ left. Stands setup entries [] left (facts_of [])) whole (at_start setup entries)) refused
+    at_fault setup entries [] first rest (stage_of []) (facts_of []) fault
+    (subst (λ left. Stands setup entries [] left (stage_of []) (facts_of [])) whole (at_start setup entries)) refused
 
-module _ (setup : Setup) (entries : List Placed) (first : Placed) (rest : List Placed) (i : ℕ) (e : Placed) (facts : Facts)
+module _ (setup : Setup) (entries : List Placed) (first : Placed) (rest : List Placed) (i : ℕ) (e : Placed) (stage : Stage) (facts : Facts)
     (whole : entries ≡ first ∷ rest) (lt : i < length rest) (is : e ≡ get_or rest i e) (may_stand : Stands setup entries (take (i + 1) entries)
-    (drop i rest) facts) where
-  here : Stands setup entries (take (i + 1) entries) (e ∷ drop (i + 1) rest) facts
-  here = subst (λ left. Stands setup entries (take (i + 1) entries) left facts) (drop_more rest i e lt ∙ ap (λ q. q ∷ drop (i + 1) rest) (sym is)) may_stand
+    (drop i rest) stage facts) where
+  here : Stands setup entries (take (i + 1) entries) (e ∷ drop (i + 1) rest) stage facts
+  here = subst (λ left. Stands setup entries (take (i + 1) entries) left stage facts) (drop_more rest i e lt
+      ∙ ap (λ q. q ∷ drop (i + 1) rest) (sym is)) may_stand
 
   long : length entries ≡ suc (length rest)
   long = ap length whole
@@ -214,23 +242,23 @@ module _ (setup : Setup) (entries : List Placed) (first : Placed) (rest : List P
       behind n = let on : n + 1 ≡ suc n = omega arith in ap (λ m. get_or (first ∷ rest) m e) on
 
   -- the next one was taken
-  pub after_next : (later : Facts) → fault_next setup facts e ≡ None → later ≡ learn facts e.item →
-      Stands setup entries (take (i + 1 + 1) entries) (drop (i + 1) rest) later
-  after_next later none learnt =
-      subst (λ f. Stands setup entries (take (i + 1 + 1) entries) (drop (i + 1) rest) f) (sym learnt)
-      (subst (λ done. Stands setup entries done (drop (i + 1) rest) (learn facts e.item))
+  pub after_next : (next : Stage) (later : Facts) → fault_next setup stage facts e ≡ None → next ≡ stage_after stage e.item → later ≡ learn facts e.item →
+      Stands setup entries (take (i + 1 + 1) entries) (drop (i + 1) rest) next later
+  after_next next later none staged learnt =
+      subst (λ (q : Stage × Facts). Stands setup entries (take (i + 1 + 1) entries) (drop (i + 1) rest) q.0 q.1) (λ j. (sym staged j, sym learnt j))
+      (subst (λ done. Stands setup entries done (drop (i + 1) rest) (stage_after stage e.item) (learn facts e.item))
       (sym (take_more entries (i + 1) e (omega (arith, long, lt)) ∙ ap (λ q. take (i + 1) entries ++ q ∷ []) there))
-      (at_next setup entries (take (i + 1) entries) e (drop (i + 1) rest) facts here none))
+      (at_next setup entries (take (i + 1) entries) e (drop (i + 1) rest) stage facts here none))
 
   -- or it is refused
-  pub fault_there : (fault : Fault) → fault_next setup facts e ≡ Some fault → fault_in (taken setup (items entries)) entries ≡ Some fault
-  fault_there fault refused = at_fault setup entries (take (i + 1) entries) e (drop (i + 1) rest) facts fault here refused
+  pub fault_there : (fault : Fault) → fault_next setup stage facts e ≡ Some fault → fault_in (taken setup (items entries)) entries ≡ Some fault
+  fault_there fault refused = at_fault setup entries (take (i + 1) entries) e (drop (i + 1) rest) stage facts fault here refused
 
 -- ---- the ends
 
 -- no entry at all
 pub none_taken : (setup : Setup) (entries : List Placed) → length entries ≡ 0 → taken setup (items entries) ≡ Accepted
-none_taken setup [] none = at_end setup [] [] (facts_of []) (at_start setup [])
+none_taken setup [] none = at_end setup [] [] (stage_of []) (facts_of []) (at_start setup [])
 none_taken setup (e ∷ es) none = absurd (omega (arith, none))
 
 -- for want of memory, or for the verdict

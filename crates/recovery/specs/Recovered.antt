@@ -1,9 +1,9 @@
 -- What a log leaves of its shard, told record by record from the facts alone.
-use Rattle.std.specs.Prelude.{◌≡◌, ℕ, ◌<◌, ◌≤◌, IsTrue, nat_le, Bool, true, not, cond, ◌&&◌, nat_eq, nat_lt, List, [], map, length, Option, Some}
+use Rattle.std.specs.Prelude.{◌≡◌, ℕ, ◌<◌, ◌≤◌, IsTrue, nat_le, Bool, true, false, not, cond, ◌&&◌, nat_eq, nat_lt, List, [], ◌∷◌, map, length, Option, Some}
 use Rattle.std.specs.Prelude.{None, slice_get}
 use Rattle.std.specs.List.{AllByRecursion, list_any, list_all}
 use Rattle.units.specs.Limits.{most_rows}
-use Rattle.units.specs.Lists.{follow, gather, when}
+use Rattle.units.specs.Lists.{follow, gather}
 use Rattle.units.specs.ById.{IsById}
 use Rattle.units.specs.Keys.{Bytes}
 use Rattle.units.specs.Locks.{clash, locks_of}
@@ -13,9 +13,10 @@ use Rattle.units.specs.declared.setup.Setup.{Setup}
 use Rattle.units.specs.declared.writes.Write.{Write}
 use Rattle.record.specs.Accepted.{Taken, Accepted, DamagedAt, StrangerAt, belongs}
 use Rattle.record.specs.Facts.{TxnStatus, Facts, facts_of, recorded}
-use Rattle.record.specs.Records.{Status, StandsPrepared, StandsDecided, as_opened}
+use Rattle.record.specs.Records.{Status, StandsPrepared, StandsDecided}
 use Rattle.record.specs.declared.record.Record.{Record}
-use Rattle.facts.specs.Rules.{follows_facts}
+use Rattle.facts.specs.Stages.{follows_next, is_head}
+use Rattle.facts.specs.declared.stage.Stage.{Stage}
 use Rattle.gatelog.specs.Placed.{Placed}
 use Rattle.protocol.specs.Rows.{Row, held_stamp, rebuilt, standing_row}
 use Rattle.protocol.specs.Sound.{IsSound}
@@ -49,16 +50,35 @@ fits_facts facts (Record.Commit c) = stands_in facts c.at c.reads c.writes
 fits_facts facts (Record.Abort t) = true
 fits_facts facts (Record.Outcome t None) = true
 fits_facts facts (Record.Outcome t (Some at)) = above_versions facts.installs at (writes_standing (recorded facts t))
+fits_facts facts (Record.Base epoch floor horizon) = true
+fits_facts facts (Record.Version install) = true
+fits_facts facts (Record.Settled t at parts) = true
+fits_facts facts (Record.Closed t coordinator outcome) = true
 
--- the first opening
+-- the first opening, or the base of a renewed log
 abbrev pub is_first : Record → Bool
-is_first r = when (λ epoch. nat_eq epoch 1) (as_opened r)
+is_first (Record.Opened epoch) = nat_eq epoch 1
+is_first (Record.Base epoch floor horizon) = nat_lt 0 epoch && nat_le horizon floor
+is_first (Record.Ceiling at) = false
+is_first (Record.Horizon at) = false
+is_first (Record.Prepare p) = false
+is_first (Record.Commit c) = false
+is_first (Record.Abort t) = false
+is_first (Record.Outcome t outcome) = false
+is_first (Record.Version install) = false
+is_first (Record.Settled t at parts) = false
+is_first (Record.Closed t coordinator outcome) = false
+
+-- the numbers of a base
+abbrev pub base_in : Record → Option (ℕ × ℕ × ℕ)
+base_in (Record.Base epoch floor horizon) = Some (epoch, floor, horizon)
+base_in _ = None
 
 -- why the next record is refused, where it is: a strange key comes before damage
-abbrev pub fault_next : Setup → Facts → Placed → Option Fault
-fault_next setup facts e =
+abbrev pub fault_next : Setup → Stage → Facts → Placed → Option Fault
+fault_next setup stage facts e =
     cond (not (belongs setup e.item)) (Some Fault.Stranger)
-    (cond (follows_facts setup.shard facts e.item && fits_facts facts e.item) None (Some (Fault.Damaged e.offset)))
+    (cond (follows_next setup.shard stage facts e.item && fits_facts facts e.item) None (Some (Fault.Damaged e.offset)))
 
 -- what a verdict on some entries says of them
 abbrev pub fault_in : Taken → List Placed → Option Fault
@@ -95,6 +115,11 @@ IsGoodPart facts (Some x) = MayStandNext facts x
 abbrev pub IsGood : Facts → TxnStatus → Type 0
 IsGood facts e = IsGoodPart facts (part_of e.status)
 
+-- in the head of a log no transaction has a record
+abbrev pub head_is_bare : Stage → List TxnStatus → Bool
+head_is_bare stage [] = true
+head_is_bare stage (e ∷ es) = not (is_head stage)
+
 -- the memory is what the log's facts leave of it, and the facts are those of a log that was opened and taken
 pub record IsRecovered (k : Kept) : Type 0 where
   pub memory : k.memory ≡ rebuilt k.facts
@@ -104,6 +129,7 @@ pub record IsRecovered (k : Kept) : Type 0 where
   pub good : AllByRecursion (IsGood k.facts) k.facts.entries
   pub covered : IsTrue (list_all (λ i. nat_le i.at k.facts.floor) k.facts.installs)
   pub horizon : k.facts.horizon ≤ k.facts.floor
+  pub bare : IsTrue (head_is_bare k.stage k.facts.entries)
 
 -- what was found in a log: nothing where no record stands, else what its facts leave
 abbrev pub IsRebuilt : Setup → List Record → Option Kept → Type 0

@@ -17,6 +17,8 @@ pub fn belongs(setup: &Setup, item: &Record) -> bool
         Record::Commit(committed) => owns_all(setup, &committed.reads, &committed.writes),
         Record::Opened { .. } | Record::Ceiling { .. } | Record::Horizon { .. } => true,
         Record::Abort { .. } | Record::Outcome { .. } => true,
+        Record::Version(install) => setup.owns(&install.key),
+        Record::Base { .. } | Record::Settled { .. } | Record::Closed { .. } => true,
     }
 }
 

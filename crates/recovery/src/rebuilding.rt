@@ -1,19 +1,19 @@
 //! A whole log, record by record.
 ghost use Rattle.std.specs.Prelude.{◌≡◌, ◌⊎◌, ◌++◌, [], ◌∷◌, map, reverse, true, Some, None, OnOk, IfOk, IfErr, IsSome};
-ghost use Rattle.recovery.specs.Rebuilding.{Progresses, IsStateOf, known_of};
+ghost use Rattle.recovery.specs.Rebuilding.{Progresses, IsStateOf, known_of, stage_known};
 ghost use Rattle.record.specs.Accepted.{Accepted, taken};
 ghost use Rattle.record.specs.Facts.{facts_of, learn};
-ghost use Rattle.facts.specs.Rules.{follows_facts};
-ghost use Rattle.recovery.specs.Recovered.{IsRebuilt, IsSoundlyRebuilt, IsRecovered, fault_next, fault_in, fits_facts, is_first, items};
+ghost use Rattle.facts.specs.Stages.{follows_next, stage_after, stage_of};
+ghost use Rattle.recovery.specs.Recovered.{IsRebuilt, IsSoundlyRebuilt, IsRecovered, fault_next, fault_in, fits_facts, base_in, is_first, items};
 
 use crate::belonging::belongs;
-use crate::replaying::{fits_beside, replay};
+use crate::replaying::{fits_beside, keep, replay};
 use counts::Past;
 use gatelog::Entry;
 use memory::State;
 use record::Record;
 use std::alloc::Global;
-use units::{Fault, Setup};
+use units::{Epoch, Fault, Setup, Stamp};
 
 /// What a log leaves of its shard, told record by record: the facts with the versions, and for each promise and each decision that
 /// stands a row with its locks, all of them sound. Behind a record that is refused it takes the others as they come, and only that
@@ -138,12 +138,15 @@ impl Rebuild {
 // What one more record makes of what there is, which is nothing before the first.
 fn go_on(state: &mut Option<State>, alloc: Global, setup: &Setup, entry: Entry) -> Result<(), Fault>
     requires { IsStateOf setup.now state.old }
-    ensures next { OnOk result (fault_next setup.now (known_of state.old) entry ≡ None) }
+    ensures next { OnOk result
+        (fault_next setup.now (stage_known state.old) (known_of state.old) entry ≡ None) }
     ensures there { OnOk result (IsSome state.new) }
     ensures state_of { OnOk result (IsStateOf setup.now state.new) }
     ensures known { OnOk result (known_of state.new ≡ learn (known_of state.old) entry.item) }
+    ensures stage { OnOk result
+        (stage_known state.new ≡ stage_after (stage_known state.old) entry.item) }
     ensures refused { IfErr result (λ fault. (fault ≡ Fault.Memory)
-        ⊎ (fault_next setup.now (known_of state.old) entry ≡ Some fault)) }
+        ⊎ (fault_next setup.now (stage_known state.old) (known_of state.old) entry ≡ Some fault)) }
 {
     match state {
         Some(state) => take(state, alloc, entry),
@@ -164,15 +167,18 @@ fn go_on(state: &mut Option<State>, alloc: Global, setup: &Setup, entry: Entry) 
     }
 }
 
-// What the first record leaves, which is the first opening.
+// What the first record leaves, which is the first opening or the base of a renewed log.
 fn begin(alloc: Global, entry: &Entry, setup: &Setup) -> Result<State, Fault>
     ensures setup { IfOk result (λ state. state.setup ≡ setup.now) }
-    ensures next { OnOk result (fault_next setup.now (facts_of []) entry.now ≡ None) }
+    ensures next { OnOk result
+        (fault_next setup.now (stage_of []) (facts_of []) entry.now ≡ None) }
     ensures facts { IfOk result (λ state. state.facts ≡ learn (facts_of []) entry.now.item) }
+    ensures stage { IfOk result
+        (λ state. state.stage ≡ stage_after (stage_of []) entry.now.item) }
     ensures recovered { IfOk result IsRecovered }
     ensures refused { IfErr result
         (λ fault. (fault ≡ Fault.Memory)
-        ⊎ (fault_next setup.now (facts_of []) entry.now ≡ Some fault)) }
+        ⊎ (fault_next setup.now (stage_of []) (facts_of []) entry.now ≡ Some fault)) }
 {
     if !belongs(setup, entry.item()) {
         return Err(Fault::Stranger);
@@ -180,17 +186,53 @@ fn begin(alloc: Global, entry: &Entry, setup: &Setup) -> Result<State, Fault>
     if !is_first(entry.item()) {
         return Err(damage_at(entry));
     }
-    State::fresh(alloc, setup.copy(alloc)?)
+    first_state(alloc, entry.item(), setup)
 }
 
-// The record is the first opening.
+// What a first record leaves.
+fn first_state(alloc: Global, item: &Record, setup: &Setup) -> Result<State, Fault>
+    requires first { is_first item.now ≡ true }
+    ensures setup { IfOk result (λ state. state.setup ≡ setup.now) }
+    ensures facts { IfOk result (λ state. state.facts ≡ learn (facts_of []) item.now) }
+    ensures stage { IfOk result (λ state. state.stage ≡ stage_after (stage_of []) item.now) }
+    ensures recovered { IfOk result IsRecovered }
+    ensures memory { IfErr result (λ fault. fault ≡ Fault.Memory) }
+{
+    let setup = setup.copy(alloc)?;
+    match base_in(item) {
+        Some(found) => State::based(alloc, setup, found.0, found.1, found.2),
+        None => State::fresh(alloc, setup),
+    }
+}
+
+// The numbers of a base.
+fn base_in(item: &Record) -> Option<(Epoch, Stamp, Stamp)>
+    ensures { result ≡ base_in item.now }
+{
+    match item {
+        Record::Base {
+            epoch,
+            floor,
+            horizon,
+        } => Some((*epoch, *floor, *horizon)),
+        _ => None,
+    }
+}
+
+// The record is the first opening, or the base of a renewed log.
 fn is_first(item: &Record) -> bool
     ensures { result ≡ is_first item.now }
 {
     match item {
         Record::Opened { epoch } => epoch.number() == 1,
+        Record::Base {
+            epoch,
+            floor,
+            horizon,
+        } => epoch.number() > 0 && *horizon <= *floor,
         Record::Ceiling { .. } | Record::Prepare(_) | Record::Commit(_) => false,
         Record::Abort { .. } | Record::Outcome { .. } | Record::Horizon { .. } => false,
+        Record::Version(_) | Record::Settled { .. } | Record::Closed { .. } => false,
     }
 }
 
@@ -198,15 +240,23 @@ fn is_first(item: &Record) -> bool
 fn take(state: &mut State, alloc: Global, entry: Entry) -> Result<(), Fault>
     requires recovered { IsRecovered state.old }
     ensures setup { state.new.setup ≡ state.old.setup }
-    ensures next { OnOk result (fault_next state.old.setup state.old.facts entry ≡ None) }
+    ensures next { OnOk result
+        (fault_next state.old.setup state.old.stage state.old.facts entry ≡ None) }
     ensures facts { OnOk result (state.new.facts ≡ learn state.old.facts entry.item) }
+    ensures stage { OnOk result (state.new.stage ≡ stage_after state.old.stage entry.item) }
     ensures recovered { OnOk result (IsRecovered state.new) }
     ensures refused { IfErr result
         (λ fault. (fault ≡ Fault.Memory)
-        ⊎ (fault_next state.old.setup state.old.facts entry ≡ Some fault)) }
+        ⊎ (fault_next state.old.setup state.old.stage state.old.facts entry ≡ Some fault)) }
 {
     match comes_next(state, alloc, &entry) {
-        Ok(()) => replay(state, alloc, entry.into_logged()),
+        Ok(()) => {
+            if state.follows(entry.item()) {
+                replay(state, alloc, entry.into_logged())
+            } else {
+                keep(state, entry.into_logged())
+            }
+        }
         Err(fault) => {
             drop(entry);
             Err(fault)
@@ -217,19 +267,20 @@ fn take(state: &mut State, alloc: Global, entry: Entry) -> Result<(), Fault>
 // The record may come next in the log of a state, and has its place beside what stands.
 fn comes_next(state: &State, alloc: Global, entry: &Entry) -> Result<(), Fault>
     requires recovered { IsRecovered state.now }
-    ensures next { OnOk result (fault_next state.now.setup state.now.facts entry.now ≡ None) }
-    ensures follows { OnOk result
-        (follows_facts state.now.setup.shard state.now.facts entry.now.item ≡ true) }
+    ensures next { OnOk result
+        (fault_next state.now.setup state.now.stage state.now.facts entry.now ≡ None) }
+    ensures follows { OnOk result (follows_next
+        state.now.setup.shard state.now.stage state.now.facts entry.now.item ≡ true) }
     ensures fits { OnOk result (fits_facts state.now.facts entry.now.item ≡ true) }
     ensures refused { IfErr result
         (λ fault. (fault ≡ Fault.Memory)
-        ⊎ (fault_next state.now.setup state.now.facts entry.now ≡ Some fault)) }
+        ⊎ (fault_next state.now.setup state.now.stage state.now.facts entry.now ≡ Some fault)) }
 {
     let item = entry.item();
     if !belongs(state.setup(), item) {
         return Err(Fault::Stranger);
     }
-    if !state.follows(item) {
+    if !state.may_come(item) {
         return Err(damage_at(entry));
     }
     if !fits_beside(state, alloc, item)? {

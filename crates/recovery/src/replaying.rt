@@ -2,6 +2,7 @@
 ghost use Rattle.std.specs.Prelude.{◌≡◌, true, Some, None, OnOk, IfOk, IfErr};
 ghost use Rattle.record.specs.Facts.{learn, or_floor};
 ghost use Rattle.facts.specs.Rules.{follows_facts};
+ghost use Rattle.facts.specs.Stages.{follows_head, follows_next, stage_after};
 ghost use Rattle.protocol.specs.Rows.{rebuilt, find_row};
 ghost use Rattle.protocol.specs.Plan.{carried};
 ghost use Rattle.memory.specs.Carry.{IsFit};
@@ -19,7 +20,8 @@ use units::{Fault, Keys, Stamp, TxnId, Writes};
 /// versions of what it writes or installs; a horizon is below what stands. It is refused for want of memory alone.
 pub fn fits_beside(state: &State, alloc: Global, item: &Record) -> Result<bool, Fault>
     requires recovered { IsRecovered state.now }
-    requires follows { follows_facts state.now.setup.shard state.now.facts item.now ≡ true }
+    requires follows { follows_next
+        state.now.setup.shard state.now.stage state.now.facts item.now ≡ true }
     ensures fits { IfOk result (λ fits. fits ≡ fits_facts state.now.facts item.now) }
     ensures memory { IfErr result (λ fault. fault ≡ Fault.Memory) }
 {
@@ -33,6 +35,8 @@ pub fn fits_beside(state: &State, alloc: Global, item: &Record) -> Result<bool, 
         Record::Opened { .. } | Record::Ceiling { .. } | Record::Abort { .. } => Ok(true),
         Record::Outcome { outcome: None, .. } => Ok(true),
         Record::Horizon { at } => Ok(*at <= state.safe()),
+        Record::Base { .. } | Record::Version(_) => Ok(true),
+        Record::Settled { .. } | Record::Closed { .. } => Ok(true),
     }
 }
 
@@ -43,7 +47,7 @@ pub fn replay(state: &mut State, alloc: Global, logged: Logged) -> Result<(), Fa
     requires fits { fits_facts state.old.facts logged ≡ true }
     ensures setup { state.new.setup ≡ state.old.setup }
     ensures ok { OnOk result ((state.new.facts ≡ learn state.old.facts logged)
-        × IsRecovered state.new) }
+        × (state.new.stage ≡ stage_after state.old.stage logged) × IsRecovered state.new) }
     ensures memory { IfErr result (λ fault. fault ≡ Fault.Memory) }
 {
     ready_plans_can_be_carried();
@@ -68,7 +72,21 @@ pub fn replay(state: &mut State, alloc: Global, logged: Logged) -> Result<(), Fa
     }
 }
 
+/// Makes of the state what a record of a renewed log's head says. It is refused for want of memory alone.
+pub fn keep(state: &mut State, logged: Logged) -> Result<(), Fault>
+    requires recovered { IsRecovered state.old }
+    requires follows { follows_head
+        state.old.setup.shard state.old.stage state.old.facts logged ≡ true }
+    ensures setup { state.new.setup ≡ state.old.setup }
+    ensures ok { OnOk result ((state.new.facts ≡ learn state.old.facts logged)
+        × (state.new.stage ≡ stage_after state.old.stage logged) × IsRecovered state.new) }
+    ensures memory { IfErr result (λ fault. fault ≡ Fault.Memory) }
+{
+    state.keep(logged)
+}
+
 // The plan of the step that logs the record once more.
+#[tactic(auto, unfolding(facts::specs::Rules::follows_facts))]
 fn plan_again(state: &State, alloc: Global, item: &Record) -> Result<Plan, Fault>
     requires recovered { IsRecovered state.now }
     requires follows { follows_facts state.now.setup.shard state.now.facts item.now ≡ true }
@@ -104,6 +122,8 @@ fn plan_again(state: &State, alloc: Global, item: &Record) -> Result<Plan, Fault
             Ok(Plan::quiet(alloc, needs, Change::Stands(c.txn), last.later(c.at)))
         }
         Record::Horizon { .. } => Ok(Plan::quiet(alloc, Vec::new(alloc), Change::Keeps, last)),
+        Record::Base { .. } | Record::Version(_) => unreachable!(),
+        Record::Settled { .. } | Record::Closed { .. } => unreachable!(),
     }
 }
 

@@ -7,13 +7,13 @@ use Rattle.units.specs.Keys.{same_key, key_before}
 use Rattle.units.specs.Versions.{of_key}
 use Rattle.units.specs.declared.writes.Install.{Install}
 use Rattle.units.proofs.KeyLaws.{same_key-is, key_before-irreflexive}
+use Rattle.record.specs.FactLaws.{learnt}
 use Rattle.record.specs.Facts.{Facts, no_facts}
 use Rattle.versions.specs.Ordered.{version_before, AscendsByVersion}
 use Rattle.protocol.specs.Showable.{rises_by_key}
 use Rattle.protocol.proofs.Rising.{below, rise_none, rise_one}
 use Rattle.renewal.specs.Keeps.{IsLasting}
 use Rattle.renewal.specs.Laws.{TurnedAgain, TurnedLasts}
-use Rattle.renewal.specs.Learnt.{learnt_items}
 use Rattle.renewal.specs.Turned.{turned, versions_held}
 use Rattle.renewal.proofs.One.{one-turnover, ordered}
 use Rattle.renewal.proofs.Said.{covered-held, turned-keeps, turned-says}
@@ -65,4 +65,4 @@ turned-lasts facts l = subst IsLasting (sym (turned-says facts l.regular)) (held
 
 pub turned-again : TurnedAgain
 turned-again facts l =
-    sym (one-turnover facts (learnt_items no_facts (turned facts)) (turned-keeps facts l.regular) l.regular ((turned-lasts facts l).regular))
+    sym (one-turnover facts (learnt no_facts (turned facts)) (turned-keeps facts l.regular) l.regular ((turned-lasts facts l).regular))

@@ -7,12 +7,10 @@ use Rattle.units.specs.declared.writes.Install.{Install}
 use Rattle.record.specs.Records.{StandsPrepared, StandsDecided, HasAborted, HasSettled, HasClosed, stamp_in}
 use Rattle.record.specs.Facts.{Facts, learn, recorded, with_status, after_outcome, installs_at, or_floor}
 use Rattle.record.specs.declared.record.Record.{Record}
-use Rattle.record.specs.declared.record.Record.TheVariants.{Opened, Ceiling, Prepare, Commit, Abort, Outcome, Horizon}
+use Rattle.record.specs.declared.record.Record.TheVariants.{Opened, Ceiling, Prepare, Commit, Abort, Outcome, Horizon, Base, Version, Settled, Closed}
 use Rattle.facts.specs.Shown.{status_in}
 use Rattle.versions.specs.Ordered.{is_by}
 use Rattle.versions.proofs.Newest.{at_time_is}
-use Rattle.renewal.specs.Kinds.{Plain, Base, Version, Settled, Closed}
-use Rattle.renewal.specs.Learnt.{learn_item}
 use Rattle.renewal.specs.Keeps.{Alike, SameVersions}
 use Rattle.renewal.specs.Laws.{AlikeKeeps, AlikeStays}
 use Rattle.renewal.proofs.Newest.{newer_of, newest-more}
@@ -54,28 +52,24 @@ made : (a b : Facts) → a.epoch ≡ b.epoch → a.floor ≡ b.floor → a.horiz
     → SameVersions a.horizon a.installs b.installs → Alike a b
 made a b e f h es v = record { epoch = e; floor = f; horizon = h; entries = es; versions = v }
 
-pub plain-stays : (a b : Facts) (r : Record) → Alike a b → Alike (learn a r) (learn b r)
+pub alike-stays : AlikeStays
 unfolding learn
-plain-stays a b (Opened e) h = made _ _ refl h.floor h.horizon h.entries h.versions
-plain-stays a b (Ceiling at) h = made _ _ h.epoch (ap (λ n. max n at) h.floor) h.horizon h.entries h.versions
-plain-stays a b (Horizon at) h =
+alike-stays a b (Opened e) h = made _ _ refl h.floor h.horizon h.entries h.versions
+alike-stays a b (Ceiling at) h = made _ _ h.epoch (ap (λ n. max n at) h.floor) h.horizon h.entries h.versions
+alike-stays a b (Horizon at) h =
     made _ _ h.epoch h.floor (ap (λ n. max n at) h.horizon) h.entries (same-higher a.horizon (max a.horizon at) _ _ (omega arith) h.versions)
-plain-stays a b (Prepare p) h =
+alike-stays a b (Prepare p) h =
     made _ _ h.epoch (ap (λ n. or_floor n (stamp_in (Prepare p))) h.floor) h.horizon (ap (λ es. with_status es p.txn
     (StandsPrepared p)) h.entries) h.versions
-plain-stays a b (Commit c) h =
+alike-stays a b (Commit c) h =
     made _ _ h.epoch (ap (λ n. or_floor n (stamp_in (Commit c))) h.floor) h.horizon (ap (λ es. with_status es c.txn (StandsDecided c)) h.entries) h.versions
-plain-stays a b (Abort t) h = made _ _ h.epoch h.floor h.horizon (ap (λ es. with_status es t HasAborted) h.entries) h.versions
-plain-stays a b (Outcome t o) h =
+alike-stays a b (Abort t) h = made _ _ h.epoch h.floor h.horizon (ap (λ es. with_status es t HasAborted) h.entries) h.versions
+alike-stays a b (Outcome t o) h =
     let same : status_in a.entries t ≡ status_in b.entries t = ap (λ es. status_in es t) h.entries in
     made _ _ h.epoch (ap (λ n. or_floor n (stamp_in (Outcome t o))) h.floor) h.horizon
     (λ i. with_status (h.entries i) t (after_outcome (same i) o))
     (subst (λ s. SameVersions a.horizon (a.installs ++ installs_at (recorded a t) o) (b.installs ++ installs_at s o)) same
     (same-append a.horizon a.installs b.installs (installs_at (recorded a t) o) h.versions))
-
-pub alike-stays : AlikeStays
-unfolding learn_item
-alike-stays a b (Plain r) h = plain-stays a b r h
 alike-stays a b (Base epoch floor horizon) h =
     made _ _ refl (ap (λ n. max n floor) h.floor) (ap (λ n. max n horizon) h.horizon) h.entries
     (same-higher a.horizon (max a.horizon horizon) _ _ (omega arith) h.versions)

@@ -17,7 +17,10 @@ use Rattle.units.proofs.ByIdLaws.{AllYounger, all-with, by_id-with, first_none, 
 use Rattle.units.proofs.IdLaws.{same_id_comm}
 use Rattle.units.proofs.ListLaws.{all-keep, all_gives}
 use Rattle.record.specs.Records.{Status, Unrecorded, StandsPrepared, StandsDecided, HasAborted, HasSettled, HasClosed}
+use Rattle.record.specs.FactLaws.{learnt}
 use Rattle.record.specs.Facts.{Facts, TxnStatus, facts_with, learn, or_unrecorded, with_status}
+use Rattle.record.specs.declared.record.Record.{Record}
+use Rattle.record.specs.declared.record.Record.TheVariants.{Version}
 use Rattle.record.specs.declared.record.Committed.{Committed}
 use Rattle.record.specs.declared.record.Prepared.{Prepared}
 use Rattle.protocol.specs.Rows.{Memory, Row, IsDecided, IsPrepared, find_row, held_stamp, safe, standing_row, without_row}
@@ -29,9 +32,7 @@ use Rattle.protocol.proofs.OpeningSound.{entries_own, opened_lawful, opened_over
 use Rattle.protocol.proofs.RowChanges.{find_members}
 use Rattle.protocol.proofs.RowCounts.{has_row, no_more, shorter-without_row}
 use Rattle.protocol.proofs.Serves.{Over}
-use Rattle.renewal.specs.Kinds.{Item, Version}
 use Rattle.renewal.specs.Keeps.{Alike, IsPlaced, IsRegular}
-use Rattle.renewal.specs.Learnt.{learn_item, learnt_items}
 use Rattle.renewal.specs.Laws.{TurnedFits}
 use Rattle.renewal.specs.Rules.{AllFit, stands_in}
 use Rattle.renewal.specs.Turned.{turned, versions_held, ended_item, standing_item}
@@ -166,13 +167,13 @@ module _ (shard : ℕ) (facts : Facts) (memory : Memory) (sound : IsSound shard 
 
 -- ---- the walk
 
-fit-append : (x : Facts) (a b : List Item) → AllFit x a → AllFit (learnt_items x a) b → AllFit x (a ++ b)
+fit-append : (x : Facts) (a b : List Record) → AllFit x a → AllFit (learnt x a) b → AllFit x (a ++ b)
 fit-append x [] b h k = k
-fit-append x (i ∷ a) b h k = (h.0, fit-append (learn_item x i) a b h.1 k)
+fit-append x (i ∷ a) b h k = (h.0, fit-append (learn x i) a b h.1 k)
 
 versions-fit : (x : Facts) (vs : List Install) → AllFit x (map Version vs)
 versions-fit x [] = tt
-versions-fit x (v ∷ vs) = (refl, versions-fit (learn_item x (Version v)) vs)
+versions-fit x (v ∷ vs) = (refl, versions-fit (learn x (Version v)) vs)
 
 ended-fit : (x : Facts) (es : List TxnStatus) → AllFit x (gather ended_item es)
 ended-fit x [] = tt
@@ -195,7 +196,7 @@ standing-fit : (shard : ℕ) (facts : Facts) (memory : Memory) → IsSound shard
     → (es acc : List TxnStatus) → AllByRecursion (IsIn facts) es → AllByRecursion (IsPlaced facts.floor) es → IsById id_of es
     → IsById id_of acc → AllByRecursion (IsIn facts) acc → Fresh acc (filter (λ x. not (is_ended x)) es)
     → AllFit (facts_with facts.epoch facts.floor acc (versions_held facts) facts.horizon) (gather standing_item es)
-unfolding learn_item learn
+unfolding learn
 standing-fit shard facts memory sound room regular [] acc here placed order up mine fresh = tt
 standing-fit shard facts memory sound room regular (x ∷ es) acc here placed order up mine fresh =
     by_status x.txn x.status here.0 placed.0 (later_are_younger id_of x es order) fresh

@@ -7,13 +7,11 @@ mod One
 mod Entries
 mod Said
 mod Again
-mod Told
-mod Read
 mod Stands
 mod Come
-mod Known
 mod Fits
 mod Stays
 mod Shards
 mod Rows
 mod Lasts
+mod Belongs

@@ -11,6 +11,7 @@ use Rattle.units.specs.declared.writes.Install.{Install}
 use Rattle.units.proofs.KeyLaws.{same_key-is, same_key-refl, key_before-trans, key_before-irreflexive}
 use Rattle.units.proofs.ListLaws.{all-keep, all_gives}
 use Rattle.record.specs.Facts.{Facts}
+use Rattle.record.specs.declared.record.Record.TheVariants.{Base, Version}
 use Rattle.versions.specs.Ordered.{is_by, is_above, version_before, installed, all_installed, AscendsByVersion, IsInOrder}
 use Rattle.versions.specs.Pruned.{at_of, pruned}
 use Rattle.versions.proofs.Found.{from_on, newest-wider}
@@ -18,7 +19,6 @@ use Rattle.versions.proofs.Kept.{kept-installed}
 use Rattle.versions.proofs.Newest.{newer}
 use Rattle.protocol.specs.Showable.{rises_by_key}
 use Rattle.protocol.proofs.Rising.{rise_parts}
-use Rattle.renewal.specs.Kinds.{Base, Version}
 use Rattle.renewal.specs.Keeps.{Alike, IsRegular, SameVersions}
 use Rattle.renewal.specs.Laws.{AlikeTurned}
 use Rattle.renewal.specs.Turned.{ended_item, standing_item, turned, versions_held}

@@ -1,21 +1,25 @@
 -- What a log says of its ids is of its shard, behind each record that is taken.
 use Rattle.std.specs.List.{AllByRecursion}
-use Rattle.std.proofs.Common.{◌≡◌, ◌⊎◌, inl, inr, ℕ, true, List, Option, Some, None, refl, sym, subst}
-use Rattle.std.proofs.lemmas.Bool.{and_parts}
+use Rattle.std.proofs.Common.{◌≡◌, ◌⊎◌, inl, inr, ℕ, true, nat_le, nat_lt, arith, List, Option, Some, None, refl, sym, subst}
+use Rattle.std.proofs.lemmas.Bool.{and_parts, false≢true}
+use Rattle.std.proofs.lemmas.Bool.Decides.{nat_tests}
 use Rattle.units.specs.Lists.{first}
 use Rattle.units.specs.Ids.{Id, same_id}
 use Rattle.units.proofs.ByIdLaws.{all-with, first_all}
 use Rattle.record.specs.Records.{Status, Unrecorded, StandsPrepared, StandsDecided, HasAborted, HasSettled, HasClosed}
 use Rattle.record.specs.Facts.{Facts, TxnStatus, learn, recorded, or_unrecorded, with_status, after_outcome}
 use Rattle.record.specs.declared.record.Record.{Record}
-use Rattle.record.specs.declared.record.Record.TheVariants.{Opened, Ceiling, Prepare, Commit, Abort, Outcome, Horizon}
-use Rattle.facts.specs.Rules.{allows}
+use Rattle.record.specs.declared.record.Record.TheVariants.{Opened, Ceiling, Prepare, Commit, Abort, Outcome, Horizon, Base, Version, Settled, Closed}
+use Rattle.facts.specs.Rules.{allows, id_follows}
 use Rattle.renewal.specs.Keeps.{IsOfShard}
 use Rattle.renewal.specs.Laws.{OfShardStays}
 use Rattle.renewal.specs.Rules.{takes}
-use Rattle.renewal.specs.Stages.{step_follows}
 use Rattle.renewal.proofs.Entries.{entry, id_of, with_status-is}
 use Rattle.renewal.proofs.Stays.{step-of}
+
+-- what is not below a timestamp above 0 is above 0
+later : (at s : ℕ) → nat_lt 0 at ≡ true → nat_le at s ≡ true → nat_lt 0 s ≡ true
+later at s above le = grind (arith, nat_tests)
 
 module _ (shard : ℕ) where
   pub put : (es : List TxnStatus) (t : Id) (s : Status) → IsOfShard shard (entry t s) → AllByRecursion (IsOfShard shard) es
@@ -44,17 +48,17 @@ module _ (shard : ℕ) where
       → IsOfShard shard (entry t (after_outcome s o))
   ended t Unrecorded o k a = cc
   ended t (StandsPrepared p) None (inl e) a = cc
-  ended t (StandsPrepared p) None (inr k) a = (k t).1
+  ended t (StandsPrepared p) None (inr k) a = (refl, (k t).1)
   ended t (StandsPrepared p) (Some at) (inl e) a = cc
-  ended t (StandsPrepared p) (Some at) (inr k) a = (k t).1
+  ended t (StandsPrepared p) (Some at) (inr k) a = (later p.at at ((k t).0) a, (k t).1)
   ended t (StandsDecided c) None k a = cc
   ended t (StandsDecided c) (Some at) (inl e) a = cc
-  ended t (StandsDecided c) (Some at) (inr k) a = (k t).1
+  ended t (StandsDecided c) (Some at) (inr k) a = k t
   ended t HasAborted o k a = cc
   ended t (HasSettled s ps) o k a = cc
   ended t (HasClosed c q) o k a = cc
 
-pub step-of-shard : (shard : ℕ) (facts : Facts) (r : Record) → AllByRecursion (IsOfShard shard) facts.entries → step_follows shard facts r ≡ true
+pub step-of-shard : (shard : ℕ) (facts : Facts) (r : Record) → AllByRecursion (IsOfShard shard) facts.entries → id_follows shard facts r ≡ true
     → AllByRecursion (IsOfShard shard) (learn facts r).entries
 unfolding learn
 step-of-shard shard facts (Opened e) all f = all
@@ -67,6 +71,10 @@ step-of-shard shard facts (Commit c) all f =
 step-of-shard shard facts (Abort t) all f = put shard facts.entries t HasAborted tt all
 step-of-shard shard facts (Outcome t o) all f =
     put shard facts.entries t (after_outcome (recorded facts t) o) (ended shard t (recorded facts t) o (known shard facts t all) f) all
+step-of-shard shard facts (Base e floor n) all f = absurd (false≢true f)
+step-of-shard shard facts (Version i) all f = absurd (false≢true f)
+step-of-shard shard facts (Settled t at parts) all f = absurd (false≢true f)
+step-of-shard shard facts (Closed t c o) all f = absurd (false≢true f)
 
 pub of-shard-stays : OfShardStays
 unfolding takes

@@ -12,10 +12,8 @@ use Rattle.record.specs.declared.record.Prepared.{Prepared}
 use Rattle.record.specs.declared.record.Record.{Record}
 use Rattle.record.proofs.Sound.{Sound, made}
 use Rattle.record.proofs.Statuses.{recorded_is}
-use Rattle.renewal.specs.Kinds.{Item, told_all}
-use Rattle.renewal.specs.Learnt.{facts_in}
+use Rattle.facts.proofs.Kept.{kept_followed}
 use Rattle.renewal.specs.Laws.{AlikeStands}
-use Rattle.renewal.proofs.Read.{sound-all}
 
 -- where an id of a status stands
 abbrev stands_as : List (List Record) → Status → Option ℕ
@@ -48,12 +46,11 @@ pub stands-as : (logs : List (List Record)) (log : List Record) (t : Id) → Sou
 unfolding stands_at status_of made
 stands-as logs log t s = by_parts logs (is_aborted log t) (committed_of log t) (prepared_of log t) (ended_of log t) (s.apart t) (s.closed t)
 
-status-in : (items : List Item) (t : Id) → status_in (facts_in items).entries t ≡ status_of (told_all items) t
-unfolding facts_in facts_of
-status-in items t = recorded_is (told_all items) t
+status-in : (log : List Record) (t : Id) → status_in (facts_of log).entries t ≡ status_of log t
+status-in log t = recorded_is log t
 
 pub alike-stands : AlikeStands
 alike-stands shard one other logs t h k same =
-    stands-as logs (told_all one) t (sound-all shard one h)
+    stands-as logs one t ((kept_followed shard one h).sound)
     ∙ ap (stands_as logs) (sym (status-in one t) ∙ ap (λ l. status_in l t) same.entries ∙ status-in other t)
-    ∙ sym (stands-as logs (told_all other) t (sound-all shard other k))
+    ∙ sym (stands-as logs other t ((kept_followed shard other k).sound))

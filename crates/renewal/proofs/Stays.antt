@@ -1,7 +1,7 @@
 -- Facts that may be renewed may be renewed behind one more record that is taken.
 use Rattle.std.specs.List.{AllByRecursion}
 use Rattle.std.proofs.Common.{◌≡◌, ℕ, ◌≤◌, true, max, nat_le, List, [], ◌∷◌, ◌++◌, Some, None, refl, sym, subst, arith}
-use Rattle.std.proofs.lemmas.Bool.{and_parts}
+use Rattle.std.proofs.lemmas.Bool.{and_parts, false≢true}
 use Rattle.std.proofs.lemmas.Bool.Decides.{nat_tests}
 use Rattle.units.specs.Ids.{Id}
 use Rattle.units.specs.ById.{IsById}
@@ -13,8 +13,8 @@ use Rattle.units.proofs.ListLaws.{all_gives}
 use Rattle.record.specs.Records.{Status, Unrecorded, StandsPrepared, StandsDecided, HasAborted, HasSettled, HasClosed}
 use Rattle.record.specs.Facts.{Facts, TxnStatus, learn, recorded, with_status, after_outcome, installs_at}
 use Rattle.record.specs.declared.record.Record.{Record}
-use Rattle.record.specs.declared.record.Record.TheVariants.{Opened, Ceiling, Prepare, Commit, Abort, Outcome, Horizon}
-use Rattle.facts.specs.Rules.{follows_facts, allows}
+use Rattle.record.specs.declared.record.Record.TheVariants.{Opened, Ceiling, Prepare, Commit, Abort, Outcome, Horizon, Base, Version, Settled, Closed}
+use Rattle.facts.specs.Rules.{follows_facts, id_follows, allows}
 use Rattle.protocol.specs.Showable.{record_ascends, rises_by_key}
 use Rattle.protocol.specs.Sound.{writes_standing}
 use Rattle.protocol.proofs.Ascending.{entries_after}
@@ -22,7 +22,6 @@ use Rattle.protocol.proofs.Rising.{installs_rise, rise_none}
 use Rattle.protocol.proofs.Serves.{ascend_in, versions_follow}
 use Rattle.renewal.specs.Keeps.{IsRegular, IsPlaced, IsLasting}
 use Rattle.renewal.specs.Rules.{fits_facts, takes}
-use Rattle.renewal.specs.Stages.{step_follows}
 use Rattle.renewal.specs.Laws.{LastingStays}
 use Rattle.renewal.proofs.Entries.{entry, id_of, with_status-is}
 
@@ -85,16 +84,20 @@ module _ (facts : Facts) (r : IsRegular facts) (floor : ℕ) (le : facts.floor �
 
 -- ---- an outcome
 
--- the rules of a log without a base are those of one id, of openings and of a horizon
-pub step-of : (shard : ℕ) (f : Facts) (r : Record) → follows_facts shard f r ≡ true → step_follows shard f r ≡ true
+-- the rules of one id and of a horizon, of a record that a step logs
+pub step-of : (shard : ℕ) (f : Facts) (r : Record) → follows_facts shard f r ≡ true → id_follows shard f r ≡ true
 unfolding follows_facts
-step-of shard f (Opened e) h = h
+step-of shard f (Opened e) h = refl
 step-of shard f (Ceiling at) h = (and_parts _ _ h).1
 step-of shard f (Horizon at) h = (and_parts _ _ h).1
 step-of shard f (Prepare p) h = (and_parts _ _ h).1
 step-of shard f (Commit c) h = (and_parts _ _ h).1
 step-of shard f (Abort t) h = (and_parts _ _ h).1
 step-of shard f (Outcome t o) h = (and_parts _ _ h).1
+step-of shard f (Base e floor n) h = absurd (false≢true h)
+step-of shard f (Version i) h = absurd (false≢true h)
+step-of shard f (Settled t at parts) h = absurd (false≢true h)
+step-of shard f (Closed t c o) h = absurd (false≢true h)
 
 -- what it installs is what stood
 ended-regular : (facts : Facts) (t : Id) (s : Status) (at : ℕ) → IsRegular facts → allows s (Some at) ≡ true
@@ -141,7 +144,7 @@ raised-regular facts floor r le = record {
 pub at-most : (n m : ℕ) → nat_le n m ≡ true → n ≤ m
 at-most n m h = grind (arith, nat_tests)
 
-pub regular-stays : (shard : ℕ) (facts : Facts) (r : Record) → IsLasting facts → step_follows shard facts r ≡ true → fits_facts facts r ≡ true
+pub regular-stays : (shard : ℕ) (facts : Facts) (r : Record) → IsLasting facts → id_follows shard facts r ≡ true → fits_facts facts r ≡ true
     → IsRegular (learn facts r)
 unfolding learn
 regular-stays shard facts (Opened e) l f fits =
@@ -165,8 +168,12 @@ regular-stays shard facts (Outcome t None) l f fits = aborted-regular facts t (r
 regular-stays shard facts (Outcome t (Some at)) l f fits =
     ended-regular facts t (recorded facts t) at l.regular f
     (versions_follow facts.installs at (writes_standing (recorded facts t)) (ascend_in facts.entries t l.entries) fits)
+regular-stays shard facts (Base e floor n) l f fits = absurd (false≢true f)
+regular-stays shard facts (Version i) l f fits = absurd (false≢true f)
+regular-stays shard facts (Settled t at parts) l f fits = absurd (false≢true f)
+regular-stays shard facts (Closed t c o) l f fits = absurd (false≢true f)
 
-pub step-lasting : (shard : ℕ) (facts : Facts) (r : Record) → IsLasting facts → record_ascends r ≡ true → step_follows shard facts r ≡ true
+pub step-lasting : (shard : ℕ) (facts : Facts) (r : Record) → IsLasting facts → record_ascends r ≡ true → id_follows shard facts r ≡ true
     → fits_facts facts r ≡ true → IsLasting (learn facts r)
 step-lasting shard facts r l up follows fits = record {
   regular = regular-stays shard facts r l follows fits;

@@ -12,7 +12,7 @@ use Rattle.units.proofs.ListLaws.{each-alike}
 use Rattle.record.specs.Accepted.{belongs}
 use Rattle.record.specs.Facts.{Facts, TxnStatus, facts_with, recorded}
 use Rattle.record.specs.declared.record.Record.{Record}
-use Rattle.record.specs.declared.record.Record.TheVariants.{Opened, Ceiling, Prepare, Commit, Abort, Outcome, Horizon}
+use Rattle.record.specs.declared.record.Record.TheVariants.{Opened, Ceiling, Prepare, Commit, Abort, Outcome, Horizon, Base, Version, Settled, Closed}
 use Rattle.facts.specs.Rules.{follows_facts}
 use Rattle.facts.specs.Shown.{status_in}
 use Rattle.protocol.specs.Rows.{held_stamp, standing_row}
@@ -33,6 +33,10 @@ no-versions shard e f es is js n (Prepare p) = refl
 no-versions shard e f es is js n (Commit c) = refl
 no-versions shard e f es is js n (Abort t) = refl
 no-versions shard e f es is js n (Outcome t o) = refl
+no-versions shard e f es is js n (Base epoch floor horizon) = refl
+no-versions shard e f es is js n (Version i) = refl
+no-versions shard e f es is js n (Settled t at parts) = refl
+no-versions shard e f es is js n (Closed t c o) = refl
 
 follows-alike : (shard : ℕ) (a b : Facts) (r : Record) → Alike a b → follows_facts shard a r ≡ follows_facts shard b r
 follows-alike shard a b r h =
@@ -59,6 +63,10 @@ fits-alike a b (Prepare p) h = stands-alike a b p.at p.reads p.writes h
 fits-alike a b (Commit c) h = stands-alike a b c.at c.reads c.writes h
 fits-alike a b (Abort t) h = refl
 fits-alike a b (Outcome t None) h = refl
+fits-alike a b (Base epoch floor horizon) h = refl
+fits-alike a b (Version i) h = refl
+fits-alike a b (Settled t at parts) h = refl
+fits-alike a b (Closed t c o) h = refl
 fits-alike a b (Outcome t (Some at)) h =
     above-alike a.horizon a.installs b.installs at (writes_standing (recorded a t)) h.versions
     ∙ ap (λ es. above_versions b.installs at (writes_standing (status_in es t))) h.entries

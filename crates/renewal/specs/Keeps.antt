@@ -5,8 +5,10 @@ use Rattle.units.specs.Lists.{ascends, head, when}
 use Rattle.units.specs.ById.{IsById}
 use Rattle.units.specs.Keys.{Bytes, write_before}
 use Rattle.units.specs.Versions.{newest, of_key, at_time}
+use Rattle.units.specs.declared.setup.Setup.{Setup}
 use Rattle.units.specs.declared.writes.Install.{Install}
 use Rattle.record.specs.Records.{Unrecorded, StandsPrepared, StandsDecided, HasAborted, HasSettled, HasClosed}
+use Rattle.record.specs.Accepted.{is_timed, keys_belong}
 use Rattle.record.specs.Facts.{Facts, TxnStatus}
 use Rattle.versions.specs.Ordered.{is_by}
 use Rattle.protocol.specs.Sound.{writes_standing}
@@ -65,8 +67,20 @@ IsOfShard shard e =
       | StandsPrepared p ↦ IsTrue (nat_lt 0 p.at) × IsTrue (nat_lt p.coordinator shard)
       | StandsDecided c ↦ IsTrue (nat_lt 0 c.at) × IsTrue (when (nat_eq shard) (head c.parts))
       | HasAborted ↦ Unit {0}
-      | HasSettled at parts ↦ IsTrue (when (nat_eq shard) (head parts))
-      | HasClosed coordinator outcome ↦ IsTrue (nat_lt coordinator shard)
+      | HasSettled at parts ↦ IsTrue (nat_lt 0 at) × IsTrue (when (nat_eq shard) (head parts))
+      | HasClosed coordinator outcome ↦ IsTrue (is_timed outcome) × IsTrue (nat_lt coordinator shard)
+    ]
+
+-- what stands names keys of this shard alone
+abbrev pub NamesOwn : Setup → TxnStatus → Type 0
+NamesOwn setup e =
+    elim e.status [
+      | Unrecorded ↦ Unit {0}
+      | StandsPrepared p ↦ IsTrue (keys_belong setup p.reads p.writes)
+      | StandsDecided c ↦ IsTrue (keys_belong setup c.reads c.writes)
+      | HasAborted ↦ Unit {0}
+      | HasSettled at parts ↦ Unit {0}
+      | HasClosed coordinator outcome ↦ Unit {0}
     ]
 
 -- the writes of what stands ascend by key

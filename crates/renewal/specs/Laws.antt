@@ -1,11 +1,14 @@
 -- What a renewed log keeps, and what may be done over it.
-use Rattle.std.specs.Prelude.{◌≡◌, ◌≤◌, true, ℕ, List, [], length, Bool, IsTrue}
+use Rattle.std.specs.Prelude.{◌≡◌, ◌≤◌, ◌<◌, nat_eq, true, ℕ, List, [], length, Bool, IsTrue}
 use Rattle.std.specs.List.{AllByRecursion, list_all}
 use Rattle.units.specs.Ids.{Id}
+use Rattle.units.specs.Keys.{shard_of}
 use Rattle.units.specs.Limits.{most_rows}
 use Rattle.units.specs.declared.setup.Setup.{Setup}
 use Rattle.truetime.specs.Interval.{Interval}
-use Rattle.record.specs.Facts.{Facts, no_facts, learn}
+use Rattle.record.specs.Accepted.{belongs, followed}
+use Rattle.record.specs.FactLaws.{learnt}
+use Rattle.record.specs.Facts.{Facts, no_facts, facts_of, learn}
 use Rattle.record.specs.Whole.{stands_at}
 use Rattle.record.specs.declared.record.Record.{Record}
 use Rattle.message.specs.declared.message.Input.{Input}
@@ -13,33 +16,29 @@ use Rattle.protocol.specs.Rows.{Memory}
 use Rattle.protocol.specs.Showable.{record_ascends}
 use Rattle.protocol.specs.Sound.{IsSound}
 use Rattle.protocol.specs.Step.{step_within}
-use Rattle.renewal.specs.Kinds.{Item, Plain, Base, Version, Settled, Closed, told_all}
-use Rattle.renewal.specs.Learnt.{facts_in, learn_item, learnt_items}
-use Rattle.renewal.specs.Next.{AllCome, may_come}
-use Rattle.renewal.specs.Stages.{AtStart, stage_from, follows_known}
 use Rattle.renewal.specs.Turned.{turned, versions_held}
-use Rattle.renewal.specs.Keeps.{Keeps, Alike, IsRegular, IsLasting, IsOfShard}
+use Rattle.renewal.specs.Keeps.{Keeps, Alike, IsRegular, IsLasting, IsOfShard, NamesOwn}
 use Rattle.renewal.specs.Rules.{AllFit, takes}
 
 -- ---- the renewed log
 
 -- learnt record by record a renewed log says what the log said, with the versions that were held
 abbrev pub TurnedSays : Type 0
-TurnedSays = (facts : Facts) → IsRegular facts → learnt_items no_facts (turned facts) ≡ record facts { installs = versions_held facts }
+TurnedSays = (facts : Facts) → IsRegular facts → learnt no_facts (turned facts) ≡ record facts { installs = versions_held facts }
 
 -- so it is alike to what it renews
 abbrev pub TurnedKeeps : Type 0
-TurnedKeeps = (facts : Facts) → IsRegular facts → Alike facts (learnt_items no_facts (turned facts))
+TurnedKeeps = (facts : Facts) → IsRegular facts → Alike facts (learnt no_facts (turned facts))
 
 -- each of its records may come after those before it
 abbrev pub TurnedMayCome : Type 0
 TurnedMayCome =
-    (shard : ℕ) (facts : Facts) → IsRegular facts → AllByRecursion (IsOfShard shard) facts.entries → AllCome shard [] (turned facts)
+    (shard : ℕ) (facts : Facts) → 0 < facts.epoch → IsRegular facts → AllByRecursion (IsOfShard shard) facts.entries → IsTrue (followed shard (turned facts))
 
 -- and read as a set it is alike too
 abbrev pub TurnedLogKeeps : Type 0
 TurnedLogKeeps =
-    (shard : ℕ) (facts : Facts) → IsRegular facts → AllByRecursion (IsOfShard shard) facts.entries → Alike facts (facts_in (turned facts))
+    (shard : ℕ) (facts : Facts) → 0 < facts.epoch → IsRegular facts → AllByRecursion (IsOfShard shard) facts.entries → Alike facts (facts_of (turned facts))
 
 -- where the rows and the records of a shard agree, each has its place beside what stands by those before it: no lock is in the way of
 -- another, no version and no horizon is above, and there is room
@@ -50,11 +49,17 @@ TurnedFits =
 
 -- it may be renewed again
 abbrev pub TurnedLasts : Type 0
-TurnedLasts = (facts : Facts) → IsLasting facts → IsLasting (learnt_items no_facts (turned facts))
+TurnedLasts = (facts : Facts) → IsLasting facts → IsLasting (learnt no_facts (turned facts))
 
 -- into the same records
 abbrev pub TurnedAgain : Type 0
-TurnedAgain = (facts : Facts) → IsLasting facts → turned (learnt_items no_facts (turned facts)) ≡ turned facts
+TurnedAgain = (facts : Facts) → IsLasting facts → turned (learnt no_facts (turned facts)) ≡ turned facts
+
+-- where its versions and what stands name keys of the shard alone, so does each of its records
+abbrev pub TurnedBelongs : Type 0
+TurnedBelongs =
+    (setup : Setup) (facts : Facts) → AllByRecursion (λ i. IsTrue (nat_eq (shard_of setup.splits i.key) setup.shard)) facts.installs →
+    AllByRecursion (NamesOwn setup) facts.entries → IsTrue (list_all (belongs setup) (turned facts))
 
 -- ---- logs that are alike
 
@@ -64,7 +69,7 @@ AlikeKeeps = (a b : Facts) → Alike a b → Keeps a b
 
 -- they stay alike by one more record of any kind
 abbrev pub AlikeStays : Type 0
-AlikeStays = (a b : Facts) (i : Item) → Alike a b → Alike (learn_item a i) (learn_item b i)
+AlikeStays = (a b : Facts) (r : Record) → Alike a b → Alike (learn a r) (learn b r)
 
 -- one takes a record of a step where the other does
 abbrev pub AlikeTakes : Type 0
@@ -79,8 +84,8 @@ AlikeSteps =
 -- they resolve a transaction alike, beside any other logs: where it stands is told from its status
 abbrev pub AlikeStands : Type 0
 AlikeStands =
-    (shard : ℕ) (one other : List Item) (logs : List (List Record)) (t : Id) → AllCome shard [] one → AllCome shard [] other →
-    Alike (facts_in one) (facts_in other) → stands_at logs (told_all one) t ≡ stands_at logs (told_all other) t
+    (shard : ℕ) (one other : List Record) (logs : List (List Record)) (t : Id) → IsTrue (followed shard one) → IsTrue (followed shard other) →
+    Alike (facts_of one) (facts_of other) → stands_at logs one t ≡ stands_at logs other t
 
 -- both are turned over into the same records
 abbrev pub AlikeTurned : Type 0
@@ -88,35 +93,17 @@ AlikeTurned = (a b : Facts) → Alike a b → IsRegular a → IsRegular b → tu
 
 -- ---- logs of all kinds
 
--- the writes of a record ascend by key
-abbrev pub item_ascends : Item → Bool
-item_ascends (Plain r) = record_ascends r
-item_ascends (Base epoch floor horizon) = true
-item_ascends (Version i) = true
-item_ascends (Settled t at parts) = true
-item_ascends (Closed t coordinator outcome) = true
-
 -- what a log says may be renewed, where each record may come next and has its place beside what stands
 abbrev pub LogLasts : Type 0
 LogLasts =
-    (shard : ℕ) (items : List Item) → AllCome shard [] items → AllFit no_facts items → IsTrue (list_all item_ascends items) →
-    IsLasting (facts_in items)
+    (shard : ℕ) (log : List Record) → IsTrue (followed shard log) → AllFit no_facts log → IsTrue (list_all record_ascends log) →
+    IsLasting (facts_of log)
 
 -- and what it says of ids is of its shard
 abbrev pub LogIsOfShard : Type 0
-LogIsOfShard = (shard : ℕ) (items : List Item) → AllCome shard [] items → AllByRecursion (IsOfShard shard) (facts_in items).entries
+LogIsOfShard = (shard : ℕ) (log : List Record) → IsTrue (followed shard log) → AllByRecursion (IsOfShard shard) (facts_of log).entries
 
 -- ---- one more record
-
--- what is learnt record by record, of all kinds, is what is read from the set of all records
-abbrev pub LearntAsRead : Type 0
-LearntAsRead = (shard : ℕ) (items : List Item) → AllCome shard [] items → learnt_items no_facts items ≡ facts_in items
-
--- which record may come next is told from the facts, and from where in the log one is
-abbrev pub FollowsKnown : Type 0
-FollowsKnown =
-    (shard : ℕ) (items : List Item) (i : Item) → AllCome shard [] items →
-    may_come shard items i ≡ follows_known shard (stage_from AtStart items) (facts_in items) i
 
 -- what may be renewed may be renewed behind a record that is taken
 abbrev pub LastingStays : Type 0

@@ -1,7 +1,3 @@
-pub mod Kinds
-pub mod Learnt
-pub mod Next
-pub mod Stages
 pub mod Turned
 pub mod Keeps
 pub mod Rules

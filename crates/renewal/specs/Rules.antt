@@ -1,4 +1,4 @@
--- Which record may come next, told from what a log says: of the records that steps log.
+-- Which record may come next, told from what a log says.
 use Rattle.std.specs.List.{list_all, list_any}
 use Rattle.std.specs.Prelude.{ℕ, IsTrue, Bool, true, not, ◌&&◌, nat_lt, List, [], ◌∷◌, map, length, Some, None}
 use Rattle.units.specs.Limits.{most_rows}
@@ -9,13 +9,11 @@ use Rattle.units.specs.Versions.{above_versions}
 use Rattle.units.specs.declared.setup.Setup.{Setup}
 use Rattle.units.specs.declared.writes.Write.{Write}
 use Rattle.record.specs.Accepted.{belongs}
-use Rattle.record.specs.Facts.{Facts, recorded}
+use Rattle.record.specs.Facts.{Facts, learn, recorded}
 use Rattle.record.specs.declared.record.Record.{Record}
 use Rattle.facts.specs.Rules.{follows_facts}
 use Rattle.protocol.specs.Rows.{Row, held_stamp, standing_row}
 use Rattle.protocol.specs.Sound.{writes_standing}
-use Rattle.renewal.specs.Kinds.{Item, Plain, Base, Version, Settled, Closed}
-use Rattle.renewal.specs.Learnt.{learn_item}
 
 -- the rows that some facts hold
 abbrev pub standing_rows : Facts → List Row
@@ -40,20 +38,16 @@ fits_facts facts (Record.Commit c) = stands_in facts c.at c.reads c.writes
 fits_facts facts (Record.Abort t) = true
 fits_facts facts (Record.Outcome t None) = true
 fits_facts facts (Record.Outcome t (Some at)) = above_versions facts.installs at (writes_standing (recorded facts t))
+fits_facts facts (Record.Base epoch floor horizon) = true
+fits_facts facts (Record.Version install) = true
+fits_facts facts (Record.Settled t at parts) = true
+fits_facts facts (Record.Closed t coordinator outcome) = true
 
--- the record may come next
+-- a record that a step logs may come next
 unfoldable pub takes : Setup → Facts → Record → Bool
 takes setup facts r = belongs setup r && follows_facts setup.shard facts r && fits_facts facts r
 
--- a record of any kind has its place: only records of steps take rows and locks
-abbrev pub item_fits : Facts → Item → Bool
-item_fits facts (Plain r) = fits_facts facts r
-item_fits facts (Base epoch floor horizon) = true
-item_fits facts (Version i) = true
-item_fits facts (Settled t at parts) = true
-item_fits facts (Closed t coordinator outcome) = true
-
--- so each of some records, beside what stands by those before it
-abbrev pub AllFit : Facts → List Item → Type 0
+-- each of some records has its place, beside what stands by those before it
+abbrev pub AllFit : Facts → List Record → Type 0
 AllFit facts [] = Unit {0}
-AllFit facts (i ∷ is) = IsTrue (item_fits facts i) × AllFit (learn_item facts i) is
+AllFit facts (r ∷ rs) = IsTrue (fits_facts facts r) × AllFit (learn facts r) rs

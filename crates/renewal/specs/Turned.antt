@@ -4,41 +4,41 @@ use Rattle.units.specs.Lists.{gather}
 use Rattle.units.specs.declared.writes.Install.{Install}
 use Rattle.record.specs.Records.{Unrecorded, StandsPrepared, StandsDecided, HasAborted, HasSettled, HasClosed}
 use Rattle.record.specs.Facts.{Facts, TxnStatus}
+use Rattle.record.specs.declared.record.Record.{Record}
 use Rattle.record.specs.declared.record.Record.TheVariants as records
 use Rattle.versions.specs.Ordered.{all_installed}
 use Rattle.versions.specs.Pruned.{pruned}
-use Rattle.renewal.specs.Kinds.{Item, Plain, Base, Version, Settled, Closed}
 
 -- the versions that are held, by key and timestamp: of each key from the newest that is not above the horizon up
 abbrev pub versions_held : Facts → List Install
 versions_held facts = all_installed [] (pruned facts.horizon facts.installs)
 
 -- how an ended transaction is kept
-abbrev pub ended_item : TxnStatus → Option Item
+abbrev pub ended_item : TxnStatus → Option Record
 ended_item e =
     elim e.status [
       | Unrecorded ↦ None
       | StandsPrepared p ↦ None
       | StandsDecided c ↦ None
-      | HasAborted ↦ Some (Plain (records.Abort e.txn))
-      | HasSettled at parts ↦ Some (Settled e.txn at parts)
-      | HasClosed coordinator outcome ↦ Some (Closed e.txn coordinator outcome)
+      | HasAborted ↦ Some (records.Abort e.txn)
+      | HasSettled at parts ↦ Some (records.Settled e.txn at parts)
+      | HasClosed coordinator outcome ↦ Some (records.Closed e.txn coordinator outcome)
     ]
 
 -- how one that stands is kept: by its record
-abbrev pub standing_item : TxnStatus → Option Item
+abbrev pub standing_item : TxnStatus → Option Record
 standing_item e =
     elim e.status [
       | Unrecorded ↦ None
-      | StandsPrepared p ↦ Some (Plain (records.Prepare p))
-      | StandsDecided c ↦ Some (Plain (records.Commit c))
+      | StandsPrepared p ↦ Some (records.Prepare p)
+      | StandsDecided c ↦ Some (records.Commit c)
       | HasAborted ↦ None
       | HasSettled at parts ↦ None
       | HasClosed coordinator outcome ↦ None
     ]
 
 -- the records of the renewed log: the numbers, the versions, who ended, who stands
-unfoldable pub turned : Facts → List Item
+unfoldable pub turned : Facts → List Record
 turned facts =
-    Base facts.epoch facts.floor facts.horizon
-    ∷ (map Version (versions_held facts) ++ (gather ended_item facts.entries ++ gather standing_item facts.entries))
+    records.Base facts.epoch facts.floor facts.horizon
+    ∷ (map records.Version (versions_held facts) ++ (gather ended_item facts.entries ++ gather standing_item facts.entries))

@@ -1,7 +1,7 @@
 //! Laws of renewed logs. Each is the contract of a function that does nothing.
-ghost use Rattle.renewal.specs.Laws.{AlikeKeeps, AlikeStands, AlikeStays, AlikeSteps, AlikeTakes, AlikeTurned, FollowsKnown, LastingStays};
-ghost use Rattle.renewal.specs.Laws.{LearntAsRead, LogIsOfShard, LogLasts, OfShardStays};
-ghost use Rattle.renewal.specs.Laws.{TurnedAgain, TurnedFits, TurnedKeeps, TurnedLasts, TurnedLogKeeps, TurnedMayCome, TurnedSays};
+ghost use Rattle.renewal.specs.Laws.{AlikeKeeps, AlikeStands, AlikeStays, AlikeSteps, AlikeTakes, AlikeTurned, LastingStays};
+ghost use Rattle.renewal.specs.Laws.{LogIsOfShard, LogLasts, OfShardStays};
+ghost use Rattle.renewal.specs.Laws.{TurnedAgain, TurnedBelongs, TurnedFits, TurnedKeeps, TurnedLasts, TurnedLogKeeps, TurnedMayCome, TurnedSays};
 
 /// A renewed log, learnt record by record, says what the log said, with the versions that were held.
 pub fn turned_says()
@@ -26,6 +26,11 @@ pub fn turned_log_keeps()
 /// Each of its records has its place beside what stands by those before it.
 pub fn turned_fits()
     ensures { TurnedFits }
+{}
+
+/// They name keys of the shard alone, where the log did.
+pub fn turned_belongs()
+    ensures { TurnedBelongs }
 {}
 
 /// It may be renewed again,
@@ -66,16 +71,6 @@ pub fn alike_stands()
 /// They are turned over into the same records.
 pub fn alike_turned()
     ensures { AlikeTurned }
-{}
-
-/// What is learnt record by record, of all kinds, is what is read from the set of all records.
-pub fn learnt_as_read()
-    ensures { LearntAsRead }
-{}
-
-/// Which record may come next is told from the facts, and from where in the log one is.
-pub fn follows_known()
-    ensures { FollowsKnown }
 {}
 
 /// What a log of all kinds says may be renewed, where each record may come next and has its place,

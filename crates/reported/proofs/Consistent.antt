@@ -2,7 +2,8 @@
 use Rattle.std.proofs.Common.{◌≡◌, inl, inr, ℕ, zero, suc, Bool, true, false, cond, List, [], ◌∷◌, ◌++◌, map, filter, slice_get, Option, Some}
 use Rattle.std.proofs.Common.{None, refl, sym, subst}
 use Rattle.std.proofs.lemmas.List.{append-nil}
-use Rattle.record.specs.Verdict.{IsLine, verdict}
+use Rattle.record.specs.Verdict.{verdict}
+use Rattle.record.specs.Lines.{IsLine}
 use Rattle.record.specs.VerdictLaws.{IsBorneOut, ReadsCommitted, SoundIsYes}
 use Rattle.units.specs.Lists.{when}
 use Rattle.units.specs.declared.line.Line.{Line}
@@ -81,14 +82,14 @@ found (Some u) e = (u, refl)
 
 -- each read that counts is of a transaction that is committed
 reads_committed : (logs : List (List Record)) (ls : List Line) → ReadsCommitted logs (filter (line_counts (history logs)) ls)
-reads_committed logs ls t k x is = found (find_txn (history logs) t) (passes (line_counts (history logs)) ls (Line.Read t k x) is)
+reads_committed logs ls whole t k x is = found (find_txn (history logs) t) (passes (line_counts (history logs)) ls (Line.Read t k x) is)
 
 borne_out : (config : Config) (logs : List (List Record)) (lines : List Line) → IsExternallyConsistent config logs lines → IsBorneOut logs lines
 borne_out config logs lines h = record {
   whole = λ t. (h.all_or_nothing t).0;
   acknowledged = λ t at m is. (h.acknowledged t at m is).0;
-  looks = h.looks;
-  reads = h.reads;
+  looks = λ whole. h.looks;
+  reads = λ whole. h.reads;
   order = h.order;
 }
 

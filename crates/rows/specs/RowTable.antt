@@ -96,6 +96,10 @@ phase_by (Record.Commit c) = IsDecided c.at c.parts
 phase_by (Record.Opened epoch) = Idle
 phase_by (Record.Ceiling at) = Idle
 phase_by (Record.Horizon at) = Idle
+phase_by (Record.Base epoch floor horizon) = Idle
+phase_by (Record.Version install) = Idle
+phase_by (Record.Settled u at parts) = Idle
+phase_by (Record.Closed u coordinator outcome) = Idle
 phase_by (Record.Abort t) = Idle
 phase_by (Record.Outcome t outcome) = Idle
 

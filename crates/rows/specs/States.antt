@@ -3,7 +3,7 @@ use Rattle.std.specs.List.{list_any}
 use Rattle.std.specs.Prelude.{◌≡◌, ℕ, Bool, true, false, nat_eq, nat_lt, List, [], ◌∷◌, Option}
 use Rattle.units.specs.Ids.{Id, same_id}
 use Rattle.units.specs.Lists.{when}
-use Rattle.record.specs.Records.{as_aborted, as_committed, as_ended, as_prepared}
+use Rattle.record.specs.Records.{as_aborted}
 use Rattle.record.specs.declared.record.Record.{Record}
 use Rattle.protocol.specs.Rows.{Voted, with_vote}
 use Rattle.locks.specs.Table.{Token}
@@ -65,11 +65,31 @@ collecting_with_yes n p s = record { token = s.token; request = s.request; votes
 
 -- the record is a promise of the transaction
 abbrev pub is_prepare_of : Id → Record → Bool
-is_prepare_of t r = when (λ p. same_id p.txn t) (as_prepared r)
+is_prepare_of t (Record.Prepare p) = same_id p.txn t
+is_prepare_of t (Record.Opened epoch) = false
+is_prepare_of t (Record.Ceiling at) = false
+is_prepare_of t (Record.Horizon at) = false
+is_prepare_of t (Record.Commit c) = false
+is_prepare_of t (Record.Abort u) = false
+is_prepare_of t (Record.Outcome u o) = false
+is_prepare_of t (Record.Base epoch floor horizon) = false
+is_prepare_of t (Record.Version install) = false
+is_prepare_of t (Record.Settled u at parts) = false
+is_prepare_of t (Record.Closed u coordinator o) = false
 
 -- it is a decision of the transaction
 abbrev pub is_commit_of : Id → Record → Bool
-is_commit_of t r = when (λ c. same_id c.txn t) (as_committed r)
+is_commit_of t (Record.Commit c) = same_id c.txn t
+is_commit_of t (Record.Opened epoch) = false
+is_commit_of t (Record.Ceiling at) = false
+is_commit_of t (Record.Horizon at) = false
+is_commit_of t (Record.Prepare p) = false
+is_commit_of t (Record.Abort u) = false
+is_commit_of t (Record.Outcome u o) = false
+is_commit_of t (Record.Base epoch floor horizon) = false
+is_commit_of t (Record.Version install) = false
+is_commit_of t (Record.Settled u at parts) = false
+is_commit_of t (Record.Closed u coordinator o) = false
 
 -- it is an abort of the transaction
 abbrev pub is_abort_of : Id → Record → Bool
@@ -77,7 +97,17 @@ is_abort_of t r = when (λ u. same_id u t) (as_aborted r)
 
 -- it says how the transaction ended at this shard
 abbrev pub is_outcome_of : Id → Record → Bool
-is_outcome_of t r = when (λ e. same_id e.txn t) (as_ended r)
+is_outcome_of t (Record.Outcome u o) = same_id u t
+is_outcome_of t (Record.Opened epoch) = false
+is_outcome_of t (Record.Ceiling at) = false
+is_outcome_of t (Record.Horizon at) = false
+is_outcome_of t (Record.Prepare p) = false
+is_outcome_of t (Record.Commit c) = false
+is_outcome_of t (Record.Abort u) = false
+is_outcome_of t (Record.Base epoch floor horizon) = false
+is_outcome_of t (Record.Version install) = false
+is_outcome_of t (Record.Settled u at parts) = false
+is_outcome_of t (Record.Closed u coordinator o) = false
 
 -- the state that a logged promise leads to
 abbrev pub prepared_by : Token → Record → PreparedState
@@ -85,6 +115,10 @@ prepared_by token (Record.Prepare p) = record { token = token; coordinator = p.c
 prepared_by token (Record.Opened epoch) = record { token = token; coordinator = 0; at = 0 }
 prepared_by token (Record.Ceiling at) = record { token = token; coordinator = 0; at = 0 }
 prepared_by token (Record.Horizon at) = record { token = token; coordinator = 0; at = 0 }
+prepared_by token (Record.Base epoch floor horizon) = record { token = token; coordinator = 0; at = 0 }
+prepared_by token (Record.Version install) = record { token = token; coordinator = 0; at = 0 }
+prepared_by token (Record.Settled u at parts) = record { token = token; coordinator = 0; at = 0 }
+prepared_by token (Record.Closed u coordinator outcome) = record { token = token; coordinator = 0; at = 0 }
 prepared_by token (Record.Commit c) = record { token = token; coordinator = 0; at = 0 }
 prepared_by token (Record.Abort u) = record { token = token; coordinator = 0; at = 0 }
 prepared_by token (Record.Outcome u o) = record { token = token; coordinator = 0; at = 0 }
@@ -95,6 +129,10 @@ decided_by token (Record.Commit c) = record { token = token; at = c.at; parts = 
 decided_by token (Record.Opened epoch) = record { token = token; at = 0; parts = [] }
 decided_by token (Record.Ceiling at) = record { token = token; at = 0; parts = [] }
 decided_by token (Record.Horizon at) = record { token = token; at = 0; parts = [] }
+decided_by token (Record.Base epoch floor horizon) = record { token = token; at = 0; parts = [] }
+decided_by token (Record.Version install) = record { token = token; at = 0; parts = [] }
+decided_by token (Record.Settled u at parts) = record { token = token; at = 0; parts = [] }
+decided_by token (Record.Closed u coordinator outcome) = record { token = token; at = 0; parts = [] }
 decided_by token (Record.Prepare p) = record { token = token; at = 0; parts = [] }
 decided_by token (Record.Abort u) = record { token = token; at = 0; parts = [] }
 decided_by token (Record.Outcome u o) = record { token = token; at = 0; parts = [] }

@@ -179,6 +179,8 @@ impl RowReading {
             Record::Opened { .. } | Record::Ceiling { .. } | Record::Horizon { .. } =>
                 unreachable!(),
             Record::Commit(_) | Record::Abort { .. } | Record::Outcome { .. } => unreachable!(),
+            Record::Base { .. } | Record::Version(_) => unreachable!(),
+            Record::Settled { .. } | Record::Closed { .. } => unreachable!(),
         }
     }
 
@@ -398,5 +400,7 @@ fn decide(held: Held, logged: Logged) -> (RowDecided, Record)
         }
         Record::Opened { .. } | Record::Ceiling { .. } | Record::Horizon { .. } => unreachable!(),
         Record::Prepare(_) | Record::Abort { .. } | Record::Outcome { .. } => unreachable!(),
+        Record::Base { .. } | Record::Version(_) => unreachable!(),
+        Record::Settled { .. } | Record::Closed { .. } => unreachable!(),
     }
 }

@@ -6,7 +6,11 @@ use Rattle.record.specs.declared.record.Record.{Record}
 use Rattle.gatelog.specs.Placed.{Placed}
 use Rattle.gatelog.specs.Crash.{IsOldOrWith}
 use Rattle.gatelog.specs.Log.{log, and_entry}
-use Rattle.shard.specs.Logs.{items_of, records_in, and_logged, HoldsOldOrWith}
+use Rattle.gatelog.specs.Slots.{begins_in}
+use Rattle.disk.specs.Image.{MayLeave}
+use Rattle.disk.specs.Moments.{LeavesOnly}
+use Rattle.disk.proofs.Runs.{and_then}
+use Rattle.shard.specs.Logs.{items_of, records_in, and_logged, HoldsOldOrWith, BeginsAsBefore}
 use Rattle.std.specs.Prelude.{Bool, true, false, get_or, nat_lt}
 use Rattle.disk.specs.declared.plan.Fate.TheVariants.{Old}
 use Rattle.disk.specs.Planned.{IsAsPlanned}
@@ -61,3 +65,13 @@ module _ (before now : File) (same : now ≡ before) (staged : Placed) (item : R
       → IsAsPlanned {T = T} (nat_lt call 4) (Err error) × IsArmed call (log (surface now).seen) staged file
       → FailsIn call gate (records_in (surface before).seen) (Some item) file error
   fails_in T call gate file error place h device = (planned_err T (nat_lt call 4) error h.0, place, armed_as call file h.1)
+
+-- the log begins where it began, over a call that leaves the file as it is, and an append
+pub begins_on : {D : Type 0} (file : D → File) (clock : D → ℕ) (since : D → ℕ → List ℕ → Type 0) (old mid new : D) → file mid ≡ file old
+    → LeavesOnly clock since old mid (MayLeave (surface (file old)))
+    → LeavesOnly clock since mid new (λ image. begins_in image ≡ begins_in (surface (file mid)).seen)
+    → LeavesOnly clock since old new (BeginsAsBefore (surface (file old)))
+begins_on file clock since old mid new same first second =
+    and_then clock since old mid new (MayLeave (surface (file old))) (λ image. begins_in image ≡ begins_in (surface (file mid)).seen)
+    (BeginsAsBefore (surface (file old))) first second (λ image left. inl left)
+    (λ image is. inr (is ∙ ap (λ (f : File). begins_in (surface f).seen) same))

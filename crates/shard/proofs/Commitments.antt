@@ -61,6 +61,12 @@ module _ (t : Id) (c : Committed) where
   learn-one f (Record.Opened epoch) h = inl h
   learn-one f (Record.Ceiling at) h = inl h
   learn-one f (Record.Horizon at) h = inl h
+  learn-one f (Record.Base _ _ _) h = inl h
+  learn-one f (Record.Version _) h = inl h
+  learn-one f (Record.Settled u at parts) h =
+      ⊎_elim (λ same. absurd (cc)) (λ before. inl before) (given f.entries u (HasSettled at parts) (same_id u t) refl h)
+  learn-one f (Record.Closed u coordinator outcome) h =
+      ⊎_elim (λ same. absurd (cc)) (λ before. inl before) (given f.entries u (HasClosed coordinator outcome) (same_id u t) refl h)
   learn-one f (Record.Prepare p) h = ⊎_elim (λ same. absurd (cc)) (λ before. inl before) (given f.entries p.txn (StandsPrepared p) (same_id p.txn t) refl h)
   learn-one f (Record.Commit d) h =
       ⊎_elim (λ same. inr (same-stamp d same.0 same.1)) (λ before. inl before) (given f.entries d.txn (StandsDecided d) (same_id d.txn t) refl h)

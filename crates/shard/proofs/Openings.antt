@@ -94,6 +94,7 @@ appended_by keeps obeys file clock since failures plan old new item logged out i
     record {
       running = runs;
       any_moment = it.any_moment ran;
+      begins = it.begins ran;
       durable = it.durable;
       read = it.read;
       gate = (it.gate.0, it.place);
@@ -115,6 +116,11 @@ not_appended_at_once keeps obeys file clock since failures plan only_now disk ba
       any_moment = λ keep. record {
         later = omega arith;
         each = λ image left. inl (stands keep image (only_now disk image left));
+        before = λ moment image le left. inl left;
+      };
+      begins = λ keep. record {
+        later = omega arith;
+        each = λ image left. inl (only_now disk image left);
         before = λ moment image le left. inl left;
       };
       unchanged = inr refl;

@@ -42,6 +42,10 @@ may_install facts (Some (Record.Commit c)) installs = tt
 may_install facts (Some (Record.Abort t)) installs = tt
 may_install facts (Some (Record.Ceiling at)) installs = tt
 may_install facts (Some (Record.Horizon at)) installs = tt
+may_install facts (Some (Record.Base _ _ _)) installs = tt
+may_install facts (Some (Record.Version _)) installs = tt
+may_install facts (Some (Record.Settled _ _ _)) installs = tt
+may_install facts (Some (Record.Closed _ _ _)) installs = tt
 
 pub by_id-prop : {A : Type 0} (id : A → Id) (xs : List A) → IsProp (IsById id xs)
 by_id-prop id [] = Unit-prop

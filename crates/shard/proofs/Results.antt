@@ -19,7 +19,7 @@ use Rattle.protocol.specs.Plan.{Planned}
 use Rattle.protocol.specs.Step.{Stepped, Refuses, Does, facts_after, stepped}
 use Rattle.protocol.specs.Refusals.{Owns, is_own}
 use Rattle.memory.specs.Kept.{IsRefusal}
-use Rattle.shard.specs.Logs.{records_in, and_logged, KeepsRecords, HoldsOldOrWith}
+use Rattle.shard.specs.Logs.{records_in, and_logged, KeepsRecords, HoldsOldOrWith, BeginsAsBefore}
 use Rattle.shard.specs.Armed.{FailsIn}
 use Rattle.shard.specs.On.{CoreView, IsCause, IsDone, IsLogFull, HasWritten, HasStepped}
 
@@ -66,6 +66,13 @@ module _ {D : Type 0} (keeps obeys : Type 0) (file : D → File) (clock : D → 
       before = λ moment image le left. inl left;
     }
 
+    begins-untouched : LeavesOnly clock since core.disk core.disk (BeginsAsBefore (surface (file core.disk)))
+    begins-untouched = record {
+      later = omega arith;
+      each = λ image left. inl (only_now core.disk image left);
+      before = λ moment image le left. inl left;
+    }
+
     module _ (setup : Setup) (facts : Facts) (memory : Memory) (is_setup : setup ≡ core.setup) (is_facts : facts ≡ core.facts) where
       refused-written : memory ≡ core.memory → (logged : Option Record) (fault : Fault) → (fault ≡ Device → ⊥)
           → HasWritten keeps obeys file clock since failures plan core (with_known setup facts memory) logged (no_answer fault)
@@ -73,6 +80,7 @@ module _ {D : Type 0} (keeps obeys : Type 0) (file : D → File) (clock : D → 
         setup = is_setup;
         failures_stay = omega arith;
         any_moment = λ run keep. untouched logged keep;
+        begins = λ run keep. begins-untouched;
         durable = tt;
         read = tt;
         gate = tt;
@@ -116,6 +124,7 @@ module _ {D : Type 0} (keeps obeys : Type 0) (file : D → File) (clock : D → 
           setup = is_setup;
           failures_stay = omega arith;
           any_moment = λ run keep. untouched None keep;
+          begins = λ run keep. begins-untouched;
           durable = λ keep. subst (λ records. KeepsRecords (surface (file core.disk)) records)
               (sym (and-none (records_in (surface (file core.disk)).seen))) (stands keep);
           read = λ keep. sym (and-none (records_in (surface (file core.disk)).seen));
@@ -150,18 +159,20 @@ module _ {D : Type 0} (keeps obeys : Type 0) (file : D → File) (clock : D → 
         step_logged ≡ Some r → answer ≡ out → new.setup ≡ core.setup → new.facts ≡ facts_after core.facts (Some r)
         → new.memory ≡ after → IsFalse new.stopped → failures core.disk ≤ failures new.disk
         → (IsFalse core.stopped → keeps → LeavesOnly clock since core.disk new.disk (HoldsOldOrWith (records_in (surface (file core.disk)).seen) (Some r)))
+        → (IsFalse core.stopped → keeps → LeavesOnly clock since core.disk new.disk (BeginsAsBefore (surface (file core.disk))))
         → (keeps → KeepsRecords (surface (file new.disk)) (and_logged (records_in (surface (file core.disk)).seen) (Some r)))
         → (keeps → records_in (surface (file new.disk)).seen ≡ and_logged (records_in (surface (file core.disk)).seen) (Some r))
         → (new.gate ≡ next_gate core.gate r) × (new.gate ≤ core.gate + 2 ^ 20 + 5) → next_gate core.gate r + 1 ≤ 2 ^ 40
         → (obeys → plan core.disk ≡ Never → plan new.disk ≡ Never)
         → ((call : ℕ) → IsFalse core.stopped → obeys → keeps → plan core.disk ≡ AfterWrite call → IsFalse (nat_lt call 4))
         → HasStepped keeps obeys file clock since failures plan core new (Does step_logged after out) (Ok answer)
-    logged_as new r step_logged after out answer is_logged is_out setup facts memory runs stay moments durable read gate place never past =
+    logged_as new r step_logged after out answer is_logged is_out setup facts memory runs stay moments begins durable read gate place never past =
         restated new (Some r) step_logged after out answer is_logged is_out (record {
           written = record {
             setup = setup;
             failures_stay = stay;
             any_moment = moments;
+            begins = begins;
             durable = durable;
             read = read;
             gate = gate;

@@ -1,6 +1,6 @@
 -- What an opening leaves, from what was read, the verdict on it, and what adding the opening's record did.
 use Rattle.std.proofs.Common.{◌≡◌, ◌∙◌, ◌⊎◌, inl, inr, ⊎_elim, ℕ, ◌+◌, ◌^◌, ◌<◌, ◌≤◌, true, IsTrue, List, [], ◌∷◌, ◌++◌, fold, Option, Some, None}
-use Rattle.std.proofs.Common.{Result, Ok, Err, refl, sym, ap, subst, arith}
+use Rattle.std.proofs.Common.{Result, Ok, Err, ◌||◌, refl, sym, ap, subst, arith}
 use Rattle.std.specs.Prelude.{IfOk, slice_get}
 use Rattle.std.proofs.lemmas.Bool.{false≢true}
 use Rattle.units.specs.Lists.{follow, when}
@@ -19,17 +19,20 @@ use Rattle.record.specs.Installs.{installs_of}
 use Rattle.record.specs.Records.{epoch_of}
 use Rattle.record.specs.declared.record.Record.{Record}
 use Rattle.facts.specs.Rules.{follows_facts}
+use Rattle.facts.specs.Stages as stages
+use Rattle.facts.specs.declared.stage.Stage.{Stage}
 use Rattle.facts.proofs.Known.{follows_as_known}
 use Rattle.gatelog.specs.Armed.{waits}
-use Rattle.gatelog.specs.Frames.{IsFull, end_of, next_gate}
+use Rattle.gatelog.specs.Frames.{IsFull, next_gate}
 use Rattle.gatelog.specs.Log.{log, is_no_log}
 use Rattle.gatelog.specs.Placed.{Placed}
+use Rattle.gatelog.specs.Slots.{begins_in}
 use Rattle.protocol.specs.Rows.{rebuilt}
 use Rattle.recovery.specs.Recovered.{fault_in, items}
 use Rattle.shard.specs.Armed.{FailsIn, HasPlace}
-use Rattle.shard.specs.Logs.{records_in, and_logged, facts_logged, items_of, KeepsRecords, HoldsOldOrWith}
+use Rattle.shard.specs.Logs.{records_in, and_logged, facts_logged, items_of, KeepsRecords, HoldsOldOrWith, BeginsAsBefore}
 use Rattle.shard.specs.On.{CoreView}
-use Rattle.shard.specs.Opened.{HasAppended, HasNotAppended, HasNotOpened, HasOpened, HasLawfulEpoch, IsSpent, IsTaken, IsToldReason, is_reason, LeavesOpening}
+use Rattle.shard.specs.Opened.{HasAppended, HasNotAppended, HasNotOpened, HasOpened, HasLawfulEpoch, IsSpent, IsTaken, IsToldReason, is_reason, LeavesOpening, end_in}
 use Rattle.shard.specs.Opened.{fault_of, next_opening, opening_of}
 use Rattle.shard.proofs.Openings.{follows_next}
 
@@ -52,6 +55,11 @@ pub facts_are : LearntAgrees → AcceptedFollows → (setup : Setup) (rs : List 
 facts_are learns follows setup rs facts accepted known =
     ap Some (fold_is no_facts rs ∙ ap (λ f. learnt f rs) no_facts_is ∙ learns setup.shard rs (follows setup rs accepted) ∙ sym known)
 
+-- an opening may come next by the rules of what steps log
+opening_next : (shard : ℕ) (stage : Stage) (f : Facts) (r : Record) → follows_facts shard f r ≡ true → stages.follows_next shard stage f r ≡ true
+unfolding stages.follows_next
+opening_next shard stage f r h = ap (λ b. b || stages.follows_head shard stage f r) h
+
 -- and with the opening
 pub facts_then : LearnAgrees → AcceptedFollows → (setup : Setup) (rs : List Record) (facts : Facts) → taken setup rs ≡ Accepted → facts ≡ facts_of rs
     → learn facts (Record.Opened (facts.epoch + 1)) ≡ facts_of (rs ++ next_opening rs ∷ [])
@@ -63,7 +71,8 @@ facts_then learns follows setup rs facts accepted known =
     more : followed setup.shard (rs ++ next_opening rs ∷ []) ≡ true
     more =
         follows_as_known setup.shard rs (next_opening rs) (follows setup rs accepted)
-        ∙ ap (λ n. follows_facts setup.shard (facts_of rs) (Record.Opened (n + 1))) (sym (epoch_is rs)) ∙ follows_next setup.shard (facts_of rs)
+        ∙ opening_next setup.shard (stages.stage_of rs) (facts_of rs) (next_opening rs)
+        (ap (λ n. follows_facts setup.shard (facts_of rs) (Record.Opened (n + 1))) (sym (epoch_is rs)) ∙ follows_next setup.shard (facts_of rs))
 
 pub epoch_of_facts : (rs : List Record) (facts : Facts) → facts ≡ facts_of rs → Record.Opened (facts.epoch + 1) ≡ next_opening rs
 epoch_of_facts rs facts known = ap (λ f. Record.Opened (f.epoch + 1)) known ∙ ap (λ n. Record.Opened (n + 1)) (epoch_is rs)
@@ -113,7 +122,7 @@ module _ {D : Type 0} (keeps obeys : Type 0) (file : D → File) (clock : D → 
   -- what was read, and what reading it did to the disk
   pub record Found (disk mid : D) (gate : ℕ) (entries : List Placed) : Type 0 where
     pub entries_are : keeps → log (surface (file disk)).seen ≡ Ok entries
-    pub ends : gate ≡ end_of (items entries)
+    pub ends : keeps → gate ≡ end_in (surface (file disk)).seen (items entries)
     pub clean : keeps → surface (file mid) ≡ after_sync (surface (file disk))
     pub moment : keeps → LeavesOnly clock since disk mid (MayLeave (surface (file disk)))
     pub failures_stay : failures disk ≤ failures mid
@@ -146,6 +155,21 @@ module _ {D : Type 0} (keeps obeys : Type 0) (file : D → File) (clock : D → 
         (LeavesOpening (surface (file disk))) (found.moment keep) second (λ image left. inl left)
         (λ image held. inr (⊎_elim (λ old. inl (old ∙ same_records keep)) (λ new. inr (new ∙ with_opening keep)) held))
 
+    as_synced : keeps → (image : List ℕ) → MayLeave (surface (file mid)) image → image ≡ (surface (file disk)).seen
+    as_synced keep image left =
+        let may : MayLeave (after_sync (surface (file disk))) image = subst (λ s. MayLeave s image) (found.clean keep) left in
+        may.unchanged refl
+
+    -- and it begins there
+    begun : keeps → (end : D) → LeavesOnly clock since mid end (BeginsAsBefore (surface (file mid)))
+        → LeavesOnly clock since disk end (BeginsAsBefore (surface (file disk)))
+    begun keep end second =
+        and_then clock since disk mid end (MayLeave (surface (file disk))) (BeginsAsBefore (surface (file mid)))
+        (BeginsAsBefore (surface (file disk))) (found.moment keep) second (λ image left. inl left)
+        (λ image begins. ⊎_elim
+        (λ left. inr (ap begins_in (as_synced keep image left)))
+        (λ same. inr (same ∙ ap (λ s. begins_in s.seen) (found.clean keep))) begins)
+
     pub opened : (told : Setup) (item : Record) (core : CoreView D) → item ≡ next_opening (items entries) →
         HasAppended keeps obeys file clock since failures plan mid gate item core
         → core.setup ≡ told → core.memory ≡ rebuilt core.facts → taken told (items entries) ≡ Accepted →
@@ -159,13 +183,14 @@ module _ {D : Type 0} (keeps obeys : Type 0) (file : D → File) (clock : D → 
           taken = λ keep. subst (λ rs. IsTaken told rs core.facts) (sym (records_are keep)) (accepted, facts);
           memory = memory;
           any_moment = λ keep. leaves keep core.disk (it.any_moment keep);
+          begins = λ keep. begun keep core.disk (it.begins keep);
           durable = λ keep. subst (KeepsRecords (surface (file core.disk))) (with_opening keep) (it.durable keep);
           read = λ keep. it.read keep ∙ with_opening keep;
           gate = λ records keep read.
               let all : Ok (items entries) ≡ Ok records = sym (records_are keep) ∙ read in
               let these : items entries ≡ records = cc in
-              subst (λ rs. (core.gate ≡ next_gate (end_of rs) (next_opening rs)) × HasPlace (end_of rs) (Some (next_opening rs))) these
-              (subst (λ g. (core.gate ≡ next_gate g (next_opening (items entries))) × HasPlace g (Some (next_opening (items entries)))) found.ends it.gate);
+              subst (λ rs. (core.gate ≡ next_gate (end_in (surface (file disk)).seen rs) (next_opening rs)) × HasPlace (end_in (surface (file disk)).seen rs) (Some (next_opening rs))) these
+              (subst (λ g. (core.gate ≡ next_gate g (next_opening (items entries))) × HasPlace g (Some (next_opening (items entries)))) (found.ends keep) it.gate);
           epoch = λ records keep read.
               let all : Ok (items entries) ≡ Ok records = sym (records_are keep) ∙ read in
               let these : items entries ≡ records = cc in
@@ -184,13 +209,14 @@ module _ {D : Type 0} (keeps obeys : Type 0) (file : D → File) (clock : D → 
           (λ late. inr (inr (reason late)))) refused.cause;
       any_moment = λ keep. leaves keep back (subst (λ r. LeavesOnly clock since mid back (HoldsOldOrWith (records_in (surface (file mid)).seen)
           (Some r))) same (refused.any_moment keep));
+      begins = λ keep. begun keep back (refused.begins keep);
       unchanged = ⊎_elim (λ device. inl device) (λ kept. inr (λ keep. ap (λ f. (surface f).seen) kept ∙ ap (λ s. s.seen) (found.clean keep))) refused.unchanged;
       synced = ⊎_elim (λ device. inr (inl device)) (λ kept. inr (inr (λ keep. ap surface kept ∙ found.clean keep))) refused.unchanged;
       armed = λ call records obey keep is read.
           let all : Ok (items entries) ≡ Ok records = sym (records_are keep) ∙ read in
           let these : items entries ≡ records = cc in (
-            subst (λ rs. FailsIn call (end_of rs) (Ok rs) (Some (next_opening rs)) (file back) fault) these
-                (subst (λ g. FailsIn call g (Ok (items entries)) (Some (next_opening (items entries))) (file back) fault) found.ends
+            subst (λ rs. FailsIn call (end_in (surface (file disk)).seen rs) (Ok rs) (Some (next_opening rs)) (file back) fault) these
+                (subst (λ g. FailsIn call g (Ok (items entries)) (Some (next_opening (items entries))) (file back) fault) (found.ends keep)
                 (subst (λ rs. FailsIn call gate rs (Some (next_opening (items entries))) (file back) fault) (same_records keep ∙ records_are keep)
                 (subst (λ r. FailsIn call gate (records_in (surface (file mid)).seen) (Some r) (file back) fault) same
                 (refused.armed call obey keep (found.planned obey (ap waits is) ∙ is))))),
@@ -205,7 +231,7 @@ module _ {D : Type 0} (keeps obeys : Type 0) (file : D → File) (clock : D → 
         no_room late keep = record {
           read = records_are keep;
           taken = accepted;
-          spent = subst (λ g. (2 ^ 62 ≤ epoch_of (items entries) + 1) ⊎ IsFull g (next_opening (items entries))) found.ends (spent late);
+          spent = subst (λ g. (2 ^ 62 ≤ epoch_of (items entries) + 1) ⊎ IsFull g (next_opening (items entries))) (found.ends keep) (spent late);
         }
 
         reason : (fault ≡ TimeSpent) × full → IsToldReason keeps told (surface (file disk)) fault
@@ -219,6 +245,8 @@ module _ {D : Type 0} (keeps obeys : Type 0) (file : D → File) (clock : D → 
       cause = ⊎_elim (λ memory. inl memory) (λ is. inr (inr (reason is))) why;
       any_moment = λ keep. subst (λ d. LeavesOnly clock since disk d (LeavesOpening (surface (file disk)))) (sym same)
           (weaker clock since disk mid (MayLeave (surface (file disk))) (LeavesOpening (surface (file disk))) (found.moment keep) (λ image left. inl left));
+      begins = λ keep. subst (λ d. LeavesOnly clock since disk d (BeginsAsBefore (surface (file disk)))) (sym same)
+          (weaker clock since disk mid (MayLeave (surface (file disk))) (BeginsAsBefore (surface (file disk))) (found.moment keep) (λ image left. inl left));
       unchanged = inr (λ keep. ap (λ d. (surface (file d)).seen) same ∙ ap (λ s. s.seen) (found.clean keep));
       synced = inr (inr (λ keep. ap (λ d. surface (file d)) same ∙ found.clean keep));
       armed = λ call records obey keep is read. (λ device. absurd (no_device device why), λ device. absurd (no_device device why));
@@ -245,6 +273,8 @@ module _ {D : Type 0} (keeps obeys : Type 0) (file : D → File) (clock : D → 
   no_log told disk back fault cause moment unchanged synced planned = record {
     cause = ⊎_elim (λ memory. inl memory) (⊎_elim (λ device. inr (inl device)) (λ none. inr (inr (reason none)))) cause;
     any_moment = λ keep. weaker clock since disk back (MayLeave (surface (file disk))) (LeavesOpening (surface (file disk))) (moment keep)
+        (λ image left. inl left);
+    begins = λ keep. weaker clock since disk back (MayLeave (surface (file disk))) (BeginsAsBefore (surface (file disk))) (moment keep)
         (λ image left. inl left);
     unchanged = unchanged;
     synced = synced;

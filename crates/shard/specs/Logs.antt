@@ -6,6 +6,7 @@ use Rattle.record.specs.declared.record.Record.{Record}
 use Rattle.record.specs.Facts.{Facts, learn, no_facts}
 use Rattle.gatelog.specs.Placed.{Placed}
 use Rattle.gatelog.specs.Log.{log}
+use Rattle.gatelog.specs.Slots.{begins_in}
 
 -- the records of a log, without their places
 abbrev pub items_of : Result (List Placed) Fault → Result (List Record) Fault
@@ -28,6 +29,10 @@ KeepsRecords disk records = (image : List ℕ) → MayLeave disk image → recor
 -- the image holds the old records, or these with one more
 abbrev pub HoldsOldOrWith : Result (List Record) Fault → Option Record → List ℕ → Type 0
 HoldsOldOrWith old logged image = (records_in image ≡ old) ⊎ (records_in image ≡ and_logged old logged)
+
+-- a crash might have left the image before, or its log begins where that one began
+abbrev pub BeginsAsBefore : Surface → List ℕ → Type 0
+BeginsAsBefore disk image = MayLeave disk image ⊎ (begins_in image ≡ begins_in disk.seen)
 
 -- the facts of some records, each learnt behind those before it
 abbrev pub learned : List Record → Facts

@@ -15,7 +15,7 @@ use Rattle.message.specs.declared.message.Input.{Input}
 use Rattle.protocol.specs.Rows.{Memory}
 use Rattle.protocol.specs.Step.{Stepped, Refuses, Does, step, facts_after}
 use Rattle.gatelog.specs.Frames.{next_gate, IsFull}
-use Rattle.shard.specs.Logs.{records_in, and_logged, KeepsRecords, HoldsOldOrWith}
+use Rattle.shard.specs.Logs.{records_in, and_logged, KeepsRecords, HoldsOldOrWith, BeginsAsBefore}
 use Rattle.shard.specs.Armed.{FailsIn, GoesPast, HasPlace}
 
 -- what a contract sees of a core: its disk, where its log ends there, whether its device failed, what it was told when it
@@ -78,6 +78,8 @@ module _ {D : Type 0} (keeps obeys : Type 0) (file : D → File) (clock : D → 
     -- a crash at any moment since the start leaves the old records, or these with the new one
     pub any_moment : IsFalse old.stopped → keeps →
         LeavesOnly clock since old.disk new.disk (HoldsOldOrWith (records_in (surface (file old.disk)).seen) logged)
+    -- and the log begins where it began
+    pub begins : IsFalse old.stopped → keeps → LeavesOnly clock since old.disk new.disk (BeginsAsBefore (surface (file old.disk)))
     -- from then on every crash leaves the records with the new one, and a read gives them
     pub durable : OnOk result (keeps → KeepsRecords (surface (file new.disk)) (and_logged (records_in (surface (file old.disk)).seen) logged))
     pub read : OnOk result (keeps → records_in (surface (file new.disk)).seen ≡ and_logged (records_in (surface (file old.disk)).seen) logged)

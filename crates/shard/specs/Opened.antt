@@ -13,12 +13,13 @@ use Rattle.record.specs.Accepted.{Accepted, taken}
 use Rattle.record.specs.Records.{epoch_of}
 use Rattle.record.specs.Facts.{Facts, facts_of}
 use Rattle.record.specs.declared.record.Record.{Record}
-use Rattle.gatelog.specs.Frames.{IsFull, end_of, next_gate}
+use Rattle.gatelog.specs.Frames.{IsFull, end_from, next_gate}
 use Rattle.gatelog.specs.Log.{log}
+use Rattle.gatelog.specs.Slots.{begins_in}
 use Rattle.gatelog.specs.Placed.{Placed}
 use Rattle.protocol.specs.Rows.{rebuilt}
 use Rattle.recovery.specs.Recovered.{fault_in, items}
-use Rattle.shard.specs.Logs.{records_in, and_logged, KeepsRecords, HoldsOldOrWith}
+use Rattle.shard.specs.Logs.{records_in, and_logged, KeepsRecords, HoldsOldOrWith, BeginsAsBefore}
 use Rattle.shard.specs.On.{CoreView}
 use Rattle.shard.specs.Armed.{FailsIn, GoesPast, HasPlace}
 
@@ -49,11 +50,15 @@ fault_of setup (Err fault) = Some fault
 abbrev pub LeavesOpening : Surface → List ℕ → Type 0
 LeavesOpening disk image = MayLeave disk image ⊎ HoldsOldOrWith (records_in disk.seen) (opening_of (records_in disk.seen)) image
 
+-- where a log with these records ends in a file
+abbrev pub end_in : List ℕ → List Record → ℕ
+end_in image records = end_from (begins_in image) records
+
 -- the records are taken, but the opening has no room: epochs are at their limit, or the log is full
 pub record IsSpent (setup : Setup) (disk : Surface) (records : List Record) : Type 0 where
   pub read : records_in disk.seen ≡ Ok records
   pub taken : taken setup records ≡ Accepted
-  pub spent : (2 ^ 62 ≤ epoch_of records + 1) ⊎ IsFull (end_of records) (next_opening records)
+  pub spent : (2 ^ 62 ≤ epoch_of records + 1) ⊎ IsFull (end_in disk.seen records) (next_opening records)
 
 abbrev pub HasNoRoom : Setup → Surface → Type 0
 HasNoRoom setup disk = (records : List Record) × IsSpent setup disk records
@@ -80,6 +85,7 @@ module _ {D : Type 0} (keeps obeys : Type 0) (file : D → File) (clock : D → 
   pub record HasAppended (disk : D) (before : ℕ) (item : Record) (core : CoreView D) : Type 0 where
     pub running : IsFalse core.stopped
     pub any_moment : keeps → LeavesOnly clock since disk core.disk (HoldsOldOrWith (records_in (surface (file disk)).seen) (Some item))
+    pub begins : keeps → LeavesOnly clock since disk core.disk (BeginsAsBefore (surface (file disk)))
     pub durable : keeps → KeepsRecords (surface (file core.disk)) (and_logged (records_in (surface (file disk)).seen) (Some item))
     pub read : keeps → records_in (surface (file core.disk)).seen ≡ and_logged (records_in (surface (file disk)).seen) (Some item)
     pub gate : (core.gate ≡ next_gate before item) × HasPlace before (Some item)
@@ -92,6 +98,7 @@ module _ {D : Type 0} (keeps obeys : Type 0) (file : D → File) (clock : D → 
   pub record HasNotAppended (disk : D) (before : ℕ) (item : Record) (full : Type 0) (fault : Fault) (back : D) : Type 0 where
     pub cause : (fault ≡ WantsMemory) ⊎ (((fault ≡ Device) × (failures disk < failures back)) ⊎ ((fault ≡ TimeSpent) × full))
     pub any_moment : keeps → LeavesOnly clock since disk back (HoldsOldOrWith (records_in (surface (file disk)).seen) (Some item))
+    pub begins : keeps → LeavesOnly clock since disk back (BeginsAsBefore (surface (file disk)))
     pub unchanged : (fault ≡ Device) ⊎ (file back ≡ file disk)
     pub epoch : fault ≡ Device → HasLawfulEpoch item
     pub planned : obeys → plan disk ≡ Never → fault ≢ Device
@@ -107,13 +114,16 @@ module _ {D : Type 0} (keeps obeys : Type 0) (file : D → File) (clock : D → 
     pub memory : core.memory ≡ rebuilt core.facts
     -- a crash at any moment since the start leaves no more than one before, or what was read, or that with the opening
     pub any_moment : keeps → LeavesOnly clock since disk core.disk (LeavesOpening (surface (file disk)))
+    -- and the log begins where it began
+    pub begins : keeps → LeavesOnly clock since disk core.disk (BeginsAsBefore (surface (file disk)))
     -- from then on every crash leaves what was read with the opening, and a read gives it
     pub durable : keeps → KeepsRecords (surface (file core.disk)) (and_logged (records_in (surface (file disk)).seen)
         (opening_of (records_in (surface (file disk)).seen)))
     pub read : keeps → records_in (surface (file core.disk)).seen ≡ and_logged (records_in (surface (file disk)).seen)
         (opening_of (records_in (surface (file disk)).seen))
     pub gate : (records : List Record) → keeps → records_in (surface (file disk)).seen ≡ Ok records
-        → (core.gate ≡ next_gate (end_of records) (next_opening records)) × HasPlace (end_of records) (Some (next_opening records))
+        → (core.gate ≡ next_gate (end_in (surface (file disk)).seen records) (next_opening records))
+        × HasPlace (end_in (surface (file disk)).seen records) (Some (next_opening records))
     pub epoch : (records : List Record) → keeps → records_in (surface (file disk)).seen ≡ Ok records → epoch_of records + 1 < 2 ^ 62
     pub failures_stay : failures disk ≤ failures core.disk
     pub planned : obeys → plan disk ≡ Never → plan core.disk ≡ Never
@@ -124,13 +134,14 @@ module _ {D : Type 0} (keeps obeys : Type 0) (file : D → File) (clock : D → 
   pub record HasNotOpened (disk : D) (told : Setup) (fault : Fault) (back : D) : Type 0 where
     pub cause : (fault ≡ WantsMemory) ⊎ (((fault ≡ Device) × (failures disk < failures back)) ⊎ IsToldReason keeps told (surface (file disk)) fault)
     pub any_moment : keeps → LeavesOnly clock since disk back (LeavesOpening (surface (file disk)))
+    pub begins : keeps → LeavesOnly clock since disk back (BeginsAsBefore (surface (file disk)))
     -- but for a device that failed, the file reads as it did
     pub unchanged : (fault ≡ Device) ⊎ (keeps → (surface (file back)).seen ≡ (surface (file disk)).seen)
     -- but for memory and a device that failed, the file is synced
     pub synced : (fault ≡ WantsMemory) ⊎ ((fault ≡ Device) ⊎ (keeps → surface (file back) ≡ after_sync (surface (file disk))))
     -- with a call armed, counted from 0 in the append of the opening: it fails there, and leaves this
     pub armed : (call : ℕ) (records : List Record) → obeys → keeps → plan disk ≡ AfterWrite call → records_in (surface (file disk)).seen ≡ Ok records
-        → FailsIn call (end_of records) (Ok records) (Some (next_opening records)) (file back) fault
+        → FailsIn call (end_in (surface (file disk)).seen records) (Ok records) (Some (next_opening records)) (file back) fault
         × (fault ≡ Device → epoch_of records + 1 < 2 ^ 62)
     -- with no call armed, it is for want of memory or for that reason
     pub planned : obeys → plan disk ≡ Never → (fault ≡ WantsMemory) ⊎ IsToldReason keeps told (surface (file disk)) fault

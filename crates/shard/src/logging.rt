@@ -6,7 +6,7 @@ ghost use Rattle.disk.specs.Moments.{LeavesOnly};
 ghost use Rattle.gatelog.specs.Frames.{next_gate, IsFull};
 ghost use Rattle.gatelog.specs.Shown.{disk_of, gate_at, is_stopped};
 ghost use Rattle.shard.specs.Armed.{FailsIn, GoesPast};
-ghost use Rattle.shard.specs.Logs.{records_in, and_logged, KeepsRecords, HoldsOldOrWith};
+ghost use Rattle.shard.specs.Logs.{records_in, and_logged, KeepsRecords, HoldsOldOrWith, BeginsAsBefore};
 
 use disk::Disk;
 use gatelog::{GateLog, Logged};
@@ -43,6 +43,9 @@ pub fn append_record<D: Disk>(
         LeavesOnly D.clock D.since (disk_of gate_log.old) (disk_of gate_log.new)
         (HoldsOldOrWith (records_in (surface (D.file (disk_of gate_log.old))).seen)
         (Some item)) }
+    ensures begins { IsFalse (is_stopped gate_log.old) → D.keeps_model →
+        LeavesOnly D.clock D.since (disk_of gate_log.old) (disk_of gate_log.new)
+        (BeginsAsBefore (surface (D.file (disk_of gate_log.old)))) }
     ensures durable { OnOk result (D.keeps_model →
         KeepsRecords (surface (D.file (disk_of gate_log.new)))
         (and_logged (records_in (surface (D.file (disk_of gate_log.old))).seen)

@@ -8,7 +8,7 @@ use Rattle.record.specs.FactLaws.{AcceptedFollows, LearnAgrees}
 use Rattle.record.specs.Facts.{facts_of, learn}
 use Rattle.record.specs.declared.record.Record.{Record}
 use Rattle.facts.specs.Laws.{FollowsAsKnown}
-use Rattle.facts.specs.Rules.{follows_facts}
+use Rattle.facts.specs.Stages.{follows_next, stage_of}
 use Rattle.gatelog.specs.Placed.{Placed}
 use Rattle.recovery.specs.Recovered.{items}
 
@@ -45,7 +45,7 @@ upto_followed law setup es accepted n = followed_part setup.shard [] es n (law s
 -- the next entry may come next
 pub next_follows : AcceptedFollows → FollowsAsKnown → (setup : Setup) (es : List Placed) (i : ℕ) (e : Placed)
     → taken setup (items es) ≡ Accepted → i < length es → e ≡ slice_index_or es i e
-    → IsTrue (follows_facts setup.shard (facts_of (items (take i es))) e.item)
+    → IsTrue (follows_next setup.shard (stage_of (items (take i es))) (facts_of (items (take i es))) e.item)
 next_follows law known setup es i e accepted small is =
     let now : IsTrue (followed setup.shard (items (take i es))) = upto_followed law setup es accepted i in
     let then : IsTrue (followed setup.shard (items (take i es) ++ e.item ∷ [])) =

@@ -1,31 +1,11 @@
 -- Where a log ends, and what a scan of it says.
-use Rattle.std.proofs.Common.{◌≡◌, ◌∙◌, ◌≤◌, ◌<◌, ◌+◌, ℕ, suc, arith, refl, sym, ap, List, [], ◌∷◌, length, map, drop, slice_index_or, Result, Ok, Err}
-use Rattle.std.specs.Prelude.{fold, IsTrue}
-use Rattle.std.proofs.Math.Seq.{drop-cons}
+use Rattle.std.proofs.Common.{◌≡◌, ℕ, refl, ap, List, [], ◌∷◌, map, Result, Ok, Err}
+use Rattle.std.specs.Prelude.{IsTrue}
 use Rattle.std.proofs.lemmas.Bool.{eqb-true}
-use Rattle.record.specs.declared.record.Record.{Record}
-use Rattle.spelling.specs.Grammar.{spelling}
 use Rattle.units.specs.declared.fault.Fault.{Fault}
-use Rattle.gatelog.specs.Frames.{next_gate}
 use Rattle.gatelog.specs.Log.{ends_with, entries_of}
 use Rattle.gatelog.specs.Placed.{Placed}
 use Rattle.showing.specs.Dumps.{dumped, end_behind}
-
--- frames lead on
-pub grows : (rs : List Record) (gate : ℕ) → gate ≤ fold next_gate gate rs
-grows [] gate = omega arith
-grows (r ∷ rs) gate = let more : next_gate gate r ≤ fold next_gate (next_gate gate r) rs = grows rs (next_gate gate r) in omega (arith, more)
-
--- the frame of the next entry ends no further than the log
-pub within : (es : List Placed) (i gate end : ℕ) (e : Placed) → i < length es → e ≡ slice_index_or es i e
-    → fold next_gate gate (map (λ e. e.item) (drop i es)) ≡ end → gate + 5 + length (spelling e.item) ≤ end
-within es i gate end e small is same =
-    let turn : drop i es ≡ e ∷ drop (suc i) es = drop-cons es i e small ∙ ap (λ (x : Placed). x ∷ drop (suc i) es) (sym is) in
-    let all : fold next_gate (next_gate gate e.item) (map (λ e. e.item) (drop (suc i) es)) ≡ end =
-    sym (ap (λ (xs : List Placed). fold next_gate gate (map (λ e. e.item) xs)) turn) ∙ same in
-    let more : next_gate gate e.item ≤ fold next_gate (next_gate gate e.item) (map (λ e. e.item) (drop (suc i) es)) =
-    grows (map (λ e. e.item) (drop (suc i) es)) (next_gate gate e.item) in
-    omega (arith, more, all)
 
 -- a scan with these entries and this gate
 pub dumped_as : (image : List ℕ) (found : Result (List Placed × ℕ) Fault) (entries : List Placed) (gate : ℕ)

@@ -8,7 +8,8 @@ use Rattle.gatelog.specs.Placed.{Placed}
 use Rattle.inspection.specs.Files.{records_behind}
 use Rattle.recovery.specs.Recovered.{items}
 use Rattle.texts.specs.Numbers.{and_then}
-use Rattle.showing.specs.Stats.{doubts_in, keys_of, kinds_of, numbers_of, shard_told, stats_by}
+use Rattle.showing.specs.Counting.{kinds_of}
+use Rattle.showing.specs.Stats.{doubts_in, keys_of, numbers_of, shard_told, stats_by}
 use Rattle.showing.specs.declared.kinds.Kinds.{Kinds}
 use Rattle.showing.specs.declared.stats.InDoubt.{InDoubt}
 use Rattle.showing.specs.declared.stats.Numbers.{Numbers}

@@ -19,7 +19,7 @@ use Rattle.showing.specs.Histories.{end_in, history, told_as, told_by}
 told_append : (k : Bytes) (t : Id) (s : Standing) (xs ys : List Write)
     → told_as k t (xs ++ ys) (Some s) ≡ told_as k t xs (Some s) ++ told_as k t ys (Some s)
 told_append k t s xs ys =
-    let make : Write → Told = λ w. record { txn = t; standing = s; value = w.value } in
+    let make : Write → Told = λ w. record { txn = Some t; standing = s; value = w.value } in
     ap (map make) (filter-append (λ w. same_key w.key k) xs ys)
     ∙ map-append make (filter (λ w. same_key w.key k) xs) (filter (λ w. same_key w.key k) ys)
 

@@ -1,5 +1,5 @@
 -- What the log of a shard says of a key.
-use Rattle.std.specs.Prelude.{ℕ, Bool, true, false, List, [], Option, Some, None, Result, Ok, Err, map, filter, flat_map, option_map}
+use Rattle.std.specs.Prelude.{ℕ, Bool, true, false, List, [], ◌∷◌, Option, Some, None, Result, Ok, Err, map, filter, flat_map, option_map, if◌then◌else◌}
 use Rattle.units.specs.Ids.{Id}
 use Rattle.units.specs.Keys.{Bytes, same_key}
 use Rattle.units.specs.Versions.{at_time, latest}
@@ -12,7 +12,7 @@ use Rattle.record.specs.Accepted.{taken}
 use Rattle.record.specs.Installs.{installs_of}
 use Rattle.record.specs.Records.{ended_of}
 use Rattle.record.specs.declared.record.Record.{Record}
-use Rattle.record.specs.declared.record.Record.TheVariants.{Opened, Ceiling, Prepare, Commit, Abort, Outcome, Horizon}
+use Rattle.record.specs.declared.record.Record.TheVariants.{Opened, Ceiling, Prepare, Commit, Abort, Outcome, Horizon, Base, Version, Settled, Closed}
 use Rattle.gatelog.specs.Log.{log}
 use Rattle.gatelog.specs.Placed.{Placed}
 use Rattle.recovery.specs.Recovered.{fault_in, items}
@@ -35,7 +35,12 @@ standing_by before (Some (Some at)) = Some (Installed at)
 abbrev pub told_as : Bytes → Id → List Write → Option Standing → List Told
 told_as k t writes None = []
 told_as k t writes (Some standing) =
-    map (λ w. record { txn = t; standing = standing; value = w.value }) (filter (λ w. same_key w.key k) writes)
+    map (λ w. record { txn = Some t; standing = standing; value = w.value }) (filter (λ w. same_key w.key k) writes)
+
+-- what a version that a renewed log holds makes of a key; whose it was is not kept
+abbrev pub version_told : Bytes → Install → List Told
+version_told k i =
+    if same_key i.key k then (record { txn = None; standing = Installed i.at; value = i.value }) ∷ [] else []
 
 -- what a record says of a key, by the ends of transactions
 abbrev pub told_by : (Id → Option (Option ℕ)) → Bytes → Record → List Told
@@ -46,8 +51,13 @@ told_by ends k (Prepare p) = told_as k p.txn p.writes (standing_by (Promised p.a
 told_by ends k (Commit c) = told_as k c.txn c.writes (standing_by (Decided c.at) (ends c.txn))
 told_by ends k (Abort t) = []
 told_by ends k (Outcome t outcome) = []
+told_by ends k (Base epoch floor horizon) = []
+told_by ends k (Version install) = version_told k install
+told_by ends k (Settled t at parts) = []
+told_by ends k (Closed t coordinator outcome) = []
 
--- what a log says of a key: each write that was promised or decided and not aborted, in order, with how it stands
+-- what a log says of a key: each write that was promised or decided and not aborted, in order, with how it stands, and each version
+-- that a renewed log holds
 abbrev pub history : List Record → Bytes → List Told
 history records k = flat_map (told_by (end_in records) k) records
 

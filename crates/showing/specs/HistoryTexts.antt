@@ -2,6 +2,7 @@
 use Rattle.std.specs.Prelude.{◌≡◌, ◌⊎◌, ◌&&◌, ◌==◌, ◌/◌, ◌%◌, ℕ, Bool, not, IsTrue, List, [], ◌∷◌, ◌++◌, Option, Some, None, codes, flat_map, nat_le, if◌then◌else◌}
 use Rattle.std.specs.Char.{digit_char}
 use Rattle.std.specs.Fmt.{decimal}
+use Rattle.units.specs.Ids.{Id}
 use Rattle.units.specs.Keys.{Bytes}
 use Rattle.units.specs.Texts.{txn_text}
 use Rattle.units.specs.declared.fault.Fault.{Fault}
@@ -38,11 +39,16 @@ mark_of (Installed at) = []
 mark_of (Decided at) = codes " decided"
 mark_of (Promised at) = codes " in doubt"
 
+-- a transaction, or what stands for one that is not known
+abbrev pub txn_word : Option Id → List ℕ
+txn_word (Some t) = txn_text t
+txn_word None = codes "-"
+
 -- a write of a key, as a line
 abbrev pub told_line : Told → List ℕ
 told_line told =
     decimal (stamp_of told.standing)
-    ++ (codes " " ++ (txn_text told.txn ++ (codes " " ++ (value_text told.value ++ (mark_of told.standing ++ codes "\n")))))
+    ++ (codes " " ++ (txn_word told.txn ++ (codes " " ++ (value_text told.value ++ (mark_of told.standing ++ codes "\n")))))
 
 -- a line for each write of a key
 abbrev pub history_text : List Told → List ℕ

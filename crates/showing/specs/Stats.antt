@@ -6,40 +6,18 @@ use Rattle.units.specs.Lists.{gather, head}
 use Rattle.units.specs.declared.fault.Fault.{Fault}
 use Rattle.units.specs.declared.writes.Install.{Install}
 use Rattle.record.specs.Installs.{installs_of}
-use Rattle.record.specs.Records.{as_aborted, as_committed, as_ended, as_horizon, as_opened, as_prepared, epoch_of, floor_of}
+use Rattle.record.specs.Records.{epoch_of, floor_of}
 use Rattle.record.specs.declared.record.Record.{Record}
-use Rattle.record.specs.declared.record.Record.TheVariants.{Opened, Ceiling, Prepare, Commit, Abort, Outcome, Horizon}
+use Rattle.record.specs.declared.record.Record.TheVariants.{Opened, Ceiling, Prepare, Commit, Abort, Outcome, Horizon, Base, Version, Settled, Closed}
 use Rattle.gatelog.specs.Log.{log}
 use Rattle.gatelog.specs.Placed.{Placed}
 use Rattle.recovery.specs.Recovered.{items}
 use Rattle.inspection.specs.Files.{records_behind}
 use Rattle.texts.specs.Numbers.{and_then}
+use Rattle.showing.specs.Counting.{kinds_of}
 use Rattle.showing.specs.Histories.{end_in}
-use Rattle.showing.specs.declared.kinds.Kinds.{Kinds}
 use Rattle.showing.specs.declared.stats.InDoubt.{InDoubt}
 use Rattle.showing.specs.declared.stats.Numbers.{Numbers}
-
--- the record as a ceiling
-abbrev pub as_ceiling : Record → Option ℕ
-as_ceiling (Opened epoch) = None
-as_ceiling (Ceiling at) = Some at
-as_ceiling (Horizon at) = None
-as_ceiling (Prepare p) = None
-as_ceiling (Commit c) = None
-as_ceiling (Abort t) = None
-as_ceiling (Outcome t o) = None
-
--- how many records there are of each kind
-abbrev pub kinds_of : List Record → Kinds
-kinds_of records = record {
-  opened = length (gather as_opened records);
-  ceilings = length (gather as_ceiling records);
-  prepares = length (gather as_prepared records);
-  commits = length (gather as_committed records);
-  aborts = length (gather as_aborted records);
-  outcomes = length (gather as_ended records);
-  horizons = length (gather as_horizon records);
-}
 
 -- some keys with one more, where it is not there
 abbrev pub with_key : List Bytes → Bytes → List Bytes
@@ -49,7 +27,7 @@ with_key ks k = if has_key ks k then ks else ks ++ k ∷ []
 abbrev pub keys_of : List Install → List Bytes
 keys_of installs = fold with_key [] (map (λ i. i.key) installs)
 
--- the record as a promise or a decision, which is in doubt until there is an outcome
+-- the record as a promise or a decision that tells of no end, which is in doubt until there is an outcome
 abbrev pub as_begun : Record → Option InDoubt
 as_begun (Opened epoch) = None
 as_begun (Ceiling at) = None
@@ -58,6 +36,10 @@ as_begun (Prepare p) = Some (record { txn = p.txn; at = p.at; is_decided = false
 as_begun (Commit c) = Some (record { txn = c.txn; at = c.at; is_decided = true })
 as_begun (Abort t) = None
 as_begun (Outcome t o) = None
+as_begun (Base epoch floor horizon) = None
+as_begun (Version install) = None
+as_begun (Settled t at parts) = None
+as_begun (Closed t coordinator outcome) = None
 
 -- it is in doubt, where its transaction has no end
 abbrev pub unless_ended : InDoubt → Option (Option ℕ) → Option InDoubt
@@ -98,6 +80,10 @@ parts_in (Prepare p) = None
 parts_in (Commit c) = Some c.parts
 parts_in (Abort t) = None
 parts_in (Outcome t o) = None
+parts_in (Base epoch floor horizon) = None
+parts_in (Version install) = None
+parts_in (Settled t at parts) = Some parts
+parts_in (Closed t coordinator outcome) = None
 
 -- a shard, or the last one
 abbrev pub or_last : Option ℕ → ℕ

@@ -3,7 +3,8 @@ use Rattle.std.specs.Prelude.{◌≡◌, ℕ, Bool, true, false, List, [], ◌�
 use Rattle.std.specs.Fmt.{decimal}
 use Rattle.units.specs.Texts.{txn_text}
 use Rattle.showing.specs.declared.figure.Figure.{Figure}
-use Rattle.showing.specs.declared.figure.Figure.TheVariants.{Bytes, Records, Opened, Ceilings, Prepares, Commits, Aborts, Outcomes, Horizons, Keys, Versions, Epoch, Floor, InDoubt}
+use Rattle.showing.specs.declared.figure.Figure.TheVariants.{Bytes, Records, Opened, Ceilings, Prepares, Commits, Aborts, Outcomes, Horizons}
+use Rattle.showing.specs.declared.figure.Figure.TheVariants.{Bases, VersionRecords, Settled, Closed, Keys, Versions, Epoch, Floor, InDoubt}
 use Rattle.showing.specs.declared.stats.Numbers.{Numbers}
 use Rattle.showing.specs.declared.stats.InDoubt as doubts
 
@@ -18,6 +19,10 @@ number_of Commits numbers = numbers.kinds.commits
 number_of Aborts numbers = numbers.kinds.aborts
 number_of Outcomes numbers = numbers.kinds.outcomes
 number_of Horizons numbers = numbers.kinds.horizons
+number_of Bases numbers = numbers.kinds.bases
+number_of VersionRecords numbers = numbers.kinds.versions
+number_of Settled numbers = numbers.kinds.settled
+number_of Closed numbers = numbers.kinds.closed
 number_of Keys numbers = numbers.keys
 number_of Versions numbers = numbers.versions
 number_of Epoch numbers = numbers.epoch
@@ -35,6 +40,10 @@ word_of Commits = codes "commit"
 word_of Aborts = codes "abort"
 word_of Outcomes = codes "outcome"
 word_of Horizons = codes "horizon"
+word_of Bases = codes "base"
+word_of VersionRecords = codes "version"
+word_of Settled = codes "settled"
+word_of Closed = codes "closed"
 word_of Keys = codes "keys"
 word_of Versions = codes "versions"
 word_of Epoch = codes "epoch"
@@ -43,11 +52,15 @@ word_of InDoubt = codes "in doubt"
 
 -- the numbers of which there are sums
 abbrev pub summed : List Figure
-summed = Bytes ∷ Records ∷ Opened ∷ Ceilings ∷ Prepares ∷ Commits ∷ Aborts ∷ Outcomes ∷ Horizons ∷ Keys ∷ Versions ∷ InDoubt ∷ []
+summed =
+    Bytes ∷ Records ∷ Opened ∷ Ceilings ∷ Prepares ∷ Commits ∷ Aborts ∷ Outcomes ∷ Horizons ∷ Bases ∷ VersionRecords ∷ Settled ∷ Closed
+    ∷ Keys ∷ Versions ∷ InDoubt ∷ []
 
 -- all of them
 abbrev pub figures : List Figure
-figures = Bytes ∷ Records ∷ Opened ∷ Ceilings ∷ Prepares ∷ Commits ∷ Aborts ∷ Outcomes ∷ Horizons ∷ Keys ∷ Versions ∷ Epoch ∷ Floor ∷ InDoubt ∷ []
+figures =
+    Bytes ∷ Records ∷ Opened ∷ Ceilings ∷ Prepares ∷ Commits ∷ Aborts ∷ Outcomes ∷ Horizons ∷ Bases ∷ VersionRecords ∷ Settled ∷ Closed
+    ∷ Keys ∷ Versions ∷ Epoch ∷ Floor ∷ InDoubt ∷ []
 
 -- a number on a line
 abbrev pub number_line : Figure → ℕ → List ℕ

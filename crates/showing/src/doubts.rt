@@ -65,5 +65,7 @@ fn begun(item: &Record) -> Option<InDoubt>
         }),
         Record::Opened { .. } | Record::Ceiling { .. } | Record::Horizon { .. } => None,
         Record::Abort { .. } | Record::Outcome { .. } => None,
+        Record::Base { .. } | Record::Version(_) => None,
+        Record::Settled { .. } | Record::Closed { .. } => None,
     }
 }

@@ -2,13 +2,13 @@
 ghost use Rattle.std.specs.Prelude.{◌≡◌, ◌⊎◌, [], Some, None, Ok, Err, IfOk, IfErr, OnOk, IsTrue, IsFalse};
 ghost use Rattle.record.specs.Accepted.{followed};
 ghost use Rattle.record.specs.Facts.{facts_of, learn};
-ghost use Rattle.facts.specs.Rules.{follows_facts};
+ghost use Rattle.facts.specs.Stages.{follows_next, stage_after};
 ghost use Rattle.inspection.specs.Files.{records_behind};
 ghost use Rattle.recovery.specs.Recovered.{items};
 ghost use Rattle.showing.specs.Stats.{decided_by, parts_in, shard_told};
 ghost use Rattle.showing.specs.Whose.{TellsItsShard};
 
-use facts::{Facts, follows_as_known};
+use facts::{Facts, follows_as_known, stage_agrees};
 use gatelog::Entry;
 use record::{Record, learn_agrees};
 use std::alloc::Global;
@@ -25,6 +25,7 @@ pub fn learn_followed(alloc: Global, shard: ShardNo, entries: &[Entry]) -> Resul
         ⊎ (records_behind shard [] entries.now ≡ Err fault)) }
 {
     follows_as_known();
+    stage_agrees();
     learn_agrees();
     let mut facts = Facts::new(alloc, shard);
     for entry in entries {
@@ -37,11 +38,14 @@ pub fn learn_followed(alloc: Global, shard: ShardNo, entries: &[Entry]) -> Resul
 fn learn_one(facts: &mut Facts, alloc: Global, entry: &Entry) -> Result<(), Fault>
     ensures shard { facts.new.shard ≡ facts.old.shard }
     ensures learnt { OnOk result (facts.new.facts ≡ learn facts.old.facts entry.now.item) }
+    ensures stage { OnOk result
+        (facts.new.stage ≡ stage_after facts.old.stage entry.now.item) }
     ensures follows { OnOk result
-        (IsTrue (follows_facts facts.old.shard facts.old.facts entry.now.item)) }
+        (IsTrue (follows_next facts.old.shard facts.old.stage facts.old.facts entry.now.item)) }
     ensures refused { IfErr result (λ fault. (fault ≡ Fault.Memory)
         ⊎ ((fault ≡ Fault.Damaged entry.now.offset)
-        × IsFalse (follows_facts facts.old.shard facts.old.facts entry.now.item))) }
+        × IsFalse (follows_next facts.old.shard facts.old.stage facts.old.facts
+        entry.now.item))) }
 {
     let item = entry.item().copy(alloc)?;
     facts.reserve()?;
@@ -75,11 +79,13 @@ fn decided_by(item: &Record) -> Option<ShardNo>
 {
     match item {
         Record::Commit(c) => Some(c.parts.least()),
+        Record::Settled { parts, .. } => Some(parts.least()),
         Record::Opened { .. }
         | Record::Ceiling { .. }
         | Record::Horizon { .. }
         | Record::Prepare(_) => None,
         Record::Abort { .. } | Record::Outcome { .. } => None,
+        Record::Base { .. } | Record::Version(_) | Record::Closed { .. } => None,
     }
 }
 

@@ -1,13 +1,14 @@
 //! A history and a value as text.
 ghost use Rattle.std.specs.Prelude.{◌≡◌, ◌++◌, ◌<◌, IfOk, IfErr, OnOk, codes, flat_map, string_bytes};
 ghost use Rattle.std.specs.Char.{digit_char};
-ghost use Rattle.showing.specs.HistoryTexts.{byte_text, history_text, is_plain, mark_of, stamp_of, told_line, value_text};
+ghost use Rattle.showing.specs.HistoryTexts.{byte_text, history_text, is_plain, mark_of, stamp_of, told_line, txn_word, value_text};
 
 use crate::told::{Standing, Told};
 use std::alloc::Global;
-use units::{Fault, Stamp, Value};
+use units::{Fault, Stamp, TxnId, Value};
 
-/// A line for each write of a key: its timestamp, its transaction, its value and how it stands, where it is no version.
+/// A line for each write of a key: its timestamp, its transaction, or a dash where none is known, its value and how it stands, where
+/// it is no version.
 pub fn history_text(alloc: Global, told: &[Told]) -> Result<String, Fault>
     ensures text { IfOk result (λ text. string_bytes text ≡ history_text told.now) }
     ensures memory { IfErr result (λ fault. fault ≡ Fault.Memory) }
@@ -35,12 +36,23 @@ fn push_line(text: &mut String, alloc: Global, told: &Told) -> Result<(), Fault>
     ensures memory { IfErr result (λ fault. fault ≡ Fault.Memory) }
 {
     let at = stamp_of(told.standing);
-    let txn = told.txn;
+    let txn = txn_word(alloc, told.txn)?;
     let value = value_text(alloc, &told.value)?;
     let mark = mark_of(told.standing);
     let line = format!(in alloc; "{at} {txn} {value}{mark}\n")?;
     text.push_str(&line)?;
     Ok(())
+}
+
+// A transaction, or what stands for one that is not known.
+fn txn_word(alloc: Global, txn: Option<TxnId>) -> Result<String, Fault>
+    ensures text { IfOk result (λ text. string_bytes text ≡ txn_word txn) }
+    ensures memory { IfErr result (λ fault. fault ≡ Fault.Memory) }
+{
+    match txn {
+        Some(txn) => Ok(format!(in alloc; "{txn}")?),
+        None => Ok(format!(in alloc; "-")?),
+    }
 }
 
 fn stamp_of(standing: Standing) -> Stamp

@@ -1,8 +1,7 @@
 //! How many records of each kind a log has.
-ghost use Rattle.std.specs.Prelude.{◌≡◌, ◌^◌};
+ghost use Rattle.std.specs.Prelude.{◌≡◌, ◌<◌, ◌^◌};
 ghost use Rattle.recovery.specs.Recovered.{items};
-ghost use Rattle.showing.specs.Counting.{AreFewer, with_kind};
-ghost use Rattle.showing.specs.Stats.{kinds_of};
+ghost use Rattle.showing.specs.Counting.{all_kinds, kinds_of, with_kind};
 
 use gatelog::Entry;
 use record::Record;
@@ -17,12 +16,16 @@ pub struct Kinds {
     pub aborts: u64,
     pub outcomes: u64,
     pub horizons: u64,
+    pub bases: u64,
+    pub versions: u64,
+    pub settled: u64,
+    pub closed: u64,
 }
 
 impl Kinds {
     // Counts one record more.
     fn count(&mut self, item: &Record)
-        requires { AreFewer self.old (2 ^ 63) }
+        requires { all_kinds self.old < 2 ^ 63 }
         ensures { self.new ≡ with_kind self.old item.now }
     {
         match item {
@@ -33,6 +36,10 @@ impl Kinds {
             Record::Abort { txn: _ } => self.aborts += 1,
             Record::Outcome { txn: _, outcome: _ } => self.outcomes += 1,
             Record::Horizon { at: _ } => self.horizons += 1,
+            Record::Base { .. } => self.bases += 1,
+            Record::Version(_) => self.versions += 1,
+            Record::Settled { .. } => self.settled += 1,
+            Record::Closed { .. } => self.closed += 1,
         }
     }
 }
@@ -49,6 +56,10 @@ pub fn kinds_of(entries: &[Entry]) -> Kinds
         aborts: 0,
         outcomes: 0,
         horizons: 0,
+        bases: 0,
+        versions: 0,
+        settled: 0,
+        closed: 0,
     };
     for entry in entries {
         kinds.count(entry.item());

@@ -4,7 +4,7 @@ ghost use Rattle.record.specs.Accepted.{Accepted, followed, taken};
 ghost use Rattle.record.specs.Facts.{facts_of};
 ghost use Rattle.recovery.specs.Recovered.{items};
 
-use facts::{Facts, follows_as_known};
+use facts::{Facts, follows_as_known, stage_agrees};
 use gatelog::Entry;
 use record::{accepted_follows, learn_agrees};
 use std::alloc::Global;
@@ -19,6 +19,7 @@ pub fn learn_all(alloc: Global, setup: &Setup, entries: &[Entry]) -> Result<Fact
     ensures memory { IfErr result (λ fault. fault ≡ Fault.Memory) }
 {
     follows_as_known();
+    stage_agrees();
     learn_agrees();
     accepted_follows();
     let mut facts = Facts::new(alloc, setup.shard);

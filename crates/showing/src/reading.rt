@@ -1,15 +1,13 @@
 //! What the file of a log holds.
-ghost use Rattle.std.specs.Prelude.{◌≡◌, ◌⊎◌, ◌<◌, ◌^◌, ◌++◌, Ok, Err, Some, IfOk, IfErr, IsTrue, map, codes};
+ghost use Rattle.std.specs.Prelude.{◌≡◌, ◌⊎◌, ◌<◌, ◌++◌, Ok, Err, Some, IfOk, IfErr, IsTrue, codes};
 ghost use Rattle.std.specs.Fmt.{decimal};
 ghost use Rattle.disk.specs.File.{surface};
 ghost use Rattle.disk.specs.Moments.{HasCause};
-ghost use Rattle.gatelog.specs.Frames.{end_of};
 ghost use Rattle.gatelog.specs.Log.{is_no_log};
 ghost use Rattle.showing.specs.Dumps.{dump_of, end_behind, end_text};
 
 use disk::Disk;
 use gatelog::{Entry, GateLog};
-use spelling::encoded_len;
 use std::alloc::Global;
 use std::fmt;
 use units::Fault;
@@ -52,7 +50,7 @@ pub fn read_dump<D: Disk + Drop>(alloc: Global, disk: D) -> Result<Dump, Fault>
 {
     match GateLog::open(alloc, disk) {
         Ok((log, entries)) => {
-            let gate = gate_behind(&entries);
+            let gate = log.gate();
             let mut disk = log.into_disk();
             let end = read_end(&mut disk, gate)?;
             Ok(Dump { entries, end })
@@ -62,18 +60,6 @@ pub fn read_dump<D: Disk + Drop>(alloc: Global, disk: D) -> Result<Dump, Fault>
             Err(fault)
         }
     }
-}
-
-// Where a log with these entries ends.
-fn gate_behind(entries: &[Entry]) -> u64
-    requires { end_of (map (λ e. e.item) entries.now) < 2 ^ 64 }
-    ensures { result ≡ end_of (map (λ e. e.item) entries.now) }
-{
-    let mut gate = FIRST_GATE;
-    for entry in entries {
-        gate += 5 + encoded_len(entry.item());
-    }
-    gate
 }
 
 // What stands at a gate that is not open.
@@ -94,6 +80,3 @@ fn read_end<D: Disk>(disk: &mut D, gate: u64) -> Result<End, Fault>
         Ok(End::Torn(gate))
     }
 }
-
-// The offset of the first gate, behind the header.
-const FIRST_GATE: u64 = 8;

@@ -8,7 +8,7 @@ use std::alloc::Global;
 use units::Fault;
 
 // The numbers of which there are sums.
-const SUMMED: [Figure; 12] = [
+const SUMMED: [Figure; 16] = [
     Figure::Bytes,
     Figure::Records,
     Figure::Opened,
@@ -18,13 +18,17 @@ const SUMMED: [Figure; 12] = [
     Figure::Aborts,
     Figure::Outcomes,
     Figure::Horizons,
+    Figure::Bases,
+    Figure::VersionRecords,
+    Figure::Settled,
+    Figure::Closed,
     Figure::Keys,
     Figure::Versions,
     Figure::InDoubt,
 ];
 
 // All of them.
-const FIGURES: [Figure; 14] = [
+const FIGURES: [Figure; 18] = [
     Figure::Bytes,
     Figure::Records,
     Figure::Opened,
@@ -34,6 +38,10 @@ const FIGURES: [Figure; 14] = [
     Figure::Aborts,
     Figure::Outcomes,
     Figure::Horizons,
+    Figure::Bases,
+    Figure::VersionRecords,
+    Figure::Settled,
+    Figure::Closed,
     Figure::Keys,
     Figure::Versions,
     Figure::Epoch,

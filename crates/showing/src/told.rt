@@ -4,13 +4,13 @@ ghost use Rattle.record.specs.Accepted.{followed};
 ghost use Rattle.record.specs.Facts.{facts_of, recorded};
 ghost use Rattle.facts.specs.Readers.{outcome_in};
 ghost use Rattle.recovery.specs.Recovered.{items};
-ghost use Rattle.showing.specs.Histories.{history, standing_by, told_as, told_by};
+ghost use Rattle.showing.specs.Histories.{history, standing_by, told_as, told_by, version_told};
 
 use facts::{Facts, says_of_records};
 use gatelog::Entry;
 use record::Record;
 use std::alloc::Global;
-use units::{Fault, Key, Stamp, TxnId, Value, Write, Writes, copy_value};
+use units::{Fault, Install, Key, Stamp, TxnId, Value, Write, Writes, copy_value};
 
 /// How a write of a transaction stands in a log.
 #[derive(Clone, Copy)]
@@ -23,15 +23,15 @@ pub enum Standing {
     Promised(Stamp),
 }
 
-/// What a transaction makes of a key: a value, or `None` for an erasure.
+/// What a transaction makes of a key: a value, or `None` for an erasure. Of a version that a renewed log holds no transaction is known.
 #[derive(Drop)]
 pub struct Told {
-    pub txn: TxnId,
+    pub txn: Option<TxnId>,
     pub standing: Standing,
     pub value: Option<Value>,
 }
 
-/// Each write of a key that a log promises or decides, in its order, unless it was aborted.
+/// Each write of a key that a log promises or decides, in its order, unless it was aborted, and each version that a renewed log holds.
 pub fn history(
     alloc: Global,
     key: &Key,
@@ -68,6 +68,8 @@ fn tell(told: &mut Vec<Told>, facts: &Facts, item: &Record, key: &Key) -> Result
         }
         Record::Opened { .. } | Record::Ceiling { .. } | Record::Horizon { .. } => Ok(()),
         Record::Abort { .. } | Record::Outcome { .. } => Ok(()),
+        Record::Version(version) => tell_version(told, version, key),
+        Record::Base { .. } | Record::Settled { .. } | Record::Closed { .. } => Ok(()),
     }
 }
 
@@ -80,6 +82,24 @@ fn standing_by(before: Standing, outcome: Option<Option<Stamp>>) -> Option<Stand
         Some(None) => None,
         Some(Some(at)) => Some(Standing::Installed(at)),
     }
+}
+
+// Tells of a version, where it is of the key.
+fn tell_version(told: &mut Vec<Told>, version: &Install, key: &Key) -> Result<(), Fault>
+    ensures told { OnOk result
+        (told.new.items ≡ told.old.items ++ version_told key.now version.now) }
+    ensures memory { IfErr result (λ fault. fault ≡ Fault.Memory) }
+{
+    if !version.key.is(key) {
+        return Ok(());
+    }
+    let value = copy_value(&version.value)?;
+    told.push(Told {
+        txn: None,
+        standing: Standing::Installed(version.at),
+        value,
+    })?;
+    Ok(())
 }
 
 // Tells of the writes of the key, where they stand anyhow.
@@ -134,7 +154,7 @@ fn tell_write(
     }
     let value = copy_value(&write.value)?;
     told.push(Told {
-        txn,
+        txn: Some(txn),
         standing: *standing,
         value,
     })?;

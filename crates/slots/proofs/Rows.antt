@@ -11,43 +11,49 @@ use Rattle.disk.specs.declared.plan.FailurePlan.TheVariants.{AfterWrite}
 use Rattle.disk.specs.declared.plan.Fate.TheVariants.{Old, New}
 use Rattle.disk.specs.File.{File, surface, crash_leaves}
 use Rattle.gatelog.specs.Gates.{open_gate}
-use Rattle.gatelog.specs.Frames.{header as old_header}
-use Rattle.gatelog.specs.Log.{framed, entries_at, scan}
-use Rattle.slots.specs.Slots.{header, named, scanned, fresh, area_bytes, placed_from}
-use Rattle.slots.specs.Turns.{FreshHasNext, named_new}
-use Rattle.slots.specs.Armed.{turned}
+use Rattle.gatelog.specs.First.{first_header, first_log, first_scan, moved}
+use Rattle.gatelog.specs.Frames.{header}
+use Rattle.gatelog.specs.Areas.{fresh_with, area_bytes, placed_from}
+use Rattle.gatelog.specs.Log.{log, framed, entries_at, scan}
+use Rattle.gatelog.specs.Slots.{named}
+use Rattle.gatelog.specs.Turns.{named_new}
+use Rattle.gatelog.specs.ArmedTurn.{turned}
+use Rattle.slots.specs.Laws.{FreshHasNext}
 
 -- what scans of files with records compute through
 unfoldable computing : Unit {0}
-unfolding scanned named entries_at framed stamp_at epoch_at key_at value_at write_at many_at keys_at writes_at id_at parts_at shard_at outcome_at
+unfolding scan first_scan named entries_at framed stamp_at epoch_at key_at value_at write_at many_at keys_at writes_at id_at parts_at shard_at outcome_at
     prepare_at commit_at ended_at record_at read_record parts_spelling
 computing = tt
 
 -- ---- a fresh file
+
+abbrev fresh : List ℕ
+fresh = fresh_with []
 
 -- its 9,225 bytes are the header, 1,024 closed slots and a closed gate
 fresh-length : length fresh ≡ 9225
 fresh-length = refl
 
 -- it has no record, and its gate is at 9,224
-fresh-log : scanned fresh ≡ Ok ([], 9224)
-unfolding scanned named entries_at
+fresh-log : scan fresh ≡ Ok ([], 9224)
+unfolding scan named entries_at
 fresh-log = refl
 
 pub fresh-has-next : FreshHasNext
 fresh-has-next = (fresh-log, record { within = omega arith; former = λ i lt. absurd (omega (arith, lt)); shut = λ e. absurd (omega (arith, e)) })
 
 -- a file of version 1 is none of these, nor is an empty one, and a fresh file is none of version 1
-first-version : scanned (old_header ++ 0 ∷ []) ≡ Err NotALog
-unfolding scanned
+first-version : scan (first_header ++ 0 ∷ []) ≡ Err NotALog
+unfolding scan
 first-version = refl
 
-no-bytes : scanned [] ≡ Err NotALog
-unfolding scanned
+no-bytes : scan [] ≡ Err NotALog
+unfolding scan
 no-bytes = refl
 
-not-first-version : scan fresh ≡ Err NotALog
-unfolding scan
+not-first-version : first_scan fresh ≡ Err NotALog
+unfolding first_scan
 not-first-version = refl
 
 -- ---- one settled commit
@@ -80,7 +86,7 @@ first-length : length first_file ≡ 9312
 unfolding first_file settled parts_spelling
 first-length = refl
 
-first-log : scanned first_file ≡ Ok (placed_from 9224 settled)
+first-log : scan first_file ≡ Ok (placed_from 9224 settled)
 unfolding computing first_file settled
 first-log = refl
 
@@ -88,7 +94,34 @@ first-gate : (placed_from 9224 settled).1 ≡ 9311
 unfolding settled parts_spelling
 first-gate = refl
 
--- turned over
+-- ---- the same records in a file of version 1, and in a copy of it
+
+old_file : List ℕ
+old_file = first_header ++ area_bytes settled
+
+old-length : length old_file ≡ 96
+unfolding old_file settled parts_spelling
+old-length = refl
+
+old-log : first_log old_file ≡ Ok (placed_from 8 settled).0
+unfolding computing old_file settled
+old-log = refl
+
+-- the copy is the file above: 9,312 bytes, with the same three records 9,216 bytes further behind
+copy-is : fresh_with settled ≡ first_file
+unfolding first_file
+copy-is = refl
+
+copy-log : log (fresh_with settled) ≡ Ok (moved (placed_from 8 settled).0)
+unfolding computing settled
+copy-log = refl
+
+copy-places : moved (placed_from 8 settled).0 ≡ (placed_from 9224 settled).0
+unfolding settled parts_spelling
+copy-places = refl
+
+-- ---- turned over
+
 turned_file : List ℕ
 turned_file = (named_new 0 9311 kept (surface (at_rest first_file))).seen
 
@@ -101,7 +134,7 @@ turned-area : from_be_bytes w64 (0 ∷ 0 ∷ 0 ∷ 0 ∷ 0 ∷ 0 ∷ 0x24 ∷ 0x
 turned-area = refl
 
 -- its log is that of the new area
-turned-log : scanned turned_file ≡ Ok (
+turned-log : scan turned_file ≡ Ok (
   (record { offset = 9312; item = Record.Opened 1 }) ∷ (record { offset = 9326; item = Record.Outcome txn (Some 111) }) ∷ [],
   9357,
 )
@@ -116,8 +149,8 @@ twice-slots : take 18 (drop 8 twice) ≡ 0xa5 ∷ 0 ∷ 0 ∷ 0 ∷ 0 ∷ 0 ∷ 
 unfolding twice turned_file kept at_rest first_file settled parts_spelling
 twice-slots = refl
 
-twice-log : scanned twice ≡ Ok ([], 9358)
-unfolding twice turned_file kept at_rest first_file settled scanned named entries_at parts_spelling
+twice-log : scan twice ≡ Ok ([], 9358)
+unfolding twice turned_file kept at_rest first_file settled scan named entries_at parts_spelling
 twice-log = refl
 
 -- ---- a turnover whose call fails
@@ -127,29 +160,29 @@ failed : ℕ → File
 failed call = turned (AfterWrite call) 0 9311 kept (at_rest first_file)
 
 -- the write of the slot's gate fails: a read gives the old log, and a crash leaves by that change's fate the old one or the new one
-gate-fails : scanned (surface (failed 3)).seen ≡ Ok (placed_from 9224 settled)
+gate-fails : scan (surface (failed 3)).seen ≡ Ok (placed_from 9224 settled)
 unfolding computing failed kept at_rest first_file settled
 gate-fails = refl
 
-gate-is-not-left : scanned (crash_leaves [] (failed 3)) ≡ Ok (placed_from 9224 settled)
+gate-is-not-left : scan (crash_leaves [] (failed 3)) ≡ Ok (placed_from 9224 settled)
 unfolding computing failed kept at_rest first_file settled
 gate-is-not-left = refl
 
-gate-is-left : scanned (crash_leaves (New ∷ []) (failed 3)) ≡ Ok (placed_from 9312 kept)
+gate-is-left : scan (crash_leaves (New ∷ []) (failed 3)) ≡ Ok (placed_from 9312 kept)
 unfolding computing failed kept at_rest first_file settled
 gate-is-left = refl
 
 -- the sync before it fails: a crash that leaves all that was written leaves the old log
-sync-fails : scanned (crash_leaves (New ∷ New ∷ []) (failed 2)) ≡ Ok (placed_from 9224 settled)
+sync-fails : scan (crash_leaves (New ∷ New ∷ []) (failed 2)) ≡ Ok (placed_from 9224 settled)
 unfolding computing failed kept at_rest first_file settled
 sync-fails = refl
 
 -- the last sync fails: a read gives the new log, and a crash may leave the old one
-last-sync-fails : scanned (surface (failed 4)).seen ≡ Ok (placed_from 9312 kept)
+last-sync-fails : scan (surface (failed 4)).seen ≡ Ok (placed_from 9312 kept)
 unfolding computing failed kept at_rest first_file settled
 last-sync-fails = refl
 
-last-sync-leaves : scanned (crash_leaves (Old ∷ []) (failed 4)) ≡ Ok (placed_from 9224 settled)
+last-sync-leaves : scan (crash_leaves (Old ∷ []) (failed 4)) ≡ Ok (placed_from 9224 settled)
 unfolding computing failed kept at_rest first_file settled
 last-sync-leaves = refl
 
@@ -171,40 +204,40 @@ unfolding file_with open_slot
 with-length = refl
 
 -- two slots whose offsets ascend
-two-slots : scanned (file_with (open_slot 9232 ++ open_slot 9233)) ≡ Ok ([], 9233)
-unfolding file_with open_slot scanned named entries_at
+two-slots : scan (file_with (open_slot 9232 ++ open_slot 9233)) ≡ Ok ([], 9233)
+unfolding file_with open_slot scan named entries_at
 two-slots = refl
 
 -- an open slot behind a closed one is damaged
-behind-closed : scanned (file_with (closed_slot ++ open_slot 9232)) ≡ Err (Damaged 17)
-unfolding file_with open_slot closed_slot scanned named
+behind-closed : scan (file_with (closed_slot ++ open_slot 9232)) ≡ Err (Damaged 17)
+unfolding file_with open_slot closed_slot scan named
 behind-closed = refl
 
-behind-closed-too : scanned (file_with (open_slot 9232 ++ closed_slot ++ open_slot 9233)) ≡ Err (Damaged 26)
-unfolding file_with open_slot closed_slot scanned named
+behind-closed-too : scan (file_with (open_slot 9232 ++ closed_slot ++ open_slot 9233)) ≡ Err (Damaged 26)
+unfolding file_with open_slot closed_slot scan named
 behind-closed-too = refl
 
 -- so is one whose offset does not ascend
-not-above : scanned (file_with (open_slot 9232 ++ open_slot 9232)) ≡ Err (Damaged 17)
-unfolding file_with open_slot scanned named
+not-above : scan (file_with (open_slot 9232 ++ open_slot 9232)) ≡ Err (Damaged 17)
+unfolding file_with open_slot scan named
 not-above = refl
 
 -- the least offset is that behind the first area's first byte
-least-offset : scanned (file_with (open_slot 9225)) ≡ Ok ([], 9225)
-unfolding file_with open_slot scanned named entries_at
+least-offset : scan (file_with (open_slot 9225)) ≡ Ok ([], 9225)
+unfolding file_with open_slot scan named entries_at
 least-offset = refl
 
-too-low : scanned (file_with (open_slot 9224)) ≡ Err (Damaged 8)
-unfolding file_with open_slot scanned named
+too-low : scan (file_with (open_slot 9224)) ≡ Err (Damaged 8)
+unfolding file_with open_slot scan named
 too-low = refl
 
 -- the greatest is that of the last byte
-greatest-offset : scanned (file_with (open_slot 9240)) ≡ Ok ([], 9240)
-unfolding file_with open_slot scanned named entries_at
+greatest-offset : scan (file_with (open_slot 9240)) ≡ Ok ([], 9240)
+unfolding file_with open_slot scan named entries_at
 greatest-offset = refl
 
-too-high : scanned (file_with (open_slot 9241)) ≡ Err (Damaged 8)
-unfolding file_with open_slot scanned named
+too-high : scan (file_with (open_slot 9241)) ≡ Err (Damaged 8)
+unfolding file_with open_slot scan named
 too-high = refl
 
 -- all slots are open: the log is that of the last one, and no slot is left
@@ -212,29 +245,29 @@ open_slots : ℕ → ℕ → List ℕ
 open_slots zero offset = []
 open_slots (suc left) offset = open_slot offset ++ open_slots left (offset + 1)
 
-all-open : scanned (header ++ open_slots 1024 9225 ++ replicate 1040 0) ≡ Ok ([], 10248)
-unfolding open_slots open_slot scanned named entries_at
+all-open : scan (header ++ open_slots 1024 9225 ++ replicate 1040 0) ≡ Ok ([], 10248)
+unfolding open_slots open_slot scan named entries_at
 all-open = refl
 
 -- a gate with any other byte is closed, as in a log
-other-byte : scanned (file_with (0x5a ∷ to_be_bytes w64 9232)) ≡ Ok ([], 9224)
-unfolding file_with scanned named entries_at
+other-byte : scan (file_with (0x5a ∷ to_be_bytes w64 9232)) ≡ Ok ([], 9224)
+unfolding file_with scan named entries_at
 other-byte = refl
 
 -- a file that ends within the slots is damaged at the first that it does not hold whole
-header-alone : scanned header ≡ Err (Damaged 8)
-unfolding scanned named
+header-alone : scan header ≡ Err (Damaged 8)
+unfolding scan named
 header-alone = refl
 
-ends-early : scanned (take 100 fresh) ≡ Err (Damaged 98)
-unfolding scanned named
+ends-early : scan (take 100 fresh) ≡ Err (Damaged 98)
+unfolding scan named
 ends-early = refl
 
-ends-late : scanned (take 9223 fresh) ≡ Err (Damaged 9215)
-unfolding scanned named
+ends-late : scan (take 9223 fresh) ≡ Err (Damaged 9215)
+unfolding scan named
 ends-late = refl
 
 -- and one that ends behind them, where the first gate is due
-no-area : scanned (take 9224 fresh) ≡ Err (Damaged 9224)
-unfolding scanned named entries_at
+no-area : scan (take 9224 fresh) ≡ Err (Damaged 9224)
+unfolding scan named entries_at
 no-area = refl

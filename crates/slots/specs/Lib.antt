@@ -1,4 +1,1 @@
-pub mod Slots
-pub mod Turns
-pub mod Armed
-pub mod Appends
+pub mod Laws

@@ -1,8 +1,6 @@
 //! What a crash and a failing call leave of a turnover, and what it leaves for the next one. Each law is the contract of a
 //! function that does nothing.
-ghost use Rattle.slots.specs.Appends.{AppendKeeps};
-ghost use Rattle.slots.specs.Armed.{FailingCalls};
-ghost use Rattle.slots.specs.Turns.{FreshHasNext, NextGoesOn, NextStays, TurnoverKeeps};
+ghost use Rattle.slots.specs.Laws.{FailingCalls, FreshHasNext, NextGoesOn, NextStays, TurnoverKeeps};
 
 /// In each of the five calls a crash leaves the old log, or from the fourth on the old one or that of the new area. Behind
 /// them it leaves the latter.
@@ -29,10 +27,4 @@ pub fn next_stays()
 /// Behind a turnover it is the one after it.
 pub fn next_goes_on()
     ensures { NextGoesOn }
-{}
-
-/// In an append a crash leaves the old log, or from the third call on the old one or that with the record. Behind it it
-/// leaves the latter.
-pub fn append_keeps()
-    ensures { AppendKeeps }
 {}

@@ -1,8 +1,6 @@
-//! A log file whose log can be turned over: what its bytes say, and what each call of a turnover leaves.
+//! Turnovers of a log's file: what each call of one leaves.
 #![tactic(auto)]
 
 mod laws;
 
-pub use laws::{
-    append_keeps, failing_calls, fresh_has_next, next_goes_on, next_stays, turnover_keeps,
-};
+pub use laws::{failing_calls, fresh_has_next, next_goes_on, next_stays, turnover_keeps};

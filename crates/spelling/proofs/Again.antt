@@ -10,16 +10,20 @@ use Rattle.std.proofs.lemmas.Nat.{from_be_bytes-to_be_bytes_2, from_be_bytes-to_
 use Rattle.units.specs.Ids.{Id}
 use Rattle.units.specs.Keys.{Bytes}
 use Rattle.units.specs.Masks.{mask_of, shards_of_mask}
+use Rattle.units.specs.declared.writes.Install.{Install}
 use Rattle.units.specs.declared.writes.Write.{Write}
 use Rattle.record.specs.declared.record.Committed.{Committed}
 use Rattle.record.specs.declared.record.Prepared.{Prepared}
 use Rattle.record.specs.declared.record.Record.{Record}
 use Rattle.record.specs.declared.record.Record.TheVariants as records
 use Rattle.spelling.specs.Grammar.{key_spelling, keys_spelling, value_spelling, write_spelling, writes_spelling, id_spelling, parts_spelling}
-use Rattle.spelling.specs.Grammar.{shard_spelling, outcome_spelling, prepare_spelling, commit_spelling, spelling, IsStamp, IsEpoch, IsId, IsShard}
-use Rattle.spelling.specs.Grammar.{IsParts, IsKey, IsKeys, IsWrite, IsWrites, IsPrepare, IsCommit, IsOutcome, IsRecord}
+use Rattle.spelling.specs.Grammar.{shard_spelling, outcome_spelling, prepare_spelling, commit_spelling, spelling}
+use Rattle.spelling.specs.Limits.{IsStamp, IsEpoch, IsId, IsShard}
+use Rattle.spelling.specs.Limits.{IsParts, IsKey, IsKeys, IsWrite, IsWrites, IsPrepare, IsCommit, IsOutcome, IsRecord, IsBase, IsVersion, IsSettled, IsClosed}
+use Rattle.spelling.specs.Grammar.{base_spelling, version_spelling, settled_spelling, closed_spelling}
 use Rattle.spelling.specs.Reading.{◌>>=◌, only_if, number_at, stamp_at, epoch_at, text_at, key_at, value_at, write_at, many_at, keys_at, writes_at}
 use Rattle.spelling.specs.Reading.{id_at, parts_at, shard_at, outcome_at, prepare_at, commit_at, ended_at, record_at, read_record}
+use Rattle.spelling.specs.Reading.{base_at, version_at, settled_at, closed_at}
 
 pub record IsWide (w : Width) (limit : ℕ) : Type 0 where
   pub len : (n : ℕ) → length (to_be_bytes w n) ≡ byte_len w
@@ -184,6 +188,52 @@ ended_again txn outcome rest h k =
     ap ended_at (append_assoc (id_spelling txn) (outcome_spelling outcome) rest)
     ∙ rw (id_again txn (outcome_spelling outcome ++ rest) h, outcome_again outcome rest k) refl
 
+three : (a b c rest : List ℕ) → ((a ++ b) ++ c) ++ rest ≡ a ++ (b ++ (c ++ rest))
+three a b c rest = simp append_assoc
+
+pub base_again : (epoch floor horizon : ℕ) (rest : List ℕ) → IsBase epoch floor horizon →
+    base_at (base_spelling epoch floor horizon ++ rest) ≡ Some ((epoch, floor, horizon), rest)
+unfolding base_at
+base_again epoch floor horizon rest h =
+    ap base_at (three (to_be_bytes w64 epoch) (to_be_bytes w64 floor) (to_be_bytes w64 horizon) rest)
+    ∙ rw (
+      epoch_again epoch (to_be_bytes w64 floor ++ (to_be_bytes w64 horizon ++ rest)) h.epoch,
+      stamp_again floor (to_be_bytes w64 horizon ++ rest) h.floor,
+      stamp_again horizon rest h.horizon,
+    ) refl
+
+pub version_again : (i : Install) (rest : List ℕ) → IsVersion i → version_at (version_spelling i ++ rest) ≡ Some (i, rest)
+unfolding version_at
+version_again i rest h =
+    ap version_at (three (key_spelling i.key) (to_be_bytes w64 i.at) (value_spelling i.value) rest)
+    ∙ rw (
+      key_again i.key (to_be_bytes w64 i.at ++ (value_spelling i.value ++ rest)) h.key,
+      stamp_again i.at (value_spelling i.value ++ rest) h.at,
+      value_again i.value rest h.value,
+    ) refl
+
+pub settled_again : (txn : Id) (at : ℕ) (parts rest : List ℕ) → IsSettled txn at parts →
+    settled_at (settled_spelling txn at parts ++ rest) ≡ Some ((txn, at, parts), rest)
+unfolding settled_at
+settled_again txn at parts rest h =
+    ap settled_at (three (id_spelling txn) (to_be_bytes w64 at) (parts_spelling parts) rest)
+    ∙ rw (
+      id_again txn (to_be_bytes w64 at ++ (parts_spelling parts ++ rest)) h.txn,
+      stamp_again at (parts_spelling parts ++ rest) h.at,
+      parts_again parts rest h.parts,
+    ) refl
+
+pub closed_again : (txn : Id) (coordinator : ℕ) (outcome : Option ℕ) (rest : List ℕ) → IsClosed txn coordinator outcome →
+    closed_at (closed_spelling txn coordinator outcome ++ rest) ≡ Some ((txn, coordinator, outcome), rest)
+unfolding closed_at
+closed_again txn coordinator outcome rest h =
+    ap closed_at (three (id_spelling txn) (shard_spelling coordinator) (outcome_spelling outcome) rest)
+    ∙ rw (
+      id_again txn (shard_spelling coordinator ++ (outcome_spelling outcome ++ rest)) h.txn,
+      shard_again coordinator (outcome_spelling outcome ++ rest) h.coordinator,
+      outcome_again outcome rest h.outcome,
+    ) refl
+
 -- with whatever stands behind it
 pub record_again : (r : Record) (rest : List ℕ) → IsRecord r → record_at (spelling r ++ rest) ≡ Some (r, rest)
 unfolding record_at
@@ -194,6 +244,10 @@ record_again (records.Prepare p) rest h = rw (prepare_again p rest h) refl
 record_again (records.Commit c) rest h = rw (commit_again c rest h) refl
 record_again (records.Abort txn) rest h = rw (id_again txn rest h) refl
 record_again (records.Outcome txn outcome) rest h = rw (ended_again txn outcome rest h.0 h.1) refl
+record_again (records.Base epoch floor horizon) rest h = rw (base_again epoch floor horizon rest h) refl
+record_again (records.Version install) rest h = rw (version_again install rest h) refl
+record_again (records.Settled txn at parts) rest h = rw (settled_again txn at parts rest h) refl
+record_again (records.Closed txn coordinator outcome) rest h = rw (closed_again txn coordinator outcome rest h) refl
 
 pub read_again : (r : Record) → IsRecord r → read_record (spelling r) ≡ Some r
 unfolding read_record
@@ -220,12 +274,12 @@ flat_map-most spell Fits most each [] h = omega arith
 flat_map-most spell Fits most each (a ∷ as') h =
     omega (arith, each a h.0, flat_map-most spell Fits most each as' h.1, length-append (spell a) (flat_map spell as'))
 
+value-most : (value : Option (List ℕ)) → IfSome value (λ v. length v ≤ 4096) → length (value_spelling value) ≤ 4099
+value-most None k = omega arith
+value-most (Some v) k = omega (arith, k)
+
 write-most : (write : Write) → IsWrite write → length (write_spelling write) ≤ 4164
 write-most write h = omega (arith, h.0.1, length-append (key_spelling write.key) (value_spelling write.value), value-most write.value h.1)
-  where
-    value-most : (value : Option (List ℕ)) → IfSome value (λ v. length v ≤ 4096) → length (value_spelling value) ≤ 4099
-    value-most None k = omega arith
-    value-most (Some v) k = omega (arith, k)
 
 pub spelling-least : (r : Record) → 1 ≤ length (spelling r)
 spelling-least (records.Opened epoch) = omega arith
@@ -235,6 +289,10 @@ spelling-least (records.Prepare p) = omega arith
 spelling-least (records.Commit c) = omega arith
 spelling-least (records.Abort txn) = omega arith
 spelling-least (records.Outcome txn outcome) = omega arith
+spelling-least (records.Base epoch floor horizon) = omega arith
+spelling-least (records.Version install) = omega arith
+spelling-least (records.Settled txn at parts) = omega arith
+spelling-least (records.Closed txn coordinator outcome) = omega arith
 
 keys-most : (keys : List Bytes) → IsKeys keys → length (keys_spelling keys) ≤ 8322
 keys-most keys h = omega (arith, flat_map-most key_spelling IsKey 65 each keys h.each, h.few)
@@ -247,6 +305,9 @@ writes-most writes h = omega (arith, flat_map-most write_spelling IsWrite 4164 w
 
 length-five : (a b c d e : List ℕ) → length ((((a ++ b) ++ c) ++ d) ++ e) ≡ length a + length b + length c + length d + length e
 length-five a b c d e = simp length-append refl
+
+length-three : (a b c : List ℕ) → length ((a ++ b) ++ c) ≡ length a + length b + length c
+length-three a b c = simp length-append refl
 
 length-parts : (parts : List ℕ) → length (parts_spelling parts) ≡ 2
 unfolding parts_spelling
@@ -278,3 +339,15 @@ spelling-most (records.Commit c) h =
     )
 spelling-most (records.Abort txn) h = omega arith
 spelling-most (records.Outcome txn outcome) h = omega (arith, length-append (id_spelling txn) (outcome_spelling outcome), outcome-most outcome)
+spelling-most (records.Base epoch floor horizon) h = omega arith
+spelling-most (records.Version i) h =
+    omega (
+      arith,
+      h.key.1,
+      length-three (key_spelling i.key) (to_be_bytes w64 i.at) (value_spelling i.value),
+      value-most i.value h.value,
+    )
+spelling-most (records.Settled txn at parts) h =
+    omega (arith, length-three (id_spelling txn) (to_be_bytes w64 at) (parts_spelling parts), length-parts parts)
+spelling-most (records.Closed txn coordinator outcome) h =
+    omega (arith, length-three (id_spelling txn) (shard_spelling coordinator) (outcome_spelling outcome), outcome-most outcome)

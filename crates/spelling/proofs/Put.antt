@@ -18,3 +18,10 @@ put_same spell out new m n same put = put ∙ ap (λ (k : ℕ). out ++ spell k) 
 pub tagged : (tag : ℕ) (out kind new thing : List ℕ) → kind ≡ out ++ tag ∷ [] → new ≡ kind ++ thing → new ≡ out ++ tag ∷ thing
 tagged tag out kind new thing first then =
     then ∙ ap (λ (l : List ℕ). l ++ thing) first ∙ append_assoc out (tag ∷ []) thing
+
+three_regroup : (out a b c : List ℕ) → ((out ++ a) ++ b) ++ c ≡ out ++ ((a ++ b) ++ c)
+three_regroup out a b c = simp append_assoc
+
+pub three_put : (out a b c o1 o2 o3 : List ℕ) → o1 ≡ out ++ a → o2 ≡ o1 ++ b → o3 ≡ o2 ++ c → o3 ≡ out ++ ((a ++ b) ++ c)
+three_put out a b c o1 o2 o3 h1 h2 h3 =
+    h3 ∙ ap (λ (l : List ℕ). l ++ c) (h2 ∙ ap (λ (l : List ℕ). l ++ b) h1) ∙ three_regroup out a b c

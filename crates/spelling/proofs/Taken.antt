@@ -12,16 +12,21 @@ use Rattle.units.specs.Keys.{Bytes, key_before, write_before}
 use Rattle.units.specs.Lists.{ascends}
 use Rattle.units.specs.Masks.{mask_of, shards_of_mask}
 use Rattle.units.specs.Parts.{mask_again}
+use Rattle.units.specs.declared.writes.Install.{Install}
 use Rattle.units.specs.declared.writes.Write.{Write}
 use Rattle.record.specs.declared.record.Committed.{Committed}
 use Rattle.record.specs.declared.record.Prepared.{Prepared}
 use Rattle.record.specs.declared.record.Record.{Record}
 use Rattle.record.specs.declared.record.Record.TheVariants as records
 use Rattle.spelling.specs.Grammar.{key_spelling, keys_spelling, value_spelling, write_spelling, writes_spelling, id_spelling, parts_spelling}
-use Rattle.spelling.specs.Grammar.{shard_spelling, outcome_spelling, prepare_spelling, commit_spelling, spelling, IsStamp, IsEpoch, IsId, IsShard}
-use Rattle.spelling.specs.Grammar.{IsParts, IsKey, IsKeys, IsValue, IsWrite, IsWrites, IsPrepare, IsCommit, IsOutcome, IsRecord, Spells}
+use Rattle.spelling.specs.Grammar.{shard_spelling, outcome_spelling, prepare_spelling, commit_spelling, spelling}
+use Rattle.spelling.specs.Limits.{IsStamp, IsEpoch, IsId, IsShard}
+use Rattle.spelling.specs.Limits.{IsParts, IsKey, IsKeys, IsValue, IsWrite, IsWrites, IsPrepare, IsCommit, IsOutcome, IsRecord, Spells}
+use Rattle.spelling.specs.Grammar.{base_spelling, version_spelling, settled_spelling, closed_spelling}
+use Rattle.spelling.specs.Limits.{IsBase, IsVersion, IsSettled, IsClosed}
 use Rattle.spelling.specs.Reading.{◌>>=◌, only_if, number_at, stamp_at, epoch_at, text_at, key_at, value_at, write_at, many_at, keys_at, writes_at}
 use Rattle.spelling.specs.Reading.{id_at, parts_at, shard_at, outcome_at, prepare_at, commit_at, ended_at, record_at, read_record}
+use Rattle.spelling.specs.Reading.{base_at, version_at, settled_at, closed_at}
 use Rattle.spelling.proofs.Loop.{bind_some, some_is}
 
 abbrev pub IsBytes : List ℕ → Type 0
@@ -330,6 +335,84 @@ ended_reads bytes x fits e =
     subst (λ (y : (Id × Option ℕ) × List ℕ). Taken bytes (ended_spelling y.0) y.1 × (IsId y.0.0 × IsOutcome y.0.1)) (some_is ((a.0.0, b.0.0), b.0.1) x b.2)
     (taken_then bytes (id_spelling a.0.0) a.0.1 (outcome_spelling b.0.0) b.0.1 txn.0 outcome.0, (txn.1, outcome.1))
 
+-- three fields, one behind the other
+taken_three : (a p b q c r d : List ℕ) → Taken a p b → Taken b q c → Taken c r d → Taken a ((p ++ q) ++ r) d
+taken_three a p b q c r d one two three = taken_then a (p ++ q) c r d (taken_then a p b q c one two) three
+
+base_of : ℕ × ℕ × ℕ → List ℕ
+base_of b = base_spelling b.0 b.1 b.2
+
+base_reads : Reads base_at base_of (λ b. IsBase b.0 b.1 b.2)
+unfolding base_at base_of
+base_reads bytes x fits e =
+    let a = bind_some (epoch_at bytes) (λ epoch. stamp_at epoch.1 >>= λ floor. stamp_at floor.1 >>= λ horizon. Some ((epoch.0, floor.0, horizon.0), horizon.1))
+    x e in
+    let b = bind_some (stamp_at a.0.1) (λ floor. stamp_at floor.1 >>= λ horizon. Some ((a.0.0, floor.0, horizon.0), horizon.1)) x a.2 in
+    let c = bind_some (stamp_at b.0.1) (λ horizon. Some ((a.0.0, b.0.0, horizon.0), horizon.1)) x b.2 in
+    let epoch = epoch_reads bytes a.0 fits a.1 in
+    let floor = stamp_reads a.0.1 b.0 epoch.0.rest_fits b.1 in
+    let horizon = stamp_reads b.0.1 c.0 floor.0.rest_fits c.1 in
+    subst (λ (y : (ℕ × ℕ × ℕ) × List ℕ). Taken bytes (base_spelling y.0.0 y.0.1 y.0.2) y.1 × IsBase y.0.0 y.0.1 y.0.2)
+    (some_is ((a.0.0, b.0.0, c.0.0), c.0.1) x c.2) (
+      taken_three bytes (to_be_bytes w64 a.0.0) a.0.1 (to_be_bytes w64 b.0.0) b.0.1 (to_be_bytes w64 c.0.0) c.0.1 epoch.0 floor.0 horizon.0,
+      record { epoch = epoch.1; floor = floor.1; horizon = horizon.1 },
+    )
+
+version_reads : Reads version_at version_spelling IsVersion
+unfolding version_at
+version_reads bytes x fits e =
+    let a = bind_some (key_at bytes) (λ key. stamp_at key.1 >>= λ at. value_at at.1 >>= λ value. Some (made key.0 at.0 value)) x e in
+    let b = bind_some (stamp_at a.0.1) (λ at. value_at at.1 >>= λ value. Some (made a.0.0 at.0 value)) x a.2 in
+    let c = bind_some (value_at b.0.1) (λ value. Some (made a.0.0 b.0.0 value)) x b.2 in
+    let key = key_reads bytes a.0 fits a.1 in
+    let at = stamp_reads a.0.1 b.0 key.0.rest_fits b.1 in
+    let value = value_reads b.0.1 c.0 at.0.rest_fits c.1 in
+    subst (λ (y : Install × List ℕ). Taken bytes (version_spelling y.0) y.1 × IsVersion y.0) {x = made a.0.0 b.0.0 c.0}
+    (some_is (made a.0.0 b.0.0 c.0) x c.2) (
+      taken_three bytes (key_spelling a.0.0) a.0.1 (to_be_bytes w64 b.0.0) b.0.1 (value_spelling c.0.0) c.0.1 key.0 at.0 value.0,
+      record { key = key.1; at = at.1; value = value.1 },
+    )
+  where
+    made : Bytes → ℕ → Option Bytes × List ℕ → Install × List ℕ
+    made key at value = (record { key = key; at = at; value = value.0 }, value.1)
+
+settled_of : Id × ℕ × List ℕ → List ℕ
+settled_of s = settled_spelling s.0 s.1 s.2
+
+settled_reads : Reads settled_at settled_of (λ s. IsSettled s.0 s.1 s.2)
+unfolding settled_at settled_of
+settled_reads bytes x fits e =
+    let a = bind_some (id_at bytes) (λ txn. stamp_at txn.1 >>= λ at. parts_at at.1 >>= λ parts. Some ((txn.0, at.0, parts.0), parts.1)) x e in
+    let b = bind_some (stamp_at a.0.1) (λ at. parts_at at.1 >>= λ parts. Some ((a.0.0, at.0, parts.0), parts.1)) x a.2 in
+    let c = bind_some (parts_at b.0.1) (λ parts. Some ((a.0.0, b.0.0, parts.0), parts.1)) x b.2 in
+    let txn = id_reads bytes a.0 fits a.1 in
+    let at = stamp_reads a.0.1 b.0 txn.0.rest_fits b.1 in
+    let parts = parts_read b.0.1 c.0 at.0.rest_fits c.1 in
+    subst (λ (y : (Id × ℕ × List ℕ) × List ℕ). Taken bytes (settled_spelling y.0.0 y.0.1 y.0.2) y.1 × IsSettled y.0.0 y.0.1 y.0.2)
+    (some_is ((a.0.0, b.0.0, c.0.0), c.0.1) x c.2) (
+      taken_three bytes (id_spelling a.0.0) a.0.1 (to_be_bytes w64 b.0.0) b.0.1 (parts_spelling c.0.0) c.0.1 txn.0 at.0 parts.0,
+      record { txn = txn.1; at = at.1; parts = parts.1 },
+    )
+
+closed_of : Id × ℕ × Option ℕ → List ℕ
+closed_of c = closed_spelling c.0 c.1 c.2
+
+closed_reads : Reads closed_at closed_of (λ c. IsClosed c.0 c.1 c.2)
+unfolding closed_at closed_of
+closed_reads bytes x fits e =
+    let a = bind_some (id_at bytes) (λ txn. shard_at txn.1 >>= λ coordinator. outcome_at coordinator.1 >>= λ outcome. Some
+    ((txn.0, coordinator.0, outcome.0), outcome.1)) x e in
+    let b = bind_some (shard_at a.0.1) (λ coordinator. outcome_at coordinator.1 >>= λ outcome. Some ((a.0.0, coordinator.0, outcome.0), outcome.1)) x a.2 in
+    let c = bind_some (outcome_at b.0.1) (λ outcome. Some ((a.0.0, b.0.0, outcome.0), outcome.1)) x b.2 in
+    let txn = id_reads bytes a.0 fits a.1 in
+    let coordinator = shard_reads a.0.1 b.0 txn.0.rest_fits b.1 in
+    let outcome = outcome_reads b.0.1 c.0 coordinator.0.rest_fits c.1 in
+    subst (λ (y : (Id × ℕ × Option ℕ) × List ℕ). Taken bytes (closed_spelling y.0.0 y.0.1 y.0.2) y.1 × IsClosed y.0.0 y.0.1 y.0.2)
+    (some_is ((a.0.0, b.0.0, c.0.0), c.0.1) x c.2) (
+      taken_three bytes (id_spelling a.0.0) a.0.1 (shard_spelling b.0.0) b.0.1 (outcome_spelling c.0.0) c.0.1 txn.0 coordinator.0 outcome.0,
+      record { txn = txn.1; coordinator = coordinator.1; outcome = outcome.1 },
+    )
+
 -- a kind, and what stands behind its byte
 of_kind : {A : Type 0} (kind byte : ℕ) (one : List ℕ → Option (A × List ℕ)) (spell : A → List ℕ) (Fits : A → Type 0) (make : A → Record)
     (bytes : List ℕ) (x : Record × List ℕ) → IsBytes bytes → Reads one spell Fits → byte ≡ kind
@@ -348,13 +431,48 @@ chosen : {A : Type 0} (test : Bool) (yes' no' z : A) → cond test yes' no' ≡ 
 chosen true yes' no' z e = inl (refl, e)
 chosen false yes' no' z e = inr (refl, e)
 
+-- the kinds of a head
+head_at : ℕ → List ℕ → Option (Record × List ℕ)
+head_at kind bytes =
+    cond (eqb kind 8) (base_at bytes >>= λ b. Some (records.Base b.0.0 b.0.1 b.0.2, b.1))
+    (cond (eqb kind 9) (version_at bytes >>= λ i. Some (records.Version i.0, i.1))
+    (cond (eqb kind 10) (settled_at bytes >>= λ s. Some (records.Settled s.0.0 s.0.1 s.0.2, s.1))
+    (cond (eqb kind 11) (closed_at bytes >>= λ c. Some (records.Closed c.0.0 c.0.1 c.0.2, c.1)) None)))
+
+head_reads : (kind : ℕ) (bytes : List ℕ) (x : Record × List ℕ) → IsBytes bytes → head_at kind bytes ≡ Some x →
+    Taken (kind ∷ bytes) (spelling x.0) x.1 × IsRecord x.0
+unfolding head_at base_of settled_of closed_of
+head_reads kind bytes x fits e =
+    let closes : Option (Record × List ℕ) = closed_at bytes >>= λ c. Some (records.Closed c.0.0 c.0.1 c.0.2, c.1) in
+    let fourth : Option (Record × List ℕ) = cond (eqb kind 11) closes None in
+    let settles : Option (Record × List ℕ) = settled_at bytes >>= λ s. Some (records.Settled s.0.0 s.0.1 s.0.2, s.1) in
+    let third : Option (Record × List ℕ) = cond (eqb kind 10) settles fourth in
+    let versions : Option (Record × List ℕ) = version_at bytes >>= λ i. Some (records.Version i.0, i.1) in
+    let second : Option (Record × List ℕ) = cond (eqb kind 9) versions third in
+    elim (chosen (eqb kind 8) (base_at bytes >>= λ b. Some (records.Base b.0.0 b.0.1 b.0.2, b.1)) second (Some x) e) [
+      | inl base ↦ of_kind 8 kind base_at base_of (λ b. IsBase b.0 b.1 b.2) (λ b. records.Base b.0 b.1 b.2) bytes x fits base_reads
+          (eqb-true kind 8 base.0) (λ a. refl) (λ a h. h) base.1
+      | inr later ↦ elim (chosen (eqb kind 9) versions third (Some x) later.1) [
+        | inl version ↦ of_kind 9 kind version_at version_spelling IsVersion (λ i. records.Version i) bytes x fits version_reads
+            (eqb-true kind 9 version.0) (λ a. refl) (λ a h. h) version.1
+        | inr past2 ↦ elim (chosen (eqb kind 10) settles fourth (Some x) past2.1) [
+          | inl settled ↦ of_kind 10 kind settled_at settled_of (λ s. IsSettled s.0 s.1 s.2) (λ s. records.Settled s.0 s.1 s.2) bytes x fits
+              settled_reads (eqb-true kind 10 settled.0) (λ a. refl) (λ a h. h) settled.1
+          | inr past3 ↦
+              let closed = if_some (eqb kind 11) closes x past3.1 in
+              of_kind 11 kind closed_at closed_of (λ c. IsClosed c.0 c.1 c.2) (λ c. records.Closed c.0 c.1 c.2) bytes x fits
+              closed_reads (eqb-true kind 11 closed.0) (λ a. refl) (λ a h. h) closed.1
+        ]
+      ]
+    ]
+
 pub record_reads : Reads record_at spelling IsRecord
-unfolding record_at
+unfolding record_at head_at
 record_reads [] x fits e = absurd cc
 record_reads (kind ∷ bytes) x fits e =
     let rest_fits = bytes-behind kind bytes fits in
     let horizons : Option (Record × List ℕ) = stamp_at bytes >>= λ at. Some (records.Horizon at.0, at.1) in
-    let seventh : Option (Record × List ℕ) = cond (eqb kind 7) horizons None in
+    let seventh : Option (Record × List ℕ) = cond (eqb kind 7) horizons (head_at kind bytes) in
     let ends : Option (Record × List ℕ) = ended_at bytes >>= λ y. Some (records.Outcome y.0.0 y.0.1, y.1) in
     let sixth : Option (Record × List ℕ) = cond (eqb kind 6) ends seventh in
     let aborts : Option (Record × List ℕ) = id_at bytes >>= λ txn. Some (records.Abort txn.0, txn.1) in
@@ -383,10 +501,11 @@ record_reads (kind ∷ bytes) x fits e =
               | inr past5 ↦ elim (chosen (eqb kind 6) ends seventh (Some x) past5.1) [
                 | inl outcome ↦ of_kind 6 kind ended_at ended_spelling (λ y. IsId y.0 × IsOutcome y.1) (λ y. records.Outcome y.0 y.1) bytes x rest_fits
                     ended_reads (eqb-true kind 6 outcome.0) (λ a. refl) (λ a h. h) outcome.1
-                | inr past6 ↦
-                    let horizon = if_some (eqb kind 7) horizons x past6.1 in
-                    of_kind 7 kind stamp_at (to_be_bytes w64) IsStamp (λ n. records.Horizon n) bytes x rest_fits stamp_reads
-                    (eqb-true kind 7 horizon.0) (λ a. refl) (λ a h. h) horizon.1
+                | inr past6 ↦ elim (chosen (eqb kind 7) horizons (head_at kind bytes) (Some x) past6.1) [
+                  | inl horizon ↦ of_kind 7 kind stamp_at (to_be_bytes w64) IsStamp (λ n. records.Horizon n) bytes x rest_fits stamp_reads
+                      (eqb-true kind 7 horizon.0) (λ a. refl) (λ a h. h) horizon.1
+                  | inr past7 ↦ head_reads kind bytes x rest_fits past7.1
+                ]
               ]
             ]
           ]

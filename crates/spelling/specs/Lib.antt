@@ -1,3 +1,4 @@
 pub mod Gives
 pub mod Grammar
 pub mod Reading
+pub mod Limits

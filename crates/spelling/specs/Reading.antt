@@ -5,6 +5,7 @@ use Rattle.units.specs.Ids.{Id}
 use Rattle.units.specs.Keys.{Bytes, key_before, write_before}
 use Rattle.units.specs.Lists.{ascends}
 use Rattle.units.specs.Masks.{shards_of_mask}
+use Rattle.units.specs.declared.writes.Install.{Install}
 use Rattle.units.specs.declared.writes.Write.{Write}
 use Rattle.record.specs.declared.record.Committed.{Committed}
 use Rattle.record.specs.declared.record.Prepared.{Prepared}
@@ -150,6 +151,42 @@ ended_at bytes = do
   outcome ← outcome_at txn.1
   Some ((txn.0, outcome.0), outcome.1)
 
+-- the fields of a base: an epoch, a floor and a horizon
+unfoldable pub base_at : List ℕ → Option ((ℕ × ℕ × ℕ) × List ℕ)
+base_at bytes = do
+  epoch ← epoch_at bytes
+  floor ← stamp_at epoch.1
+  horizon ← stamp_at floor.1
+  Some ((epoch.0, floor.0, horizon.0), horizon.1)
+
+-- of a version
+unfoldable pub version_at : List ℕ → Option (Install × List ℕ)
+version_at bytes = do
+  key ← key_at bytes
+  at ← stamp_at key.1
+  value ← value_at at.1
+  Some (record { key = key.0; at = at.0; value = value.0 }, value.1)
+
+-- and as a record
+abbrev pub listed_at : List ℕ → Option (Record × List ℕ)
+listed_at bytes = version_at bytes >>= λ i. Some (records.Version i.0, i.1)
+
+-- of a decision that has its outcome
+unfoldable pub settled_at : List ℕ → Option ((Id × ℕ × List ℕ) × List ℕ)
+settled_at bytes = do
+  txn ← id_at bytes
+  at ← stamp_at txn.1
+  parts ← parts_at at.1
+  Some ((txn.0, at.0, parts.0), parts.1)
+
+-- of a promise that has its outcome
+unfoldable pub closed_at : List ℕ → Option ((Id × ℕ × Option ℕ) × List ℕ)
+closed_at bytes = do
+  txn ← id_at bytes
+  coordinator ← shard_at txn.1
+  outcome ← outcome_at coordinator.1
+  Some ((txn.0, coordinator.0, outcome.0), outcome.1)
+
 -- by the byte of the kind
 unfoldable pub record_at : List ℕ → Option (Record × List ℕ)
 record_at [] = None
@@ -160,7 +197,11 @@ record_at (kind ∷ bytes) =
     else (if kind == 4 then (commit_at bytes >>= λ c. Some (records.Commit c.0, c.1))
     else (if kind == 5 then (id_at bytes >>= λ txn. Some (records.Abort txn.0, txn.1))
     else (if kind == 6 then (ended_at bytes >>= λ e. Some (records.Outcome e.0.0 e.0.1, e.1))
-    else (if kind == 7 then (stamp_at bytes >>= λ at. Some (records.Horizon at.0, at.1)) else None))))))
+    else (if kind == 7 then (stamp_at bytes >>= λ at. Some (records.Horizon at.0, at.1))
+    else (if kind == 8 then (base_at bytes >>= λ b. Some (records.Base b.0.0 b.0.1 b.0.2, b.1))
+    else (if kind == 9 then (version_at bytes >>= λ i. Some (records.Version i.0, i.1))
+    else (if kind == 10 then (settled_at bytes >>= λ s. Some (records.Settled s.0.0 s.0.1 s.0.2, s.1))
+    else (if kind == 11 then (closed_at bytes >>= λ c. Some (records.Closed c.0.0 c.0.1 c.0.2, c.1)) else None))))))))))
 
 -- all of the bytes
 unfoldable pub read_record : List ℕ → Option Record

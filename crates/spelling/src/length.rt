@@ -70,5 +70,26 @@ pub fn encoded_len(record: &Record) -> u64
             Some(_) => 26,
         },
         Record::Horizon { at: _ } => 9,
+        Record::Base {
+            epoch: _,
+            floor: _,
+            horizon: _,
+        } => 25,
+        Record::Version(install) => {
+            10 + install.key.as_bytes().len() as u64 + value_len(&install.value)
+        }
+        Record::Settled {
+            txn: _,
+            at: _,
+            parts: _,
+        } => 27,
+        Record::Closed {
+            txn: _,
+            coordinator: _,
+            outcome,
+        } => match outcome {
+            None => 19,
+            Some(_) => 27,
+        },
     }
 }

@@ -1,16 +1,17 @@
 // Reading a record from left to right.
-ghost use Rattle.std.specs.Prelude.{◌≡◌, ◌≢◌, ◌↔◌, ◌==◌, [], ◌∷◌, length, IfOk, IfErr, MatchResult};
+ghost use Rattle.std.specs.Prelude.{◌≡◌, ◌≢◌, ◌≤◌, ◌↔◌, ◌==◌, [], ◌∷◌, length, IfOk, IfErr, MatchResult};
 ghost use Rattle.std.specs.Int.{w16, w64};
 ghost use Rattle.spelling.specs.Gives.{Gives, Finds};
-ghost use Rattle.spelling.specs.Grammar.{Spells};
+ghost use Rattle.spelling.specs.Limits.{Spells};
 ghost use Rattle.spelling.specs.Reading.{only_if, number_at, value_text_at, stamp_at, epoch_at, key_at, value_at, write_at, id_at, parts_at};
 ghost use Rattle.spelling.specs.Reading.{shard_at, outcome_at, many_at, keys_at, writes_at, promise_at, decision_at, ended_at, record_at, read_record};
+ghost use Rattle.spelling.specs.Reading.{base_at, version_at, listed_at, settled_at, closed_at};
 
 use crate::unread::Unread;
 use byteorder::{BigEndian, ByteOrder};
 use record::{Committed, Prepared, Record};
 use std::alloc::Global;
-use units::{Epoch, Fault, Key, Keys, Parts, ShardNo, Stamp, TxnId, Value, Write, Writes};
+use units::{Epoch, Fault, Install, Key, Keys, Parts, ShardNo, Stamp, TxnId, Value, Write, Writes};
 
 fn u16_of(bytes: &[u8]) -> Option<(u16, &[u8])>
     ensures { Finds (λ x. (x.0, x.1.now)) result (number_at w16 bytes.now) }
@@ -354,10 +355,74 @@ fn ended_of(bytes: &[u8]) -> Option<((TxnId, Option<Stamp>), &[u8])>
     }
 }
 
-// A record of a kind that takes no memory.
+#[tactic(auto, unfolding(crate::specs::Reading::base_at))]
+fn base_of(bytes: &[u8]) -> Option<((Epoch, Stamp, Stamp), &[u8])>
+    ensures { Finds (λ x. (x.0, x.1.now)) result (base_at bytes.now) }
+{
+    let Some((epoch, rest)) = epoch_of(bytes) else {
+        return None;
+    };
+    let Some((floor, rest)) = stamp_of(rest) else {
+        return None;
+    };
+    match stamp_of(rest) {
+        Some((horizon, rest)) => Some(((epoch, floor, horizon), rest)),
+        None => None,
+    }
+}
+
+#[tactic(auto, unfolding(crate::specs::Reading::version_at))]
+fn version_of(alloc: Global, bytes: &[u8]) -> Result<(Record, &[u8]), Unread>
+    ensures { Gives (λ x. (x.0, x.1.now)) result (listed_at bytes.now) }
+{
+    let Some((key, rest)) = key_of(bytes) else {
+        return Err(Unread::Malformed);
+    };
+    let Some((at, rest)) = stamp_of(rest) else {
+        return Err(Unread::Malformed);
+    };
+    match value_of(alloc, rest) {
+        Ok((value, rest)) => Ok((Record::Version(Install { key, at, value }), rest)),
+        Err(unread) => Err(unread),
+    }
+}
+
+#[tactic(auto, unfolding(crate::specs::Reading::settled_at))]
+fn settled_of(bytes: &[u8]) -> Option<((TxnId, Stamp, Parts), &[u8])>
+    ensures { Finds (λ x. (x.0, x.1.now)) result (settled_at bytes.now) }
+{
+    let Some((txn, rest)) = id_of(bytes) else {
+        return None;
+    };
+    let Some((at, rest)) = stamp_of(rest) else {
+        return None;
+    };
+    match parts_of(rest) {
+        Some((parts, rest)) => Some(((txn, at, parts), rest)),
+        None => None,
+    }
+}
+
+#[tactic(auto, unfolding(crate::specs::Reading::closed_at))]
+fn closed_of(bytes: &[u8]) -> Option<((TxnId, ShardNo, Option<Stamp>), &[u8])>
+    ensures { Finds (λ x. (x.0, x.1.now)) result (closed_at bytes.now) }
+{
+    let Some((txn, rest)) = id_of(bytes) else {
+        return None;
+    };
+    let Some((coordinator, rest)) = shard_of(rest) else {
+        return None;
+    };
+    match outcome_of(rest) {
+        Some((outcome, rest)) => Some(((txn, coordinator, outcome), rest)),
+        None => None,
+    }
+}
+
+// A record of a kind that steps log, and that takes no memory; or one of a head.
 #[tactic(auto, unfolding(crate::specs::Reading::record_at))]
 fn short_of(kind: u8, bytes: &[u8]) -> Option<(Record, &[u8])>
-    requires { (kind ≢ 3) × (kind ≢ 4) }
+    requires { (kind ≢ 3) × (kind ≢ 4) × (kind ≢ 9) }
     ensures { Finds (λ x. (x.0, x.1.now)) result (record_at (kind ∷ bytes.now)) }
 {
     match kind {
@@ -381,6 +446,44 @@ fn short_of(kind: u8, bytes: &[u8]) -> Option<(Record, &[u8])>
             Some((at, rest)) => Some((Record::Horizon { at }, rest)),
             None => None,
         },
+        0 => None,
+        _ => head_of(kind, bytes),
+    }
+}
+
+// A record of a renewed log's head, of a kind that takes no memory.
+#[tactic(auto, unfolding(crate::specs::Reading::record_at))]
+fn head_of(kind: u8, bytes: &[u8]) -> Option<(Record, &[u8])>
+    requires { (8 ≤ kind) × (kind ≢ 9) }
+    ensures { Finds (λ x. (x.0, x.1.now)) result (record_at (kind ∷ bytes.now)) }
+{
+    match kind {
+        8 => match base_of(bytes) {
+            Some(((epoch, floor, horizon), rest)) => {
+                let base = Record::Base {
+                    epoch,
+                    floor,
+                    horizon,
+                };
+                Some((base, rest))
+            }
+            None => None,
+        },
+        10 => match settled_of(bytes) {
+            Some(((txn, at, parts), rest)) => Some((Record::Settled { txn, at, parts }, rest)),
+            None => None,
+        },
+        11 => match closed_of(bytes) {
+            Some(((txn, coordinator, outcome), rest)) => {
+                let closed = Record::Closed {
+                    txn,
+                    coordinator,
+                    outcome,
+                };
+                Some((closed, rest))
+            }
+            None => None,
+        },
         _ => None,
     }
 }
@@ -395,6 +498,7 @@ fn record_of(alloc: Global, bytes: &[u8]) -> Result<(Record, &[u8]), Unread>
     match *kind {
         3 => prepare_of(alloc, rest),
         4 => commit_of(alloc, rest),
+        9 => version_of(alloc, rest),
         kind => match short_of(kind, rest) {
             Some(found) => Ok(found),
             None => Err(Unread::Malformed),

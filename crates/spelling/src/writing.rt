@@ -2,13 +2,17 @@
 ghost use Rattle.std.specs.Prelude.{◌≡◌, [], ◌∷◌, ◌++◌, IsTrue, OnOk, IfOk, IfErr};
 ghost use Rattle.std.specs.Int.{w16, w64, to_be_bytes};
 ghost use Rattle.spelling.specs.Grammar.{spelling, prepare_spelling, commit_spelling, id_spelling, key_spelling, keys_spelling, write_spelling};
-ghost use Rattle.spelling.specs.Grammar.{writes_spelling, outcome_spelling, parts_spelling, IsId, IsKey, IsKeys, IsParts, IsWrite, IsWrites, IsPrepare};
-ghost use Rattle.spelling.specs.Grammar.{IsCommit, IsOutcome, IsRecord, NoneBeginsAnother};
+ghost use Rattle.spelling.specs.Grammar.{writes_spelling, outcome_spelling, parts_spelling};
+ghost use Rattle.spelling.specs.Limits.{IsId, IsKey, IsKeys, IsParts, IsWrite, IsWrites, IsPrepare};
+ghost use Rattle.spelling.specs.Grammar.{base_spelling, value_spelling, version_spelling};
+ghost use Rattle.spelling.specs.Limits.{IsCommit, IsOutcome, IsRecord, NoneBeginsAnother};
+ghost use Rattle.spelling.specs.Grammar.{settled_spelling, closed_spelling};
+ghost use Rattle.spelling.specs.Limits.{IsBase, IsValue, IsVersion, IsSettled, IsClosed};
 
 use byteorder::{BigEndian, ByteOrder};
 use record::{Committed, Prepared, Record};
 use std::alloc::Global;
-use units::{Fault, Key, Keys, Parts, Stamp, TxnId, Write, Writes};
+use units::{Epoch, Fault, Install, Key, Keys, Parts, ShardNo, Stamp, TxnId, Value, Write, Writes};
 
 // What follows is put behind what stands in a buffer. Each call says whether there was the memory for it.
 
@@ -70,13 +74,7 @@ fn put_write(out: &mut Vec<u8>, write: &Write) -> bool
     if !put_key(out, &write.key) {
         return false;
     }
-    match &write.value {
-        None => put_u8(out, 0),
-        Some(value) => {
-            let bytes = value.as_bytes();
-            put_u8(out, 1) && put_u16(out, bytes.len() as u16) && put_bytes(out, bytes)
-        }
-    }
+    put_value(out, &write.value)
 }
 
 fn put_keys(out: &mut Vec<u8>, keys: &Keys) -> bool
@@ -167,6 +165,68 @@ fn put_commit(out: &mut Vec<u8>, c: &Committed) -> bool
     put_writes(out, &c.writes)
 }
 
+fn put_base(out: &mut Vec<u8>, epoch: Epoch, floor: Stamp, horizon: Stamp) -> bool
+    ensures ok { IsTrue result →
+        out.new.items ≡ out.old.items ++ base_spelling epoch floor horizon }
+    ensures fits { IsTrue result → IsBase epoch floor horizon }
+{
+    put_u64(out, epoch.number()) && put_u64(out, floor.micros()) && put_u64(out, horizon.micros())
+}
+
+fn put_value(out: &mut Vec<u8>, value: &Option<Value>) -> bool
+    ensures ok { IsTrue result → out.new.items ≡ out.old.items ++ value_spelling value.now }
+    ensures fits { IsTrue result → IsValue value.now }
+{
+    match value {
+        None => put_u8(out, 0),
+        Some(value) => {
+            let bytes = value.as_bytes();
+            put_u8(out, 1) && put_u16(out, bytes.len() as u16) && put_bytes(out, bytes)
+        }
+    }
+}
+
+fn put_version(out: &mut Vec<u8>, install: &Install) -> bool
+    ensures ok { IsTrue result → out.new.items ≡ out.old.items ++ version_spelling install.now }
+    ensures fits { IsTrue result → IsVersion install.now }
+{
+    if !put_key(out, &install.key) {
+        return false;
+    }
+    if !put_u64(out, install.at.micros()) {
+        return false;
+    }
+    put_value(out, &install.value)
+}
+
+fn put_settled(out: &mut Vec<u8>, txn: TxnId, at: Stamp, parts: Parts) -> bool
+    ensures ok { IsTrue result →
+        out.new.items ≡ out.old.items ++ settled_spelling txn at parts }
+    ensures fits { IsTrue result → IsSettled txn at parts }
+{
+    if !put_id(out, txn) {
+        return false;
+    }
+    if !put_u64(out, at.micros()) {
+        return false;
+    }
+    put_parts(out, parts)
+}
+
+fn put_closed(out: &mut Vec<u8>, txn: TxnId, coordinator: ShardNo, outcome: Option<Stamp>) -> bool
+    ensures ok { IsTrue result →
+        out.new.items ≡ out.old.items ++ closed_spelling txn coordinator outcome }
+    ensures fits { IsTrue result → IsClosed txn coordinator outcome }
+{
+    if !put_id(out, txn) {
+        return false;
+    }
+    if !put_u8(out, coordinator.number()) {
+        return false;
+    }
+    put_outcome(out, outcome)
+}
+
 fn put_record(out: &mut Vec<u8>, record: &Record) -> bool
     ensures ok { IsTrue result → out.new.items ≡ out.old.items ++ spelling «record».now }
     ensures fits { IsTrue result → IsRecord «record».now }
@@ -179,6 +239,19 @@ fn put_record(out: &mut Vec<u8>, record: &Record) -> bool
         Record::Abort { txn } => put_u8(out, 5) && put_id(out, *txn),
         Record::Outcome { txn, outcome } => put_u8(out, 6) && put_ended(out, *txn, *outcome),
         Record::Horizon { at } => put_u8(out, 7) && put_u64(out, at.micros()),
+        Record::Base {
+            epoch,
+            floor,
+            horizon,
+        } => put_u8(out, 8) && put_base(out, *epoch, *floor, *horizon),
+        Record::Version(install) => put_u8(out, 9) && put_version(out, install),
+        Record::Settled { txn, at, parts } => put_u8(out, 10)
+            && put_settled(out, *txn, *at, *parts),
+        Record::Closed {
+            txn,
+            coordinator,
+            outcome,
+        } => put_u8(out, 11) && put_closed(out, *txn, *coordinator, *outcome),
     }
 }
 

@@ -9,4 +9,4 @@ mod reading;
 pub use asked::{Driven, System};
 pub use kept::Files;
 pub use notes::Note;
-pub use reading::{MOST_TEXT, format_file, open_all, read_text};
+pub use reading::{MOST_TEXT, format_file, migrate_file, open_all, read_text};

@@ -1,9 +1,10 @@
 //! Texts and logs in files.
 ghost use Rattle.std.specs.Prelude.{◌≡◌, ◌⊎◌, ◌≤◌, ◌^◌, IfOk, IfErr, length, string_bytes};
+ghost use Rattle.system.specs.Refusals.{IsNotMigrated};
 ghost use Rattle.units.specs.declared.fault.Fault.TheVariants.{BadRequest, Device, Memory};
 
 use crate::kept::Files;
-use gatelog::GateLog;
+use gatelog::{GateLog, is_old, migrate};
 use std::alloc::Global;
 use units::{Fault, Reason};
 
@@ -42,6 +43,20 @@ pub fn format_file<F: Files>(alloc: Global, files: &F, path: &str) -> Result<(),
 {
     let file = files.create(alloc, path)?;
     match GateLog::format(file) {
+        Ok(_) => Ok(()),
+        Err((fault, _)) => Err(fault),
+    }
+}
+
+/// Makes a file with the records of another one, which holds a log of version 1 and stays as it is. What is wrong with the old file counts
+/// first, and then nothing is made; then `Device`, where there is something of the new one's name.
+pub fn migrate_file<F: Files>(alloc: Global, files: &F, old: &str, new: &str) -> Result<(), Fault>
+    ensures { IfErr result IsNotMigrated }
+{
+    let mut first = files.open(alloc, old)?;
+    is_old(alloc, &mut first)?;
+    let second = files.create(alloc, new)?;
+    match migrate(alloc, &mut first, second) {
         Ok(_) => Ok(()),
         Err((fault, _)) => Err(fault),
     }

@@ -1,6 +1,6 @@
 //! The words of what is printed.
 use crate::printed::Word::{
-    Key, Keys, Number, Outcome, Parts, Plain, Shard, Stamp, Txn, Value, Writes,
+    Key, Keys, Number, Outcome, Parts, Plain, Shard, Stamp, Txn, Value, Version, Writes,
 };
 use message::{Address, Answer, Commit, Message, Prepare};
 use record::Record;
@@ -18,6 +18,7 @@ pub enum Word<'t> {
     Key(&'t units::Key),
     Keys(&'t units::Keys),
     Writes(&'t units::Writes),
+    Version(&'t units::Install),
     Parts(&'t units::Parts),
     Value(&'t Option<units::Value>),
     Outcome(Option<units::Stamp>),
@@ -56,6 +57,46 @@ pub fn record_words(record: &Record) -> [Word<'_>; 6] {
             NO,
         ],
         Record::Horizon { at } => [Plain("horizon"), Stamp(*at), NO, NO, NO, NO],
+        Record::Base {
+            epoch,
+            floor,
+            horizon,
+        } => [
+            Plain("base"),
+            Number(epoch.number()),
+            Stamp(*floor),
+            Stamp(*horizon),
+            NO,
+            NO,
+        ],
+        Record::Version(version) => [
+            Plain("version"),
+            Stamp(version.at),
+            Version(version),
+            NO,
+            NO,
+            NO,
+        ],
+        Record::Settled { txn, at, parts } => [
+            Plain("settled"),
+            Txn(*txn),
+            Stamp(*at),
+            Parts(parts),
+            NO,
+            NO,
+        ],
+        Record::Closed {
+            txn,
+            coordinator,
+            outcome,
+        } => [
+            Plain("closed"),
+            Txn(*txn),
+            Shard(*coordinator),
+            Outcome(*outcome),
+            NO,
+            NO,
+        ],
     }
 }
 

@@ -62,12 +62,22 @@ impl fmt::Display for Text<'_, Writes> {
     fn fmt<W: fmt::Write>(&self, f: &mut fmt::Formatter<W>) -> fmt::Result {
         let mut mark = "";
         for write in self.0.as_slice() {
-            write_bytes(f, mark, write.key.as_bytes())?;
-            write_value(f, &write.value, "!")?;
+            write_one(f, mark, &write.key, &write.value)?;
             mark = ",";
         }
         write_none(f, mark)
     }
+}
+
+// A mark, and behind it a key with its value, or its erasure.
+fn write_one<W: fmt::Write>(
+    f: &mut fmt::Formatter<W>,
+    mark: &str,
+    key: &Key,
+    value: &Option<Value>,
+) -> fmt::Result {
+    write_bytes(f, mark, key.as_bytes())?;
+    write_value(f, value, "!")
 }
 
 impl fmt::Display for Text<'_, Parts> {
@@ -119,6 +129,7 @@ fn write_word<W: fmt::Write>(f: &mut fmt::Formatter<W>, word: &Word<'_>) -> fmt:
         Word::Key(key) => write_bytes(f, "", key.as_bytes()),
         Word::Keys(keys) => fmt::Display::fmt(&Text(*keys), f),
         Word::Writes(writes) => fmt::Display::fmt(&Text(*writes), f),
+        Word::Version(version) => write_one(f, "", &version.key, &version.value),
         Word::Parts(parts) => fmt::Display::fmt(&Text(*parts), f),
         Word::Value(value) => write_value(f, value, "none"),
         Word::Outcome(outcome) => fmt::Display::fmt(&Text(outcome), f),

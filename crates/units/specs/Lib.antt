@@ -14,3 +14,4 @@ pub mod Masks
 pub mod Parts
 pub mod Texts
 pub mod Versions
+pub mod Installed

@@ -35,6 +35,29 @@ pub struct Install {
     pub value: Option<Value>,
 }
 
+impl Install {
+    ghost use Rattle.units.specs.Versions.{version_before};
+
+    /// An equal version, which shares its value.
+    pub fn copy(&self) -> Result<Install, Fault>
+        ensures same { IfOk result (λ install. install ≡ self.now) }
+        ensures memory { IfErr result (λ fault. fault ≡ Fault.Memory) }
+    {
+        Ok(Install {
+            key: self.key,
+            at: self.at,
+            value: copy_value(&self.value)?,
+        })
+    }
+
+    /// It comes before another by key, and then by timestamp.
+    pub fn is_before(&self, next: &Install) -> bool
+        ensures { result ≡ version_before self.now next.now }
+    {
+        self.key.is_before(&next.key) || (self.key.is(&next.key) && self.at < next.at)
+    }
+}
+
 /// At most 128 writes, by strictly ascending keys.
 pub struct Writes {
     writes: Vec<Write>,

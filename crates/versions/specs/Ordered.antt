@@ -3,34 +3,13 @@ use Rattle.std.specs.Prelude.{ℕ, IsTrue, Bool, ◌&&◌, ◌||◌, nat_lt, nat
 use Rattle.std.specs.List.{AllByRecursion, list_all}
 use Rattle.units.specs.Keys.{Bytes, same_key, key_before}
 use Rattle.units.specs.Versions.{of_key}
+pub use Rattle.units.specs.Versions.{version_before}
+pub use Rattle.units.specs.Installed.{is_not_after, is_by, installed, all_installed}
 use Rattle.units.specs.declared.writes.Install.{Install}
-
--- the version is of this key and timestamp, or it comes before them
-abbrev pub is_not_after : Bytes → ℕ → Install → Bool
-is_not_after key at install = key_before install.key key || (same_key install.key key && nat_le install.at at)
-
--- the version is of this key, and no later than the timestamp
-abbrev pub is_by : Bytes → ℕ → Install → Bool
-is_by key at install = same_key install.key key && nat_le install.at at
 
 -- how many are not after the key and timestamp
 abbrev pub count_not_after : Bytes → ℕ → List Install → ℕ
 count_not_after key at installs = length (filter (is_not_after key at) installs)
-
--- the versions with one more, at its place
-abbrev pub installed : List Install → Install → List Install
-installed [] install = install ∷ []
-installed (next ∷ rest) install =
-    cond (is_not_after install.key install.at next) (next ∷ installed rest install) (install ∷ next ∷ rest)
-
--- the versions with several more, one after another
-abbrev pub all_installed : List Install → List Install → List Install
-all_installed ordered [] = ordered
-all_installed ordered (install ∷ more) = all_installed (installed ordered install) more
-
--- the first is before the second
-abbrev pub version_before : Install → Install → Bool
-version_before install next = key_before install.key next.key || (same_key install.key next.key && nat_lt install.at next.at)
 
 -- each version is before all that follow
 abbrev pub AscendsByVersion : List Install → Type 0

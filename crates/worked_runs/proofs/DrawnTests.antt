@@ -43,6 +43,10 @@ claimed (Record.Commit c) = Some (record { txn = c.txn; at = c.at; reads = c.rea
 claimed (Record.Opened epoch) = None
 claimed (Record.Ceiling at) = None
 claimed (Record.Horizon at) = None
+claimed (Record.Base _ _ _) = None
+claimed (Record.Version _) = None
+claimed (Record.Settled _ _ _) = None
+claimed (Record.Closed _ _ _) = None
 claimed (Record.Abort t) = None
 claimed (Record.Outcome t outcome) = None
 

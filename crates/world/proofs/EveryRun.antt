@@ -1,5 +1,5 @@
 -- What holds of a single running shard is kept by its steps and its openings, so it holds at every moment of a run.
-use Rattle.std.proofs.Common.{◌≡◌, ◌≤◌, inl, ℕ, ◌+◌, Bool, true, false, cond, ◌&&◌, nat_eq, nat_le, nat_lt, List, [], ◌∷◌, ◌++◌, length, Option, Some, None}
+use Rattle.std.proofs.Common.{◌≡◌, ◌≤◌, inl, ℕ, ◌+◌, Bool, true, false, cond, ◌&&◌, ◌||◌, nat_eq, nat_le, nat_lt, List, [], ◌∷◌, ◌++◌, length, Option, Some, None}
 use Rattle.std.proofs.Common.{slice_get, refl, sym, ap, subst, ◌∙◌, arith}
 use Rattle.std.specs.Prelude.{Ok, Err, option_map}
 use Rattle.std.proofs.lemmas.Bool.{leb-true, and_from, and_parts}
@@ -14,6 +14,9 @@ use Rattle.record.specs.Accepted.{Accepted, taken, followed, begins, follows, be
 use Rattle.record.specs.Facts.{Facts, facts_of, learn}
 use Rattle.record.specs.declared.record.Record.{Record}
 use Rattle.record.proofs.LearnAgrees.{accepted_follows, followed_more}
+use Rattle.facts.specs.Rules.{follows_facts}
+use Rattle.facts.specs.Stages.{follows_head, follows_next, stage_of}
+use Rattle.facts.specs.declared.stage.Stage.{Stage}
 use Rattle.facts.proofs.Known.{follows_as_known}
 use Rattle.gatelog.specs.Frames.{end_of}
 use Rattle.message.specs.declared.message.Envelope.{Envelope}
@@ -40,6 +43,7 @@ use Rattle.world.specs.declared.event.Doing.{Doing}
 use Rattle.world.specs.declared.event.Event.{Event}
 use Rattle.world.proofs.Openings.{opening_taken, taken_more}
 use Rattle.world.proofs.Rooms.{done_wanted}
+use Rattle.world.proofs.StepKinds.{are_logged, follows_logged, logged_more}
 use Rattle.world.proofs.Sounds.{ActAllowed, DoingAllowed, SoundShard, SoundWorld, always_sound, read_left}
 
 -- ---- one shard
@@ -73,24 +77,37 @@ pub fresh : (setup : Setup) → IsWell setup (facts_of fresh_log) (rebuilt (fact
 unfolding rebuilt facts_of
 fresh setup = record { sound = fresh_is_sound setup.shard; own = refl; few = omega arith }
 
--- the log is taken by an opening
+-- the log is taken by an opening, and of the kinds that steps log
 abbrev pub IsTaken : Setup → List Record → Type 0
-IsTaken setup log = taken setup log ≡ Accepted
+IsTaken setup log = (taken setup log ≡ Accepted) × (are_logged log ≡ true)
+
+pub taken_follows : (setup : Setup) (log : List Record) → IsTaken setup log → followed setup.shard log ≡ true
+taken_follows setup log h = accepted_follows setup log h.0
+
+pub opening_keeps : (setup : Setup) (log : List Record) → IsTaken setup log → IsTaken setup (log ++ Record.Opened ((facts_of log).epoch + 1) ∷ [])
+opening_keeps setup log h = (opening_taken setup log h.0, logged_more log (Record.Opened ((facts_of log).epoch + 1)) h.1 refl)
+
+-- what follows as a step's record may come next
+step_next : (shard : ℕ) (stage : Stage) (f : Facts) (r : Record) → follows_facts shard f r ≡ true → follows_next shard stage f r ≡ true
+unfolding follows_next
+step_next shard stage f r h = ap (λ b. b || follows_head shard stage f r) h
 
 -- what a step logs is taken
 takes : (setup : Setup) (log : List Record) (m : Memory) (now : Interval) (i : Input) (p : Plan) (r : Record) → IsTaken setup log →
     IsWell setup (facts_of log) m → plan_input setup (start_of_step most_rows setup (facts_of log) m) now i ≡ Ok p → p.logged ≡ Some r →
     IsTaken setup (log ++ r ∷ [])
 takes setup log m now i p r h well e logged =
-    let so_far : followed setup.shard log ≡ true = accepted_follows setup log h in
+    let step_follows : follows_facts setup.shard (facts_of log) r ≡ true = logged_follows most_rows setup (facts_of log) m now i p r well.sound e logged in
     let with_it : followed setup.shard (log ++ r ∷ []) ≡ true =
-    follows_as_known setup.shard log r so_far ∙ logged_follows most_rows setup (facts_of log) m now i p r well.sound e logged in
-    let next = and_parts (followed setup.shard log) (begins log r && follows setup.shard log r) (sym (followed_more setup.shard log r) ∙ with_it) in
-    taken_more setup log r h (record {
-      own = logged_belongs most_rows setup (facts_of log) m now i p r well.own e logged;
-      fits = and_from (begins log r && follows setup.shard log r) (fits_beside log r) next.1
-          (logged_fits_beside setup log m now i p r well.sound well.few e logged);
-    })
+    follows_as_known setup.shard log r (accepted_follows setup log h.0) ∙ step_next setup.shard (stage_of log) (facts_of log) r step_follows in
+    let next = and_parts (followed setup.shard log) (begins log r && follows setup.shard log r) (sym (followed_more setup.shard log r) ∙ with_it) in (
+      taken_more setup log r h.0 (record {
+        own = logged_belongs most_rows setup (facts_of log) m now i p r well.own e logged;
+        fits = and_from (begins log r && follows setup.shard log r) (fits_beside log r) next.1
+            (logged_fits_beside setup log m now i p r well.sound well.few e logged);
+      }),
+      logged_more log r h.1 (follows_logged setup.shard (facts_of log) r step_follows),
+    )
 
 pub logs : (setup : Setup) (log : List Record) (m : Memory) (now : Interval) (i : Input) (p : Plan) (r : Record) → IsInLimit i → IsTaken setup log →
     IsWell setup (facts_of log) m → plan_input setup (start_of_step most_rows setup (facts_of log) m) now i ≡ Ok p → p.logged ≡ Some r →
@@ -100,7 +117,7 @@ logs setup log m now i p r limit h well e logged = takes setup log m now i p r h
 -- the first opening is taken
 pub fresh_taken : (setup : Setup) → IsTaken setup fresh_log
 unfolding taken follows belongs fits_beside
-fresh_taken setup = refl
+fresh_taken setup = (refl, refl)
 
 -- ---- the events
 
@@ -158,14 +175,14 @@ in_limit w e may = limits w e.time e.act (and_parts (nat_le w.time e.time) (may_
 
 -- all is well with a shard, and its log is taken
 abbrev pub WellShard : Setup → ShardNow → Type 0
-WellShard setup s = SoundShard InLimit IsWell IsTaken keeps opens accepted_follows logs opening_taken setup s
+WellShard setup s = SoundShard InLimit IsWell IsTaken keeps opens taken_follows logs opening_keeps setup s
 
 -- so with each shard of a world
 abbrev pub WellWorld : World → Type 0
-WellWorld w = SoundWorld InLimit IsWell IsTaken keeps opens accepted_follows logs opening_taken w
+WellWorld w = SoundWorld InLimit IsWell IsTaken keeps opens taken_follows logs opening_keeps w
 
 pub always_well : (config : Config) (es : List Event) → lawful config es ≡ true → WellWorld (run config es)
-always_well = always_sound InLimit IsWell IsTaken keeps opens accepted_follows logs opening_taken limits fresh fresh_taken
+always_well = always_sound InLimit IsWell IsTaken keeps opens taken_follows logs opening_keeps limits fresh fresh_taken
 
 -- ---- what is logged follows, whatever timestamp an input names
 
@@ -204,7 +221,7 @@ step_logs setup log unsure (Runs m) views (Some q) r memory out well e =
 module _ (config : Config) (bag : List Envelope) (n : ℕ) (s : ShardNow) (well : WellShard (setup_of config n) s) where
   -- a read of the disk gives a log that is taken
   good : IsTaken (setup_of config n) (read_log s)
-  good = (well.left (read_log s) (read_left InLimit IsWell IsTaken keeps opens accepted_follows logs opening_taken config bag n s well)).good
+  good = (well.left (read_log s) (read_left InLimit IsWell IsTaken keeps opens taken_follows logs opening_keeps config bag n s well)).good
 
   opening_logs : (r : Record) (memory : Memory) (out : List Envelope) → step_of_opening (facts_of (read_log s)) ≡ Does (Some r) memory out →
       IsTaken (setup_of config n) (read_log s ++ r ∷ [])
@@ -219,7 +236,7 @@ module _ (config : Config) (bag : List Envelope) (n : ℕ) (s : ShardNow) (well 
           subst (λ q. IsTaken (setup_of config n) (read_log s ++ q ∷ []))
           (some_record (Record.Opened ((facts_of (read_log s)).epoch + 1)) r
           (logged_is (Some (Record.Opened ((facts_of (read_log s)).epoch + 1))) (Some r) (rebuilt (facts_of (read_log s))) memory [] out k))
-          (opening_taken (setup_of config n) (read_log s) good)
+          (opening_keeps (setup_of config n) (read_log s) good)
 
   wanted_logs : (doing : Doing) (r : Record) (memory : Memory) (out : List Envelope) → wanted (setup_of config n) bag s doing ≡ Does (Some r) memory out →
       IsTaken (setup_of config n) (read_log s ++ r ∷ [])
@@ -257,8 +274,8 @@ is_steady config es fair =
     let well = always_well config es fair in
     let v : World = run config es in
     record {
-      follows = λ n s log there may. accepted_follows (setup_of v.config n) log ((well n s there).left log may).good;
+      follows = λ n s log there may. taken_follows (setup_of v.config n) log ((well n s there).left log may).good;
       logged = λ n s doing r memory out there e.
-          accepted_follows (setup_of v.config n) (read_log s ++ r ∷ []) (doing_logs v.config v.bag n s (well n s there) doing r memory out e);
-      takes = λ n s there. good v.config v.bag n s (well n s there);
+          taken_follows (setup_of v.config n) (read_log s ++ r ∷ []) (doing_logs v.config v.bag n s (well n s there) doing r memory out e);
+      takes = λ n s there. (good v.config v.bag n s (well n s there)).0;
     }

@@ -9,5 +9,6 @@ pub mod Puts
 pub mod Replying
 pub mod Rooms
 pub mod Sounds
+pub mod StepKinds
 pub mod Untouched
 pub mod Adding

@@ -8,7 +8,7 @@ use Rattle.record.specs.History.{history}
 use Rattle.record.specs.Serially.{LooksSerially, ReadsSerially, OrderedByTime}
 use Rattle.record.specs.Accepted.{Accepted, taken}
 use Rattle.record.specs.Whole.{is_whole, Resolves}
-use Rattle.record.specs.Verdict.{IsLine, is_in_at}
+use Rattle.record.specs.Lines.{IsLine, is_in_at}
 use Rattle.protocol.specs.Step.{Does}
 use Rattle.world.specs.World.{World, ShardNow, Unsure, Nothing, Shown, Hidden, read_log, effect, setup_of, run}
 use Rattle.world.specs.Lawful.{lawful}

@@ -1,7 +1,7 @@
 //! The lines of a report that count.
-ghost use Rattle.std.specs.Prelude.{◌≡◌, ◌||◌, [], List, IfOk, IfErr, OnOk, filter, map};
+ghost use Rattle.std.specs.Prelude.{◌≡◌, ◌&&◌, ◌||◌, [], nat_eq, List, IfOk, IfErr, OnOk, filter, map};
 ghost use Rattle.units.specs.Ids.{Id, same_id};
-ghost use Rattle.units.specs.Lists.{when};
+ghost use Rattle.units.specs.Lists.{head, when};
 ghost use Rattle.record.specs.History.{history};
 ghost use Rattle.record.specs.declared.record.Record.{Record as Logged};
 ghost use Rattle.world.specs.World.{counted_lines, line_counts};
@@ -11,7 +11,7 @@ ghost use Rattle.world.specs.Counts.{AreDecided, commits_at, commits_here};
 use indexmap::IndexSet;
 use record::Record;
 use std::alloc::Global;
-use units::{Fault, Line, TxnId};
+use units::{Fault, Line, Parts, TxnId};
 
 /// The lines that count, in order: an answered read counts where its transaction committed, as the logs have it.
 #[tactic(auto, unfolding(crate::specs::World::counted_lines))]
@@ -81,14 +81,22 @@ fn decides(item: &Record, shard: usize) -> Option<TxnId>
     ensures { (t : Id) → when (λ u. same_id u t) result ≡ commits_at t shard item.now }
 {
     match item {
-        Record::Commit(committed) => {
-            if shard == committed.parts.least().number() as usize {
-                Some(committed.txn)
-            } else {
-                None
-            }
-        }
+        Record::Commit(committed) => where_least(committed.txn, committed.parts, shard),
+        Record::Settled { txn, parts, .. } => where_least(*txn, *parts, shard),
         Record::Opened { .. } | Record::Ceiling { .. } | Record::Prepare(_) => None,
         Record::Abort { .. } | Record::Outcome { .. } | Record::Horizon { .. } => None,
+        Record::Base { .. } | Record::Version(_) | Record::Closed { .. } => None,
+    }
+}
+
+// The transaction, where the shard is the least of its parts.
+fn where_least(txn: TxnId, parts: Parts, shard: usize) -> Option<TxnId>
+    ensures { (t : Id) → when (λ u. same_id u t) result
+        ≡ (same_id txn t && when (nat_eq shard) (head parts)) }
+{
+    if shard == parts.least().number() as usize {
+        Some(txn)
+    } else {
+        None
     }
 }

@@ -1,5 +1,5 @@
-use Rattle.std.proofs.Common.{◌≡◌, ◌+◌, ℕ, List, [], ◌∷◌, length, Bool, false, Result, Ok, Err, refl, sym, ◌∙◌, subst, ap, arith}
-use Rattle.std.specs.Prelude.{IsTrue, OnOk, nat_lt}
+use Rattle.std.proofs.Common.{◌≡◌, ◌+◌, ℕ, List, [], ◌∷◌, length, Bool, false, Result, Ok, refl, sym, ◌∙◌, subst, ap, arith}
+use Rattle.std.specs.Prelude.{IsTrue, nat_lt}
 use Rattle.disk.specs.Image.{Surface, IsSynced, with_bytes, after_write, after_sync}
 use Rattle.disk.specs.File.{File, surface}
 use Rattle.disk.specs.Moments.{LeavesOnly}
@@ -7,23 +7,20 @@ use Rattle.units.specs.declared.fault.Fault.{Fault}
 use Rattle.disk.specs.declared.plan.FailurePlan.{FailurePlan}
 use Rattle.disk.specs.declared.plan.FailurePlan.TheVariants.{AfterWrite}
 use Rattle.record.specs.declared.record.Record.{Record}
-use Rattle.spelling.specs.Grammar.{IsRecord}
+use Rattle.spelling.specs.Limits.{IsRecord}
 use Rattle.disk.specs.Planned.{IsAsPlanned}
 use Rattle.gatelog.specs.Placed.{Placed}
 use Rattle.gatelog.specs.Armed.{fails_in_two, after_two, two_made, fails_in_append, appended, IsArmed}
-use Rattle.gatelog.proofs.Armed.{planned_ok, planned_err, first_half, second_half, fails_by_call, armed_is}
+use Rattle.gatelog.proofs.Armed.{on_map, planned_ok, planned_err, first_half, second_half, fails_by_call, armed_is}
 use Rattle.gatelog.specs.Crash.{IsOldOrWith}
 use Rattle.gatelog.specs.Frames.{staged_bytes, next_gate}
 use Rattle.gatelog.specs.Gates.{open_gate}
 use Rattle.gatelog.specs.Log.{log, scan, ends_at, and_entry}
-use Rattle.gatelog.proofs.Images.{ends_found, staged_long, first_run, both_runs, end_is, log-opened, ends-opened}
-use Rattle.gatelog.proofs.Scan.{gate_within}
+use Rattle.gatelog.proofs.Images.{ends_found, staged_long, first_run, both_runs, first_begins, both_begin, end_is, log-opened, ends-opened}
+use Rattle.gatelog.specs.Turns.{IsNextOrNone}
+use Rattle.gatelog.proofs.Next.{next-appended}
+use Rattle.gatelog.proofs.Goes.{gate_within}
 use Rattle.gatelog.proofs.change.write_frame.Goals as goal
-
--- what holds after Ok leads to what follows from it
-on_map : {T : Type 0} {A B : Type 0} (result : Result T Fault) → (A → B) → OnOk result A → OnOk result B
-on_map (Ok value) f a = f a
-on_map (Err fault) f a = tt
 
 pub write_and_sync-requires : goal.write_and_sync-requires
 write_and_sync-requires g c keeps =
@@ -97,6 +94,32 @@ returns-clause-any_moment g c keeps =
     subst (λ (e : Placed). LeavesOnly g.D.Disk.clock g.D.Disk.since old c.write_and_sync-2.new.disk
     (IsOldOrWith (log (surface (g.D.Disk.file old)).seen) e)) c.staged.view_is run
 
+-- and the log begins where it began
+pub returns-in_err-write_and_sync-clause-begins : goal.returns-in_err-write_and_sync-clause-begins
+returns-in_err-write_and_sync-clause-begins g c keeps =
+    let old = c.args.disk.now in
+    let inside = c.staged.inside in
+    let gate-is : inside.gate ≡ c.args.staged.now.offset = ap (λ (e : Placed). e.offset) c.staged.view_is in
+    let whole : IsTrue (ends_at (surface (g.D.Disk.file old)).seen inside.gate) = subst
+    (λ (n : ℕ). IsTrue (ends_at (surface (g.D.Disk.file old)).seen n)) (sym gate-is) (c.requires.whole keeps) in
+    let bytes-is : c.deref.result.now ≡ staged_bytes inside.item = c.deref.ensures.value ∙ c.staged.invariant.0 in
+    first_begins (λ d. surface (g.D.Disk.file d)) g.D.Disk.clock g.D.Disk.since old inside.gate inside.item
+    (c.requires.synced keeps) whole c.staged.invariant.1 c.deref.result.now bytes-is c.write_and_sync.new.disk (c.write_and_sync.ensures.crash keeps)
+
+pub returns-clause-begins : goal.returns-clause-begins
+returns-clause-begins g c keeps =
+    let old = c.args.disk.now in
+    let inside = c.staged.inside in
+    let gate-is : inside.gate ≡ c.args.staged.now.offset = ap (λ (e : Placed). e.offset) c.staged.view_is in
+    let whole : IsTrue (ends_at (surface (g.D.Disk.file old)).seen inside.gate) = subst
+    (λ (n : ℕ). IsTrue (ends_at (surface (g.D.Disk.file old)).seen n)) (sym gate-is) (c.requires.whole keeps) in
+    let bytes-is : c.deref.result.now ≡ staged_bytes inside.item = c.deref.ensures.value ∙ c.staged.invariant.0 in
+    let mid-is : surface (g.D.Disk.file c.write_and_sync.new.disk) ≡ after_sync (after_write (inside.gate + 1) c.deref.result.now
+    (surface (g.D.Disk.file old))) = c.in_ok-write_and_sync.ensures.done keeps in
+    both_begin (λ d. surface (g.D.Disk.file d)) g.D.Disk.clock g.D.Disk.since old inside.gate inside.item
+    (c.requires.synced keeps) whole c.staged.invariant.1 c.deref.result.now bytes-is c.write_and_sync.new.disk c.write_and_sync-2.new.disk
+    (c.write_and_sync.ensures.crash keeps) mid-is (c.write_and_sync-2.ensures.crash keeps)
+
 -- and then the record is on the disk
 pub returns-clause-done : goal.returns-clause-done
 returns-clause-done g c = on_map c.write_and_sync-2.result (λ done keeps.
@@ -119,6 +142,17 @@ returns-clause-done g c = on_map c.write_and_sync-2.result (λ done keeps.
           (ap (λ (f : Surface). ends_at f.seen (next_gate inside.gate inside.item)) end ∙ ends),
       ap (λ (f : Surface). log f.seen) end ∙ stands ∙ ap (λ (e : Placed). and_entry (log (surface (g.D.Disk.file old)).seen) e) c.staged.view_is,
     )) c.write_and_sync-2.ensures.done
+
+pub returns-clause-next : goal.returns-clause-next
+returns-clause-next g c = on_map c.write_and_sync-2.result (λ done slot keeps next.
+    let old = surface (g.D.Disk.file c.args.disk.now) in
+    let inside = c.staged.inside in
+    let gate-is : inside.gate ≡ c.args.staged.now.offset = ap (λ (e : Placed). e.offset) c.staged.view_is in
+    let whole : IsTrue (ends_at old.seen inside.gate) = subst (λ (n : ℕ). IsTrue (ends_at old.seen n)) (sym gate-is) (c.requires.whole keeps) in
+    let found = ends_found (scan old.seen) inside.gate whole in
+    subst (λ (l : List ℕ). IsNextOrNone l slot) (sym (ap (λ (f : Surface). f.seen) (done keeps)
+    ∙ ap (λ (f : Surface). with_bytes inside.gate (open_gate ∷ []) f.seen) (c.in_ok-write_and_sync.ensures.done keeps)))
+    (next-appended old.seen found.0 inside.gate slot c.deref.result.now found.1 next)) c.write_and_sync-2.ensures.done
 
 module _ {D : Type 0} (has_room : D → ℕ → ℕ → Type 0) (plan_of : D → FailurePlan) (file_of : D → File) (old mid new : D) (gate inside : ℕ)
     (bytes text : List ℕ) (gate-is : inside ≡ gate) (bytes-is : text ≡ bytes)

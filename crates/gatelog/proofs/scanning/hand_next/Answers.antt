@@ -1,15 +1,14 @@
-use Rattle.std.proofs.Common.{◌≡◌, inr, ◌∙◌, ℕ, ◌+◌, List, [], ◌∷◌, ◌++◌, length, drop, map, Ok, Err, refl, sym, ap, arith}
+use Rattle.std.proofs.Common.{◌≡◌, inr, ◌∙◌, ℕ, ◌+◌, List, [], ◌∷◌, ◌++◌, length, drop, Ok, Err, refl, sym, ap, arith}
 use Rattle.std.proofs.lemmas.List.{length-drop}
 use Rattle.disk.specs.File.{surface}
-use Rattle.gatelog.specs.Frames.{end_of}
 use Rattle.gatelog.specs.Placed.{Placed}
 use Rattle.gatelog.specs.Log.{entries_at, with_entries}
 use Rattle.gatelog.specs.declared.front.Front.TheVariants.{Closed, Whole, Part, Broken}
 use Rattle.units.specs.declared.fault.Fault.TheVariants.{Damaged}
-use Rattle.spelling.specs.Grammar.{spelling}
 use Rattle.gatelog.proofs.Handing.{told, in_any, in_file, entry_then}
 use Rattle.gatelog.proofs.Ahead.{passed}
-use Rattle.gatelog.proofs.Reading.{one_more, frame_more}
+use Rattle.gatelog.proofs.Loop.{placed_next}
+use Rattle.gatelog.proofs.Reading.{one_more}
 use Rattle.gatelog.proofs.scanning.hand_next.Goals as goal
 
 pub front_of-requires : goal.front_of-requires
@@ -69,20 +68,16 @@ returns-in_ok-take-in-Ok-Whole-clause-goes_on g c keeps total so_far =
     ∙ ap (with_entries (g.S.Sink.taken c.args.sink.now)) (sym (entry_then image a c.in-Ok-Whole.item c.in-Ok-Whole.size (c.requires.there keeps) front))
     ∙ so_far
 
-pub returns-in_ok-take-in-Ok-Whole-clause-counted : goal.returns-in_ok-take-in-Ok-Whole-clause-counted
-returns-in_ok-take-in-Ok-Whole-clause-counted g c so_far =
+pub returns-in_ok-take-in-Ok-Whole-clause-placed : goal.returns-in_ok-take-in-Ok-Whole-clause-placed
+returns-in_ok-take-in-Ok-Whole-clause-placed g c begins so_far =
     let a = c.args.ahead.now in
     let entry : Placed = record { offset = a.at; item = c.in-Ok-Whole.item } in
     let front = in_any a (Whole c.in-Ok-Whole.item c.in-Ok-Whole.size) (told a c.bytes.result.now c.left.result _ c.in-Ok-Whole.field-0 c.bytes.ensures
     c.left.ensures.value c.in-Ok-Whole.field-0-is c.in-Ok-Whole.ensures.front) in
     let taken : g.S.Sink.taken c.take.new.self ≡ g.S.Sink.taken c.args.sink.now ++ entry ∷ [] = c.in_ok-take-in-Ok-Whole.ensures.taken
     ∙ ap (λ (e : Placed). g.S.Sink.taken c.args.sink.now ++ e ∷ []) (c.new.ensures ∙ ap (λ (n : ℕ). record { offset = n; item = c.in-Ok-Whole.item }) c.at-at.ensures) in
-    c.pass.ensures.at ∙ ap (λ (n : ℕ). a.at + n) (front.1 ∙ five (length (spelling c.in-Ok-Whole.item)))
-    ∙ frame_more (g.S.Sink.taken c.args.sink.now) entry a.at (4 + length (spelling c.in-Ok-Whole.item)) so_far refl
-    ∙ ap (λ (l : List Placed). end_of (map (λ e. e.item) l)) (sym taken)
-  where
-    five : (n : ℕ) → 5 + n ≡ 1 + (4 + n)
-    five n = omega arith
+    placed_next begins (g.S.Sink.taken c.args.sink.now) a.at c.in-Ok-Whole.item c.in-Ok-Whole.size (g.S.Sink.taken c.take.new.self) c.pass.new.self.at
+    so_far taken c.pass.ensures.at front.1
 
 pub returns-in_ok-more-in-Ok-Part-clause-less : goal.returns-in_ok-more-in-Ok-Part-clause-less
 returns-in_ok-more-in-Ok-Part-clause-less g c =

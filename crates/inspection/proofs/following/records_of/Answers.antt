@@ -4,6 +4,7 @@ use Rattle.units.specs.declared.fault.Fault.{Fault}
 use Rattle.gatelog.specs.Placed.{Placed}
 use Rattle.record.specs.Accepted.{followed}
 use Rattle.record.specs.Facts.{facts_of}
+use Rattle.facts.specs.Stages.{stage_of}
 use Rattle.record.specs.declared.record.Record.{Record}
 use Rattle.inspection.specs.Files.{records_behind}
 use Rattle.inspection.proofs.Reading.{refused_with, stopped_at}
@@ -16,6 +17,7 @@ loop-entry-init c =
     record {
       shard = c.new-facts.ensures.shard;
       known = c.new-facts.ensures.facts ∙ ap facts_of none;
+      stage = c.new-facts.ensures.stage ∙ ap stage_of none;
       followed = subst (λ (rs : List Record). IsTrue (followed c.args.shard rs)) none refl;
       rest = ap (λ (rs : List Record). records_behind c.args.shard rs c.args.entries.now) none;
     }

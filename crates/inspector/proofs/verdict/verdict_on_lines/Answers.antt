@@ -1,6 +1,7 @@
-use Rattle.std.proofs.Common.{◌≡◌, ◌∙◌, IfOk, List, ap, map, subst, sym}
+use Rattle.std.proofs.Common.{◌≡◌, ◌∙◌, Bool, IfOk, List, ap, ap₂, map, subst, sym}
 use Rattle.units.specs.declared.line.Verdict.{Verdict}
 use Rattle.record.specs.History.{Txn, history, serial}
+use Rattle.record.specs.Verdict.{are_renewed}
 use Rattle.record.specs.declared.record.Record.{Record}
 use Rattle.inspector.specs.Known.{HaveSame}
 use Rattle.inspector.specs.Faults.{line_fault}
@@ -24,5 +25,6 @@ returns-clause-fault c =
     let same : HaveSame c.put_by_id.new.found.items (history logs) = subst
     (λ (h : List Txn). HaveSame c.put_by_id.new.found.items h) c.in_ok-by_id.ensures.history c.in_ok-put_by_id.ensures.same in
     subst (λ (v : Verdict). IfOk c.line_fault.result (λ found. found ≡ v))
-    (ap (λ (h : List Txn). line_fault h c.args.lines.now) c.deref.ensures.value ∙ same_fault c.put_by_id.new.found.items (history logs) same c.args.lines.now)
+    (ap₂ (λ (b : Bool) (h : List Txn). line_fault b h c.args.lines.now) c.are_renewed.ensures c.deref.ensures.value
+    ∙ same_fault (are_renewed logs) c.put_by_id.new.found.items (history logs) same c.args.lines.now)
     c.line_fault.ensures.fault

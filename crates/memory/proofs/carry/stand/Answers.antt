@@ -3,12 +3,11 @@ use Rattle.std.proofs.lemmas.Bool.Decides.{nat_tests}
 use Rattle.record.specs.declared.record.Record.{Record}
 use Rattle.record.specs.declared.record.Record.TheVariants.{Prepare, Commit}
 use Rattle.units.specs.Ids.{Id, same_id}
-use Rattle.units.specs.Lists.{when}
-use Rattle.record.specs.Records.{as_prepared, as_committed}
 use Rattle.protocol.specs.Rows.{held_stamp}
 use Rattle.safetime.specs.Safe.{Times}
 use Rattle.rows.specs.CodeRows.{is_idle, may_decide}
 use Rattle.rows.specs.RowTable.{phase_by}
+use Rattle.rows.specs.States.{is_prepare_of, is_commit_of}
 use Rattle.memory.specs.Carry.{CanStand}
 use Rattle.memory.specs.Served.{IsHolding}
 use Rattle.memory.proofs.Carried.{space_to_hold, holding_stands, idle_holds_none, deciding_holds_none}
@@ -54,12 +53,12 @@ prepare-requires-clause-mine c =
     let is : c.args.logged ≡ Prepare c.in-Prepare.prepared = sym c.item.ensures ∙ c.in-Prepare.is in
     let can : CanStand c.args.rows.now.rows c.args.txn (Prepare c.in-Prepare.prepared) =
     subst (CanStand c.args.rows.now.rows c.args.txn) is c.requires.stands in
-    subst (λ (r : Record). when (λ p. same_id p.txn c.args.txn) (as_prepared r) ≡ true) (sym is)
+    subst (λ (r : Record). is_prepare_of c.args.txn r ≡ true) (sym is)
     (subst (λ (t : Id). same_id c.in-Prepare.prepared.txn t ≡ true) can.0 (same_self c.in-Prepare.prepared.txn))
 
 pub decide-requires-clause-mine : goal.decide-requires-clause-mine
 decide-requires-clause-mine c =
     let is : c.args.logged ≡ Commit c.in-Commit.committed = sym c.item.ensures ∙ c.in-Commit.is in
     let can : CanStand c.args.rows.now.rows c.args.txn (Commit c.in-Commit.committed) = subst (CanStand c.args.rows.now.rows c.args.txn) is c.requires.stands in
-    subst (λ (r : Record). when (λ d. same_id d.txn c.args.txn) (as_committed r) ≡ true) (sym is)
+    subst (λ (r : Record). is_commit_of c.args.txn r ≡ true) (sym is)
     (subst (λ (t : Id). same_id c.in-Commit.committed.txn t ≡ true) can.0 (same_self c.in-Commit.committed.txn))

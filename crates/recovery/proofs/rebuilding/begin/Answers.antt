@@ -1,13 +1,11 @@
 use Rattle.std.proofs.Common.{◌≡◌, ◌∙◌, inr, [], ◌∷◌, true, false, Some, None, sym, ap}
-use Rattle.std.proofs.lemmas.Result.{IfOk-weaker}
-use Rattle.std.specs.Prelude.{Result, Ok, Err, OnOk, IfOk}
+use Rattle.std.specs.Prelude.{Result, Ok, Err, OnOk}
 use Rattle.record.specs.Accepted.{belongs}
 use Rattle.record.specs.Facts.{facts_of}
-use Rattle.record.specs.declared.record.Record.{Record}
-use Rattle.memory.specs.Kept.{Kept}
+use Rattle.facts.specs.Stages.{stage_of}
 use Rattle.units.specs.declared.fault.Fault.{Fault}
-use Rattle.recovery.specs.Recovered.{IsRecovered, fault_next, is_first}
-use Rattle.recovery.proofs.First.{first_recovered, first_refused, first_taken, learnt_first}
+use Rattle.recovery.specs.Recovered.{fault_next, is_first}
+use Rattle.recovery.proofs.First.{first_refused, first_taken}
 use Rattle.recovery.proofs.rebuilding.begin.Goals as goal
 
 pub returns-then-not-is_first-clause-refused : goal.returns-then-not-is_first-clause-refused
@@ -22,23 +20,9 @@ returns-clause-next c =
     let e = c.args.entry.now in
     let own : belongs c.args.setup.now e.item ≡ true = ap (belongs c.args.setup.now) (sym c.item.ensures) ∙ sym c.belongs.ensures ∙ c.if-not-belongs.false in
     let first : is_first e.item ≡ true = ap is_first (sym c.item-2.ensures) ∙ sym c.is_first.ensures ∙ c.if-not-is_first.false in
-    by_result c.fresh.result (first_taken c.args.setup.now e own first)
+    by_result c.first_state.result (first_taken c.args.setup.now e own first)
   where
-    by_result : {A : Type 0} (r : Result A Fault) → fault_next c.args.setup.now (facts_of []) c.args.entry.now ≡ None →
-        OnOk r (fault_next c.args.setup.now (facts_of []) c.args.entry.now ≡ None)
+    by_result : {A : Type 0} (r : Result A Fault) → fault_next c.args.setup.now (stage_of []) (facts_of []) c.args.entry.now ≡ None →
+        OnOk r (fault_next c.args.setup.now (stage_of []) (facts_of []) c.args.entry.now ≡ None)
     by_result (Ok x) h = h
     by_result (Err e) h = tt
-
-pub returns-clause-facts : goal.returns-clause-facts
-returns-clause-facts c =
-    let e = c.args.entry.now in
-    let first : is_first e.item ≡ true = ap is_first (sym c.item-2.ensures) ∙ sym c.is_first.ensures ∙ c.if-not-is_first.false in
-    IfOk-weaker c.fresh.result _ _ (λ s same. same ∙ learnt_first e.item first) c.fresh.ensures.facts
-
-pub returns-clause-recovered : goal.returns-clause-recovered
-returns-clause-recovered c = by_result c.fresh.result c.fresh.ensures.facts c.fresh.ensures.empty
-  where
-    by_result : (r : Result Kept Fault) → IfOk r (λ s. s.facts ≡ facts_of (Record.Opened 1 ∷ [])) →
-        IfOk r (λ s. s.memory ≡ record { last = 0; rows = []; ended = [] }) → IfOk r IsRecovered
-    by_result (Ok s) facts memory = first_recovered s facts memory
-    by_result (Err e) facts memory = tt

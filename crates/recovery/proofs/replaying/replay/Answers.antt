@@ -26,4 +26,4 @@ returns-in-Ok-make_ready-clause-ok c =
     c.in-Ok-make_ready.ensures.ready c.ready_plans_can_be_carried.ensures.unseen
     (subst (λ (r : Record). carried (plan_of k.memory.rows (with_record c.in-Ok.plan r)) k.memory ≡ rebuilt (learn k.facts r)) c.item.ensures
     c.in-Ok.ensures.memory_after)
-    c.carry.ensures.facts c.carry.ensures.memory
+    c.carry.ensures.facts c.carry.ensures.stage c.carry.ensures.memory

@@ -10,7 +10,7 @@ use Rattle.std.specs.Prelude.{OnOk, IfErr, length, ◌+◌}
 use Rattle.gatelog.specs.Frames.{staged_bytes}
 use Rattle.shard.specs.Armed.{FailsIn, GoesPast}
 use Rattle.shard.specs.Logs.{records_in}
-use Rattle.shard.proofs.Appends.{logged-is, old_or_with, fails_in}
+use Rattle.shard.proofs.Appends.{logged-is, old_or_with, fails_in, begins_on}
 use Rattle.shard.proofs.logging.append_record.Goals as goal
 
 pub returns-in_err-logged-clause-any_moment : goal.returns-in_err-logged-clause-any_moment
@@ -38,6 +38,18 @@ returns-clause-any_moment g c running keeps =
     (c.append.ensures.any_moment (same.1 ∙ running) keeps)
     (λ image may. inl (ap items_of (c.is_stopped.ensures.stands c.if-is_stopped.false keeps image may)))
     (old_or_with before now same.2 staged c.args.item c.in_ok-staged.ensures.staged.1)
+
+pub returns-in_err-logged-clause-begins : goal.returns-in_err-logged-clause-begins
+returns-in_err-logged-clause-begins g c running keeps =
+    let same = c.in_ok-staged.ensures.same in
+    begins_on g.D.Disk.file g.D.Disk.clock g.D.Disk.since (disk_of c.args.gate_log.now) (disk_of c.stage.new.self) (disk_of c.append.new.self) same.2
+    c.in_ok-staged.ensures.time (c.append.ensures.begins (same.1 ∙ running) keeps)
+
+pub returns-clause-begins : goal.returns-clause-begins
+returns-clause-begins g c running keeps =
+    let same = c.in_ok-staged.ensures.same in
+    begins_on g.D.Disk.file g.D.Disk.clock g.D.Disk.since (disk_of c.args.gate_log.now) (disk_of c.stage.new.self) (disk_of c.append.new.self) same.2
+    c.in_ok-staged.ensures.time (c.append.ensures.begins (same.1 ∙ running) keeps)
 
 pub returns-clause-durable : goal.returns-clause-durable
 returns-clause-durable g c keeps image may =

@@ -7,6 +7,7 @@ unfolding followed
 loop-entry-init c = record {
   shard = c.new-facts.ensures.shard;
   known = c.new-facts.ensures.facts;
+  stage = c.new-facts.ensures.stage;
   followed = refl;
   rest = refl;
 }

@@ -2,8 +2,7 @@ use Rattle.std.proofs.Common.{◌∙◌, ◌<◌, ◌^◌, ap, ap₂, arith, len
 use Rattle.std.proofs.lemmas.List.{length-map}
 use Rattle.gatelog.specs.Placed.{Placed}
 use Rattle.recovery.specs.Recovered.{items}
-use Rattle.showing.specs.Counting.{AreFewer, with_kind}
-use Rattle.showing.specs.Stats.{kinds_of}
+use Rattle.showing.specs.Counting.{all_kinds, kinds_of, with_kind}
 use Rattle.showing.specs.declared.kinds.Kinds.{Kinds}
 use Rattle.showing.proofs.Accepting.{next_items}
 use Rattle.showing.proofs.Counted.{kinds_few, kinds_more}
@@ -15,7 +14,7 @@ count-requires c =
     let i = c.loop-entry.entry-index in
     let few : length (items (take i es)) < 2 ^ 63 =
     omega (arith, length-map (take i es) (λ (e : Placed). e.item), length-take-le i es (omega arith)) in
-    subst (λ (k : Kinds). AreFewer k (2 ^ 63)) (sym c.loop-entry.invariant) (kinds_few (items (take i es)) (2 ^ 63) few)
+    subst (λ (k : Kinds). all_kinds k < 2 ^ 63) (sym c.loop-entry.invariant) (kinds_few (items (take i es)) (2 ^ 63) few)
 
 pub loop-entry-preserved : goal.loop-entry-preserved
 loop-entry-preserved c =

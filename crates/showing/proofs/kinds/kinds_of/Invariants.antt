@@ -1,7 +1,7 @@
 -- The records that were read are counted.
 use Rattle.std.proofs.Common.{◌≡◌, take}
 use Rattle.recovery.specs.Recovered.{items}
-use Rattle.showing.specs.Stats.{kinds_of}
+use Rattle.showing.specs.Counting.{kinds_of}
 use Rattle.showing.proofs.kinds.kinds_of.Given as goal
 
 abbrev pub invariant-loop-entry : goal.invariant-loop-entry

@@ -1,4 +1,4 @@
-use Rattle.slots.proofs.Armed as laws
+use Rattle.gatelog.proofs.ArmedTurn as laws
 use Rattle.slots.proofs.laws.failing_calls.Goals as goal
 
 pub returns : goal.returns

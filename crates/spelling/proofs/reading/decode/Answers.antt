@@ -3,7 +3,7 @@ use Rattle.std.specs.Prelude.{IfOk, MatchResult}
 use Rattle.units.specs.declared.fault.Fault.{Fault}
 use Rattle.units.specs.declared.fault.Fault.TheVariants.{Memory}
 use Rattle.record.specs.declared.record.Record.{Record}
-use Rattle.spelling.specs.Grammar.{Spells}
+use Rattle.spelling.specs.Limits.{Spells}
 use Rattle.spelling.specs.Reading.{read_record}
 use Rattle.spelling.proofs.Again.{read_again}
 use Rattle.spelling.proofs.Taken.{IsBytes, record_is}

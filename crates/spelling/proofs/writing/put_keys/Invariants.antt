@@ -2,7 +2,8 @@ use Rattle.std.proofs.Common.{◌≡◌, ◌++◌, length, take}
 use Rattle.std.specs.Int.{w16, to_be_bytes}
 use Rattle.std.specs.Prelude.{flat_map}
 use Rattle.std.specs.List.{AllByRecursion}
-use Rattle.spelling.specs.Grammar.{key_spelling, IsKey}
+use Rattle.spelling.specs.Grammar.{key_spelling}
+use Rattle.spelling.specs.Limits.{IsKey}
 use Rattle.spelling.proofs.writing.put_keys.Given as goal
 
 abbrev pub invariant-loop-key : goal.invariant-loop-key

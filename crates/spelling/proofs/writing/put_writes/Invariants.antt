@@ -2,7 +2,8 @@ use Rattle.std.proofs.Common.{◌≡◌, ◌++◌, length, take}
 use Rattle.std.specs.Int.{w16, to_be_bytes}
 use Rattle.std.specs.Prelude.{flat_map}
 use Rattle.std.specs.List.{AllByRecursion}
-use Rattle.spelling.specs.Grammar.{write_spelling, IsWrite}
+use Rattle.spelling.specs.Grammar.{write_spelling}
+use Rattle.spelling.specs.Limits.{IsWrite}
 use Rattle.spelling.proofs.writing.put_writes.Given as goal
 
 abbrev pub invariant-loop-write : goal.invariant-loop-write

@@ -1,4 +1,6 @@
+use Rattle.std.proofs.Common.{refl}
 use Rattle.facts.specs.Shown.{shown_entries, by_id}
+use Rattle.facts.specs.Stages.{stage_of}
 use Rattle.record.specs.Facts.{facts_of}
 use Rattle.record.specs.Installs.{installs_of}
 use Rattle.facts.proofs.facts.Facts.new.Goals as goal
@@ -12,3 +14,7 @@ returns-clause-facts c = λ i. record {
   installs = c.new-2.ensures.items i;
   horizon = c.zero-2.ensures i;
 }
+
+pub returns-clause-stage : goal.returns-clause-stage
+unfolding stage_of
+returns-clause-stage c = refl

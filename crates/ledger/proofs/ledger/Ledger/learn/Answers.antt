@@ -3,8 +3,10 @@ use Rattle.units.specs.declared.writes.Install.{Install}
 use Rattle.record.specs.Facts.{Facts, learn}
 use Rattle.facts.specs.Known.{Known}
 use Rattle.versions.specs.Orders.{Orders, AreBehind}
-use Rattle.ledger.specs.Ledger.{writes_given, CanInstall}
-use Rattle.ledger.proofs.Learns.{still_orders, risen_orders, are_behind, as_many_more, is_up}
+use Rattle.facts.specs.Stages.{follows_next, stage_after}
+use Rattle.facts.specs.declared.stage.Stage.{Stage}
+use Rattle.ledger.specs.Ledger.{writes_given, CanInstall, head_ascends}
+use Rattle.ledger.proofs.Learns.{Installs, installs, still_rising, still_orders, risen_orders, are_behind, as_many_more, is_up}
 use Rattle.ledger.proofs.ledger.Ledger.learn.Goals as goal
 
 pub follow-requires-clause-known : goal.follow-requires-clause-known
@@ -12,29 +14,38 @@ follow-requires-clause-known c =
     let f = c.self.inside.facts.facts in
     let places = c.self.inside.places in
     let can : CanInstall f c.args.item = subst (λ (k : Known). CanInstall k.facts c.args.item) (sym c.self.view_is) c.requires.installs in
+    let may : follows_next c.self.inside.facts.shard c.self.inside.facts.stage f c.args.item ≡ true =
+    subst (λ (k : Known). follows_next k.shard k.stage k.facts c.args.item ≡ true) (sym c.self.view_is) c.requires.follows in
+    let new : Installs f c.args.item = installs c.self.inside.facts.shard c.self.inside.facts.stage f c.args.item c.self.invariant.1 may can in
     let known : length c.installs-known.result.now ≡ length f.installs = ap length c.installs-known.ensures in (
       f.horizon,
       subst (λ (t : List Install). Orders f.horizon t (length c.installs-known.result.now) places)
           (sym (c.installs.ensures ∙ ap (λ (g : Facts). g.installs) c.learn_next.ensures.facts))
           (subst (λ (n : ℕ). Orders f.horizon (learn f c.args.item).installs n places) (sym known)
-          (still_orders f c.args.item can f.horizon places c.self.invariant)),
+          (still_orders f c.args.item new f.horizon places c.self.invariant.0)),
     )
 
 pub follow-requires-clause-behind : goal.follow-requires-clause-behind
 follow-requires-clause-behind c =
     let f = c.self.inside.facts.facts in
     let can : CanInstall f c.args.item = subst (λ (k : Known). CanInstall k.facts c.args.item) (sym c.self.view_is) c.requires.installs in
+    let may : follows_next c.self.inside.facts.shard c.self.inside.facts.stage f c.args.item ≡ true =
+    subst (λ (k : Known). follows_next k.shard k.stage k.facts c.args.item ≡ true) (sym c.self.view_is) c.requires.follows in
+    let new : Installs f c.args.item = installs c.self.inside.facts.shard c.self.inside.facts.stage f c.args.item c.self.invariant.1 may can in
     let up = subst (λ (k : Known). is_up k.facts c.args.item ≡ true) (sym c.self.view_is) c.ascend.ensures.up in
     let known : length c.installs-known.result.now ≡ length f.installs = ap length c.installs-known.ensures in
     subst (λ (t : List Install). AreBehind t (length c.installs-known.result.now))
     (sym (c.installs.ensures ∙ ap (λ (g : Facts). g.installs) c.learn_next.ensures.facts))
-    (subst (AreBehind (learn f c.args.item).installs) (sym known) (are_behind f c.args.item can up))
+    (subst (AreBehind (learn f c.args.item).installs) (sym known) (are_behind f c.args.item new up))
 
 pub follow-requires-clause-longer : goal.follow-requires-clause-longer
 follow-requires-clause-longer c =
     let f = c.self.inside.facts.facts in
     let can : CanInstall f c.args.item = subst (λ (k : Known). CanInstall k.facts c.args.item) (sym c.self.view_is) c.requires.installs in
-    let long = ap length (c.installs.ensures ∙ ap (λ (g : Facts). g.installs) c.learn_next.ensures.facts) ∙ as_many_more f c.args.item can in
+    let may : follows_next c.self.inside.facts.shard c.self.inside.facts.stage f c.args.item ≡ true =
+    subst (λ (k : Known). follows_next k.shard k.stage k.facts c.args.item ≡ true) (sym c.self.view_is) c.requires.follows in
+    let new : Installs f c.args.item = installs c.self.inside.facts.shard c.self.inside.facts.stage f c.args.item c.self.invariant.1 may can in
+    let long = ap length (c.installs.ensures ∙ ap (λ (g : Facts). g.installs) c.learn_next.ensures.facts) ∙ as_many_more f c.args.item new in
     let known : length c.installs-known.result.now ≡ length f.installs = ap length c.installs-known.ensures in
     omega (arith, long, known)
 
@@ -42,7 +53,10 @@ pub follow-requires-clause-room : goal.follow-requires-clause-room
 follow-requires-clause-room c =
     let f = c.self.inside.facts.facts in
     let can : CanInstall f c.args.item = subst (λ (k : Known). CanInstall k.facts c.args.item) (sym c.self.view_is) c.requires.installs in
-    let long = ap length (c.installs.ensures ∙ ap (λ (g : Facts). g.installs) c.learn_next.ensures.facts) ∙ as_many_more f c.args.item can in
+    let may : follows_next c.self.inside.facts.shard c.self.inside.facts.stage f c.args.item ≡ true =
+    subst (λ (k : Known). follows_next k.shard k.stage k.facts c.args.item ≡ true) (sym c.self.view_is) c.requires.follows in
+    let new : Installs f c.args.item = installs c.self.inside.facts.shard c.self.inside.facts.stage f c.args.item c.self.invariant.1 may can in
+    let long = ap length (c.installs.ensures ∙ ap (λ (g : Facts). g.installs) c.learn_next.ensures.facts) ∙ as_many_more f c.args.item new in
     let known : length c.installs-known.result.now ≡ length f.installs = ap length c.installs-known.ensures in
     let few = subst (λ (k : Known). length (writes_given k.facts c.args.item) ≤ 128) (sym c.self.view_is) c.ascend.ensures.few in
     let room : 1 ≤ min c.self.inside.facts.room (c.self.inside.places.room / 128) = subst (λ (k : Known). 1 ≤ k.room) (sym c.self.view_is) c.requires.room in
@@ -53,13 +67,20 @@ invariant_of-self c =
     let f = c.self.inside.facts.facts in
     let places = c.self.inside.places in
     let can : CanInstall f c.args.item = subst (λ (k : Known). CanInstall k.facts c.args.item) (sym c.self.view_is) c.requires.installs in
+    let may : follows_next c.self.inside.facts.shard c.self.inside.facts.stage f c.args.item ≡ true =
+    subst (λ (k : Known). follows_next k.shard k.stage k.facts c.args.item ≡ true) (sym c.self.view_is) c.requires.follows in
+    let new : Installs f c.args.item = installs c.self.inside.facts.shard c.self.inside.facts.stage f c.args.item c.self.invariant.1 may can in
     let known : length c.installs-known.result.now ≡ length f.installs = ap length c.installs-known.ensures in
-    let h = (learn f c.args.item).horizon in
-    subst (λ (g : Facts). Orders g.horizon c.learn_next.new.self.facts.installs (length c.learn_next.new.self.facts.installs) c.follow.new.self)
-    (sym c.learn_next.ensures.facts)
-    (subst (λ (t : List Install). Orders h t (length t) c.follow.new.self) c.installs.ensures
-    (c.follow.ensures.all h (subst (λ (t : List Install). Orders h t (length c.installs-known.result.now) places)
-    (sym (c.installs.ensures ∙ ap (λ (g : Facts). g.installs) c.learn_next.ensures.facts))
-    (subst (λ (n : ℕ). Orders h (learn f c.args.item).installs n places) (sym known)
-    (risen_orders f c.args.item (learn f c.args.item).installs (length f.installs) places
-    (still_orders f c.args.item can f.horizon places c.self.invariant))))))
+    let h = (learn f c.args.item).horizon in (
+      subst (λ (g : Facts). Orders g.horizon c.learn_next.new.self.facts.installs (length c.learn_next.new.self.facts.installs) c.follow.new.self)
+          (sym c.learn_next.ensures.facts)
+          (subst (λ (t : List Install). Orders h t (length t) c.follow.new.self) c.installs.ensures
+          (c.follow.ensures.all h (subst (λ (t : List Install). Orders h t (length c.installs-known.result.now) places)
+          (sym (c.installs.ensures ∙ ap (λ (g : Facts). g.installs) c.learn_next.ensures.facts))
+          (subst (λ (n : ℕ). Orders h (learn f c.args.item).installs n places) (sym known)
+          (risen_orders f c.args.item (learn f c.args.item).installs (length f.installs) places
+          (still_orders f c.args.item new f.horizon places c.self.invariant.0)))))),
+      subst (λ (s : Stage). head_ascends s c.learn_next.new.self.facts.installs ≡ true) (sym c.learn_next.ensures.stage)
+          (subst (λ (g : Facts). head_ascends (stage_after c.self.inside.facts.stage c.args.item) g.installs ≡ true) (sym c.learn_next.ensures.facts)
+          (still_rising c.self.inside.facts.shard c.self.inside.facts.stage f c.args.item c.self.invariant.1 may)),
+    )

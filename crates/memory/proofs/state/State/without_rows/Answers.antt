@@ -1,7 +1,6 @@
-use Rattle.std.proofs.Common.{List, [], refl, sym, subst}
+use Rattle.std.proofs.Common.{ℕ, List, [], refl, sym, subst}
 use Rattle.protocol.specs.Rows.{Row}
 use Rattle.safetime.specs.Laws.{SameHolds}
-use Rattle.safetime.specs.Safe.{Times}
 use Rattle.memory.specs.Served.{stamps_held}
 use Rattle.memory.proofs.state.State.without_rows.Goals as goal
 
@@ -10,5 +9,5 @@ invariant_of-result c = (
   c.requires.opened,
   c.requires.shard,
   subst (λ (rows : List Row). SameHolds c.args.times.holds (stamps_held rows)) (sym c.in-Ok.ensures.none)
-      (subst (λ (times : Times). SameHolds times.holds (stamps_held [])) (sym c.requires.times) (record { each = λ at. refl })),
+      (subst (λ (holds : List ℕ). SameHolds holds (stamps_held [])) (sym c.requires.times) (record { each = λ at. refl })),
 )

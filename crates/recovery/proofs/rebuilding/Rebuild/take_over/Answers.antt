@@ -25,7 +25,7 @@ invariant_of-self-in-Ok c =
     record {
       progress = ∥∥₁_map old.progress (on_ok old.setup (reverse old.entries.entries) (reverse c.add.new.self.entries) c.args.entry
           (newest_last c.args.entry old.entries.entries c.add.new.self.entries c.add.ensures) old.state c.go_on.new.state old.refused
-          c.if-is_some.ensures c.in-Ok.ensures.next c.in-Ok.ensures.there c.in-Ok.ensures.state_of c.in-Ok.ensures.known);
+          c.if-is_some.ensures c.in-Ok.ensures.next c.in-Ok.ensures.there c.in-Ok.ensures.state_of c.in-Ok.ensures.stage c.in-Ok.ensures.known);
     }
 
 pub invariant_of-self-in-Err : goal.invariant_of-self-in-Err

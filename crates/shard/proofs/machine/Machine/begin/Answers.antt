@@ -34,6 +34,7 @@ returns-in-Err-append_record-clause-refused g c =
     record {
       cause = (search rules);
       any_moment = (search rules);
+      begins = (search rules);
       unchanged = (search rules);
       epoch = λ device. omega arith;
       planned = (search rules);

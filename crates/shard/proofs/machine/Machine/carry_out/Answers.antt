@@ -124,4 +124,4 @@ returns-in-Ok-append_record g c =
     (seen_machine c.args.self.now) c.requires.running c.requires.stands _ c.in-Some.item s.logged after s.plan.outbox _ c.in-Some.is
     done.ensures.outbox
     (done.ensures.setup ∙ c.in-Ok.ensures.ready.setup) (facts ∙ ap (facts_after k.facts) c.in-Some.is) memory a.running.1 a.failures_stay
-    a.any_moment a.durable a.read a.gate a.place (λ obey never. (a.planned obey never).0) (λ call run obey keep is. (a.armed call run obey keep is).0)
+    a.any_moment a.begins a.durable a.read a.gate a.place (λ obey never. (a.planned obey never).0) (λ call run obey keep is. (a.armed call run obey keep is).0)

@@ -47,6 +47,7 @@ returns-in-Err-carry_out-clause-refused g c =
     record {
       cause = (search rules);
       any_moment = (search rules);
+      begins = (search rules);
       unchanged = (search rules);
       epoch = λ device. omega (arith, c.in-Ok.ensures.1, c.epoch.ensures);
       planned = (search rules);

@@ -1,0 +1,292 @@
+//! Files of version 1, and what they are migrated to.
+use crate::checks::{Named, Row};
+use crate::devices::crash;
+use crate::files::is_file;
+use crate::steps::read_back;
+use disk::{Disk, Fate};
+use gatelog::{GateLog, migrate};
+use made::{ONE_COMMIT, in_version_1};
+use simdisk::SimDisk;
+use std::alloc::Global;
+use units::Fault;
+
+/// A file, what stands on the second disk before, and the file that is there then, told without its slots; or why it is refused.
+pub struct Migrated {
+    old: &'static [u8],
+    before: &'static [u8],
+    new: Result<&'static [u8], Fault>,
+}
+
+// A log without records.
+const EMPTY: Migrated = Migrated {
+    old: b"SPNLOG01\0",
+    before: b"",
+    new: Ok(b"SPNLOG02\0"),
+};
+
+// Opened 1, and a closed gate.
+const OPENED: Result<&[u8], Fault> = Ok(b"SPNLOG02\xa5\0\0\0\x09\x01\0\0\0\0\0\0\0\x01\0");
+
+const DAMAGED: Result<&[u8], Fault> = Err(Fault::Damaged { offset: 8 });
+
+pub static MIGRATED: [Named<Migrated>; 13] = [
+    Named {
+        what: "no record",
+        row: EMPTY,
+    },
+    Named {
+        what: "one record",
+        row: Migrated {
+            old: b"SPNLOG01\xa5\0\0\0\x09\x01\0\0\0\0\0\0\0\x01\0",
+            new: OPENED,
+            ..EMPTY
+        },
+    },
+    Named {
+        what: "what is left of a record that was not finished is left out",
+        row: Migrated {
+            old: b"SPNLOG01\xa5\0\0\0\x09\x01\0\0\0\0\0\0\0\x01\0\0\0\0\x09\x01\0\0",
+            new: OPENED,
+            ..EMPTY
+        },
+    },
+    Named {
+        what: "a filled gate is closed",
+        row: Migrated {
+            old: b"SPNLOG01\xa5\0\0\0\x09\x01\0\0\0\0\0\0\0\x01\x37",
+            new: OPENED,
+            ..EMPTY
+        },
+    },
+    Named {
+        what: "another file is cut",
+        row: Migrated {
+            before: &[0xa5; 10_000],
+            ..EMPTY
+        },
+    },
+    // Whether its records follow one another is not asked: an opening does.
+    Named {
+        what: "a record out of turn",
+        row: Migrated {
+            old: b"SPNLOG01\xa5\0\0\0\x09\x01\0\0\0\0\0\0\0\x07\0",
+            new: Ok(b"SPNLOG02\xa5\0\0\0\x09\x01\0\0\0\0\0\0\0\x07\0"),
+            ..EMPTY
+        },
+    },
+    Named {
+        what: "no byte",
+        row: Migrated {
+            old: b"",
+            before: b"before",
+            new: Err(Fault::NotALog),
+        },
+    },
+    Named {
+        what: "a part of the header",
+        row: Migrated {
+            old: b"SPNLOG0",
+            before: b"before",
+            new: Err(Fault::NotALog),
+        },
+    },
+    Named {
+        what: "version 2",
+        row: Migrated {
+            old: b"SPNLOG02\0",
+            before: b"before",
+            new: Err(Fault::NotALog),
+        },
+    },
+    Named {
+        what: "no gate",
+        row: Migrated {
+            old: b"SPNLOG01",
+            before: b"before",
+            new: DAMAGED,
+        },
+    },
+    Named {
+        what: "past the end",
+        row: Migrated {
+            old: b"SPNLOG01\xa5\0\0\0\x09",
+            before: b"before",
+            new: DAMAGED,
+        },
+    },
+    Named {
+        what: "no record behind an open gate",
+        row: Migrated {
+            old: b"SPNLOG01\xa5\0\0\0\x01\x09\0",
+            before: b"before",
+            new: DAMAGED,
+        },
+    },
+    Named {
+        what: "no gate behind a record",
+        row: Migrated {
+            old: b"SPNLOG01\xa5\0\0\0\x09\x01\0\0\0\0\0\0\0\x01",
+            before: b"before",
+            new: Err(Fault::Damaged { offset: 22 }),
+        },
+    },
+];
+
+// A disk with these bytes.
+fn disk_of(alloc: Global, bytes: &[u8]) -> Option<SimDisk> {
+    let mut disk = SimDisk::new(alloc);
+    if disk.write_at(0, bytes).is_ok() {
+        Some(disk)
+    } else {
+        drop(disk);
+        None
+    }
+}
+
+// The file on the disk is the one that is told, and a crash leaves it.
+fn is_left(alloc: Global, disk: SimDisk, told: &[u8]) -> bool {
+    let mut disk = disk;
+    let read = is_file(alloc, &mut disk, told);
+    crash(alloc, &mut disk, &[]);
+    let kept = is_file(alloc, &mut disk, told);
+    drop(disk);
+    read && kept
+}
+
+// The second disk is as the row says.
+fn is_right(
+    alloc: Global,
+    answer: Result<GateLog<SimDisk>, (Fault, SimDisk)>,
+    row: &Migrated,
+) -> bool {
+    match answer {
+        Ok(log) => {
+            let disk = log.into_disk();
+            match row.new {
+                Ok(told) => is_left(alloc, disk, told),
+                Err(_) => {
+                    drop(disk);
+                    false
+                }
+            }
+        }
+        Err((fault, disk)) => {
+            let mut disk = disk;
+            let same = read_back(alloc, &mut disk, row.before).is_ok();
+            drop(disk);
+            same && row.new == Err(fault)
+        }
+    }
+}
+
+impl Row for Migrated {
+    fn holds(&self, rt: &HostRuntime) -> bool {
+        let alloc = rt.alloc();
+        let Some(mut old) = disk_of(alloc, self.old) else {
+            return false;
+        };
+        let Some(second) = disk_of(alloc, self.before) else {
+            drop(old);
+            return false;
+        };
+        let right = is_right(alloc, migrate(alloc, &mut old, second), self);
+        let same = read_back(alloc, &mut old, self.old).is_ok();
+        drop(old);
+        right && same
+    }
+}
+
+/// Which disk has a call that fails, and with which fate of its oldest change that is not synced it crashes then.
+pub struct Failing {
+    is_old: bool,
+    fate: Fate,
+}
+
+pub static FAILING: [Named<Failing>; 4] = [
+    Named {
+        what: "a call of the first disk fails",
+        row: Failing {
+            is_old: true,
+            fate: Fate::Old,
+        },
+    },
+    Named {
+        what: "a call of the second disk fails, and its change is lost",
+        row: Failing {
+            is_old: false,
+            fate: Fate::Old,
+        },
+    },
+    Named {
+        what: "a call of the second disk fails, and its change is kept",
+        row: Failing {
+            is_old: false,
+            fate: Fate::New,
+        },
+    },
+    Named {
+        what: "a call of the second disk fails, and its change is filled",
+        row: Failing {
+            is_old: false,
+            fate: Fate::Filled(0x37),
+        },
+    },
+];
+
+// What a disk has behind a crash: no log, or the whole.
+fn is_none_or_whole(alloc: Global, disk: SimDisk, fate: Fate) -> bool {
+    let mut disk = disk;
+    crash(alloc, &mut disk, &[fate]);
+    let whole = is_file(alloc, &mut disk, &ONE_COMMIT);
+    match GateLog::open(alloc, disk) {
+        Ok((log, entries)) => {
+            drop(log);
+            drop(entries);
+            whole
+        }
+        Err((fault, disk)) => {
+            drop(disk);
+            fault == Fault::NotALog
+        }
+    }
+}
+
+// What becomes of the disks where that call fails: what came of the file, where none did.
+fn goes(alloc: Global, row: &Failing, call: u64) -> Option<bool> {
+    let Some(mut old) = disk_of(alloc, &in_version_1(ONE_COMMIT)) else {
+        return Some(false);
+    };
+    let mut second = SimDisk::new(alloc);
+    if row.is_old {
+        old.fail_next(call);
+    } else {
+        second.fail_next(call);
+    }
+    let answer = migrate(alloc, &mut old, second);
+    let same = read_back(alloc, &mut old, &in_version_1(ONE_COMMIT)).is_ok();
+    drop(old);
+    match answer {
+        Ok(log) => {
+            drop(log);
+            None
+        }
+        Err((fault, disk)) => {
+            let left = is_none_or_whole(alloc, disk, row.fate);
+            Some(left && same && fault == Fault::Device)
+        }
+    }
+}
+
+impl Row for Failing {
+    // A call more each time, until none fails.
+    fn holds(&self, rt: &HostRuntime) -> bool {
+        for call in 0..20 {
+            match goes(rt.alloc(), self, call) {
+                Some(true) => {}
+                Some(false) => return false,
+                None => return call > 0,
+            }
+        }
+        false
+    }
+}

@@ -1,0 +1,330 @@
+//! Logs that are turned over.
+use crate::checks::{Named, Row};
+use crate::devices::crash;
+use crate::files::{Place, open, put_lines};
+use crate::lines::{Line, record_of};
+use crate::spellings::{COMMIT, OPENED, OUTCOME};
+use disk::{Disk, Fate};
+use gatelog::{Area, GateLog, HEADER};
+use made::FIRST_GATE;
+use simdisk::SimDisk;
+use std::alloc::Global;
+use units::Fault;
+
+// A log of one commit has its closed gate at 9,311.
+const LINES: &[Line] = &[
+    Line::Opened(1),
+    Line::Commit(1, 111, b'a', 1),
+    Line::Committed(1, 111),
+];
+
+const OLD: &[Place] = &[
+    (FIRST_GATE, OPENED),
+    (FIRST_GATE + 14, COMMIT),
+    (FIRST_GATE + 56, OUTCOME),
+];
+
+// The area behind it, and then another behind this one.
+const AREA: &[Line] = &[Line::Opened(2), Line::Ceiling(300)];
+
+const SECOND: &[u8] = &[1, 0, 0, 0, 0, 0, 0, 0, 2];
+
+const HIGHER: &[u8] = &[2, 0, 0, 0, 0, 0, 0, 1, 0x2c];
+
+const NEW: &[Place] = &[(9312, SECOND), (9326, HIGHER)];
+
+const NEW_WITH_ONE: &[Place] = &[(9312, SECOND), (9326, HIGHER), (9340, HIGHER)];
+
+const NEXT: &[Place] = &[(9341, SECOND), (9355, HIGHER)];
+
+/// A log of one commit that is turned over, while a call may be to fail, how this is answered, and what is left of it.
+#[derive(Clone, Copy)]
+pub struct Turned {
+    areas: &'static [&'static [Line]],
+    call: Option<u64>,
+    answer: Result<(), Fault>,
+    fate: Option<Fate>,
+    // Records that are logged then.
+    more: &'static [Line],
+    places: &'static [Place],
+    gate: u64,
+    slot: u64,
+    // All that its first two slots hold then, and how many bytes the file has, where there was no crash.
+    slots: Option<(&'static [u8; 18], u64)>,
+}
+
+const WHOLE: Turned = Turned {
+    areas: &[AREA],
+    call: None,
+    answer: Ok(()),
+    fate: None,
+    more: &[],
+    places: NEW,
+    gate: 9340,
+    slot: 1,
+    slots: None,
+};
+
+const FAILED: Turned = Turned {
+    answer: Err(Fault::Device),
+    places: OLD,
+    gate: 9311,
+    slot: 0,
+    ..WHOLE
+};
+
+pub static TURNED: [Named<Turned>; 16] = [
+    Named {
+        what: "one turnover, byte for byte",
+        row: Turned {
+            slots: Some((
+                &[
+                    0xa5, 0, 0, 0, 0, 0, 0, 0x24, 0x60, 0, 0, 0, 0, 0, 0, 0, 0, 0,
+                ],
+                9341,
+            )),
+            ..WHOLE
+        },
+    },
+    Named {
+        what: "a crash behind it",
+        row: Turned {
+            fate: Some(Fate::Old),
+            ..WHOLE
+        },
+    },
+    Named {
+        what: "an area of no record",
+        row: Turned {
+            areas: &[&[]],
+            places: &[],
+            gate: 9312,
+            ..WHOLE
+        },
+    },
+    Named {
+        what: "an append behind it",
+        row: Turned {
+            more: &[Line::Ceiling(300)],
+            places: NEW_WITH_ONE,
+            gate: 9354,
+            ..WHOLE
+        },
+    },
+    Named {
+        what: "two turnovers",
+        row: Turned {
+            areas: &[AREA, AREA],
+            places: NEXT,
+            gate: 9369,
+            slot: 2,
+            slots: Some((
+                &[
+                    0xa5, 0, 0, 0, 0, 0, 0, 0x24, 0x60, 0xa5, 0, 0, 0, 0, 0, 0, 0x24, 0x7d,
+                ],
+                9370,
+            )),
+            ..WHOLE
+        },
+    },
+    Named {
+        what: "the first call fails",
+        row: Turned {
+            call: Some(0),
+            fate: Some(Fate::New),
+            ..FAILED
+        },
+    },
+    Named {
+        what: "the second call fails",
+        row: Turned {
+            call: Some(1),
+            fate: Some(Fate::Filled(0xa5)),
+            ..FAILED
+        },
+    },
+    Named {
+        what: "the third call fails",
+        row: Turned {
+            call: Some(2),
+            fate: Some(Fate::New),
+            ..FAILED
+        },
+    },
+    Named {
+        what: "the fourth call fails, with its change lost",
+        row: Turned {
+            call: Some(3),
+            fate: Some(Fate::Old),
+            ..FAILED
+        },
+    },
+    Named {
+        what: "the fourth call fails, with its change filled",
+        row: Turned {
+            call: Some(3),
+            fate: Some(Fate::Filled(0x37)),
+            ..FAILED
+        },
+    },
+    Named {
+        what: "the fourth call fails, with its change kept",
+        row: Turned {
+            call: Some(3),
+            answer: Err(Fault::Device),
+            fate: Some(Fate::New),
+            ..WHOLE
+        },
+    },
+    Named {
+        what: "the fourth call fails, and there is no crash",
+        row: Turned {
+            call: Some(3),
+            ..FAILED
+        },
+    },
+    Named {
+        what: "the fifth call fails, with its change lost",
+        row: Turned {
+            call: Some(4),
+            fate: Some(Fate::Old),
+            ..FAILED
+        },
+    },
+    Named {
+        what: "the fifth call fails, with its change kept",
+        row: Turned {
+            call: Some(4),
+            answer: Err(Fault::Device),
+            fate: Some(Fate::New),
+            ..WHOLE
+        },
+    },
+    Named {
+        what: "the fifth call fails, and there is no crash",
+        row: Turned {
+            call: Some(4),
+            answer: Err(Fault::Device),
+            ..WHOLE
+        },
+    },
+    Named {
+        what: "the sixth call fails, which is none of its own",
+        row: Turned {
+            call: Some(5),
+            fate: Some(Fate::Old),
+            ..WHOLE
+        },
+    },
+];
+
+// A new area of these records.
+fn area_of(alloc: Global, lines: &[Line]) -> Option<Area> {
+    let mut area = Area::new(alloc);
+    for line in lines {
+        let Some(item) = record_of(alloc, *line) else {
+            drop(area);
+            return None;
+        };
+        let pushed = area.push(alloc, &item).is_ok();
+        drop(item);
+        if !pushed {
+            drop(area);
+            return None;
+        }
+    }
+    Some(area)
+}
+
+// Turns a log over to an area of these records, while that call is to fail, where one is.
+fn turn(
+    alloc: Global,
+    log: &mut GateLog<SimDisk>,
+    lines: &[Line],
+    call: Option<u64>,
+) -> Result<(), Fault> {
+    let Some(area) = area_of(alloc, lines) else {
+        return Err(Fault::Memory);
+    };
+    let staged = log.stage_area(area)?;
+    log.arm(call);
+    log.turn_over(staged)
+}
+
+// The log of the row, once it was turned over, and took more.
+fn is_turned(alloc: Global, log: &mut GateLog<SimDisk>, row: &Turned) -> bool {
+    if !put_lines(alloc, log, LINES) {
+        return false;
+    }
+    for lines in row.areas {
+        if turn(alloc, log, lines, row.call) != row.answer {
+            return false;
+        }
+    }
+    put_lines(alloc, log, row.more) && log.is_stopped() == row.answer.is_err()
+}
+
+// The slots of the file, and how many bytes it has.
+fn has_slots(disk: &mut SimDisk, slots: &[u8; 18], len: u64) -> bool {
+    let mut found = [0; 18];
+    disk.read_at(8, &mut found).is_ok() && found == *slots && disk.len() == len
+}
+
+impl Row for Turned {
+    fn holds(&self, rt: &HostRuntime) -> bool {
+        let alloc = rt.alloc();
+        let Ok(mut log) = GateLog::format(SimDisk::new(alloc)) else {
+            return false;
+        };
+        let turned = is_turned(alloc, &mut log, self);
+        let mut disk = log.into_disk();
+        if let Some(fate) = self.fate {
+            crash(alloc, &mut disk, &[fate]);
+        }
+        let slots = match self.slots {
+            Some((slots, len)) => has_slots(&mut disk, slots, len),
+            None => true,
+        };
+        let Ok(again) = open(alloc, disk, self.places) else {
+            return false;
+        };
+        let ends = again.gate() == self.gate && again.slot() == self.slot;
+        drop(again);
+        turned && slots && ends
+    }
+}
+
+// A file whose slots are all open, each of which names an area of no record.
+fn all_open(alloc: Global) -> Option<SimDisk> {
+    let mut disk = SimDisk::new(alloc);
+    let mut bytes = [0; 9];
+    bytes[0] = 0xa5;
+    let mut whole = disk.write_at(0, &HEADER).is_ok();
+    for slot in 0..1024 {
+        bytes[7] = ((9225 + slot) >> 8) as u8;
+        bytes[8] = ((9225 + slot) & 0xff) as u8;
+        whole = whole && disk.write_at(8 + 9 * slot, &bytes).is_ok();
+    }
+    whole = whole && disk.write_at(FIRST_GATE, &[0; 1040]).is_ok();
+    if whole {
+        Some(disk)
+    } else {
+        drop(disk);
+        None
+    }
+}
+
+/// Behind the last slot there is no turnover, and it is no failure.
+pub fn ends(rt: &HostRuntime) -> bool {
+    let alloc = rt.alloc();
+    let Some(disk) = all_open(alloc) else {
+        return false;
+    };
+    let Ok(mut log) = open(alloc, disk, &[]) else {
+        return false;
+    };
+    let spent = log.slot() == 1024 && turn(alloc, &mut log, AREA, None) == Err(Fault::TimeSpent);
+    let goes_on = !log.is_stopped() && put_lines(alloc, &mut log, &[Line::Opened(1)]);
+    drop(log);
+    spent && goes_on
+}
