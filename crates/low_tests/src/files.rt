@@ -434,7 +434,7 @@ pub fn disk_of(alloc: Global, told: &[u8], len: Option<u64>) -> Option<SimDisk> 
     let written = disk.write_at(0, &bytes).is_ok();
     drop(bytes);
     let cut = match len {
-        Some(len) => disk.cut(len).is_ok(),
+        Some(len) => len <= disk.len() && disk.cut(len).is_ok(),
         None => true,
     };
     if written && cut {
@@ -510,7 +510,7 @@ impl Row for Area {
         let Some(mut disk) = disk_of(alloc, &ONE_COMMIT, None) else {
             return false;
         };
-        let written = disk.write_at(8, self.slots).is_ok();
+        let written = disk.len() >= 8 && disk.write_at(8, self.slots).is_ok();
         refusal(alloc, disk, self.places).is_none() && written
     }
 }

@@ -266,8 +266,12 @@ fn is_turned(alloc: Global, log: &mut GateLog<SimDisk>, row: &Turned) -> bool {
 
 // The slots of the file, and how many bytes it has.
 fn has_slots(disk: &mut SimDisk, slots: &[u8; 18], len: u64) -> bool {
+    let size = disk.len();
+    if size < 26 {
+        return false;
+    }
     let mut found = [0; 18];
-    disk.read_at(8, &mut found).is_ok() && found == *slots && disk.len() == len
+    disk.read_at(8, &mut found).is_ok() && found == *slots && size == len
 }
 
 impl Row for Turned {
@@ -303,9 +307,10 @@ fn all_open(alloc: Global) -> Option<SimDisk> {
     for slot in 0..1024 {
         bytes[7] = ((9225 + slot) >> 8) as u8;
         bytes[8] = ((9225 + slot) & 0xff) as u8;
-        whole = whole && disk.write_at(8 + 9 * slot, &bytes).is_ok();
+        let at = 8 + 9 * slot;
+        whole = whole && at <= disk.len() && disk.write_at(at, &bytes).is_ok();
     }
-    whole = whole && disk.write_at(FIRST_GATE, &[0; 1040]).is_ok();
+    whole = whole && FIRST_GATE <= disk.len() && disk.write_at(FIRST_GATE, &[0; 1040]).is_ok();
     if whole {
         Some(disk)
     } else {
