@@ -573,13 +573,18 @@ fn commands_over_files(rt: HostRuntime) {
     assert!(rt; removed && wrong.is_none(), "{wrong:?}");
 }
 
+// A file of version 1 without its closed gate.
+fn without_its_end(bytes: &[u8]) -> &[u8] {
+    &bytes[..bytes.len().min(95)]
+}
+
 // It fails where a migration writes over a file that is there, or changes the old one.
 #[test]
 fn migrated_logs(rt: HostRuntime) {
     let folder = furnished(&rt, &rt);
     let old = in_version_1(ONE_COMMIT);
     folder.put_bytes(&rt, &rt, "old.log", &old);
-    folder.put_bytes(&rt, &rt, "cut.log", &old[..95]);
+    folder.put_bytes(&rt, &rt, "cut.log", without_its_end(&old));
     let system = System {
         files: HostFiles {
             rt: &rt,
