@@ -1,73 +1,16 @@
 //! What a key that is written again and again holds in memory: a desk with one viewer, that keeps all versions, or those of so many
 //! microseconds. A write comes each 100 microseconds, and an advance and a horizon each 10,000 writes, so each second. Its log is a file, so
 //! that no image of it counts. In megabytes, by the sizes that were asked for; and how long a look at the present takes, in microseconds.
+mod measured;
+
 use desk::Desk;
-use disk::Disk;
-use gatelog::GateLog;
+use measured::{megabytes, opened, reading};
 use message::{Commit, Input, Message, Reads};
-use shard::Core;
 use shim::alloc::Global;
 use shim::sync::Waiting;
 use shim::Vec as List;
-use std::alloc::{GlobalAlloc, Layout, System};
-use std::fs::File;
-use std::os::unix::fs::FileExt;
-use std::sync::atomic::{AtomicIsize, Ordering::Relaxed};
 use std::time::Instant;
-use truetime::Reading;
-use units::{Book, Fault, Key, Parts, Setup, ShardNo, Splits, Stamp, Stride, TxnId, Value, Write, Writes};
-
-struct Counted(AtomicIsize);
-
-#[global_allocator]
-static MEMORY: Counted = Counted(AtomicIsize::new(0));
-
-// SAFETY: each call is the system's.
-unsafe impl GlobalAlloc for Counted {
-    unsafe fn alloc(&self, layout: Layout) -> *mut u8 {
-        self.0.fetch_add(layout.size() as isize, Relaxed);
-        unsafe { System.alloc(layout) }
-    }
-    unsafe fn dealloc(&self, place: *mut u8, layout: Layout) {
-        self.0.fetch_sub(layout.size() as isize, Relaxed);
-        unsafe { System.dealloc(place, layout) }
-    }
-    unsafe fn realloc(&self, place: *mut u8, layout: Layout, size: usize) -> *mut u8 {
-        self.0.fetch_add(size as isize - layout.size() as isize, Relaxed);
-        unsafe { System.realloc(place, layout, size) }
-    }
-}
-
-fn megabytes() -> f64 {
-    MEMORY.0.load(Relaxed) as f64 / 1e6
-}
-
-/// A file that is never synced.
-struct Unsynced(File, u64);
-
-impl Disk for Unsynced {
-    fn len(&self) -> u64 {
-        self.1
-    }
-    fn reserve(&mut self, _bytes: u64) -> Result<(), Fault> {
-        Ok(())
-    }
-    fn read_at(&mut self, at: u64, buffer: &mut [u8]) -> Result<(), Fault> {
-        self.0.read_exact_at(buffer, at).map_err(|_| Fault::Device)
-    }
-    fn write_at(&mut self, at: u64, bytes: &[u8]) -> Result<(), Fault> {
-        self.1 = self.1.max(at + bytes.len() as u64);
-        self.0.write_all_at(bytes, at).map_err(|_| Fault::Device)
-    }
-    fn cut(&mut self, len: u64) -> Result<(), Fault> {
-        self.1 = len;
-        self.0.set_len(len).map_err(|_| Fault::Device)
-    }
-    fn sync(&mut self) -> Result<(), Fault> {
-        Ok(())
-    }
-    fn arm(&mut self, _call: Option<u64>) {}
-}
+use units::{Key, Parts, ShardNo, Stamp, TxnId, Value, Write, Writes};
 
 /// Transaction `number` writes the one key.
 fn commit(number: u64) -> Input {
@@ -81,27 +24,6 @@ fn commit(number: u64) -> Input {
         reads: Reads::none(Global),
         writes: Writes::from_vec(list).ok().unwrap(),
     }))
-}
-
-/// The clock reads just that.
-fn reading(now: u64) -> Reading {
-    let now = Stamp::new(now).unwrap();
-    Reading::new(now, now).ok().unwrap()
-}
-
-fn opened() -> Core<Unsynced> {
-    let name = std::env::temp_dir().join(format!("forgetting.{}", std::process::id()));
-    let file = File::options().read(true).write(true).create_new(true).open(&name).unwrap();
-    std::fs::remove_file(name).unwrap();
-    let setup = Setup {
-        shard: ShardNo::new(0).unwrap(),
-        splits: Splits::new(Global, &[]).unwrap(),
-        stride: Stride::new(0).unwrap(),
-        book: Book::Off,
-    };
-    let Ok(log) = GateLog::format(Unsynced(file, 0)) else { panic!() };
-    let Ok(core) = Core::open(Global, log.into_disk(), setup) else { panic!() };
-    core
 }
 
 /// When so many writes have been made.

@@ -8,7 +8,7 @@ top=$(dirname "$here")
 made=$(mktemp -d "${TMPDIR:-/tmp}/bench.XXXXXX")
 
 # The crates that the core of a shard stands on, the lowest first.
-crates="units truetime counts waiting disk simdisk record spelling gatelog message protocol locks facts versions safetime rows
+crates="units truetime counts waiting disk simdisk record spelling gatelog message protocol locks facts versions renewal safetime rows
 ledger memory participant coordinator ceiling recovery book shard inspector growing board"
 
 externs() {
@@ -61,6 +61,10 @@ build_drives() {
     grep -q 'fn keep_for' "$tree/crates/desk/src/desk.rt" || return 0
     # shellcheck disable=SC2046
     link forgetting "$to" $(externs "$to") -L "$to" -A warnings
+    # Nor are their logs turned over.
+    grep -q 'fn renew' "$tree/crates/desk/src/desk.rt" || return 0
+    # shellcheck disable=SC2046
+    link renewing "$to" $(externs "$to") -L "$to" -A warnings
 }
 
 # The programs over the crates of a tree.
@@ -125,6 +129,7 @@ for place in here $revisions; do
         "$made/$place/drives" slow 1,2 1,4,16 100 100000
         "$made/$place/holding"
         [ ! -x "$made/$place/forgetting" ] || "$made/$place/forgetting"
+        [ ! -x "$made/$place/renewing" ] || "$made/$place/renewing"
     fi
 done
 if [ "$timed" ]; then

@@ -190,6 +190,13 @@ impl<T> Vec<T> {
         self.0.sort_by(compare);
         Ok(())
     }
+    pub fn sort(&mut self) -> Result<(), AllocError>
+    where
+        T: Ord,
+    {
+        self.0.sort();
+        Ok(())
+    }
     pub fn sort_by_key<K: Ord>(&mut self, key: impl FnMut(&T) -> K) -> Result<(), AllocError> {
         self.0.sort_by_key(key);
         Ok(())
@@ -354,6 +361,9 @@ pub mod indexmap {
     }
 
     impl<K: Hash + Eq + Copy, V, S: BuildHasher> IndexMap<K, V, S> {
+        pub fn keys(&self) -> impl Iterator<Item = &K> {
+            self.entries.iter().map(|e| &e.1)
+        }
         pub fn with_hasher(_: Global, hasher: S) -> Self {
             IndexMap {
                 slots: Vec::new(),

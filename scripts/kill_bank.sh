@@ -1,22 +1,28 @@
 #!/bin/sh
 # Kills the bank with `kill -9` at 20 random moments, or at as many as it is told, and starts it again over the same folder. Each start has to
-# find all money there, in each audit, and so has a last one that ends by itself. It wants the program built: `BANK_PROGRAM` names it.
+# find all money there, in each audit, and so has a last one that ends by itself. With a number of bytes as its second word the bank renews a
+# log that has grown by so many, and the logs have to be renewed in the end, with verdict yes. It wants the program built: `BANK_PROGRAM`
+# names it, and `PROGRAM` the one that judges logs.
 set -eu
 root=$(dirname "$(dirname "$(readlink -f "$0")")")
 program=${BANK_PROGRAM:-$root/crates/bank/out/bank}
+judge=${PROGRAM:-$root/crates/shards/out/shards}
 kills=${1:-20}
+bytes=${2:-}
 room=$(mktemp -d)
 trap 'rm -rf "$room"' EXIT
 
-# A number of milliseconds below 2,000, more often a small one.
+# A number of milliseconds below 2,000, more often a small one; four times as many where logs are renewed, which is tried about once a second.
+times=1
+[ -z "$bytes" ] || times=4
 moment() {
-    od -An -N4 -tu2 /dev/urandom | awk '{ printf "%.3f", ($1 % 2000) * ($2 % 1000) / 1000000 }'
+    od -An -N4 -tu2 /dev/urandom | awk -v times="$times" '{ printf "%.3f", times * ($1 % 2000) * ($2 % 1000) / 1000000 }'
 }
 
 count=0
 while [ "$count" -lt "$kills" ]; do
     moment=$(moment)
-    "$program" "$room" 100000 >"$room/said" 2>&1 &
+    "$program" "$room" 100000 $bytes >"$room/said" 2>&1 &
     bank=$!
     sleep "$moment"
     if ! kill -9 "$bank" 2>/dev/null; then
@@ -24,7 +30,7 @@ while [ "$count" -lt "$kills" ]; do
         exit 1
     fi
     wait "$bank" 2>/dev/null || true
-    audit=$("$program" "$room" 1) || true
+    audit=$("$program" "$room" 1 $bytes) || true
     case $audit in
     *'wrong 0') count=$((count + 1)) ;;
     *)
@@ -33,10 +39,25 @@ while [ "$count" -lt "$kills" ]; do
         ;;
     esac
 done
-last=$("$program" "$room" 200) || true
+last=$("$program" "$room" 200 $bytes) || true
 echo "$last"
 case $last in
 *'wrong 0') ;;
 *) exit 1 ;;
 esac
 echo "kill_bank: all money was there after each of $count kills"
+if [ -n "$bytes" ]; then
+    for log in "$room"/shard-*.log; do
+        first=$("$judge" dump "$log" | sed -n 1p)
+        case $first in
+        *' base '*) ;;
+        *)
+            echo "kill_bank: a log was never renewed: $first" >&2
+            exit 1
+            ;;
+        esac
+    done
+    verdict=$("$judge" inspect /dev/null "$room"/shard-*.log) || true
+    echo "$verdict"
+    [ "$verdict" = yes ]
+fi

@@ -35,8 +35,25 @@ pub fn balance_in(value: &Option<Value>) -> u64 {
     }
 }
 
+/// How often the accounts are opened where nobody tells how that ended, as on a machine that has much else to do.
+const OPENINGS: u32 = 50;
+
 /// Opens all accounts with what they begin with, where there are none yet.
 pub fn open_accounts<R: Wait + time::Clock>(
+    alloc: Global,
+    client: &mut Client<'_, R>,
+) -> Result<(), Fault> {
+    for _opening in 0..OPENINGS {
+        match open_once(alloc, client)? {
+            Ended::Committed(_) | Ended::Aborted => return Ok(()),
+            Ended::Unknown(_) => {}
+        }
+    }
+    Ok(())
+}
+
+// The same, once.
+fn open_once<R: Wait + time::Clock>(
     alloc: Global,
     client: &mut Client<'_, R>,
 ) -> Result<Ended, Fault> {

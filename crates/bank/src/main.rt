@@ -21,12 +21,23 @@ use store::{Client, Fault, Options, Reason, Splits, Store, Unopened, UnopenedIn}
 /// How many tellers there are, beside one auditor.
 const TELLERS: u64 = 3;
 
+/// For how many microseconds the past is kept where logs are renewed: ten seconds, which no audit takes.
+const KEEP: u64 = 10_000_000;
+
+/// How much is to be done.
+#[derive(Clone, Copy)]
+struct Todo {
+    transfers: u32,
+    /// By how many bytes a log grows before it is renewed, where it is.
+    renew: Option<u64>,
+}
+
 fn main(rt: HostRuntime) -> ExitCode {
-    let Some((folder, transfers)) = words(&rt) else {
+    let Some((folder, todo)) = words(&rt) else {
         let _ = writeln!(rt.stderr(), "bank: {}", Fault::BadRequest(Reason::Command));
         return ExitCode::from(2);
     };
-    let done = serve(&rt, rt.alloc(), folder.as_str(), transfers);
+    let done = serve(&rt, rt.alloc(), folder.as_str(), todo);
     let status = match done {
         Ok(did) => tell(&rt, did),
         Err(unopened) => {
@@ -61,26 +72,39 @@ fn tell(rt: &HostRuntime, did: Did) -> ExitCode {
     }
 }
 
-// `bank FOLDER TRANSFERS`: each teller tries so many transfers, and the auditor adds up as often.
-fn words(rt: &HostRuntime) -> Option<(String, u32)> {
+// `bank FOLDER TRANSFERS [BYTES]`: each teller tries so many transfers, and the auditor adds up as often. A log that has grown by so many
+// bytes is renewed.
+fn words(rt: &HostRuntime) -> Option<(String, Todo)> {
     let mut words = env::args(rt).ok()?;
     drop(words.next());
     let folder = words.next()?;
     let count = words.next()?;
     let transfers = count.as_str().parse::<u32>().ok()?;
-    Some((folder, transfers))
+    let renew = match words.next() {
+        Some(bytes) => Some(bytes.as_str().parse::<u64>().ok()?),
+        None => None,
+    };
+    Some((folder, Todo { transfers, renew }))
 }
 
 fn serve<R: rt::Files<File = File> + RandomSource + Threads + Wait + time::Clock + Sync>(
     rt: &R,
     alloc: Global,
     folder: &str,
-    transfers: u32,
+    todo: Todo,
 ) -> Result<Did, Unopened> {
     let splits = Splits::new(alloc, &[key_of(ACCOUNTS / 2)?])?;
-    let store = Store::open_folder(rt, alloc, folder, Options::new(splits, TELLERS + 1))?;
+    let mut options = Options::new(splits, TELLERS + 1);
+    if todo.renew.is_some() {
+        options.keep = Some(KEEP);
+        options.renew = todo.renew;
+    }
+    let store = Store::open_folder(rt, alloc, folder, options)?;
     let (did, disks) = store.serve(|clients: Vec<Client<'_, R>>| work(
-        rt, alloc, clients, transfers,
+        rt,
+        alloc,
+        clients,
+        todo.transfers,
     ))?;
     drop(disks);
     Ok(did?)
@@ -96,7 +120,7 @@ fn work<R: Threads + Wait + time::Clock + Sync>(
     let Some(mut first) = clients.pop() else {
         return Ok(Did::nothing());
     };
-    drop(open_accounts(alloc, &mut first)?);
+    open_accounts(alloc, &mut first)?;
     let mut jobs = Vec::new(alloc);
     for client in clients {
         jobs.push((jobs.len() as u64 + 1, client))?;

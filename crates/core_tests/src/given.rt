@@ -32,6 +32,7 @@ pub enum Given {
     Settle(u16),
     Nudge(u16),
     Advance(u64),
+    Forget(u64),
     Resume,
 }
 
@@ -137,6 +138,7 @@ pub fn input_of(rt: &impl Abort, alloc: Global, given: Given) -> Input {
         Given::Settle(number) => Input::Settle(id(number)),
         Given::Nudge(number) => Input::Nudge(id(number)),
         Given::Advance(to) => Input::Advance(stamp(to)),
+        Given::Forget(at) => Input::Forget(stamp(at)),
         Given::Resume => Input::Resume,
         _ => Input::Deliver(message_of(rt, alloc, given)),
     }

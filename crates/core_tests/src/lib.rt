@@ -36,6 +36,8 @@ mod promising;
 #[cfg(test)]
 mod refused;
 #[cfg(test)]
+mod renewing;
+#[cfg(test)]
 mod reopening;
 #[cfg(test)]
 mod restarts;
@@ -47,6 +49,14 @@ mod stories;
 mod tests;
 #[cfg(test)]
 mod together;
+#[cfg(test)]
+mod turned;
+#[cfg(test)]
+mod turned_nodes;
+#[cfg(test)]
+mod turned_rows;
+#[cfg(test)]
+mod turning;
 #[cfg(test)]
 mod unserved;
 #[cfg(test)]

@@ -5,21 +5,77 @@ use record::Record;
 use simdisk::SimDisk;
 use std::alloc::Global;
 use std::process::Abort;
+use units::Install;
 
-/// A record: an opening with its epoch, a ceiling, or a promise, a decision or a commit of 1.2 with its timestamp.
+/// A record: an opening with its epoch, a ceiling, a horizon, or a promise, a decision or a commit of 1.2 with its timestamp; the same
+/// of any number, or an abort; and what only a renewed log has: a base, a version of a letter with a value of one, and what is settled
+/// or closed at a timestamp.
 #[derive(Clone, Copy)]
 pub enum Line {
     Opened(u64),
     Ceiling(u64),
+    Horizon(u64),
     Promised(u64),
     Decided(u64),
     Committed(u64),
+    PromisedBy(u64, u64),
+    DecidedBy(u64, u64),
+    CommittedBy(u64, u64),
+    Aborted(u64),
+    Base(u64, u64, u64),
+    Version(u64, u8, u8),
+    Settled(u64, u64),
+    Closed(u64, u64),
+}
+
+// The letter that a key or a value is.
+fn is_letter(bytes: &[u8], letter: u8) -> bool {
+    bytes.len() == 1 && bytes.first() == Some(&letter)
+}
+
+// A version of a letter at a timestamp, with this value.
+fn is_version(install: &Install, at: u64, letter: u8, value: u8) -> bool {
+    let same = match &install.value {
+        Some(found) => is_letter(found.as_bytes(), value),
+        None => false,
+    };
+    same && install.at.micros() == at && is_letter(install.key.as_bytes(), letter)
+}
+
+// A record that only a renewed log has.
+fn is_renewed(record: &Record, line: Line) -> bool {
+    match (record, line) {
+        (
+            Record::Base {
+                epoch,
+                floor,
+                horizon,
+            },
+            Line::Base(number, least, oldest),
+        ) => epoch.number() == number && floor.micros() == least && horizon.micros() == oldest,
+        (Record::Version(install), Line::Version(at, letter, value)) => {
+            is_version(install, at, letter, value)
+        }
+        (Record::Settled { txn, at, parts }, Line::Settled(number, micros)) => {
+            txn.number() == number && at.micros() == micros && parts.mask() == 1
+        }
+        (
+            Record::Closed {
+                txn,
+                coordinator,
+                outcome: Some(at),
+            },
+            Line::Closed(number, micros),
+        ) => txn.number() == number && at.micros() == micros && coordinator.number() == 0,
+        _ => false,
+    }
 }
 
 fn is_line(record: &Record, line: Line) -> bool {
     match (record, line) {
         (Record::Opened { epoch }, Line::Opened(number)) => epoch.number() == number,
         (Record::Ceiling { at }, Line::Ceiling(micros)) => at.micros() == micros,
+        (Record::Horizon { at }, Line::Horizon(micros)) => at.micros() == micros,
         (Record::Prepare(part), Line::Promised(micros)) => part.txn.number() == 2
             && part.at.micros() == micros,
         (Record::Commit(commit), Line::Decided(micros)) => commit.txn.number() == 2
@@ -31,18 +87,43 @@ fn is_line(record: &Record, line: Line) -> bool {
             },
             Line::Committed(micros),
         ) => txn.number() == 2 && at.micros() == micros,
-        _ => false,
+        (Record::Prepare(part), Line::PromisedBy(number, micros)) => {
+            part.txn.number() == number && part.at.micros() == micros
+        }
+        (Record::Commit(commit), Line::DecidedBy(number, micros)) => {
+            commit.txn.number() == number && commit.at.micros() == micros
+        }
+        (
+            Record::Outcome {
+                txn,
+                outcome: Some(at),
+            },
+            Line::CommittedBy(number, micros),
+        ) => txn.number() == number && at.micros() == micros,
+        (Record::Abort { txn }, Line::Aborted(number)) => txn.number() == number,
+        _ => is_renewed(record, line),
     }
 }
 
 /// Compares the log that a disk holds with these records.
 pub fn compare_log(rt: &impl Abort, alloc: Global, disk: SimDisk, name: &str, lines: &[Line]) {
+    drop(with_log(rt, alloc, disk, name, lines));
+}
+
+/// The disk, whose log has these records.
+pub fn with_log(
+    rt: &impl Abort,
+    alloc: Global,
+    disk: SimDisk,
+    name: &str,
+    lines: &[Line],
+) -> SimDisk {
     let (log, entries) = GateLog::open(alloc, disk).ok().expect(rt, name);
-    drop(log.into_disk());
     let mut held = entries.len() == lines.len();
     for (entry, line) in entries.iter().zip(lines) {
         held = held && is_line(entry.item(), *line);
     }
     drop(entries);
     told(rt, held, name, lines.len() as u64);
+    log.into_disk()
 }

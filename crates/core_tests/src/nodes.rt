@@ -27,6 +27,13 @@ pub enum Ask {
         to: u64,
         tells: Result<u64, Fault>,
     },
+    Turn(Result<(), Fault>),
+    // To keep so many microseconds, and to turn over what has grown by so many bytes.
+    Renew {
+        micros: u64,
+        least: u64,
+        gives: Result<(), Fault>,
+    },
     Restart {
         viewers: usize,
         gives: Result<usize, Fault>,
@@ -109,6 +116,12 @@ fn is_answered<'a, R: Threads + Wait + Sync + Abort>(
             Ok(told) => tells == Ok(told.safe().micros()),
             Err(fault) => tells == Err(fault),
         },
+        Ask::Turn(gives) => node.turn_over(rt) == gives,
+        Ask::Renew {
+            micros,
+            least,
+            gives,
+        } => node.renew(rt, &now, micros, least) == gives,
         Ask::Restart {
             viewers: count,
             gives,

@@ -6,6 +6,7 @@ use crate::promising::PROMISING;
 use crate::reopening::{ARMED, REFUSED, REOPENED};
 use crate::restarts::{NODES, ONCE};
 use crate::served::SERVING;
+use crate::turned_nodes::TURNING;
 use crate::viewed::VIEWED;
 use crate::{damaged, nodes, stories, together};
 
@@ -55,6 +56,12 @@ fn what_was_stopped_is_opened_again(rt: HostRuntime) {
 #[test]
 fn each_call_is_one_input(rt: HostRuntime) {
     nodes::tell(&rt, rt.alloc(), &ONCE);
+}
+
+// It fails where a node answers that it turned its log over, and did not.
+#[test]
+fn nodes_turn_their_logs_over(rt: HostRuntime) {
+    nodes::tell(&rt, rt.alloc(), &TURNING);
 }
 
 // It fails where viewers always answer that they are stopped.

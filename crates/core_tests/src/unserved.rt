@@ -32,12 +32,13 @@ enum Ends {
     Refused(Fault),
 }
 
-// What became of the node of fresh shard 1: its device has failed, and it could not be opened again, so that it holds its disk alone; how
-// many transactions have a row there; and whether the client hears first that a letter of an earlier transaction was refused. How a transaction
-// ends that reads there and is dropped then, and one that only writes, where one does.
+// What became of the node of fresh shard 1: its device has failed, in a turnover or else in an advance, and it could not be opened again, so
+// that it holds its disk alone; how many transactions have a row there; and whether the client hears first that a letter of an earlier
+// transaction was refused. How a transaction ends that reads there and is dropped then, and one that only writes, where one does.
 struct Row {
     name: &'static str,
     stops: bool,
+    turns: bool,
     rests: bool,
     rows: u16,
     late: bool,
@@ -45,10 +46,11 @@ struct Row {
     writes: Option<Ends>,
 }
 
-static ROWS: [Row; 4] = [
+static ROWS: [Row; 5] = [
     Row {
         name: "rows are full",
         stops: false,
+        turns: false,
         rests: false,
         rows: 1_024,
         late: false,
@@ -58,6 +60,17 @@ static ROWS: [Row; 4] = [
     Row {
         name: "a device has failed",
         stops: true,
+        turns: false,
+        rests: false,
+        rows: 0,
+        late: false,
+        reads: Ends::Refused(Fault::Stopped),
+        writes: Some(Ends::Unknown),
+    },
+    Row {
+        name: "a device has failed in a turnover",
+        stops: true,
+        turns: true,
         rests: false,
         rows: 0,
         late: false,
@@ -67,6 +80,7 @@ static ROWS: [Row; 4] = [
     Row {
         name: "a disk alone",
         stops: true,
+        turns: false,
         rests: true,
         rows: 0,
         late: false,
@@ -76,6 +90,7 @@ static ROWS: [Row; 4] = [
     Row {
         name: "a refusal comes late",
         stops: false,
+        turns: false,
         rests: false,
         rows: 0,
         late: true,
@@ -201,9 +216,15 @@ impl<'s, R: Wait + time::Clock + Abort> Caller<'s, R> {
 // What the row says became of the node.
 fn failed<'r, R: Wait + Abort>(rt: &'r R, alloc: Global, node: &Node<SimDisk, &'r R>, row: &Row) {
     if row.stops {
-        let failed = node.advance(rt, &reading(rt, 100, 110), stamp(100));
-        told(rt, failed.is_err(), row.name, 0);
-        drop(failed);
+        let failed = if row.turns {
+            node.turn_over(rt).is_err()
+        } else {
+            let advanced = node.advance(rt, &reading(rt, 100, 110), stamp(100));
+            let is_refused = advanced.is_err();
+            drop(advanced);
+            is_refused
+        };
+        told(rt, failed, row.name, 0);
     }
     if row.rests {
         let refused = node.restart(rt, rt, alloc, 0);

@@ -1,4 +1,6 @@
 pub mod Follow
 pub mod InStep
 pub mod Kept
+pub mod Renewed
+pub mod Turned
 pub mod Viewers

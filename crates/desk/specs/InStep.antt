@@ -19,6 +19,7 @@ use Rattle.board.specs.declared.entry.BoardEntry.TheVariants.{Installed, Safe}
 use Rattle.board.specs.declared.home.Home.{Home}
 use Rattle.board.specs.Board.{is_board, versions_on, safe_on, horizon_on}
 use Rattle.board.specs.Views.{Publishing, Published, Viewing}
+use Rattle.desk.specs.declared.measure.Measure.{Measure}
 
 -- the versions as entries of a board
 abbrev pub as_entries : List Install → List BoardEntry
@@ -69,6 +70,7 @@ pub record DeskView (D : Type 0) : Type 0 where
   pub core : CoreView D
   pub book : Option BookView
   pub board : Publishing
+  pub measure : Measure
 
 -- the last entry is this served time
 abbrev pub EndsSafe : List BoardEntry → ℕ → Type 0
@@ -84,7 +86,7 @@ pub record ShowsAll (versions : List Install) (served from : ℕ) (old new : Pub
 
 -- the board shows all versions of the core, its horizon and its served time
 abbrev pub ShowsCore : {D : Type 0} → DeskView D → DeskView D → Published → Type 0
-ShowsCore old new news = ShowsAll old.core.facts.installs (safe_at old.core) old.core.facts.horizon old.board new.board news
+ShowsCore old new news = ShowsAll new.core.facts.installs (safe_at new.core) new.core.facts.horizon old.board new.board news
 
 -- the core's own refusal, or want of memory
 abbrev pub WhyNot : Result (List Envelope) Fault → Fault → Type 0
@@ -112,7 +114,8 @@ module _ {D : Type 0} (keeps obeys : Type 0) (file : D → File) (clock : D → 
   pub record HasAdvanced (old new : DeskView D) (now : Interval) (to : ℕ) (news : Published) : Type 0 where
     pub out : List Envelope
     pub stepped : HasTaken old.core new.core old.book new.book now (Input.Advance to) (Ok out)
-    pub shown : ShowsCore (record { core = new.core; book = new.book; board = old.board }) new news
+    pub shown : ShowsCore old new news
+    pub measure : new.measure ≡ old.measure
 
   -- The core refused the advance; or it took it, and memory for the board was refused. The board shows what it showed.
   pub record HasNotAdvanced (old new : DeskView D) (now : Interval) (to : ℕ) (fault : Fault) : Type 0 where
@@ -121,6 +124,7 @@ module _ {D : Type 0} (keeps obeys : Type 0) (file : D → File) (clock : D → 
     pub why : WhyNot result fault
     pub published : new.board.published ≡ old.board.published
     pub board : new.board.board ≡ old.board.board
+    pub measure : new.measure ≡ old.measure
 
   -- The core took a horizon above its own, or refused it. The board stays.
   pub record HasForgotten (old new : DeskView D) (now : Interval) (at : ℕ) (result : Result (Unit {0}) Fault) : Type 0 where
@@ -129,6 +133,7 @@ module _ {D : Type 0} (keeps obeys : Type 0) (file : D → File) (clock : D → 
     pub stepped : HasTaken old.core new.core old.book new.book now (Input.Forget at) taken
     pub told : IsEndOf taken result
     pub board : new.board ≡ old.board
+    pub measure : new.measure ≡ old.measure
 
   -- The horizon that keeps so many microseconds is not above the core's, and nothing happened; or the core was asked for it.
   abbrev pub HasKept : DeskView D → DeskView D → Interval → ℕ → Result (Unit {0}) Fault → Type 0

@@ -3,6 +3,6 @@ use Rattle.desk.specs.declared.desk.Desk.{Desk}
 use Rattle.desk.specs.InStep.{DeskView}
 use Rattle.shard.specs.Core.{seen, book_of}
 
--- its core with its book, and its board
+-- its core with its book, its board, and how its log was measured
 abbrev pub seen_desk : {D R : Type 0} {g : _} → Desk D R g → DeskView D
-seen_desk desk = record { core = seen desk.core; book = book_of desk.core; board = desk.publisher }
+seen_desk desk = record { core = seen desk.core; book = book_of desk.core; board = desk.publisher; measure = desk.measure }

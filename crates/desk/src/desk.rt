@@ -6,6 +6,7 @@ ghost use Rattle.disk.specs.File.{surface};
 ghost use Rattle.desk.specs.InStep.{InStep, IsInStep, IsNewBoard, AreOnBoard, IsNoDesk, StillShows, ShowsAll, HasAdvanced, HasNotAdvanced, HasTaken};
 ghost use Rattle.desk.specs.InStep.{HasKept, horizon_for as horizon_kept};
 ghost use Rattle.desk.specs.Opening.{HasNoDesk, IsBegun};
+ghost use Rattle.desk.specs.Renewed.{HasTurnedOver, HasRenewed, unmeasured};
 ghost use Rattle.book.specs.Books.{IsBookOf};
 ghost use Rattle.shard.specs.Booked.{stand_of};
 ghost use Rattle.shard.specs.Core.{seen, book_of};
@@ -13,6 +14,7 @@ ghost use Rattle.shard.specs.Look.{safe_at};
 ghost use Rattle.shard.specs.Opened.{HasOpened};
 ghost use Rattle.shard.specs.Settled.{IsDurablySettled};
 
+use crate::measure::Measure;
 use board::{Publisher, Told, Viewer, check_viewers, copy_install, start};
 use book::Book;
 use disk::Disk;
@@ -26,12 +28,14 @@ use units::{Fault, Install, Setup, Stamp};
 
 /// A core, the publisher of its board, how many of its versions the board was handed, the first ones, and the horizon that it was
 /// told. The board's served time and its horizon are at most the core's. The handle is for the publisher, which waits for viewers.
+/// The core's log is measured whenever it is turned over.
 pub struct Desk<D: Disk + Drop, R: Wait + Drop> {
     alloc: Global,
     core: Core<D>,
     publisher: Publisher<R>,
     handed: usize,
     told: Stamp,
+    measure: Measure,
     ghost in_step: { IsInStep (seen core) handed publisher },
     ghost horizon: { horizon_on (publisher.published ++ publisher.pending) ≡ told },
 }
@@ -61,6 +65,8 @@ impl<D: Disk + Drop, R: Wait + Drop> Desk<D, R> {
             (seen core).facts.horizon)) }
         ensures viewers { IfOk result
             (λ made. AreOnBoard n (seen core).setup (seen_desk made.0).board made.1.items) }
+        ensures measure { IfOk result
+            (λ made. (seen_desk made.0).measure ≡ unmeasured (seen core).gate) }
         ensures refused { IfErr result
             (λ refused. IsNoDesk n refused.0 × (seen refused.1 ≡ seen core)
             × (book_of refused.1 ≡ book_of core)) }
@@ -68,6 +74,10 @@ impl<D: Disk + Drop, R: Wait + Drop> Desk<D, R> {
         core.is_sound();
         let handed = core.installs().len();
         let told = core.horizon();
+        let measure = Measure {
+            held: 0,
+            ended: core.gate(),
+        };
         match board_of(
             rt,
             alloc,
@@ -84,6 +94,7 @@ impl<D: Disk + Drop, R: Wait + Drop> Desk<D, R> {
                     publisher,
                     handed,
                     told,
+                    measure,
                 },
                 viewers,
             )),
@@ -112,6 +123,8 @@ impl<D: Disk + Drop, R: Wait + Drop> Desk<D, R> {
             (safe_at (seen_desk made.0).core) (seen_desk made.0).core.facts.horizon)) }
         ensures viewers { IfOk result
             (λ made. AreOnBoard n setup.now (seen_desk made.0).board made.1.items) }
+        ensures measure { IfOk result (λ made. (seen_desk made.0).measure
+            ≡ unmeasured (seen_desk made.0).core.gate) }
         ensures refused { IfErr result
             (λ refused. HasNoDesk D.keeps_model D.obeys D.file D.clock D.since D.failures D.plan
             disk setup.now n refused.0 refused.1) }
@@ -138,6 +151,7 @@ impl<D: Disk + Drop, R: Wait + Drop> Desk<D, R> {
         ensures settled { IsDurablySettled D.keeps_model
             (surface (D.file (seen_desk self.new).core.disk)) input.now result }
         ensures board { (seen_desk self.new).board ≡ (seen_desk self.old).board }
+        ensures measure { (seen_desk self.new).measure ≡ (seen_desk self.old).measure }
     {
         step_keeps_showable();
         writes_ascend(input);
@@ -162,6 +176,30 @@ impl<D: Disk + Drop, R: Wait + Drop> Desk<D, R> {
         drop(input);
         drop(taken?);
         Ok(())
+    }
+
+    /// Exactly the core's turnover of its log. The board and the book stay, and the log is measured.
+    pub fn turn_over(&mut self) -> Result<(), Fault>
+        ensures { HasTurnedOver D.keeps_model D.obeys D.file D.clock D.since D.failures D.plan
+            (seen_desk self.old) (seen_desk self.new) result }
+    {
+        let before = self.core.gate();
+        let turned = self.core.turn_over(self.alloc);
+        self.measure = self.measure.behind(before, self.core.gate(), &turned);
+        turned
+    }
+
+    /// `keep_for`, and where that was not refused a turnover of the log, if this has grown: by so many bytes at least since its turnover was
+    /// tried last, or the desk was made, and by more than it had behind the last turnover of the desk.
+    pub fn renew(&mut self, now: &Reading, micros: u64, least: u64) -> Result<(), Fault>
+        ensures { HasRenewed D.keeps_model D.obeys D.file D.clock D.since D.failures D.plan
+            (seen_desk self.old) (seen_desk self.new) now.now micros least result }
+    {
+        self.keep_for(now, micros)?;
+        if !self.measure.has_grown(self.core.gate(), least) {
+            return Ok(());
+        }
+        self.turn_over()
     }
 
     /// Advances the core, and publishes its new versions, its horizon where it was raised, and its served time. Where memory for the board
@@ -217,6 +255,7 @@ impl<D: Disk + Drop, R: Wait + Drop> Desk<D, R> {
             publisher,
             handed: _,
             told: _,
+            measure: _,
         } = self;
         drop(publisher);
         core.stop()

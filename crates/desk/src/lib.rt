@@ -2,5 +2,6 @@
 #![tactic(auto)]
 
 mod desk;
+mod measure;
 
 pub use desk::Desk;

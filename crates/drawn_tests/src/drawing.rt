@@ -21,10 +21,12 @@ static BYTES: [u8; 4] = [0xa5, 0x00, 0x37, 0xff];
 pub const LENGTH: usize = 300;
 
 // A list so far: its last step, the sessions 1 to `begun` have begun, and the messages below `next` were delivered in their
-// turn. So many steps of a kind come at once: reads, or writes and a close, of the step's transaction, or looks at its shard.
+// turn. So many steps of a kind come at once: reads, or writes and a close, of the step's transaction, or looks at its shard. Logs are turned
+// over, or not.
 #[derive(Clone, Copy)]
 struct Drawn {
     random: u64,
+    turns: bool,
     shards: u64,
     begun: u64,
     next: u64,
@@ -233,6 +235,15 @@ impl Drawn {
         self.left = self.below(3);
     }
 
+    // A shard's log is turned over, at times with a crash in a call of that.
+    fn turn(&mut self, sight: &Sight<'_>) {
+        let shard = self.shard();
+        self.now(shard, Does::Turn);
+        if !sight.shards[shard as usize % 3].is_down && self.below(3) == 0 {
+            self.stop(true);
+        }
+    }
+
     // A look at a shard, or at one of its views.
     fn look(&mut self, views: Option<&Sight<'_>>) {
         let shard = self.shard();
@@ -356,6 +367,9 @@ impl Drawn {
         if self.below(36) == 0 {
             return self.break_off(sight);
         }
+        if self.turns && self.below(16) == 0 {
+            return self.turn(sight);
+        }
         let known = sight.sent.len() as u64;
         if known.saturating_sub(self.next) > 6 && self.below(3) != 0 {
             return self.deliver(known);
@@ -402,19 +416,21 @@ fn fill(
     true
 }
 
-/// Draws a list of events over so many shards, from a seed. False where one does not happen.
+/// Draws a list of events over so many shards, from a seed, with turnovers of logs or without. False where one does not happen.
 pub fn is_drawn(
     steps: &mut Vec<Step>,
     alloc: Global,
     config: &Config,
     seed: u64,
     shards: u64,
+    turns: bool,
 ) -> bool {
     let Ok(mut run) = Run::start(alloc, config) else {
         return false;
     };
     let mut drawn = Drawn {
         random: seed,
+        turns,
         shards,
         begun: 0,
         next: 0,

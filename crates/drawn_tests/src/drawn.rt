@@ -31,8 +31,13 @@ fn judge_report(
     judge(told)
 }
 
-// A list is played, and judged.
-fn play_one(alloc: Global, config: &Config, steps: &[Step], totals: &mut Totals) -> &'static str {
+/// A list is played, and judged.
+pub fn play_one(
+    alloc: Global,
+    config: &Config,
+    steps: &[Step],
+    totals: &mut Totals,
+) -> &'static str {
     let Ok(report) = play_steps(alloc, config, steps) else {
         return "an unlawful list";
     };
@@ -49,7 +54,7 @@ fn draw_one(alloc: Global, seed: u64, shards: u64, totals: &mut Totals) -> &'sta
         return "no shards";
     };
     let mut steps = Vec::new(alloc);
-    let wrong = if is_drawn(&mut steps, alloc, &config, seed, shards) {
+    let wrong = if is_drawn(&mut steps, alloc, &config, seed, shards, false) {
         play_one(alloc, &config, &steps, totals)
     } else {
         "no list"

@@ -19,3 +19,5 @@ mod steps;
 mod telling;
 #[cfg(test)]
 mod totals;
+#[cfg(test)]
+mod turned;

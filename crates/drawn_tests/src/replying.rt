@@ -48,7 +48,8 @@ fn rests(does: Does, standing: Standing) -> bool {
         | Does::Settle
         | Does::Advance
         | Does::Nudge
-        | Does::Forget => match standing {
+        | Does::Forget
+        | Does::Turn => match standing {
             Standing::Up => false,
             _ => true,
         },

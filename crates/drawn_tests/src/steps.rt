@@ -25,6 +25,7 @@ pub enum Does {
     Advance,
     Nudge,
     Forget,
+    Turn,
     Open,
 }
 
@@ -67,6 +68,9 @@ pub static FIRST: Step = Step {
     latest: 0,
 };
 
+// The number of a transaction that no list begins.
+const UNBEGUN: u64 = 1_000_000_000;
+
 // What a shard does.
 fn doing(step: &Step, txn: TxnId, at: Stamp, now: Reading) -> Doing {
     match step.does {
@@ -75,6 +79,7 @@ fn doing(step: &Step, txn: TxnId, at: Stamp, now: Reading) -> Doing {
         Does::Advance => Doing::Advance(at, now),
         Does::Nudge => Doing::Nudge(txn, now),
         Does::Forget => Doing::Forget(at, now),
+        Does::Turn => Doing::Turn,
         Does::Open => Doing::Open,
         _ => Doing::Resume(now),
     }
@@ -116,6 +121,17 @@ pub fn event(alloc: Global, step: &Step) -> Result<Event, Fault> {
         time: step.time,
         act,
     })
+}
+
+/// The step of the list without turnovers: in the place of one a transaction is nudged that nobody has begun, which is refused, and makes no
+/// device call.
+pub fn unturned(step: &Step) -> Step {
+    let mut other = *step;
+    if let Does::Turn = step.does {
+        other.does = Does::Nudge;
+        other.txn = UNBEGUN;
+    }
+    other
 }
 
 fn push_events(events: &mut Vec<Event>, alloc: Global, steps: &[Step]) -> Result<(), Fault> {

@@ -7,7 +7,7 @@ use units::{Line, Parts, ShardNo, Stamp, TxnId, Value, Writes};
 
 /// What a row tells of: a record of a log, a part of a decision that is not its coordinator, a write of a decision or of a
 /// promise, a horizon, a message on how a transaction ended, or a line.
-#[derive(Clone, Copy)]
+#[derive(Clone, Copy, PartialEq, Eq)]
 pub enum Kind {
     Commit,
     Part,
@@ -24,7 +24,7 @@ pub enum Kind {
 
 /// A row, by its kind: the shard of its log or the part, the transaction, its timestamp, the coordinator, a key, and a value, or
 /// 0 for none.
-#[derive(Clone, Copy)]
+#[derive(Clone, Copy, PartialEq, Eq)]
 pub struct Told {
     pub kind: Kind,
     pub shard: usize,
@@ -62,7 +62,8 @@ fn byte_of(bytes: &[u8]) -> u8 {
     }
 }
 
-fn value_of(value: &Option<Value>) -> u8 {
+/// The byte of a value, or 0 for none.
+pub fn value_of(value: &Option<Value>) -> u8 {
     match value {
         Some(value) => byte_of(value.as_bytes()),
         None => 0,
@@ -243,6 +244,11 @@ pub fn put_report(told: &mut Vec<Told>, report: &Report) -> &'static str {
             return "a log";
         }
     }
+    put_said(told, report)
+}
+
+/// Puts in what a report tells beside its logs.
+pub fn put_said(told: &mut Vec<Told>, report: &Report) -> &'static str {
     if !put_messages(told, report.bag.as_slice()) {
         return "the id of a message";
     }

@@ -47,7 +47,7 @@ by_id_ascends [] = tt
 by_id_ascends (e ∷ es) = by_id-with (λ x. x.0) (by_id es) e (by_id_ascends es)
 
 -- and the same is found
-find_by_id : (es : List (Id × Status)) (t : Id) → find_member (λ e. e.0) (by_id es) t ≡ find_member (λ e. e.0) es t
+pub find_by_id : (es : List (Id × Status)) (t : Id) → find_member (λ e. e.0) (by_id es) t ≡ find_member (λ e. e.0) es t
 find_by_id [] t = refl
 find_by_id (e ∷ es) t = by_test (same_id e.0 t) refl (find_by_id es t)
   where

@@ -1,4 +1,5 @@
 pub mod Entries
+pub mod Ids
 pub mod Heads
 pub mod Kept
 pub mod Known

@@ -1,5 +1,5 @@
 -- What follows of a record that may come next, and the last of some versions.
-use Rattle.std.proofs.Common.{◌≡◌, ◌-◌, ◌∙◌, arith, ℕ, suc, true, List, [], ◌∷◌, length, Option, Some, refl, sym, ap}
+use Rattle.std.proofs.Common.{◌≡◌, ◌-◌, ◌∙◌, arith, ℕ, suc, true, List, [], ◌∷◌, length, Option, Some, sym, ap}
 use Rattle.std.specs.Prelude.{slice_get}
 use Rattle.std.proofs.Math.Bool.{or-false}
 use Rattle.units.specs.Ids.{Id}

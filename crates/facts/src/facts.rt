@@ -1,6 +1,7 @@
 //! The facts of a log, learnt record by record.
-ghost use Rattle.std.specs.Prelude.{◌≡◌, ◌<◌, ◌≤◌, [], IsTrue, IsFalse, IsOk, IfErr, OnOk, OnErr, Err, ◌^◌, ◌&&◌, not, nat_lt};
+ghost use Rattle.std.specs.Prelude.{◌≡◌, ◌<◌, ◌≤◌, [], IsTrue, IsFalse, IsOk, IfErr, IfOk, OnOk, OnErr, Err, ◌^◌, ◌&&◌, map, not, nat_lt};
 ghost use Rattle.std.specs.Option.{option_copied};
+ghost use Rattle.units.specs.ById.{IsById};
 ghost use Rattle.units.specs.declared.fault.Fault.TheVariants.{Memory, Damaged};
 ghost use Rattle.record.specs.Accepted.{is_timed};
 ghost use Rattle.record.specs.Facts.{facts_of, learn, recorded, after_outcome};
@@ -9,7 +10,7 @@ ghost use Rattle.facts.specs.Rules.{follows_facts, is_unrecorded, allows};
 ghost use Rattle.facts.specs.Shown.{meaning, meant};
 ghost use Rattle.facts.specs.Stages.{comes_behind, follows_head, follows_next, is_open, stage_after, stage_of};
 
-use crate::table::{install, put, set};
+use crate::table::{ids, install, put, set};
 use crate::{Stage, Status};
 use indexmap::IndexMap;
 use record::{Committed, Prepared, Record};
@@ -130,6 +131,16 @@ impl Facts {
         ensures { meant (option_copied result) ≡ recorded self.now.facts txn }
     {
         self.statuses.get(&txn)
+    }
+
+    /// The ids that have a record, ascending.
+    pub fn ids(&self, alloc: Global) -> Result<Vec<TxnId>, Fault>
+        ensures ids { IfOk result (λ ids. ids.items ≡
+            map (λ e. e.txn) self.now.facts.entries) }
+        ensures order { IfOk result (λ ids. IsById (λ id. id) ids.items) }
+        ensures memory { IfErr result (λ fault. fault ≡ Memory) }
+    {
+        ids(alloc, &self.statuses)
     }
 
     /// The transaction's promise, while it has no outcome.

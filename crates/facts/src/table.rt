@@ -1,13 +1,43 @@
 //! The transactions that have a record, in the order in which they came, and the versions.
-ghost use Rattle.std.specs.Prelude.{◌≡◌, ◌+◌, ◌<◌, ◌≤◌, ◌++◌, Some, vec_len, vec_capacity};
+ghost use Rattle.std.specs.Prelude.{◌≡◌, ◌+◌, ◌<◌, ◌≤◌, ◌++◌, IfErr, IfOk, Some, map, vec_len, vec_capacity};
+ghost use Rattle.std.specs.List.{IsDistinct};
 ghost use Rattle.indexmap.specs.IndexMap.{spare};
+ghost use Rattle.units.specs.ById.{IsById};
+ghost use Rattle.units.specs.Ids.{same_id};
 ghost use Rattle.units.specs.Versions.{versions};
+ghost use Rattle.units.specs.declared.fault.Fault.TheVariants.{Memory};
 ghost use Rattle.record.specs.Facts.{with_status, installs_at};
 ghost use Rattle.facts.specs.Shown.{meaning, meant, shown_entries, by_id, status_in};
 
 use crate::Status;
 use indexmap::IndexMap;
-use units::{Install, Stamp, TxnId, Write, Writes};
+use std::alloc::Global;
+use units::{Fault, Install, Stamp, TxnId, Write, Writes};
+
+/// The ids of the transactions, ascending.
+pub fn ids(alloc: Global, statuses: &IndexMap<TxnId, Status>) -> Result<Vec<TxnId>, Fault>
+    ensures ids { IfOk result (λ ids. ids.items ≡
+        map (λ e. e.txn) (shown_entries (by_id statuses.now.entries))) }
+    ensures order { IfOk result (λ ids. IsById (λ id. id) ids.items) }
+    ensures memory { IfErr result (λ fault. fault ≡ Memory) }
+{
+    let mut ids = ids_as_they_came(alloc, statuses)?;
+    ids.sort()?;
+    Ok(ids)
+}
+
+// The ids in the order in which they came, each once.
+fn ids_as_they_came(alloc: Global, statuses: &IndexMap<TxnId, Status>) -> Result<Vec<TxnId>, Fault>
+    ensures ids { IfOk result (λ ids. ids.items ≡ map (λ e. e.0) statuses.now.entries) }
+    ensures once { IfOk result (λ ids. IsDistinct same_id ids.items) }
+    ensures memory { IfErr result (λ fault. fault ≡ Memory) }
+{
+    let mut ids = Vec::new(alloc);
+    for txn in statuses.keys() {
+        ids.push(*txn)?;
+    }
+    Ok(ids)
+}
 
 /// Sets how a transaction stands, and hands back how it stood. It takes no memory.
 pub fn put(statuses: &mut IndexMap<TxnId, Status>, txn: TxnId, status: Status) -> Option<Status>

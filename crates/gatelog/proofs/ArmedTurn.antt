@@ -19,12 +19,12 @@ use Rattle.gatelog.specs.Gates.{open_gate, opens_gate}
 use Rattle.gatelog.specs.Armed.{fails_in_two, after_two, two_made, fails_in_append, appended}
 use Rattle.gatelog.specs.Log.{scan}
 use Rattle.gatelog.specs.Areas.{area_bytes, placed_from}
-use Rattle.gatelog.specs.Slots.{slot_at, offset_bytes}
+use Rattle.gatelog.specs.Slots.{Beginning, slot_at, offset_bytes, begins_in}
 use Rattle.gatelog.proofs.Armed.{fails_by_call}
-use Rattle.gatelog.specs.Turns.{MayTurn, IsTurnover, with_area, with_offset}
-use Rattle.gatelog.specs.ArmedTurn.{turned, fails_in_turnover, is_read_turn, IsArmedTurn}
+use Rattle.gatelog.specs.Turns.{MayTurn, IsTurnover, IsLogFrom, with_area, with_offset}
+use Rattle.gatelog.specs.ArmedTurn.{turned, fails_in_turnover, is_read_turn, is_left_turn, IsArmedTurn}
 use Rattle.gatelog.proofs.Areas.{log_parts}
-use Rattle.gatelog.proofs.Turns.{staged, staged-size, grown-long, with-byte, is-staged, is-turnover}
+use Rattle.gatelog.proofs.Turns.{told, tells, staged, staged-size, grown-long, with-byte, is-staged, is-turnover}
 
 -- ---- calls that do not fail
 
@@ -95,6 +95,9 @@ fails-by-call (suc (suc (suc (suc (suc more))))) = late (suc (suc (suc (suc (suc
 abbrev kept : List ℕ → File
 kept durable = record { durable = durable; changes = [] }
 
+abbrev Told : Type 0
+Told = Result (List Placed × ℕ) Fault × Beginning
+
 module _ (durable : List ℕ) (es : List Placed) (gate slot : ℕ) (items : List Record) (may : MayTurn (surface (kept durable)) es gate slot items) where
   abbrev start : File
   start = kept durable
@@ -105,14 +108,11 @@ module _ (durable : List ℕ) (es : List Placed) (gate slot : ℕ) (items : List
   abbrev offset : List ℕ
   offset = offset_bytes (gate + 1)
 
-  abbrev Found : Type 0
-  Found = Result (List Placed × ℕ) Fault
+  abbrev before : Told
+  before = (Ok (es, gate), begins_in durable)
 
-  abbrev before : Found
-  before = Ok (es, gate)
-
-  abbrev after : Found
-  after = Ok (placed_from (gate + 1) items)
+  abbrev after : Told
+  after = (Ok (placed_from (gate + 1) items), record { at = gate + 1; slots = slot + 1 })
 
   eight : length offset ≡ 8
   eight = wide64.len (gate + 1)
@@ -145,36 +145,56 @@ module _ (durable : List ℕ) (es : List Placed) (gate slot : ℕ) (items : List
 
   -- ---- the slot's gate
 
-  laid-byte : (byte : ℕ) → scan (laid (slot_at slot) (byte ∷ []) (surface both).seen) ≡ (if eqb byte open_gate then after else before)
+  laid-byte : (byte : ℕ) → told (laid (slot_at slot) (byte ∷ []) (surface both).seen) ≡ (if eqb byte open_gate then after else before)
   laid-byte byte =
-      ap scan (laid_is (slot_at slot) (byte ∷ []) (surface both).seen room ∙ ap (λ (l : List ℕ). with_bytes (slot_at slot) (byte ∷ []) l) both-seen)
+      ap told (laid_is (slot_at slot) (byte ∷ []) (surface both).seen room ∙ ap (λ (l : List ℕ). with_bytes (slot_at slot) (byte ∷ []) l) both-seen)
       ∙ with-byte (surface start) es gate slot items may byte
 
-  old-log : scan (surface both).seen ≡ before
-  old-log = ap scan both-seen ∙ is-staged (surface start) es gate slot items may
+  old-log : told (surface both).seen ≡ before
+  old-log = ap told both-seen ∙ tells _ _ whole (is-staged (surface start) es gate slot items may)
 
-  new-log : scan (laid (slot_at slot) (open_gate ∷ []) (surface both).seen) ≡ after
+  new-log : told (laid (slot_at slot) (open_gate ∷ []) (surface both).seen) ≡ after
   new-log = laid-byte open_gate
 
   abbrev is_gate : FileChange → Type 0
   is_gate change = (change ≡ wrote (slot_at slot) (open_gate ∷ [])) ⊎ (change ≡ tried (slot_at slot) (open_gate ∷ []))
 
   by-fate : (fate : Fate) (change : FileChange) → is_gate change
-      → scan (by_fate fate change (surface both).seen) ≡ (if opens_gate fate then after else before)
+      → told (by_fate fate change (surface both).seen) ≡ (if opens_gate fate then after else before)
   by-fate Old change is = old-log
-  by-fate New change (inl is) = ap (λ (c : FileChange). scan (by_fate New c (surface both).seen)) is ∙ new-log
-  by-fate New change (inr is) = ap (λ (c : FileChange). scan (by_fate New c (surface both).seen)) is ∙ new-log
-  by-fate (Filled byte) change (inl is) = ap (λ (c : FileChange). scan (by_fate (Filled byte) c (surface both).seen)) is ∙ laid-byte byte
-  by-fate (Filled byte) change (inr is) = ap (λ (c : FileChange). scan (by_fate (Filled byte) c (surface both).seen)) is ∙ laid-byte byte
+  by-fate New change (inl is) = ap (λ (c : FileChange). told (by_fate New c (surface both).seen)) is ∙ new-log
+  by-fate New change (inr is) = ap (λ (c : FileChange). told (by_fate New c (surface both).seen)) is ∙ new-log
+  by-fate (Filled byte) change (inl is) = ap (λ (c : FileChange). told (by_fate (Filled byte) c (surface both).seen)) is ∙ laid-byte byte
+  by-fate (Filled byte) change (inr is) = ap (λ (c : FileChange). told (by_fate (Filled byte) c (surface both).seen)) is ∙ laid-byte byte
 
   -- ---- what each call leaves where it fails
 
   abbrev Left : ℕ → File → Type 0
-  Left call file = IsArmedTurn call before after file
+  Left call file = IsArmedTurn call before.0 after.0 before.1 after.1 file
 
-  each-old : (file : File) → ((image : List ℕ) → MayLeave (surface file) image → scan image ≡ before)
-      → (scan (surface file).seen ≡ before) × ((fates : List Fate) → scan (crash_leaves fates file) ≡ before)
-  each-old file old = (old (surface file).seen (seen_may file), λ fates. old (crash_leaves fates file) (crashed_may fates file))
+  parted : (image : List ℕ) (b : Bool) → told image ≡ (if b then after else before)
+      → (scan image ≡ (if b then after.0 else before.0)) × (begins_in image ≡ (if b then after.1 else before.1))
+  parted image true is = (ap (λ (t : Told). t.0) is, ap (λ (t : Told). t.1) is)
+  parted image false is = (ap (λ (t : Told). t.0) is, ap (λ (t : Told). t.1) is)
+
+  as-told : (call : ℕ) (file : File) → told (surface file).seen ≡ (if is_read_turn call then after else before)
+      → ((fates : List Fate) → told (crash_leaves fates file) ≡ (if is_left_turn call (get_or fates 0 Old) then after else before)) → Left call file
+  as-told call file read left = record {
+    read = (parted (surface file).seen (is_read_turn call) read).0;
+    left = λ fates. (parted (crash_leaves fates file) (is_left_turn call (get_or fates 0 Old)) (left fates)).0;
+    read_begins = (parted (surface file).seen (is_read_turn call) read).1;
+    left_begins = λ fates. (parted (crash_leaves fates file) (is_left_turn call (get_or fates 0 Old)) (left fates)).1;
+  }
+
+  abbrev IsOld : List ℕ → Type 0
+  IsOld = IsLogFrom (begins_in durable) (es, gate)
+
+  each-old : (file : File) → ((image : List ℕ) → MayLeave (surface file) image → IsOld image)
+      → (told (surface file).seen ≡ before) × ((fates : List Fate) → told (crash_leaves fates file) ≡ before)
+  each-old file old = (
+    tells _ _ (surface file).seen (old (surface file).seen (seen_may file)),
+    λ fates. tells _ _ (crash_leaves fates file) (old (crash_leaves fates file) (crashed_may fates file)),
+  )
 
   turns : IsTurnover (surface start) es gate slot items
   turns = is-turnover (surface start) es gate slot items may
@@ -182,7 +202,7 @@ module _ (durable : List ℕ) (es : List Placed) (gate slot : ℕ) (items : List
   call-0 : Left 0 (with_change (tried (gate + 1) area) start)
   call-0 =
       let p = each-old (with_change (tried (gate + 1) area) start) turns.call_0 in
-      record { read = p.0; left = p.1 }
+      as-told 0 (with_change (tried (gate + 1) area) start) p.0 p.1
 
   call-1 : Left 1 (with_change (tried (slot_at slot + 1) offset) grown)
   call-1 =
@@ -191,28 +211,30 @@ module _ (durable : List ℕ) (es : List Placed) (gate slot : ℕ) (items : List
       ∙ ap (λ (n : ℕ). tried_write (slot_at slot + 1) n (with_area gate items (surface start))) eight in
       let p =
       each-old (with_change (tried (slot_at slot + 1) offset) grown) (λ image left. turns.call_1 image (subst (λ (f : Surface). MayLeave f image) is left)) in
-      record { read = p.0; left = p.1 }
+      as-told 1 (with_change (tried (slot_at slot + 1) offset) grown) p.0 p.1
 
   call-2 : Left 2 both
   call-2 =
       let p = each-old both (λ image left. turns.call_2 image (subst (λ (f : Surface). MayLeave f image) both-surface left)) in
-      record { read = p.0; left = p.1 }
+      as-told 2 both p.0 p.1
 
   call-3 : Left 3 (with_change (tried (slot_at slot) (open_gate ∷ [])) (synced both))
-  call-3 = record { read = old-log; left = λ fates. by-fate (get_or fates 0 Old) (tried (slot_at slot) (open_gate ∷ [])) (inr refl) }
+  call-3 =
+      as-told 3 (with_change (tried (slot_at slot) (open_gate ∷ [])) (synced both)) old-log
+      (λ fates. by-fate (get_or fates 0 Old) (tried (slot_at slot) (open_gate ∷ [])) (inr refl))
 
   call-4 : Left 4 (with_change (wrote (slot_at slot) (open_gate ∷ [])) (synced both))
-  call-4 = record { read = new-log; left = λ fates. by-fate (get_or fates 0 Old) (wrote (slot_at slot) (open_gate ∷ [])) (inl refl) }
+  call-4 =
+      as-told 4 (with_change (wrote (slot_at slot) (open_gate ∷ [])) (synced both)) new-log
+      (λ fates. by-fate (get_or fates 0 Old) (wrote (slot_at slot) (open_gate ∷ [])) (inl refl))
 
   none-fails : (call : ℕ) → 5 ≤ call → Left call (synced (with_change (wrote (slot_at slot) (open_gate ∷ [])) (synced both)))
   none-fails call le =
       let read : is_read_turn call ≡ true = le-leb 4 call (omega (arith, le)) in
       let two : nat_le call 2 ≡ false = lt-leb call 2 (omega (arith, le)) in
       let four : nat_le call 4 ≡ false = lt-leb call 4 (omega (arith, le)) in
-      record {
-        read = new-log ∙ sym (rw read refl);
-        left = λ fates. new-log ∙ sym (rw (two, four) refl);
-      }
+      as-told call (synced (with_change (wrote (slot_at slot) (open_gate ∷ [])) (synced both))) (new-log ∙ sym (rw read refl))
+      (λ fates. new-log ∙ sym (rw (two, four) refl))
 
   from-start : (call : ℕ) → Left call (turned (AfterWrite call) slot gate items start)
   from-start zero = call-0
@@ -226,12 +248,14 @@ module _ (durable : List ℕ) (es : List Placed) (gate slot : ℕ) (items : List
 
 pub failing-calls : (file : File) (es : List Placed) (gate slot : ℕ) (items : List Record) → MayTurn (surface file) es gate slot items → (call : ℕ) →
     (fails_in_turnover (AfterWrite call) ≡ nat_lt call 5)
-    × IsArmedTurn call (Ok (es, gate)) (Ok (placed_from (gate + 1) items)) (turned (AfterWrite call) slot gate items file)
+    × IsArmedTurn call (Ok (es, gate)) (Ok (placed_from (gate + 1) items)) (begins_in (surface file).seen) (record { at = gate + 1; slots = slot + 1 })
+    (turned (AfterWrite call) slot gate items file)
 failing-calls file es gate slot items may call = (fails-by-call call, from_changes file.changes may.synced.synced may)
   where
     from_changes : (changes : List FileChange) → none_of changes ≡ true
         → MayTurn (surface (record { durable = file.durable; changes = changes })) es gate slot items
         → IsArmedTurn call (Ok (es, gate)) (Ok (placed_from (gate + 1) items))
+        (begins_in (surface (record { durable = file.durable; changes = changes })).seen) (record { at = gate + 1; slots = slot + 1 })
         (turned (AfterWrite call) slot gate items (record { durable = file.durable; changes = changes }))
     from_changes [] none may = from-start file.durable es gate slot items may call
     from_changes (change ∷ changes) none may = absurd (false≢true none)

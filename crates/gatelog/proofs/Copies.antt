@@ -20,10 +20,10 @@ use Rattle.gatelog.specs.Gates.{first_gate}
 use Rattle.gatelog.specs.Laid.{HoldsBehind, HasNoneOr, WasLaid}
 use Rattle.gatelog.specs.Log.{log, entries_at, entries_of, ends_at, ends_with}
 use Rattle.gatelog.specs.Placed.{Placed}
-use Rattle.gatelog.specs.Slots.{begins_at, begins_in}
+use Rattle.gatelog.specs.Slots.{begins_in}
 use Rattle.gatelog.specs.Turns.{IsNextOrNone}
-use Rattle.gatelog.proofs.Next.{fresh-next}
-use Rattle.gatelog.proofs.Fresh.{scan-fresh, area-fresh, none-or-log, placed-end, placed-moved, area-size, bare-size, bare-behind}
+use Rattle.gatelog.proofs.Next.{fresh-next, fresh-begins}
+use Rattle.gatelog.proofs.Fresh.{scan-fresh, none-or-log, placed-end, placed-moved, area-size, bare-size, bare-behind}
 
 abbrev pub items : List Placed → List Record
 items es = map (λ (e : Placed). e.item) es
@@ -108,8 +108,8 @@ module _ (es : List Placed) (bytes : List ℕ) (spelled : AreSpelled es bytes) w
   copy-log =
       ap log copy-is ∙ ap entries_of (scan-fresh (items es) spelled.fit) ∙ ap (λ (l : List Placed). Ok l) same-entries
 
-  pub copy-begins : begins_in (header ++ drop 8 bytes) ≡ first_gate
-  copy-begins = ap begins_in copy-is ∙ ap begins_at (area-fresh (items es))
+  pub copy-begins : begins_in (header ++ drop 8 bytes) ≡ record { at = first_gate; slots = 0 }
+  copy-begins = ap begins_in copy-is ∙ fresh-begins (items es)
 
   pub copy-next : IsNextOrNone (header ++ drop 8 bytes) 0
   copy-next = subst (λ (l : List ℕ). IsNextOrNone l 0) (sym copy-is) (fresh-next (items es))

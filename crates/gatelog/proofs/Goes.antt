@@ -10,6 +10,7 @@ use Rattle.gatelog.proofs.Scan.{with_entries}
 use Rattle.gatelog.proofs.Bytes.{take_agrees, get-drop, drops-agree}
 use Rattle.gatelog.specs.Slots.{slot_count, offset_in, area_of, begins_at, begins_in}
 use Rattle.gatelog.proofs.Named.{IsSameSlot, SameSlots, same-named}
+use Rattle.gatelog.proofs.Counted.{same-beginning, same-slots-open}
 use Rattle.gatelog.proofs.Areas.{log_parts, scan-from, area-goes_on, gate-shut}
 
 same-slot-at : (image other : List ℕ) (p : ℕ) → p + 9 ≤ length image → p + 9 ≤ length other → ((i : ℕ) → i < p + 9 → get_or other i 0 ≡ get_or image i 0)
@@ -56,7 +57,10 @@ pub begins-stays : (image other : List ℕ) (es : List Placed) (gate : ℕ) → 
     → ((i : ℕ) → i < gate → get_or other i 0 ≡ get_or image i 0) → gate < length other → begins_in other ≡ begins_in image
 begins-stays image other es gate h same long =
     let p = area-stays image other es gate h same long in
-    ap begins_at p.2 ∙ sym (ap begins_at p.1)
+    let has = log_parts image es gate h in
+    let begins = has.begins in
+    let behind = has.behind in
+    same-beginning _ _ _ _ (ap begins_at p.2 ∙ sym (ap begins_at p.1)) (same-slots-open image other (λ i lt. same i (omega (arith, lt, begins, behind))))
 
 pub scan_goes_on : (image other : List ℕ) (es : List Placed) (gate : ℕ) → scan image ≡ Ok (es, gate) → take gate other ≡ take gate image
     → gate < length other

@@ -7,14 +7,16 @@ use Rattle.disk.proofs.Runs.{get_or-with_bytes}
 use Rattle.gatelog.specs.Gates.{open_gate, first_gate}
 use Rattle.gatelog.specs.Ahead.{Ahead, IsAhead, read_to}
 use Rattle.gatelog.specs.Areas.{area_bytes, fresh_with}
-use Rattle.gatelog.specs.Slots.{slot_count, slot_at, offset_in, named, offset_bytes}
+use Rattle.gatelog.specs.Slots.{slot_count, slot_at, offset_in, named, offset_bytes, begins_at, begins_in}
 use Rattle.disk.specs.Image.{Surface, with_bytes}
 use Rattle.record.specs.declared.record.Record.{Record}
 use Rattle.gatelog.specs.Placed.{Placed}
 use Rattle.gatelog.specs.Log.{scan}
-use Rattle.gatelog.specs.Turns.{IsNextOrNone, MayTurn, named_new}
+use Rattle.gatelog.specs.Turns.{IsNext, IsNextOrNone, MayTurn, named_new}
 use Rattle.gatelog.proofs.Named.{at_slot, is_open, is_closed}
 use Rattle.gatelog.proofs.Areas.{log_parts}
+use Rattle.gatelog.proofs.Counted.{same-beginning, counted}
+use Rattle.gatelog.proofs.Fresh.{area-fresh}
 use Rattle.gatelog.proofs.Bytes.{sized, inside, get-drop}
 
 pub next-stays : (image : List ℕ) (es : List Placed) (gate slot at : ℕ) (bytes : List ℕ) → scan image ≡ Ok (es, gate) → gate ≤ at → at ≤ length image
@@ -72,6 +74,24 @@ after-next (suc left) m at area size image slot a h all le former shut lt = elim
       | inr differs ↦ omega (arith, le, differs)
     ]
 
+-- once it is open in a file whose other slots are the same, the next one is the one after it
+pub next-after : (image other : List ℕ) (es : List Placed) (gate slot : ℕ) → scan image ≡ Ok (es, gate) → IsNext image slot
+    → get_or other (slot_at slot) 0 ≡ open_gate
+    → ((i : ℕ) → i < first_gate → (i < slot_at slot) ⊎ (slot_at slot + 9 ≤ i) → get_or other i 0 ≡ get_or image i 0)
+    → IsNextOrNone other (suc slot)
+next-after image other es gate slot h next opened same =
+    let has = log_parts image es gate h in
+    let low = next.within in
+    record {
+      within = omega (arith, low);
+      former = λ i less. elim (Rattle.std.proofs.lemmas.Bool.cases_eq i slot) [
+        | inl here ↦ ap (λ (n : ℕ). get_or other n 0) (omega (arith, here)) ∙ opened
+        | inr differs ↦ same (slot_at i) (omega (arith, less, low)) (inl (omega (arith, less, differs))) ∙ next.former i (omega (arith, less, differs))
+      ];
+      shut = λ lt e. after-next slot_count 0 8 first_gate (length image) image slot has.area has.named_there refl (omega arith) next.former next.shut lt
+          (sym (same (slot_at (suc slot)) (omega (arith, lt)) (inr (omega arith))) ∙ e);
+    }
+
 pub next-goes_on : (file : Surface) (es : List Placed) (gate slot : ℕ) (items : List Record) → MayTurn file es gate slot items
     → IsNextOrNone (named_new slot gate items file).seen (suc slot)
 next-goes_on file es gate slot items may =
@@ -90,17 +110,10 @@ next-goes_on file es gate slot items may =
     get_or-with_bytes (slot_at slot) (open_gate ∷ []) staged i (omega (arith, staged-size.1)) (near i un)
     ∙ get_or-with_bytes (slot_at slot + 1) (offset_bytes (gate + 1)) grown i (omega (arith, low, begins, behind, ends, grown-size.0)) (wide i un)
     ∙ get_or-with_bytes (gate + 1) (area_bytes items) file.seen i (omega (arith, ends)) (inl (omega (arith, less, begins, behind))) in
-    record {
-      within = omega (arith, low);
-      former = λ i less. elim (Rattle.std.proofs.lemmas.Bool.cases_eq i slot) [
-        | inl here ↦ ap (λ (n : ℕ). get_or (named_new slot gate items file).seen n 0) (omega (arith, here))
-            ∙ inside (slot_at slot) (open_gate ∷ []) staged 0 (omega (arith, staged-size.1)) (omega arith)
-        | inr differs ↦ same (slot_at i) (omega (arith, less, low)) (inl (omega (arith, less, differs))) ∙ may.next.former i (omega (arith, less, differs))
-      ];
-      shut = λ lt e. after-next slot_count 0 8 first_gate (length file.seen) file.seen slot has.area has.named_there refl
-          (omega arith) may.next.former may.next.shut lt
-          (sym (same (slot_at (suc slot)) (omega (arith, lt)) (inr (omega arith))) ∙ e);
-    }
+    next-after file.seen (named_new slot gate items file).seen es gate slot may.found may.next
+    (ap (λ (n : ℕ). get_or (named_new slot gate items file).seen n 0) (omega arith)
+    ∙ inside (slot_at slot) (open_gate ∷ []) staged 0 (omega (arith, staged-size.1)) (omega arith))
+    same
   where
     near : (i : ℕ) → (i < slot_at slot) ⊎ (slot_at slot + 9 ≤ i) → (i < slot_at slot) ⊎ (slot_at slot + 1 ≤ i)
     near i (inl less) = inl less
@@ -140,6 +153,9 @@ pub fresh-next : (items : List Record) → IsNextOrNone (fresh_with items) 0
 fresh-next items =
     let none : get_or (fresh_with items) (slot_at 0) 0 ≡ 0 = refl in
     record { within = omega arith; former = λ i lt. absurd (omega (arith, lt)); shut = λ lt e. absurd (omega (arith, none, e)) }
+
+pub fresh-begins : (items : List Record) → begins_in (fresh_with items) ≡ record { at = first_gate; slots = 0 }
+fresh-begins items = same-beginning _ _ _ _ (ap begins_at (area-fresh items)) (counted (fresh_with items) 0 (fresh-next items))
 
 -- by what was read ahead behind the header
 pub next-ahead : (image : List ℕ) (a : Ahead) → IsAhead image a → a.at ≡ 8 → (bytes : List ℕ) → bytes ≡ a.bytes → 9216 ≤ length bytes → (slot : ℕ)

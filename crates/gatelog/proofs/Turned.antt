@@ -1,5 +1,5 @@
 -- The calls of a turnover, one behind the other.
-use Rattle.std.proofs.Common.{◌≡◌, ◌⊎◌, inl, inr, ⊎_elim, ℕ, suc, ◌+◌, ◌<◌, ◌≤◌, ◌^◌, List, [], ◌∷◌, length, Result, Ok, Bool, true, false, if◌then◌else◌, refl, sym, ap, subst, ◌∙◌, arith}
+use Rattle.std.proofs.Common.{◌≡◌, ◌⊎◌, inl, inr, ℕ, suc, ◌+◌, ◌<◌, ◌≤◌, ◌^◌, List, [], ◌∷◌, length, Result, Ok, Bool, true, false, if◌then◌else◌, refl, sym, ap, subst, ◌∙◌, arith}
 use Rattle.std.specs.Prelude.{IsTrue, IsErr, nat_lt}
 use Rattle.std.specs.List.{AllByRecursion}
 use Rattle.units.specs.declared.fault.Fault.{Fault}
@@ -19,8 +19,8 @@ use Rattle.gatelog.specs.Areas.{area_bytes, placed_from}
 use Rattle.gatelog.specs.Gates.{open_gate}
 use Rattle.gatelog.specs.Log.{scan, ends_at, ends_with}
 use Rattle.gatelog.specs.Placed.{Placed}
-use Rattle.gatelog.specs.Slots.{slot_count, slot_at, offset_bytes}
-use Rattle.gatelog.specs.Turns.{MayTurn, IsTurnover, IsNextOrNone, with_area, named_new}
+use Rattle.gatelog.specs.Slots.{Beginning, slot_count, slot_at, offset_bytes, begins_in}
+use Rattle.gatelog.specs.Turns.{MayTurn, IsTurnover, IsLogFrom, IsNextOrNone, with_area, named_new}
 use Rattle.gatelog.proofs.Armed.{first_half, second_half}
 use Rattle.gatelog.proofs.ArmedTurn.{failing-calls}
 use Rattle.std.proofs.lemmas.Bool.{eq-eqb}
@@ -47,6 +47,12 @@ may-turn file gate slot items synced whole next within fit small =
     )
 
 module _ (old : Surface) (es : List Placed) (gate slot : ℕ) (items : List Record) (may : MayTurn old es gate slot items) where
+  abbrev IsOld : List ℕ → Type 0
+  IsOld = IsLogFrom (begins_in old.seen) (es, gate)
+
+  abbrev IsNew : List ℕ → Type 0
+  IsNew = IsLogFrom (record { at = gate + 1; slots = slot + 1 }) (placed_from (gate + 1) items)
+
   turns : IsTurnover old es gate slot items
   turns = is-turnover old es gate slot items may
 
@@ -55,9 +61,9 @@ module _ (old : Surface) (es : List Placed) (gate slot : ℕ) (items : List Reco
 
   -- the write of the area
   module _ (at : ℕ) (bytes : List ℕ) (at-is : at ≡ gate + 1) (bytes-is : bytes ≡ area_bytes items) where
-    pub while-first : (image : List ℕ) → MayLeave (tried_write at (length bytes) old) image → IsOldOrNew old.seen gate items image
+    pub while-first : (image : List ℕ) → MayLeave (tried_write at (length bytes) old) image → IsOldOrNew old.seen gate slot items image
     while-first image left =
-        old-or-new old.seen image es gate items may.found (inl (turns.call_0 image
+        old-or-new old.seen image es gate slot items may.found (inl (turns.call_0 image
         (subst (λ (n : ℕ). MayLeave (tried_write n (length (area_bytes items)) old) image) at-is
         (subst (λ (l : List ℕ). MayLeave (tried_write at (length l) old) image) bytes-is left))))
 
@@ -77,13 +83,13 @@ module _ (old : Surface) (es : List Placed) (gate slot : ℕ) (items : List Reco
     eight : length (offset_bytes (gate + 1)) ≡ 8
     eight = wide64.len (gate + 1)
 
-    pub while-last : (image : List ℕ) → While at offset mid image → IsOldOrNew old.seen gate items image
+    pub while-last : (image : List ℕ) → While at offset mid image → IsOldOrNew old.seen gate slot items image
     while-last image left =
-        old-or-new old.seen image es gate items may.found (by_call (subst (λ (n : ℕ). While n (offset_bytes (gate + 1)) (with_area gate items old) image) at-is
+        old-or-new old.seen image es gate slot items may.found (by_call (subst (λ (n : ℕ). While n (offset_bytes (gate + 1)) (with_area gate items old) image) at-is
         (subst (λ (l : List ℕ). While at l (with_area gate items old) image) offset-is (subst (λ (f : Surface). While at offset f image) mid-is left))))
       where
         by_call : While (slot_at slot) (offset_bytes (gate + 1)) (with_area gate items old) image
-            → (scan image ≡ Ok (es, gate)) ⊎ (scan image ≡ Ok (placed_from (gate + 1) items))
+            → IsOld image ⊎ IsNew image
         by_call (inl offset_left) =
             inl (turns.call_1 image (subst (λ (n : ℕ). MayLeave (tried_write (slot_at slot + 1) n (with_area gate items old)) image) eight offset_left))
         by_call (inr gate_left) = turns.call_3 image gate_left
@@ -97,19 +103,19 @@ module _ (old : Surface) (es : List Placed) (gate slot : ℕ) (items : List Reco
           ∙ ap (λ (f : Surface). after_sync (after_write (slot_at slot) (open_gate ∷ []) (after_sync
           (after_write (slot_at slot + 1) (offset_bytes (gate + 1)) f)))) mid-is
 
-      new-scan : scan new.seen ≡ Ok (placed_from (gate + 1) items)
-      new-scan = ap (λ (f : Surface). scan f.seen) end-is ∙ named-new old es gate slot items may
+      is-new : IsNew new.seen
+      is-new = subst (λ (f : Surface). IsNew f.seen) (sym end-is) (named-new old es gate slot items may)
 
       pub is-done : IsSynced new × IsNextOrNone new.seen (slot + 1) × IsTrue (ends_at new.seen (end_from (gate + 1) items))
-          × (scan new.seen ≡ Ok (placed_from (gate + 1) items))
+          × IsNew new.seen
       is-done =
           let one : suc slot ≡ slot + 1 = omega arith in (
             subst IsSynced (sym end-is) (record { whole = refl; none = refl; synced = refl }),
             subst (λ (f : Surface). IsNextOrNone f.seen (slot + 1)) (sym end-is)
                 (subst (λ (n : ℕ). IsNextOrNone (named_new slot gate items old).seen n) one (next-goes_on old es gate slot items may)),
-            ap (λ found. ends_with found (end_from (gate + 1) items)) new-scan
+            ap (λ found. ends_with found (end_from (gate + 1) items)) is-new.read
                 ∙ eq-eqb (placed_from (gate + 1) items).1 (end_from (gate + 1) items) (placed-end items (gate + 1)),
-            new-scan,
+            is-new,
           )
 
 -- ---- on a disk that fails by a plan
@@ -151,17 +157,27 @@ module _ {T : Type 0} (result : Result T Fault) (plan : FailurePlan) (gate slot 
       ∙ ap (λ (f : File). appended (next (at_write plan)) (slot_at slot) (offset_bytes (gate + 1)) f)
       (mid-is ∙ ap (λ (b : Bool). with_change (if b then tried (gate + 1) (area_bytes items) else wrote (gate + 1) (area_bytes items)) old) is))
 
+abbrev Found : Type 0
+Found = Result (List Placed × ℕ) Fault
+
+abbrev new-log : ℕ → List Record → Found
+new-log gate items = Ok (placed_from (gate + 1) items)
+
+abbrev new-beginning : ℕ → ℕ → Beginning
+new-beginning gate slot = record { at = gate + 1; slots = slot + 1 }
+
 -- the same for an armed call, in terms of the log
 pub armed-turn : {T : Type 0} (result : Result T Fault) (plan : FailurePlan) (es : List Placed) (gate slot : ℕ) (items : List Record) (old new : File)
     → MayTurn (surface old) es gate slot items → (call : ℕ) → plan ≡ AfterWrite call
     → IsAsPlanned (fails_in_turnover plan) result × (new ≡ turned plan slot gate items old)
     → IsAsPlanned (nat_lt call 5) result
-    × IsArmedTurn call (scan (surface old).seen) (Ok (placed_from (gate + 1) items)) new
+    × IsArmedTurn call (scan (surface old).seen) (new-log gate items) (begins_in (surface old).seen) (new-beginning gate slot) new
 armed-turn result plan es gate slot items old new may call plan-is planned =
     let told = failing-calls old es gate slot items may call in
+    let begun = begins_in (surface old).seen in
     let new-is : new ≡ turned (AfterWrite call) slot gate items old = planned.1 ∙ ap (λ (p : FailurePlan). turned p slot gate items old) plan-is in (
       subst (λ (b : Bool). IsAsPlanned b result) (ap fails_in_turnover plan-is ∙ told.0) planned.0,
-      subst (λ (f : File). IsArmedTurn call (scan (surface old).seen) (Ok (placed_from (gate + 1) items)) f) (sym new-is)
-          (subst (λ (r : Result (List Placed × ℕ) Fault). IsArmedTurn call r (Ok (placed_from (gate + 1) items)) (turned (AfterWrite call) slot gate items old))
+      subst (λ (f : File). IsArmedTurn call (scan (surface old).seen) (new-log gate items) begun (new-beginning gate slot) f) (sym new-is)
+          (subst (λ (r : Found). IsArmedTurn call r (new-log gate items) begun (new-beginning gate slot) (turned (AfterWrite call) slot gate items old))
           (sym may.found) told.1),
     )

@@ -1,11 +1,12 @@
 -- What a crash leaves of a turnover.
 use Rattle.std.proofs.Common.{◌≡◌, ◌≢◌, ◌⊎◌, inl, inr, ℕ, zero, suc, ◌+◌, ◌-◌, ◌<◌, ◌≤◌, nat_lt, eqb, if◌then◌else◌, Bool, true, false, List, [], ◌∷◌}
-use Rattle.std.proofs.Common.{◌++◌, length, get_or, take, drop, flat_map, Ok, refl, sym, ap, subst, ◌∙◌, append_assoc, arith}
+use Rattle.std.proofs.Common.{◌++◌, length, get_or, take, drop, flat_map, Result, Ok, refl, sym, ap, subst, ◌∙◌, arith}
 use Rattle.std.specs.Int.{w64, from_be_bytes}
 use Rattle.std.proofs.lemmas.Bool.{cases_eq, eq-eqb, ne_eqb}
 use Rattle.std.proofs.lemmas.Bool.Decides.{nat_tests}
-use Rattle.std.proofs.lemmas.List.{take_at, drop_at, length-append, length-take-le, length-drop, take-append-drop, get_or-drop, get_or_append_left}
+use Rattle.std.proofs.lemmas.List.{length-append, length-drop, take-append-drop}
 use Rattle.std.proofs.lemmas.List.{append-nil, drop_more, drop-drop}
+use Rattle.units.specs.declared.fault.Fault.{Fault}
 use Rattle.record.specs.declared.record.Record.{Record}
 use Rattle.spelling.proofs.Again.{wide64}
 use Rattle.disk.specs.Image.{Surface, MayLeave, IsUntouched, with_bytes, tried_write, after_sync}
@@ -15,11 +16,13 @@ use Rattle.gatelog.specs.Gates.{open_gate, first_gate}
 use Rattle.gatelog.specs.Log.{entries_at, scan}
 use Rattle.gatelog.specs.Frames.{header}
 use Rattle.gatelog.specs.Areas.{whole_frame, area_bytes, placed_from}
-use Rattle.gatelog.specs.Slots.{slot_count, slot_at, offset_in, area_of, offset_bytes}
+use Rattle.gatelog.specs.Slots.{Beginning, slot_count, slot_at, offset_in, area_of, offset_bytes, begins_at, begins_in}
 use Rattle.gatelog.proofs.Scan.{with_entries, closed_step}
 use Rattle.gatelog.proofs.Bytes.{take_agrees, take-all, get-drop, drops-agree, inside, sized}
-use Rattle.gatelog.specs.Turns.{MayTurn, IsTurnover, with_area, with_offset, prepared, named_new}
+use Rattle.gatelog.specs.Turns.{MayTurn, IsTurnover, IsLogFrom, IsNextOrNone, with_area, with_offset, prepared, named_new}
 use Rattle.gatelog.proofs.Named.{IsSameSlot, SameSlots, Turned, same-named, turned-named}
+use Rattle.gatelog.proofs.Counted.{same-beginning, counted}
+use Rattle.gatelog.proofs.Next.{next-after}
 use Rattle.gatelog.proofs.Areas.{HasLog, log_parts, scan-from, area-goes_on, gate-shut, area-scanned}
 
 -- ---- slots that lie apart
@@ -109,6 +112,14 @@ module _ (image other : List ℕ) (j : ℕ) (long : first_gate ≤ length image)
 
 -- ---- a turnover
 
+-- both that an image tells
+abbrev pub told : List ℕ → Result (List Placed × ℕ) Fault × Beginning
+told image = (scan image, begins_in image)
+
+pub tells : (beginning : Beginning) (found : List Placed × ℕ) (image : List ℕ) → IsLogFrom beginning found image → told image ≡ (Ok found, beginning)
+tells beginning found image is =
+    ap (λ (r : Result (List Placed × ℕ) Fault). (r, begins_in image)) is.read ∙ ap (λ (b : Beginning). (Ok found, b)) is.begins
+
 module _ (file : Surface) (es : List Placed) (gate slot : ℕ) (items : List Record) (may : MayTurn file es gate slot items) where
   has : HasLog file.seen es gate
   has = log_parts file.seen es gate may.found
@@ -116,9 +127,16 @@ module _ (file : Surface) (es : List Placed) (gate slot : ℕ) (items : List Rec
   first : slot_at 0 ≡ 8
   first = refl
 
+  -- the old log where it began, and that of the new area
+  abbrev pub IsOld : List ℕ → Type 0
+  IsOld = IsLogFrom (begins_in file.seen) (es, gate)
+
+  abbrev pub IsNew : List ℕ → Type 0
+  IsNew = IsLogFrom (record { at = gate + 1; slots = slot + 1 }) (placed_from (gate + 1) items)
+
   -- an image with the old slots and the old area has the old log
   still-old : (image : List ℕ) → length file.seen ≤ length image → get_or image (slot_at slot) 0 ≢ open_gate
-      → ((i : ℕ) → i < gate + 1 → (i < slot_at slot) ⊎ (slot_at slot + 9 ≤ i) → get_or image i 0 ≡ get_or file.seen i 0) → scan image ≡ Ok (es, gate)
+      → ((i : ℕ) → i < gate + 1 → (i < slot_at slot) ⊎ (slot_at slot + 9 ≤ i) → get_or image i 0 ≡ get_or file.seen i 0) → IsOld image
   still-old image long shut same =
       let gate_at = has.ends in
       let begins = has.begins in
@@ -139,18 +157,32 @@ module _ (file : Surface) (es : List Placed) (gate slot : ℕ) (items : List Rec
       (λ i lt. same (has.area + i) (omega (arith, lt, behind)) (inr (omega (arith, low, begins)))) in
       let closed : get_or image gate 0 ≢ open_gate = λ (e : get_or image gate 0 ≡ open_gate).
       gate-shut file.seen es gate has (sym (same gate (omega arith) (inr (omega (arith, low, begins, behind)))) ∙ e) in
-      scan-from image has.area headed area
-      ∙ area-goes_on file.seen image es gate has.area has.entries behind front (omega (arith, long, gate_at))
-      ∙ ap (λ (l : List ℕ). with_entries es (entries_at gate 0 l)) (drop_more image gate 0 (omega (arith, long, gate_at)))
-      ∙ ap (with_entries es) (closed_step gate (get_or image gate 0) (drop (gate + 1) image) closed)
-      ∙ ap (λ (l : List Placed). Ok (l, gate)) (append-nil es)
+      let next : IsNextOrNone image slot = record {
+        within = omega (arith, low);
+        former = λ i lt. same (slot_at i) (omega (arith, lt, low, begins, behind)) (inl (omega (arith, lt))) ∙ may.next.former i lt;
+        shut = λ lt. shut;
+      } in
+      record {
+        read =
+            scan-from image has.area headed area
+            ∙ area-goes_on file.seen image es gate has.area has.entries behind front (omega (arith, long, gate_at))
+            ∙ ap (λ (l : List ℕ). with_entries es (entries_at gate 0 l)) (drop_more image gate 0 (omega (arith, long, gate_at)))
+            ∙ ap (with_entries es) (closed_step gate (get_or image gate 0) (drop (gate + 1) image) closed)
+            ∙ ap (λ (l : List Placed). Ok (l, gate)) (append-nil es);
+        begins = same-beginning _ _ _ _ (ap begins_at area ∙ sym (ap begins_at has.named_there)) (counted image slot next ∙ sym (counted file.seen slot next-old));
+      }
+    where
+      next-old : IsNextOrNone file.seen slot
+      next-old =
+          let low = may.next.within in
+          record { within = omega (arith, low); former = may.next.former; shut = λ lt. may.next.shut }
 
   -- an image with the new area and the next slot open has the new log
   is-new : (image : List ℕ) → length file.seen ≤ length image → gate + 1 + length (area_bytes items) ≤ length image → get_or image (slot_at slot) 0 ≡ open_gate
       → ((i : ℕ) → i < first_gate → (i < slot_at slot) ⊎ (slot_at slot + 9 ≤ i) → get_or image i 0 ≡ get_or file.seen i 0)
       → ((i : ℕ) → i < 8 → get_or image (slot_at slot + 1 + i) 0 ≡ get_or (offset_bytes (gate + 1)) i 0)
       → ((i : ℕ) → i < length (area_bytes items) → get_or image (gate + 1 + i) 0 ≡ get_or (area_bytes items) i 0)
-      → scan image ≡ Ok (placed_from (gate + 1) items)
+      → IsNew image
   is-new image long longer opened same offset area =
       let gate_at = has.ends in
       let begins = has.begins in
@@ -180,9 +212,15 @@ module _ (file : Surface) (es : List Placed) (gate slot : ℕ) (items : List Rec
       ∙ take-all (area_bytes items) n refl in
       let parts : drop (gate + 1) image ≡ area_bytes items ++ drop n (drop (gate + 1) image) =
       sym (take-append-drop n (drop (gate + 1) image)) ∙ ap (λ (l : List ℕ). l ++ drop n (drop (gate + 1) image)) front in
-      scan-from image (gate + 1) headed named_it
-      ∙ ap (λ (l : List ℕ). entries_at (gate + 1) 0 l) parts
-      ∙ area-scanned items (gate + 1) (drop n (drop (gate + 1) image)) may.items_fit
+      let one : suc slot ≡ slot + 1 = omega arith in
+      record {
+        read =
+            scan-from image (gate + 1) headed named_it
+            ∙ ap (λ (l : List ℕ). entries_at (gate + 1) 0 l) parts
+            ∙ area-scanned items (gate + 1) (drop n (drop (gate + 1) image)) may.items_fit;
+        begins = same-beginning _ _ _ _ (ap begins_at named_it)
+            (counted image (suc slot) (next-after file.seen image es gate slot may.found may.next opened same) ∙ one);
+      }
     where
       some-bytes : 0 < length (area_bytes items)
       some-bytes = omega (arith, length-append (flat_map whole_frame items) (0 ∷ []))
@@ -195,7 +233,7 @@ module _ (file : Surface) (es : List Placed) (gate slot : ℕ) (items : List Rec
   shut-gate : (image : List ℕ) → get_or image (slot_at slot) 0 ≡ get_or file.seen (slot_at slot) 0 → get_or image (slot_at slot) 0 ≢ open_gate
   shut-gate image same e = may.next.shut (sym same ∙ e)
 
-  while-area : (image : List ℕ) → MayLeave (tried_write (gate + 1) (length (area_bytes items)) file) image → scan image ≡ Ok (es, gate)
+  while-area : (image : List ℕ) → MayLeave (tried_write (gate + 1) (length (area_bytes items)) file) image → IsOld image
   while-area image left =
       let low = may.next.within in
       let begins = has.begins in
@@ -216,7 +254,7 @@ module _ (file : Surface) (es : List Placed) (gate slot : ℕ) (items : List Rec
   grown-front : (i : ℕ) → i < gate + 1 → get_or grown i 0 ≡ get_or file.seen i 0
   grown-front i lt = get_or-with_bytes (gate + 1) (area_bytes items) file.seen i (omega (arith, has.ends)) (inl lt)
 
-  while-offset : (image : List ℕ) → MayLeave (tried_write (slot_at slot + 1) 8 (with_area gate items file)) image → scan image ≡ Ok (es, gate)
+  while-offset : (image : List ℕ) → MayLeave (tried_write (slot_at slot + 1) 8 (with_area gate items file)) image → IsOld image
   while-offset image left =
       let low = may.next.within in
       let begins = has.begins in
@@ -235,7 +273,7 @@ module _ (file : Surface) (es : List Placed) (gate slot : ℕ) (items : List Rec
   slot-low : slot_at slot + 9 ≤ first_gate
   slot-low = omega (arith, may.next.within)
 
-  while-both : (image : List ℕ) → MayLeave (with_offset slot gate items file) image → scan image ≡ Ok (es, gate)
+  while-both : (image : List ℕ) → MayLeave (with_offset slot gate items file) image → IsOld image
   while-both image left =
       while-offset image
       (after_write_within (slot_at slot + 1) (offset_bytes (gate + 1)) (with_area gate items file)
@@ -272,8 +310,7 @@ module _ (file : Surface) (es : List Placed) (gate slot : ℕ) (items : List Rec
   -- an image that is as it was staged but for the slot's gate has the old log or the new one, by that gate
   from-staged : (image : List ℕ) → length staged ≤ length image
       → ((i : ℕ) → i < length staged → (i < slot_at slot) ⊎ (slot_at slot + 1 ≤ i) → get_or image i 0 ≡ get_or staged i 0)
-      → (get_or image (slot_at slot) 0 ≡ open_gate → scan image ≡ Ok (placed_from (gate + 1) items))
-      × (get_or image (slot_at slot) 0 ≢ open_gate → scan image ≡ Ok (es, gate))
+      → (get_or image (slot_at slot) 0 ≡ open_gate → IsNew image) × (get_or image (slot_at slot) 0 ≢ open_gate → IsOld image)
   from-staged image long same = (
     λ opened. is-new image (omega (arith, long, grown-size.0, staged-size.0)) (omega (arith, long, grown-size.1, staged-size.0)) opened
         (λ i lt un. same i (omega (arith, lt, has.begins, has.behind, has.ends, grown-size.0, staged-size.0)) (closer i un)
@@ -291,24 +328,29 @@ module _ (file : Surface) (es : List Placed) (gate slot : ℕ) (items : List Rec
 
   by-gate : (image : List ℕ) → length staged ≤ length image
       → ((i : ℕ) → i < length staged → (i < slot_at slot) ⊎ (slot_at slot + 1 ≤ i) → get_or image i 0 ≡ get_or staged i 0)
-      → (scan image ≡ Ok (es, gate)) ⊎ (scan image ≡ Ok (placed_from (gate + 1) items))
+      → IsOld image ⊎ IsNew image
   by-gate image long same =
       let p = from-staged image long same in
       elim (cases_eq (get_or image (slot_at slot) 0) open_gate) [ inl opened ↦ inr (p.0 opened) | inr shut ↦ inl (p.1 shut) ]
 
   while-opening : (image : List ℕ) → MayLeave (tried_write (slot_at slot) 1 (prepared slot gate items file)) image
-      → (scan image ≡ Ok (es, gate)) ⊎ (scan image ≡ Ok (placed_from (gate + 1) items))
+      → IsOld image ⊎ IsNew image
   while-opening image left = by-gate image left.no_shorter (λ i lt un. left.untouched i lt (un, tt))
 
   while-open : (image : List ℕ) → MayLeave (named_new slot gate items file) image
-      → (scan image ≡ Ok (es, gate)) ⊎ (scan image ≡ Ok (placed_from (gate + 1) items))
+      → IsOld image ⊎ IsNew image
   while-open image left =
       while-opening image
       (after_write_within (slot_at slot) (open_gate ∷ []) (prepared slot gate items file) (omega (arith, staged-size.1)) image left)
 
+  abbrev pub old : Result (List Placed × ℕ) Fault × Beginning
+  old = (Ok (es, gate), begins_in file.seen)
+
+  abbrev pub new : Result (List Placed × ℕ) Fault × Beginning
+  new = (Ok (placed_from (gate + 1) items), record { at = gate + 1; slots = slot + 1 })
+
   -- with any byte at the slot's gate
-  pub with-byte : (byte : ℕ)
-      → scan (with_bytes (slot_at slot) (byte ∷ []) staged) ≡ (if eqb byte open_gate then Ok (placed_from (gate + 1) items) else Ok (es, gate))
+  pub with-byte : (byte : ℕ) → told (with_bytes (slot_at slot) (byte ∷ []) staged) ≡ (if eqb byte open_gate then new else old)
   with-byte byte =
       let image = with_bytes (slot_at slot) (byte ∷ []) staged in
       let size = sized (slot_at slot) (byte ∷ []) staged (omega (arith, staged-size.1)) in
@@ -316,20 +358,25 @@ module _ (file : Surface) (es : List Placed) (gate slot : ℕ) (items : List Rec
       let at : get_or image (slot_at slot) 0 ≡ byte =
       ap (λ (n : ℕ). get_or image n 0) (omega arith) ∙ inside (slot_at slot) (byte ∷ []) staged 0 (omega (arith, staged-size.1)) (omega arith) in
       elim (cases_eq byte open_gate) [
-        | inl opened ↦ p.0 (at ∙ opened) ∙ sym (rw (eq-eqb byte open_gate opened) refl)
-        | inr shut ↦ p.1 (λ e. shut (sym at ∙ e)) ∙ sym (rw (ne_eqb byte open_gate shut) refl)
+        | inl opened ↦ tells _ _ image (p.0 (at ∙ opened)) ∙ sym (rw (eq-eqb byte open_gate opened) refl)
+        | inr shut ↦ tells _ _ image (p.1 (λ e. shut (sym at ∙ e))) ∙ sym (rw (ne_eqb byte open_gate shut) refl)
       ]
 
-  pub is-staged : scan staged ≡ Ok (es, gate)
+  pub is-staged : IsOld staged
   is-staged =
       (from-staged staged (omega arith) (λ i lt un. refl)).1
       (shut-gate staged (staged-apart (slot_at slot) (inl (omega arith)) ∙ grown-front (slot_at slot) (omega (arith, slot-low, has.begins, has.behind))))
 
-  pub named-new : scan (named_new slot gate items file).seen ≡ Ok (placed_from (gate + 1) items)
-  named-new = with-byte open_gate
+  pub named-new : IsNew (named_new slot gate items file).seen
+  named-new =
+      let is : told (named_new slot gate items file).seen ≡ new = with-byte open_gate in
+      record {
+        read = ap (λ (t : Result (List Placed × ℕ) Fault × Beginning). t.0) is;
+        begins = ap (λ (t : Result (List Placed × ℕ) Fault × Beginning). t.1) is;
+      }
 
-  done : (image : List ℕ) → MayLeave (after_sync (named_new slot gate items file)) image → scan image ≡ Ok (placed_from (gate + 1) items)
-  done image left = ap scan (left.unchanged refl) ∙ named-new
+  done : (image : List ℕ) → MayLeave (after_sync (named_new slot gate items file)) image → IsNew image
+  done image left = subst IsNew (sym (left.unchanged refl)) named-new
 
   pub is-turnover : IsTurnover file es gate slot items
   is-turnover = record { call_0 = while-area; call_1 = while-offset; call_2 = while-both; call_3 = while-opening; call_4 = while-open; done = done }

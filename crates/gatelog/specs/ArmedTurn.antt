@@ -2,7 +2,6 @@
 use Rattle.std.specs.Prelude.{◌≡◌, ℕ, ◌+◌, ◌||◌, Bool, true, false, nat_le, if◌then◌else◌, List, get_or, Result}
 use Rattle.units.specs.declared.fault.Fault.{Fault}
 use Rattle.disk.specs.declared.plan.FailurePlan.{FailurePlan}
-use Rattle.disk.specs.declared.plan.FailurePlan.TheVariants.{AfterWrite}
 use Rattle.disk.specs.declared.plan.Fate.{Fate}
 use Rattle.disk.specs.declared.plan.Fate.TheVariants.{Old}
 use Rattle.disk.specs.File.{File, wrote, tried, with_change, surface, crash_leaves}
@@ -13,7 +12,7 @@ use Rattle.gatelog.specs.Gates.{opens_gate}
 use Rattle.gatelog.specs.Armed.{fails_in_append, appended}
 use Rattle.gatelog.specs.Log.{scan}
 use Rattle.gatelog.specs.Areas.{area_bytes}
-use Rattle.gatelog.specs.Slots.{slot_at, offset_bytes}
+use Rattle.gatelog.specs.Slots.{Beginning, begins_in, slot_at, offset_bytes}
 
 -- one of its five calls fails: the write of the area, or one of the four that put an offset behind a closed gate and open it
 abbrev pub fails_in_turnover : FailurePlan → Bool
@@ -33,8 +32,10 @@ is_read_turn call = nat_le 4 call
 abbrev pub is_left_turn : ℕ → Fate → Bool
 is_left_turn call fate = if nat_le call 2 then false else (if nat_le call 4 then opens_gate fate else true)
 
--- The log behind a turnover whose call of this number fails (behind a whole one from number 5 on): as it is read, and as a
--- crash leaves it.
-pub record IsArmedTurn (call : ℕ) (before after : Result (List Placed × ℕ) Fault) (file : File) : Type 0 where
+-- The log behind a turnover whose call of this number fails (behind a whole one from number 5 on), and where it begins: as it is
+-- read, and as a crash leaves it.
+pub record IsArmedTurn (call : ℕ) (before after : Result (List Placed × ℕ) Fault) (old new : Beginning) (file : File) : Type 0 where
   pub read : scan (surface file).seen ≡ (if is_read_turn call then after else before)
   pub left : (fates : List Fate) → scan (crash_leaves fates file) ≡ (if is_left_turn call (get_or fates 0 Old) then after else before)
+  pub read_begins : begins_in (surface file).seen ≡ (if is_read_turn call then new else old)
+  pub left_begins : (fates : List Fate) → begins_in (crash_leaves fates file) ≡ (if is_left_turn call (get_or fates 0 Old) then new else old)

@@ -56,7 +56,7 @@ module _ {D : Type 0} (file : D → File) (clock : D → ℕ) (since : D → ℕ
     -- from now on every crash leaves the same records, and a read gives them
     pub durable : Stands (surface (file new)) (Ok (moved entries))
     pub read : log (surface (file new)).seen ≡ Ok (moved entries)
-    pub begins : Begins (surface (file new)) first_gate
+    pub begins : Begins (surface (file new)) (record { at = first_gate; slots = 0 })
     pub ends : gate ≡ end_of (map (λ e. e.item) entries)
     -- all but the header was synced first; a crash from then on left no log, or these records
     pub laid : WasLaid file clock since (without_header (map (λ e. e.item) entries)) (HasNoneOr (moved entries)) old new

@@ -45,6 +45,16 @@ abbrev pub begins_at : Result ℕ Fault → ℕ
 begins_at (Ok area) = area
 begins_at (Err fault) = first_gate
 
+-- where a log begins: the offset of its area, and how many slots are open
+pub record Beginning : Type 0 where
+  pub at : ℕ
+  pub slots : ℕ
+
+-- of so many slots that these bytes begin with, how many are open before the first that is not
+unfoldable pub open_slots : ℕ → List ℕ → ℕ
+open_slots zero bytes = 0
+open_slots (suc left) bytes = if get_or bytes 0 0 == open_gate then suc (open_slots left (drop 9 bytes)) else 0
+
 -- where the log of a file begins
-abbrev pub begins_in : List ℕ → ℕ
-begins_in image = begins_at (area_of image)
+abbrev pub begins_in : List ℕ → Beginning
+begins_in image = record { at = begins_at (area_of image); slots = open_slots slot_count (drop 8 image) }

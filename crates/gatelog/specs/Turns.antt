@@ -8,7 +8,7 @@ use Rattle.gatelog.specs.Placed.{Placed}
 use Rattle.gatelog.specs.Gates.{open_gate}
 use Rattle.gatelog.specs.Log.{scan}
 use Rattle.gatelog.specs.Areas.{area_bytes, placed_from}
-use Rattle.gatelog.specs.Slots.{slot_at, slot_count, offset_bytes}
+use Rattle.gatelog.specs.Slots.{Beginning, begins_in, slot_at, slot_count, offset_bytes}
 
 -- the first slots of a file are open, and the next one is closed
 pub record IsNext (image : List ℕ) (slot : ℕ) : Type 0 where
@@ -32,17 +32,25 @@ prepared slot gate items file = after_sync (with_offset slot gate items file)
 abbrev pub named_new : ℕ → ℕ → List Record → Surface → Surface
 named_new slot gate items file = after_write (slot_at slot) (open_gate ∷ []) (prepared slot gate items file)
 
+-- an image has these entries up to this gate, and begins there
+pub record IsLogFrom (beginning : Beginning) (found : List Placed × ℕ) (image : List ℕ) : Type 0 where
+  pub read : scan image ≡ Ok found
+  pub begins : begins_in image ≡ beginning
+
 -- What a crash leaves in each of the five calls, and what it leaves behind them: of the calls, counted from 0, the first writes
 -- the area, then come its offset, a sync, the slot's gate, and a sync.
 pub record IsTurnover (file : Surface) (es : List Placed) (gate slot : ℕ) (items : List Record) : Type 0 where
-  pub call_0 : (image : List ℕ) → MayLeave (tried_write (gate + 1) (length (area_bytes items)) file) image → scan image ≡ Ok (es, gate)
-  pub call_1 : (image : List ℕ) → MayLeave (tried_write (slot_at slot + 1) 8 (with_area gate items file)) image → scan image ≡ Ok (es, gate)
-  pub call_2 : (image : List ℕ) → MayLeave (with_offset slot gate items file) image → scan image ≡ Ok (es, gate)
+  pub call_0 : (image : List ℕ) → MayLeave (tried_write (gate + 1) (length (area_bytes items)) file) image →
+      IsLogFrom (begins_in file.seen) (es, gate) image
+  pub call_1 : (image : List ℕ) → MayLeave (tried_write (slot_at slot + 1) 8 (with_area gate items file)) image →
+      IsLogFrom (begins_in file.seen) (es, gate) image
+  pub call_2 : (image : List ℕ) → MayLeave (with_offset slot gate items file) image → IsLogFrom (begins_in file.seen) (es, gate) image
   pub call_3 : (image : List ℕ) → MayLeave (tried_write (slot_at slot) 1 (prepared slot gate items file)) image →
-      (scan image ≡ Ok (es, gate)) ⊎ (scan image ≡ Ok (placed_from (gate + 1) items))
+      IsLogFrom (begins_in file.seen) (es, gate) image ⊎ IsLogFrom (record { at = gate + 1; slots = slot + 1 }) (placed_from (gate + 1) items) image
   pub call_4 : (image : List ℕ) → MayLeave (named_new slot gate items file) image →
-      (scan image ≡ Ok (es, gate)) ⊎ (scan image ≡ Ok (placed_from (gate + 1) items))
-  pub done : (image : List ℕ) → MayLeave (after_sync (named_new slot gate items file)) image → scan image ≡ Ok (placed_from (gate + 1) items)
+      IsLogFrom (begins_in file.seen) (es, gate) image ⊎ IsLogFrom (record { at = gate + 1; slots = slot + 1 }) (placed_from (gate + 1) items) image
+  pub done : (image : List ℕ) → MayLeave (after_sync (named_new slot gate items file)) image →
+      IsLogFrom (record { at = gate + 1; slots = slot + 1 }) (placed_from (gate + 1) items) image
 
 -- a file that has a log, is synced and has a slot left
 pub record MayTurn (file : Surface) (es : List Placed) (gate slot : ℕ) (items : List Record) : Type 0 where

@@ -58,7 +58,8 @@ impl<D: Disk> GateLog<D> {
         ensures gate { IfOk result (λ made. gate_at made ≡ first_gate) }
         ensures slot { IfOk result (λ made. next_slot made ≡ 0) }
         ensures begins { IfOk result
-            (λ made. D.keeps_model → Begins (surface (D.file (disk_of made))) first_gate) }
+            (λ made. D.keeps_model → Begins (surface (D.file (disk_of made)))
+            (record { at = first_gate; slots = 0 })) }
         // All but its header was synced first. A crash from then on leaves no log, or the empty one.
         ensures laid { IfOk result (λ made. D.keeps_model
             → WasLaid D.file D.clock D.since (without_header []) (HasNoneOr [])
@@ -109,9 +110,9 @@ impl<D: Disk> GateLog<D> {
         ensures gate { IfOk result (λ made. D.keeps_model
             → IsTrue (ends_at (surface (D.file disk)).seen (gate_at made))) }
         ensures end { IfOk result (λ made. D.keeps_model → gate_at made ≡
-            end_from (begins_in (surface (D.file disk)).seen) (map (λ e. e.item) (S.taken sink.new))) }
+            end_from (begins_in (surface (D.file disk)).seen).at (map (λ e. e.item) (S.taken sink.new))) }
         ensures slot { IfOk result (λ made. D.keeps_model
-            → IsNextOrNone (surface (D.file disk)).seen (next_slot made)) }
+            → next_slot made ≡ (begins_in (surface (D.file disk)).seen).slots) }
         ensures running { IfOk result (λ made. IsFalse (is_stopped made)) }
         ensures synced { IfOk result
             (λ made. D.keeps_model
@@ -171,9 +172,9 @@ impl<D: Disk> GateLog<D> {
             (λ opened. D.keeps_model
             → IsTrue (ends_at (surface (D.file disk)).seen (gate_at opened.0))) }
         ensures end { IfOk result (λ opened. D.keeps_model → gate_at opened.0 ≡
-            end_from (begins_in (surface (D.file disk)).seen) (map (λ e. e.item) opened.1.items)) }
+            end_from (begins_in (surface (D.file disk)).seen).at (map (λ e. e.item) opened.1.items)) }
         ensures slot { IfOk result (λ opened. D.keeps_model
-            → IsNextOrNone (surface (D.file disk)).seen (next_slot opened.0)) }
+            → next_slot opened.0 ≡ (begins_in (surface (D.file disk)).seen).slots) }
         ensures running { IfOk result (λ opened. IsFalse (is_stopped opened.0)) }
         ensures synced { IfOk result
             (λ opened. D.keeps_model
@@ -249,6 +250,9 @@ impl<D: Disk> GateLog<D> {
         ensures stands { IsFalse result → D.keeps_model
             → Stands (surface (D.file (disk_of self.now)))
             (log (surface (D.file (disk_of self.now))).seen) }
+        ensures begun { IsFalse result → D.keeps_model
+            → Begins (surface (D.file (disk_of self.now)))
+            (begins_in (surface (D.file (disk_of self.now))).seen) }
     {
         self.stopped
     }
@@ -445,7 +449,7 @@ impl<D: Disk> GateLog<D> {
         ensures any_moment { IsFalse (is_stopped self.old) → D.keeps_model →
             LeavesOnly D.clock D.since (disk_of self.old) (disk_of self.new)
             (IsOldOrNew (surface (D.file (disk_of self.old))).seen staged.gate
-            staged.items) }
+            staged.slot staged.items) }
 
         // From then on every crash leaves the log of the new area, and a read gives it.
         ensures durable { OnOk result (D.keeps_model →
@@ -455,12 +459,13 @@ impl<D: Disk> GateLog<D> {
             log (surface (D.file (disk_of self.new))).seen ≡
             Ok (placed_from (staged.gate + 1) staged.items).0) }
         ensures begins { OnOk result (D.keeps_model →
-            Begins (surface (D.file (disk_of self.new))) (staged.gate + 1)) }
+            Begins (surface (D.file (disk_of self.new)))
+            (record { at = staged.gate + 1; slots = staged.slot + 1 })) }
 
         // A read gives one of the two in any case.
         ensures read_either { IsFalse (is_stopped self.old) → D.keeps_model
             → IsOldOrNew (surface (D.file (disk_of self.old))).seen staged.gate
-            staged.items (surface (D.file (disk_of self.new))).seen }
+            staged.slot staged.items (surface (D.file (disk_of self.new))).seen }
 
         ensures running { OnOk result
             (IsFalse (is_stopped self.old) × IsFalse (is_stopped self.new)) }
@@ -482,6 +487,8 @@ impl<D: Disk> GateLog<D> {
             IsAsPlanned (nat_lt call 5) result
             × IsArmedTurn call (scan (surface (D.file (disk_of self.old))).seen)
             (Ok (placed_from (staged.gate + 1) staged.items))
+            (begins_in (surface (D.file (disk_of self.old))).seen)
+            (record { at = staged.gate + 1; slots = staged.slot + 1 })
             (D.file (disk_of self.new)) }
 
         // With no call armed, none is armed afterwards.

@@ -161,7 +161,7 @@ pub fn hand_over<D: Disk, S: Sink>(
     ensures found { IfOk result (λ end. D.keeps_model
         → scan (surface (D.file disk.old)).seen ≡ Ok (S.taken sink.new, end.0)) }
     ensures placed { IfOk result (λ end. D.keeps_model
-        → placed_from (begins_in (surface (D.file disk.old)).seen)
+        → placed_from (begins_in (surface (D.file disk.old)).seen).at
         (map (λ e. e.item) (S.taken sink.new)) ≡ (S.taken sink.new, end.0)) }
     ensures next { IfOk result (λ end. D.keeps_model
         → IsNextOrNone (surface (D.file disk.old)).seen end.1) }
@@ -191,7 +191,7 @@ pub fn scan_synced<D: Disk, S: Sink>(
     ensures found { IfOk result (λ end. D.keeps_model
         → scan (surface (D.file disk.old)).seen ≡ Ok (S.taken sink.new, end.0)) }
     ensures placed { IfOk result (λ end. D.keeps_model
-        → placed_from (begins_in (surface (D.file disk.old)).seen)
+        → placed_from (begins_in (surface (D.file disk.old)).seen).at
         (map (λ e. e.item) (S.taken sink.new)) ≡ (S.taken sink.new, end.0)) }
     ensures next { IfOk result (λ end. D.keeps_model
         → IsNextOrNone (surface (D.file disk.old)).seen end.1) }
@@ -227,7 +227,7 @@ fn begin<D: Disk>(alloc: Global, disk: &mut D) -> Result<(Pieces, u64), Fault>
         → scan (surface (D.file disk.old)).seen ≡
         entries_at begun.0.at 0 (drop begun.0.at (surface (D.file disk.old)).seen)) }
     ensures begins { IfOk result (λ begun. D.keeps_model
-        → begins_in (surface (D.file disk.old)).seen ≡ begun.0.at) }
+        → (begins_in (surface (D.file disk.old)).seen).at ≡ begun.0.at) }
     ensures next { IfOk result (λ begun. D.keeps_model
         → IsNextOrNone (surface (D.file disk.old)).seen begun.1) }
     ensures same { D.file disk.new ≡ D.file disk.old }

@@ -12,7 +12,8 @@ ghost use Rattle.gatelog.specs.Frames.{end_from};
 ghost use Rattle.gatelog.specs.Areas.{area_bytes, placed_from};
 ghost use Rattle.gatelog.specs.Gates.{open_gate};
 ghost use Rattle.gatelog.specs.Log.{scan, ends_at};
-ghost use Rattle.gatelog.specs.Turns.{IsNextOrNone};
+ghost use Rattle.gatelog.specs.Slots.{begins_in};
+ghost use Rattle.gatelog.specs.Turns.{IsLogFrom, IsNextOrNone};
 
 use crate::area::StagedArea;
 use crate::change::write_and_sync;
@@ -52,13 +53,14 @@ pub fn write_area<D: Disk>(disk: &mut D, staged: &StagedArea) -> Result<(), Faul
         → IsNextOrNone (surface (D.file disk.old)).seen staged.now.slot }
     ensures any_moment { D.keeps_model → LeavesOnly D.clock D.since disk.old disk.new
         (IsOldOrNew (surface (D.file disk.old)).seen staged.now.gate
-        staged.now.items) }
+        staged.now.slot staged.now.items) }
     ensures done { OnOk result (D.keeps_model → IsSynced (surface (D.file disk.new))
         × IsNextOrNone (surface (D.file disk.new)).seen (staged.now.slot + 1)
         × IsTrue (ends_at (surface (D.file disk.new)).seen
         (end_from (staged.now.gate + 1) staged.now.items))
-        × (scan (surface (D.file disk.new)).seen ≡
-        Ok (placed_from (staged.now.gate + 1) staged.now.items))) }
+        × IsLogFrom (record { at = staged.now.gate + 1; slots = staged.now.slot + 1 })
+        (placed_from (staged.now.gate + 1) staged.now.items)
+        (surface (D.file disk.new)).seen) }
     ensures planned { D.has_room disk.old 5 (length (area_bytes staged.now.items) + 9) →
         IsAsPlanned (fails_in_turnover (D.plan disk.old)) result
         × (D.file disk.new ≡ turned (D.plan disk.old) staged.now.slot
@@ -69,6 +71,8 @@ pub fn write_area<D: Disk>(disk: &mut D, staged: &StagedArea) -> Result<(), Faul
         IsAsPlanned (nat_lt call 5) result
         × IsArmedTurn call (scan (surface (D.file disk.old)).seen)
         (Ok (placed_from (staged.now.gate + 1) staged.now.items))
+        (begins_in (surface (D.file disk.old)).seen)
+        (record { at = staged.now.gate + 1; slots = staged.now.slot + 1 })
         (D.file disk.new) }
     ensures never { D.plan disk.old ≡ Never → D.plan disk.new ≡ Never }
     ensures failures_stay { D.failures disk.old ≤ D.failures disk.new }

@@ -4,3 +4,5 @@ pub mod Held
 pub mod Placed
 pub mod Told
 pub mod Turned
+pub mod Turnovers
+pub mod Unturned

@@ -1,31 +1,29 @@
 -- Whatever a crash leaves, some event of the run tells it.
-use Rattle.std.proofs.Common.{◌≡◌, ◌⊎◌, inl, inr, ℕ, ◌≤◌, ◌<◌, Bool, true, false, not, ◌&&◌, nat_eq, nat_le, nat_lt, List, [], ◌∷◌, ◌++◌, length}
-use Rattle.std.proofs.Common.{Option, Some, None, slice_get, Ok, refl, sym, ap, ◌∙◌, subst, arith}
+use Rattle.std.proofs.Common.{◌≡◌, ◌⊎◌, inl, inr, ℕ, ◌≤◌, ◌<◌, Bool, true, false, not, cond, ◌&&◌, nat_eq, nat_le, nat_lt, List, [], ◌∷◌, ◌++◌, length}
+use Rattle.std.proofs.Common.{Option, Some, None, slice_get, refl, sym, ap, ◌∙◌, subst, arith}
 use Rattle.std.proofs.lemmas.Bool.{and_from, and_parts, false≢true}
 use Rattle.std.proofs.lemmas.Bool.Decides.{nat_tests}
-use Rattle.std.proofs.lemmas.List.{append-nil}
 use Rattle.std.proofs.lemmas.Option.{slice_get_within}
 use Rattle.units.specs.Lists.{when}
 use Rattle.units.specs.declared.fault.Fault.TheVariants.{Stopped}
+use Rattle.units.specs.declared.setup.Setup.{Setup}
 use Rattle.truetime.specs.Interval.{Interval}
 use Rattle.truetime.specs.Reading.{is_honest}
 use Rattle.disk.specs.declared.plan.FailurePlan.{FailurePlan}
 use Rattle.disk.specs.declared.plan.Fate.{Fate}
 use Rattle.disk.specs.File.{File, surface}
 use Rattle.disk.specs.Image.{MayLeave}
-use Rattle.gatelog.specs.Gates.{first_gate}
-use Rattle.gatelog.specs.Slots.{begins_in}
 use Rattle.message.specs.declared.message.Address.{Address}
 use Rattle.message.specs.declared.message.Address.TheVariants.{Shard, Session}
 use Rattle.message.specs.declared.message.Envelope.{Envelope}
 use Rattle.protocol.specs.Rows.{Memory}
 use Rattle.protocol.specs.Step.{Stepped, Refuses, Does}
 use Rattle.record.specs.declared.record.Record.{Record}
-use Rattle.shard.specs.Logs.{records_in}
-use Rattle.world.specs.Headline.{IsUnsure, MayLeaveLog, doing_of}
+use Rattle.world.specs.Areas.{IsBeside, MayHaveDone, MayLeaveArea}
+use Rattle.world.specs.Headline.{doing_of}
 use Rattle.world.specs.Lawful.{can_come, goes_to, is_down, is_in, is_up, lawful, may_act, may_crash, may_do, may_happen}
-use Rattle.world.specs.World.{World, ShardNow, State, Runs, IsStopped, IsDown, Unsure, Nothing, Shown, Hidden, crashed_in, effect, left_of, read_log, run}
-use Rattle.world.specs.World.{setup_of, start}
+use Rattle.world.specs.World.{World, Area, ShardNow, State, Runs, IsStopped, IsDown, Unsure, Nothing, Shown, Hidden, TurnShown, TurnHidden, area_behind}
+use Rattle.world.specs.World.{crashed_in, effect, left_area_of, new_area, read_area, run, setup_of, start, turns, with_records}
 use Rattle.world.specs.declared.event.Act.{Act}
 use Rattle.world.specs.declared.event.Config.{Config}
 use Rattle.world.specs.declared.event.Doing.{Doing}
@@ -33,11 +31,14 @@ use Rattle.world.specs.declared.event.Event.{Event}
 use Rattle.world.proofs.EveryRun.{is_steady}
 use Rattle.world.proofs.Untouched.{run_settings}
 use Rattle.lives.specs.Inputs.{goes_on}
+use Rattle.lives.specs.Lives.{HoldsArea}
 use Rattle.lives.proofs.Living.{asks_the_resting}
+use Rattle.law.proofs.Areas.{logs_no_turn, no_more}
+use Rattle.law.proofs.HasAreas.{always_has_areas}
 use Rattle.law.proofs.Instants.{last_may}
 use Rattle.images.specs.Images.{Calls, CrashesAreTold, IsTold, IsUnderWay, LeavesImage, Life, RestartsFrom, RestartsWith}
 use Rattle.images.specs.Images.{Up, Down, disk_of, events_of}
-use Rattle.images.proofs.Held.{LivesAs, LivesIn, ReadsAs, life_holds, sure_log}
+use Rattle.images.proofs.Held.{LivesAs, LivesIn, ReadsAs, life_holds, sure_area}
 use Rattle.images.proofs.Placed.{no_input, some_shard}
 use Rattle.images.proofs.Turned.{HoldRun, MayLeaveHere, calls_read, holds}
 
@@ -108,31 +109,60 @@ may_be_done w time n doing (Act.Crash k) of may = absurd (cc)
 
 -- ---- what crashes leave
 
--- where an unsure record's gate is left open, the log has it
-unsure_left : (u : Unsure) (r : Record) → IsUnsure u r → left_of Fate.New u ≡ r ∷ []
-unsure_left Nothing r is = absurd is
-unsure_left (Shown q) r is = ap (λ x. x ∷ []) is
-unsure_left (Hidden q) r is = ap (λ x. x ∷ []) is
+-- where an unsure gate is left open, the area is the one that may be there beside
+beside_left : (s : ShardNow) (u : Unsure) (log : List Record) (area : Area) → IsBeside s u log area → area ≡ left_area_of Fate.New s.area u
+beside_left s Nothing log area is = absurd is
+beside_left s (Shown r) log area is = is.1
+beside_left s (Hidden r) log area is = is.1
+beside_left s (TurnShown other) log area is = is.1
+beside_left s (TurnHidden other) log area is = is.1
 
--- in a doing that is refused: the log with what was unsure
-refused_left : (s : ShardNow) (now : Interval) (r : Record) (st : Stepped) → st ≡ Refuses Stopped → IsUnsure s.unsure r →
-    s.log ++ r ∷ [] ≡ (crashed_in s 0 Fate.New (Doing.Resume now) st).log
+-- in a doing that is refused: that one
+refused_left : (s : ShardNow) (now : Interval) (log : List Record) (area : Area) (st : Stepped) → st ≡ Refuses Stopped → IsBeside s s.unsure log area →
+    area ≡ (crashed_in s 0 Fate.New (Doing.Resume now) st).area
 unfolding crashed_in
-refused_left s now r st is unsure = subst (λ x. s.log ++ r ∷ [] ≡ (crashed_in s 0 Fate.New (Doing.Resume now) x).log) (sym is)
-    (ap (λ l. s.log ++ l) (sym (unsure_left s.unsure r unsure)))
+refused_left s now log area st is beside = subst (λ x. area ≡ (crashed_in s 0 Fate.New (Doing.Resume now) x).area) (sym is)
+    (beside_left s s.unsure log area beside)
 
 -- in an opening, before its append: what was read
-unopened_left : (s : ShardNow) (st : Stepped) → read_log s ≡ (crashed_in s 0 Fate.Old Doing.Open st).log
+unopened_left : (s : ShardNow) (st : Stepped) → read_area s ≡ (crashed_in s 0 Fate.Old Doing.Open st).area
 unfolding crashed_in
 unopened_left s (Refuses f) = refl
 unopened_left s (Does None memory out) = refl
-unopened_left s (Does (Some r) memory out) = sym (append-nil (read_log s))
+unopened_left s (Does (Some r) memory out) = sym (no_more (read_area s))
 
--- in a doing that logs: the log with its record
+-- in a doing that logs: the area with its record
 logged_left : (s : ShardNow) (doing : Doing) (r : Record) (memory : Memory) (out : List Envelope) (st : Stepped) → st ≡ Does (Some r) memory out →
-    read_log s ++ r ∷ [] ≡ (crashed_in s 3 Fate.New doing st).log
+    with_records (read_area s) (r ∷ []) ≡ (crashed_in s 3 Fate.New doing st).area
 unfolding crashed_in
-logged_left s doing r memory out st is = subst (λ x. read_log s ++ r ∷ [] ≡ (crashed_in s 3 Fate.New doing x).log) (sym is) refl
+logged_left s doing r memory out st is = subst (λ x. with_records (read_area s) (r ∷ []) ≡ (crashed_in s 3 Fate.New doing x).area) (sym is) refl
+
+-- in one that logs nothing: in a turnover the new area, else what was read
+nothing_left : (s : ShardNow) (doing : Doing) (memory : Memory) (out : List Envelope) (st : Stepped) → st ≡ Does None memory out →
+    area_behind s doing None ≡ (crashed_in s 3 Fate.New doing st).area
+unfolding crashed_in
+nothing_left s doing memory out st is = subst (λ x. area_behind s doing None ≡ (crashed_in s 3 Fate.New doing x).area) (sym is) (by_test (turns doing))
+  where
+    by_test : (b : Bool) → cond b (new_area s) (with_records (read_area s) []) ≡ cond (b && true) (new_area s) (read_area s)
+    by_test true = refl
+    by_test false = no_more (read_area s)
+
+-- what is behind a doing that logs a record, which is no turnover
+logs_behind : (setup : Setup) (bag : List Envelope) (s : ShardNow) (doing : Doing) (r : Record) (memory : Memory) (out : List Envelope) →
+    effect setup bag s doing ≡ Does (Some r) memory out → area_behind s doing (Some r) ≡ with_records (read_area s) (r ∷ [])
+logs_behind setup bag s doing r memory out does =
+    ap (λ b. cond b (new_area s) (with_records (read_area s) (r ∷ []))) (logs_no_turn setup bag s doing r memory out does)
+
+-- a crash in the fourth call of a doing may leave what the doing would have left
+done_left : (w : World) (s : ShardNow) (n : ℕ) (doing : Doing) (log : List Record) (area : Area) → MayHaveDone w s n doing log area →
+    area ≡ (crashed_in s 3 Fate.New doing (effect (setup_of w.config n) w.bag s doing)).area
+done_left w s n doing log area h = h.area_is ∙ by_logged h.logged h.does
+  where
+    by_logged : (o : Option Record) → effect (setup_of w.config n) w.bag s doing ≡ Does o h.memory h.out →
+        area_behind s doing o ≡ (crashed_in s 3 Fate.New doing (effect (setup_of w.config n) w.bag s doing)).area
+    by_logged None does = nothing_left s doing h.memory h.out (effect (setup_of w.config n) w.bag s doing) does
+    by_logged (Some r) does = logs_behind (setup_of w.config n) w.bag s doing r h.memory h.out does
+        ∙ logged_left s doing r h.memory h.out (effect (setup_of w.config n) w.bag s doing) does
 
 module _ {D : Type 0} (keeps obeys : Type 0) (file : D → File) (clock : D → ℕ) (since : D → ℕ → List ℕ → Type 0) (failures : D → ℕ)
     (plan : D → FailurePlan)
@@ -149,11 +179,10 @@ module _ {D : Type 0} (keeps obeys : Type 0) (file : D → File) (clock : D → 
   here : LivesAs file (setup_of (run config es).config n) s (lives n)
   here = h n s there
 
-  -- what goes on from an image that is read as a log
-  restart : (image : List ℕ) (log : List Record) (new : Life D) → records_in image ≡ Ok log → begins_in image ≡ first_gate → RestartsFrom file image new →
-      RestartsWith file log new
-  restart image log (Up core) read at k = absurd k
-  restart image log (Down disk) read at k = (λ later may. (k later may).0 ∙ read, λ later may. (k later may).1 ∙ at)
+  -- what goes on from an image that holds an area
+  restart : (image : List ℕ) (area : Area) (new : Life D) → HoldsArea area image → RestartsFrom file image new → RestartsWith file area new
+  restart image area (Up core) has k = absurd k
+  restart image area (Down disk) has k = λ later may. ((k later may).0 ∙ has.0, (k later may).1 ∙ has.1)
 
   is_shard : (t : ShardNow) → slice_get (run config es).shards n ≡ Some t → s ≡ t
   is_shard t e = some_shard s t (sym there ∙ e)
@@ -167,25 +196,24 @@ module _ {D : Type 0} (keeps obeys : Type 0) (file : D → File) (clock : D → 
   -- ---- the events
 
   -- the shard crashes
-  by_crash : (image : List ℕ) → records_in image ≡ Ok s.log → begins_in image ≡ first_gate → is_down s.state ≡ false → Told image
+  by_crash : (image : List ℕ) → HoldsArea s.area image → is_down s.state ≡ false → Told image
   unfolding may_act
-  by_crash image read at up = record {
+  by_crash image holds up = record {
     event = record { time = (run config es).time; act = Act.Crash n };
     may = and_from (nat_le (run config es).time (run config es).time) (is_in (run config es) n (λ st. not (is_down st)))
         (no_later (run config es).time) (in_state (λ st. not (is_down st)) (ap not up));
     tells = λ new elsewhere k. record {
       elsewhere = elsewhere;
-      here = λ t e. inl (subst (λ (x : ShardNow). RestartsWith file x.log (new n)) (is_shard t e) (restart image s.log (new n) read at k));
+      here = λ t e. inl (subst (λ (x : ShardNow). RestartsWith file x.area (new n)) (is_shard t e) (restart image s.area (new n) holds k));
     };
   }
 
   -- it crashes within a call
   crashes_in : (image : List ℕ) (call time : ℕ) (fate : Fate) (doing : Doing) → (run config es).time ≤ time → may_do (run config es) time n doing ≡ true →
       may_crash (run config es) n doing ≡ true →
-      records_in image ≡ Ok (crashed_in s call fate doing (effect (setup_of (run config es).config n) (run config es).bag s doing)).log →
-      begins_in image ≡ first_gate → Told image
+      HoldsArea (crashed_in s call fate doing (effect (setup_of (run config es).config n) (run config es).bag s doing)).area image → Told image
   unfolding may_act
-  crashes_in image call time fate doing later may_do_it may_crash_it read at = record {
+  crashes_in image call time fate doing later may_do_it may_crash_it holds = record {
     event = record { time = time; act = Act.CrashIn n call fate n doing };
     may = and_from (nat_le (run config es).time time) _ (at_most (run config es).time time later)
         (and_from (nat_lt n (length (run config es).shards) && nat_eq n n && may_do (run config es) time n doing) (may_crash (run config es) n doing)
@@ -194,9 +222,10 @@ module _ {D : Type 0} (keeps obeys : Type 0) (file : D → File) (clock : D → 
     tells = λ new elsewhere k. record {
       elsewhere = elsewhere;
       here = λ t e. subst
-          (λ (x : ShardNow). RestartsWith file (crashed_in x call fate doing (effect (setup_of (run config es).config n) (run config es).bag x doing)).log (new n))
+          (λ (x : ShardNow). RestartsWith file
+          (crashed_in x call fate doing (effect (setup_of (run config es).config n) (run config es).bag x doing)).area (new n))
           (is_shard t e)
-          (restart image (crashed_in s call fate doing (effect (setup_of (run config es).config n) (run config es).bag s doing)).log (new n) read at k);
+          (restart image (crashed_in s call fate doing (effect (setup_of (run config es).config n) (run config es).bag s doing)).area (new n) holds k);
     };
   }
     where
@@ -205,19 +234,19 @@ module _ {D : Type 0} (keeps obeys : Type 0) (file : D → File) (clock : D → 
 
   -- ---- between two calls
 
-  now_told : (image : List ℕ) → ReadsAs (MayLeaveLog s) image → (is_down s.state ≡ false) ⊎ (s.unsure ≡ Nothing) → Told image
+  now_told : (image : List ℕ) → ReadsAs (MayLeaveArea s) image → (is_down s.state ≡ false) ⊎ (s.unsure ≡ Nothing) → Told image
   now_told image reads can = by_fits reads.fits can
     where
       now : Interval
       now = record { earliest = (run config es).time; latest = (run config es).time }
 
       -- nothing is unsure of a shard that runs
-      stopped : (st : State) → s.state ≡ st → LivesIn file (setup_of (run config es).config n) s (lives n) st → is_down st ≡ false →
-          (r : Record) → IsUnsure s.unsure r → is_up st ≡ false
-      stopped st same l up r unsure = by_life (lives n) st l up
+      stopped : (st : State) → LivesIn file (setup_of (run config es).config n) s (lives n) st → is_down st ≡ false →
+          IsBeside s s.unsure reads.log reads.area → is_up st ≡ false
+      stopped st l up beside = by_life (lives n) st l up
         where
           by_life : (life : Life D) (x : State) → LivesIn file (setup_of (run config es).config n) s life x → is_down x ≡ false → is_up x ≡ false
-          by_life (Up core) (Runs m) k up = absurd (subst (λ u. IsUnsure u r) k.sure unsure)
+          by_life (Up core) (Runs m) k up = absurd (subst (λ u. IsBeside s u reads.log reads.area) k.sure beside)
           by_life (Up core) (IsStopped m) k up = refl
           by_life (Up core) IsDown k up = absurd k
           by_life (Down disk) (Runs m) k up = absurd k
@@ -225,34 +254,35 @@ module _ {D : Type 0} (keeps obeys : Type 0) (file : D → File) (clock : D → 
           by_life (Down disk) IsDown k up = absurd (false≢true (sym up))
 
       -- a shard that is down crashes within an opening, before its append
-      by_opening : is_down s.state ≡ true → s.unsure ≡ Nothing → reads.log ≡ s.log → Told image
+      by_opening : is_down s.state ≡ true → s.unsure ≡ Nothing → reads.area ≡ s.area → Told image
       by_opening down sure same = crashes_in image 0 (run config es).time Fate.Old Doing.Open (omega arith)
           (in_state (λ st. not (is_up st)) (down_rests s.state down)) refl
-          (reads.read ∙ ap (λ l. Ok l) (same ∙ sym (sure_log s sure)
-          ∙ unopened_left s (effect (setup_of (run config es).config n) (run config es).bag s Doing.Open))) reads.begins
+          (subst (λ a. HoldsArea a image) (same ∙ sym (sure_area s sure)
+          ∙ unopened_left s (effect (setup_of (run config es).config n) (run config es).bag s Doing.Open)) reads.holds)
         where
           down_rests : (st : State) → is_down st ≡ true → not (is_up st) ≡ true
           down_rests (Runs m) e = absurd (false≢true e)
           down_rests (IsStopped m) e = absurd (false≢true e)
           down_rests IsDown e = refl
 
-      with_unsure : is_down s.state ≡ false → (r : Record) → IsUnsure s.unsure r → reads.log ≡ s.log ++ r ∷ [] → Told image
-      with_unsure up r unsure is =
-          let rests : is_up s.state ≡ false = stopped s.state refl here up r unsure in
+      with_unsure : is_down s.state ≡ false → IsBeside s s.unsure reads.log reads.area → Told image
+      with_unsure up beside =
+          let rests : is_up s.state ≡ false = stopped s.state here up beside in
           crashes_in image 0 (run config es).time Fate.New (Doing.Resume now) (omega arith) (honest_at (run config es).time)
           (in_state (λ st. not (is_down st)) (ap not up))
-          (reads.read ∙ ap (λ l. Ok l) (is ∙ refused_left s now r (effect (setup_of (run config es).config n) (run config es).bag s (Doing.Resume now))
-          (asks_the_resting (setup_of (run config es).config n) (run config es).bag s (Doing.Resume now) refl rests) unsure)) reads.begins
+          (subst (λ a. HoldsArea a image)
+          (refused_left s now reads.log reads.area (effect (setup_of (run config es).config n) (run config es).bag s (Doing.Resume now))
+          (asks_the_resting (setup_of (run config es).config n) (run config es).bag s (Doing.Resume now) refl rests) beside) reads.holds)
 
-      by_down : (b : Bool) → is_down s.state ≡ b → s.unsure ≡ Nothing → reads.log ≡ s.log → Told image
+      by_down : (b : Bool) → is_down s.state ≡ b → s.unsure ≡ Nothing → reads.area ≡ s.area → Told image
       by_down true down sure same = by_opening down sure same
-      by_down false up sure same = by_crash image (reads.read ∙ ap (λ l. Ok l) same) reads.begins up
+      by_down false up sure same = by_crash image (subst (λ a. HoldsArea a image) same reads.holds) up
 
-      by_fits : MayLeaveLog s reads.log → (is_down s.state ≡ false) ⊎ (s.unsure ≡ Nothing) → Told image
-      by_fits (inl same) (inl up) = by_crash image (reads.read ∙ ap (λ l. Ok l) same) reads.begins up
-      by_fits (inl same) (inr sure) = by_down (is_down s.state) refl sure same
-      by_fits (inr more) (inl up) = with_unsure up more.0 more.1 more.2
-      by_fits (inr more) (inr sure) = absurd (subst (λ u. IsUnsure u more.0) sure more.1)
+      by_fits : MayLeaveArea s reads.log reads.area → (is_down s.state ≡ false) ⊎ (s.unsure ≡ Nothing) → Told image
+      by_fits (inl same) (inl up) = by_crash image (subst (λ a. HoldsArea a image) same.1 reads.holds) up
+      by_fits (inl same) (inr sure) = by_down (is_down s.state) refl sure same.1
+      by_fits (inr beside) (inl up) = with_unsure up beside
+      by_fits (inr beside) (inr sure) = absurd (subst (λ u. IsBeside s u reads.log reads.area) sure beside)
 
   -- ---- within one
 
@@ -271,6 +301,7 @@ module _ {D : Type 0} (keeps obeys : Type 0) (file : D → File) (clock : D → 
   may_be_in : (doing : Doing) (logged : Option Record) (memory : Memory) (out : List Envelope) →
       effect (setup_of (run config es).config n) (run config es).bag s doing ≡ Does logged memory out → may_crash (run config es) n doing ≡ true
   may_be_in Doing.Open logged memory out does = refl
+  may_be_in Doing.Turn logged memory out does = crash_may Doing.Turn logged memory out does refl
   may_be_in (Doing.Take m now) logged memory out does = crash_may (Doing.Take m now) logged memory out does refl
   may_be_in (Doing.Resume now) logged memory out does = crash_may (Doing.Resume now) logged memory out does refl
   may_be_in (Doing.Settle t now) logged memory out does = crash_may (Doing.Settle t now) logged memory out does refl
@@ -294,8 +325,8 @@ module _ {D : Type 0} (keeps obeys : Type 0) (file : D → File) (clock : D → 
           (sym config_is) u.called
 
       reads : ReadsAs (MayLeaveHere (run config es) n u.doing s) image
-      reads = calls_read keeps obeys file clock since failures plan counts kept (run config es) (is_steady config es fair) n s there u.doing (lives n) after
-          u.result u.logged u.memory u.out does called here image left
+      reads = calls_read keeps obeys file clock since failures plan counts kept (run config es) (is_steady config es fair)
+          (always_has_areas config es fair) n s there u.doing (lives n) after u.result u.logged u.memory u.out does called here image left
 
       may : may_happen (run config es) u.event ≡ true
       may = last_of config es u.event u.may
@@ -303,12 +334,11 @@ module _ {D : Type 0} (keeps obeys : Type 0) (file : D → File) (clock : D → 
       parts : (nat_le (run config es).time u.event.time ≡ true) × (may_act (run config es) u.event.time u.event.act ≡ true)
       parts = and_parts (nat_le (run config es).time u.event.time) (may_act (run config es) u.event.time u.event.act) may
 
-      by_fits : MayLeaveHere (run config es) n u.doing s reads.log → Told image
-      by_fits (inl fits) = now_told image (record { log = reads.log; read = reads.read; begins = reads.begins; fits = fits }) can
-      by_fits (inr logged) = crashes_in image 3 u.event.time Fate.New u.doing (later (run config es).time u.event.time parts.0)
+      by_fits : MayLeaveHere (run config es) n u.doing s reads.log reads.area → Told image
+      by_fits (inl fits) = now_told image (record { log = reads.log; area = reads.area; holds = reads.holds; fits = fits }) can
+      by_fits (inr may_have) = crashes_in image 3 u.event.time Fate.New u.doing (later (run config es).time u.event.time parts.0)
           (may_be_done (run config es) u.event.time n u.doing u.event.act u.of parts.1) (may_be_in u.doing u.logged u.memory u.out does)
-          (reads.read ∙ ap (λ l. Ok l) (logged.1.1 ∙ logged_left s u.doing logged.0 logged.1.0.0 logged.1.0.1
-          (effect (setup_of (run config es).config n) (run config es).bag s u.doing) logged.1.0.2)) reads.begins
+          (subst (λ a. HoldsArea a image) (done_left (run config es) s n u.doing reads.log reads.area may_have) reads.holds)
         where
           later : (a b : ℕ) → nat_le a b ≡ true → a ≤ b
           later a b e = grind (arith, nat_tests)

@@ -1,8 +1,9 @@
 -- From bytes to history. Beside a run of the definitions stand cores on disks that keep the disk model, call by call: of each call
--- there is what the contract of `Core::on` or of `Core::open` says, and nothing else. Whatever images a crash then leaves of these
--- disks, between two calls or within one, each is read as a log, and the logs are some that the law of the store speaks of.
-use Rattle.std.specs.Prelude.{ℕ, ◌≡◌, ◌≢◌, ◌⊎◌, false, cond, nat_le, nat_lt, IsTrue, IsFalse, List, [], ◌∷◌, ◌++◌, length, map, slice_get}
-use Rattle.std.specs.Prelude.{Option, Some, None, Result, Ok, Err}
+-- there is what the contract of `Core::on`, of `Core::turn_over` or of `Core::open` says, and nothing else. Whatever images a crash then
+-- leaves of these disks, between two calls or within one, each is read as an area that keeps what all records of its shard say that were
+-- logged since it was formatted; and these records are some that the law of the store speaks of.
+use Rattle.std.specs.Prelude.{ℕ, ◌≡◌, ◌≢◌, ◌⊎◌, false, cond, ◌&&◌, nat_le, nat_lt, IsTrue, IsFalse, List, [], ◌∷◌, ◌++◌, length, map, slice_get}
+use Rattle.std.specs.Prelude.{Option, Some, None, Result, Ok, Err, IfOk}
 use Rattle.units.specs.declared.fault.Fault.{Fault}
 use Rattle.units.specs.declared.fault.Fault.TheVariants.{Memory, Device}
 use Rattle.units.specs.declared.setup.Setup.{Setup}
@@ -10,25 +11,29 @@ use Rattle.truetime.specs.Interval.{Interval}
 use Rattle.disk.specs.declared.plan.FailurePlan.{FailurePlan}
 use Rattle.disk.specs.File.{File, surface}
 use Rattle.disk.specs.Image.{MayLeave}
-use Rattle.gatelog.specs.Crash.{Begins}
-use Rattle.gatelog.specs.Gates.{first_gate}
 use Rattle.gatelog.specs.Slots.{begins_in}
 use Rattle.record.specs.Facts.{facts_of}
 use Rattle.record.specs.declared.record.Record.{Record}
+use Rattle.renewal.specs.Keeps.{Alike}
 use Rattle.message.specs.declared.message.Envelope.{Envelope}
 use Rattle.message.specs.declared.message.Input.{Input}
 use Rattle.protocol.specs.Rows.{Memory as Kept}
 use Rattle.protocol.specs.Step.{Stepped, Refuses, Does}
-use Rattle.shard.specs.Logs.{HoldsOldOrWith, KeepsRecords, records_in}
+use Rattle.shard.specs.Logs.{records_in}
 use Rattle.shard.specs.On.{CoreView, HasStepped, step_of}
 use Rattle.shard.specs.Opened.{HasNotOpened, HasOpened}
+use Rattle.shard.specs.Turned.{HasTurned}
+use Rattle.world.specs.Areas.{KeepsWhatIsSaid, MayBeLeftAt}
 use Rattle.world.specs.Headline.{IsExternallyConsistent, MayBeLeft, doing_of}
 use Rattle.world.specs.Lawful.{is_down, lawful, may_happen}
-use Rattle.world.specs.World.{World, ShardNow, Runs, Nothing, crashed_in, effect, failed_in, happens, input_of, read_log, run, setup_of, start}
+use Rattle.world.specs.World.{World, ShardNow, Area, Runs, Nothing, crashed_in, effect, failed_in, failed_turn, happens, input_of, read_area, run}
+use Rattle.world.specs.World.{setup_of, start, turns, with_records}
 use Rattle.world.specs.declared.event.Act.{Act}
 use Rattle.world.specs.declared.event.Config.{Config}
 use Rattle.world.specs.declared.event.Doing.{Doing}
 use Rattle.world.specs.declared.event.Event.{Event}
+use Rattle.lives.specs.Lives.{HoldsArea}
+use Rattle.lives.specs.Unopened.{unopened_area}
 
 -- what there is of a shard: its core, or the disk of one that is down
 pub data Life (D : Type 0) : Type 0 where
@@ -83,30 +88,47 @@ abbrev pub IsOwnAnswer : {T : Type 0} → Result T Fault → Type 0
 IsOwnAnswer (Ok done) = Unit {0}
 IsOwnAnswer (Err fault) = IsOwn fault
 
--- the record of a doing in which a call fails, where the call of this number is one of the four of its append
-abbrev pub failing : ℕ → Stepped → Option Record
-failing call (Refuses fault) = None
-failing call (Does None memory out) = None
-failing call (Does (Some r) memory out) = cond (nat_lt call 4) (Some r) None
+-- what the call of some number fails in: the append of a record, a turnover, or nothing
+pub data Failing : Type 0 where
+  NoCall : Failing
+  AnAppend : Record → Failing
+  ATurnover : Failing
+
+-- so in a doing: where it is one of the four of its append, or one of the five of its turnover
+abbrev pub failing : ℕ → Doing → Stepped → Failing
+failing call doing (Refuses fault) = NoCall
+failing call doing (Does None memory out) = cond (turns doing && nat_lt call 5) ATurnover NoCall
+failing call doing (Does (Some r) memory out) = cond (nat_lt call 4) (AnAppend r) NoCall
 
 -- one image of each shard's disk
 pub record AreImages (w : World) (leaves : ℕ → List ℕ → Type 0) (images : List (List ℕ)) : Type 0 where
   pub count : length images ≡ length w.shards
   pub each : (n : ℕ) (image : List ℕ) → slice_get images n ≡ Some image → leaves n image
 
--- each image is read as a log, a crash may leave these logs, and the law holds of them
+-- a crash may leave an image of a shard's disk: it holds this area, beside these records that the shard has logged since it was formatted,
+-- and the area keeps what they say
+pub record IsLeftAs (config : Config) (es : List Event) (n : ℕ) (image : List ℕ) (log : List Record) (area : Area) : Type 0 where
+  pub holds : HoldsArea area image
+  pub left : MayBeLeftAt config es n log area
+  pub keeps : KeepsWhatIsSaid config n log area
+
+-- each image is left so, a crash may leave these logs, and the law holds of them
 pub record HaveLogs (config : Config) (es : List Event) (images : List (List ℕ)) : Type 0 where
   pub logs : List (List Record)
-  pub read : map records_in images ≡ map (λ log. Ok log) logs
+  pub areas : List Area
+  pub read : map records_in images ≡ map (λ area. Ok area.records) areas
+  pub each : (n : ℕ) (image : List ℕ) (log : List Record) (area : Area) → slice_get images n ≡ Some image → slice_get logs n ≡ Some log →
+      slice_get areas n ≡ Some area → IsLeftAs config es n image log area
   pub left : MayBeLeft config es logs
   pub consistent : IsExternallyConsistent config logs (run config es).lines
 
--- a core that runs, and knows and keeps what a shard of the run does: so what it puts out and how it is looked at is as the run has it
+-- A core that runs, knows what says the same as the records of a shard of the run, and keeps what that shard does: so what it puts out and
+-- how it is looked at is as the run has it
 pub record KnowsShard {D : Type 0} (s : ShardNow) (m : Kept) (life : Life D) : Type 0 where
   pub core : CoreView D
   pub is : life ≡ Up core
   pub runs : IsFalse core.stopped
-  pub facts : core.facts ≡ facts_of s.log
+  pub facts : Alike core.facts (facts_of s.log)
   pub memory : core.memory ≡ m
 
 module _ {D : Type 0} (file : D → File) where
@@ -114,14 +136,14 @@ module _ {D : Type 0} (file : D → File) where
   abbrev pub LeavesNow : Life D → List ℕ → Type 0
   LeavesNow life image = MayLeave (surface (file (disk_of life))) image
 
-  -- each image that a crash now may leave has these records, and no other, in the first area
-  abbrev pub HoldsSurely : D → List Record → Type 0
-  HoldsSurely disk log = KeepsRecords (surface (file disk)) (Ok log) × Begins (surface (file disk)) first_gate
+  -- each image that a crash now may leave holds this area, and no other
+  abbrev pub HoldsSurely : D → Area → Type 0
+  HoldsSurely disk area = (image : List ℕ) → MayLeave (surface (file disk)) image → HoldsArea area image
 
-  -- a shard is down, on a disk that surely holds these records
-  abbrev pub RestartsWith : List Record → Life D → Type 0
-  RestartsWith log (Up core) = ⊥
-  RestartsWith log (Down disk) = HoldsSurely disk log
+  -- a shard is down, on a disk that surely holds this area
+  abbrev pub RestartsWith : Area → Life D → Type 0
+  RestartsWith area (Up core) = ⊥
+  RestartsWith area (Down disk) = HoldsSurely disk area
 
   -- it is down, on a disk of which each image that a crash now may leave is read as this one
   abbrev pub RestartsFrom : List ℕ → Life D → Type 0
@@ -143,6 +165,11 @@ module _ {D : Type 0} (keeps obeys : Type 0) (file : D → File) (clock : D → 
   TakesWhat None old new result = ⊥
   TakesWhat (Some p) old new result = Takes p.0 p.1 old new result
 
+  -- a core's log is turned over, by the contract of `Core::turn_over`, which puts nothing out
+  abbrev pub TurnsOver : Life D → Life D → Result (List Envelope) Fault → Type 0
+  TurnsOver (Up old) (Up new) result = HasTurned keeps obeys file clock since failures plan old new result × IfOk result (λ out. out ≡ [])
+  TurnsOver _ _ result = ⊥
+
   -- a disk was opened, or was not, by the contract of `Core::open`
   abbrev pub OpensTo : D → Setup → Life D → Result (List Envelope) Fault → Type 0
   OpensTo disk setup (Up core) (Ok out) = HasOpened keeps obeys file clock since failures plan disk setup core
@@ -158,6 +185,7 @@ module _ {D : Type 0} (keeps obeys : Type 0) (file : D → File) (clock : D → 
   -- the call of a doing
   abbrev pub Calls : Setup → List Envelope → Doing → Life D → Life D → Result (List Envelope) Fault → Type 0
   Calls setup bag Doing.Open old new result = Opens setup old new result
+  Calls setup bag Doing.Turn old new result = TurnsOver old new result
   Calls setup bag doing old new result = TakesWhat (input_of bag doing) old new result
 
   -- ---- one event, at one shard
@@ -178,13 +206,22 @@ module _ {D : Type 0} (keeps obeys : Type 0) (file : D → File) (clock : D → 
     pub fault : Fault
     pub called : Calls setup bag doing old new (Err fault)
     pub failed : (fault ≡ Device) ⊎ ((doing ≡ Doing.Open) × (fault ≡ Memory))
-    pub read : records_in (surface (file (disk_of new))).seen ≡ Ok (read_log (failed_in s call r))
-    pub told : IsTrue (nat_le 2 call) ⊎ HoldsSurely file (disk_of new) (read_log s)
-    pub behind : (s.unsure ≡ Nothing) ⊎ ((image : List ℕ) → LeavesNow file new image → HoldsOldOrWith (Ok (read_log s)) (Some r) image)
+    pub read : records_in (surface (file (disk_of new))).seen ≡ Ok (read_area (failed_in s call r)).records
+    pub told : IsTrue (nat_le 2 call) ⊎ HoldsSurely file (disk_of new) (read_area s)
+    pub behind : (s.unsure ≡ Nothing) ⊎ ((image : List ℕ) → LeavesNow file new image →
+        HoldsArea (read_area s) image ⊎ HoldsArea (with_records (read_area s) (r ∷ [])) image)
 
-  abbrev pub FailsOr : Setup → List Envelope → ShardNow → Doing → ℕ → Option Record → Life D → Life D → Type 0
-  FailsOr setup bag s doing call None old new = GoesOn setup bag doing old new
-  FailsOr setup bag s doing call (Some r) old new = Fails setup bag s doing call r old new
+  -- The device fails in a turnover. The event has the number of a call that tells which area is then read, and whether a crash may leave
+  -- the new one
+  pub record FailsToTurn (setup : Setup) (bag : List Envelope) (s : ShardNow) (call : ℕ) (old new : Life D) : Type 0 where
+    pub called : Calls setup bag Doing.Turn old new (Err Device)
+    pub read : HoldsArea (read_area (failed_turn s call)) (surface (file (disk_of new))).seen
+    pub told : IsTrue (nat_le 3 call) ⊎ HoldsSurely file (disk_of new) (read_area s)
+
+  abbrev pub FailsOr : Setup → List Envelope → ShardNow → Doing → ℕ → Failing → Life D → Life D → Type 0
+  FailsOr setup bag s doing call NoCall old new = GoesOn setup bag doing old new
+  FailsOr setup bag s doing call (AnAppend r) old new = Fails setup bag s doing call r old new
+  FailsOr setup bag s doing call ATurnover old new = FailsToTurn setup bag s call old new
 
   -- at one shard, where it exists
   pub record AtShard (w : World) (n : ℕ) (old new : ℕ → Life D) (P : Setup → ShardNow → Life D → Life D → Type 0) : Type 0 where
@@ -199,11 +236,11 @@ module _ {D : Type 0} (keeps obeys : Type 0) (file : D → File) (clock : D → 
   -- What an act is at the shards. A crash leaves disks that surely hold what the run tells of them, or a core that ran was ended
   abbrev pub Turns : World → Act → (ℕ → Life D) → (ℕ → Life D) → Type 0
   Turns w (Act.Crash n) old new =
-      AtShard w n old new (λ setup s before after. RestartsWith file s.log after ⊎ WasEnded before after)
+      AtShard w n old new (λ setup s before after. RestartsWith file s.area after ⊎ WasEnded before after)
   Turns w (Act.CrashIn n call fate named doing) old new =
-      AtShard w n old new (λ setup s before after. RestartsWith file (crashed_in s call fate doing (effect setup w.bag s doing)).log after)
+      AtShard w n old new (λ setup s before after. RestartsWith file (crashed_in s call fate doing (effect setup w.bag s doing)).area after)
   Turns w (Act.FailIn n call named doing) old new =
-      AtShard w n old new (λ setup s before after. FailsOr setup w.bag s doing call (failing call (effect setup w.bag s doing)) before after)
+      AtShard w n old new (λ setup s before after. FailsOr setup w.bag s doing call (failing call doing (effect setup w.bag s doing)) before after)
   Turns w act old new = AtDoing w (doing_of w act) old new
 
   -- ---- calls of which the run has nothing
@@ -214,6 +251,7 @@ module _ {D : Type 0} (keeps obeys : Type 0) (file : D → File) (clock : D → 
     pub called : Opens setup old new (Err fault)
     pub failed : (fault ≡ Memory) ⊎ (fault ≡ Device)
     pub read : records_in (surface (file (disk_of new))).seen ≡ records_in (surface (file (disk_of old))).seen
+    pub begins : begins_in (surface (file (disk_of new))).seen ≡ begins_in (surface (file (disk_of old))).seen
     pub within : (image : List ℕ) → LeavesNow file new image → LeavesNow file old image
 
   -- memory is refused
@@ -223,10 +261,10 @@ module _ {D : Type 0} (keeps obeys : Type 0) (file : D → File) (clock : D → 
 
   -- ---- a whole run
 
-  -- an empty log was opened
+  -- an empty log in the first area was opened
   pub record IsFresh (setup : Setup) (life : Life D) : Type 0 where
     pub disk : D
-    pub empty : HoldsSurely file disk []
+    pub empty : HoldsSurely file disk unopened_area
     pub opened : OpensTo disk setup life (Ok [])
 
   abbrev pub AreFresh : Config → (ℕ → Life D) → Type 0
@@ -299,7 +337,7 @@ module _ {D : Type 0} (keeps obeys : Type 0) (file : D → File) (clock : D → 
       LeavesNow file (lives n) image
       ⊎ ((after : Life D) × IsUnderWay config es lives n after × since (disk_of after) (clock (disk_of (lives n))) image)
 
-  -- the shard is not down, or no record on its disk is unsure
+  -- the shard is not down, or nothing on its disk is unsure
   abbrev pub CrashesAreTold : Type 0
   CrashesAreTold =
       keeps → (config : Config) (turns : List Turn) (first lives : ℕ → Life D) → IsTrue (lawful config (events_of turns)) → AreFresh config first →

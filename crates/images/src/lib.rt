@@ -3,4 +3,4 @@
 
 mod laws;
 
-pub use laws::images_have_logs;
+pub use laws::{areas_are_logs, images_have_logs};

@@ -1,5 +1,5 @@
 -- Every act is made of a few kinds of changes. What holds after each kind holds after each act.
-use Rattle.std.proofs.Common.{◌≡◌, ℕ, Bool, true, false, cond, not, nat_lt, List, [], ◌∷◌, ◌++◌, Option, Some, None, slice_get, refl}
+use Rattle.std.proofs.Common.{◌≡◌, ℕ, inl, Bool, true, false, cond, not, ◌&&◌, nat_lt, List, [], ◌∷◌, ◌++◌, Option, Some, None, slice_get, refl}
 use Rattle.units.specs.Ids.{Id, same_id}
 use Rattle.units.specs.Keys.{Bytes}
 use Rattle.units.specs.declared.fault.Fault.{Fault}
@@ -21,14 +21,15 @@ use Rattle.protocol.specs.Step.{Stepped, Refuses, Does}
 use Rattle.session.specs.Sessions.{Client, Stage, IsOpen, IsClosing, IsOver, Moved, reads, buffers, closes, gives_up, finishes}
 use Rattle.world.specs.Lawful.{may_act, has_begun}
 use Rattle.gatelog.specs.Gates.{is_left}
-use Rattle.world.specs.World.{World, After, ShardNow, State, Runs, IsStopped, IsDown, read_log, setup_of, effect, finished, crashed, crashed_in}
-use Rattle.world.specs.World.{left_by_refused, failed_in, set_shard, client_of, put_out, moved, refused, if_open, if_not_over, if_closing}
+use Rattle.world.specs.World.{World, After, ShardNow, State, Runs, IsStopped, IsDown, Area, read_area, read_log, setup_of, effect, finished, crashed, crashed_in}
+use Rattle.world.specs.World.{area_left_in, left_area, left_by_refused, left_log, turns, with_records, failed_in, failed_turn, set_shard, client_of, put_out, moved, refused, if_open, if_not_over, if_closing}
 use Rattle.world.specs.World.{if_hearing, answered, to_session, refused_doing, did, did_with_failure, at_shard, do_at, deliver_to, look_noted}
 use Rattle.world.specs.World.{look_shard, look_at_view, begin, acts}
 use Rattle.world.specs.declared.event.Act.{Act}
 use Rattle.world.specs.declared.event.Doing.{Doing}
 use Rattle.world.specs.declared.event.Reply.{Reply}
 use Rattle.law.specs.Among.{IsAmong}
+use Rattle.law.proofs.Areas.{IsLeft, left_may_leave, none_left, read_may_leave, some_left}
 use Rattle.law.proofs.Doings.{get_among}
 use Rattle.law.proofs.Recorded.{among_first}
 
@@ -52,10 +53,14 @@ module _ (w : World) (C : World → Type 0) (same : C w)
     (steps : (c : Client) (s : Step) → IsAmong w.clients c → C (moved w (step_of w.config.splits s c)).0)
     (hears : (c : Client) (to : Address) (a : ReadAnswer) → IsAmong w.clients c → c.txn ≡ a.txn →
     IsAmong w.bag (record { to = to; message = Message.ReadAnswer a }) → C (answered w c a).0)
-    (crashes : (n : ℕ) (s : ShardNow) → slice_get w.shards n ≡ Some s → (log : List Record) → C (set_shard n (crashed s log) w))
+    (crashes : (n : ℕ) (s : ShardNow) → slice_get w.shards n ≡ Some s → (log : List Record) (area : Area) → IsLeft w n s log area →
+    C (set_shard n (crashed s log area) w))
     (does : (n : ℕ) (s : ShardNow) → slice_get w.shards n ≡ Some s → (doing : Doing) (logged : Option Record) (memory : Memory) (out : List Envelope) →
     effect (setup_of w.config n) w.bag s doing ≡ Does logged memory out → C (put_out out (set_shard n (finished s doing logged memory) w)))
-    (fails : (n : ℕ) (s : ShardNow) → slice_get w.shards n ≡ Some s → (call : ℕ) (r : Record) → C (set_shard n (failed_in s call r) w))
+    (fails : (n : ℕ) (s : ShardNow) → slice_get w.shards n ≡ Some s → (call : ℕ) (doing : Doing) (r : Record) (memory : Memory) (out : List Envelope) →
+    effect (setup_of w.config n) w.bag s doing ≡ Does (Some r) memory out → C (set_shard n (failed_in s call r) w))
+    (turn_fails : (n : ℕ) (s : ShardNow) → slice_get w.shards n ≡ Some s → (call : ℕ) (doing : Doing) (memory : Memory) (out : List Envelope) →
+    turns doing ≡ true → effect (setup_of w.config n) w.bag s doing ≡ Does None memory out → C (set_shard n (failed_turn s call) w))
     (looks : (n : ℕ) (s : ShardNow) → slice_get w.shards n ≡ Some s → (k : Bytes) (at : ℕ) → C (look_noted w k at (look_shard (setup_of w.config n) s k at)).0)
     (views : (n : ℕ) (s : ShardNow) → slice_get w.shards n ≡ Some s → (i : ℕ) (k : Bytes) (at : ℕ) →
     C (look_noted w k at (look_at_view (setup_of w.config n) (slice_get s.views i) k at)).0) where
@@ -119,16 +124,17 @@ module _ (w : World) (C : World → Type 0) (same : C w)
     refused_goes : (doing : Doing) (f : Fault) → C (refused_doing w n s doing f).0
     refused_goes Doing.Open f = by_state s.state
       where
-        by_state : (st : State) → C ((elim st as (λ x. After) [ Runs m ↦ refused w f | _ ↦ (set_shard n (crashed s (read_log s)) w, Reply.Refused f) ]).0)
+        by_state : (st : State) → C ((elim st as (λ x. After) [ Runs m ↦ refused w f | _ ↦ (set_shard n (crashed s (read_log s) (read_area s)) w, Reply.Refused f) ]).0)
         by_state (Runs m) = same
-        by_state (IsStopped m) = crashes n s is (read_log s)
-        by_state IsDown = crashes n s is (read_log s)
+        by_state (IsStopped m) = crashes n s is (read_log s) (read_area s) (inl (read_may_leave s))
+        by_state IsDown = crashes n s is (read_log s) (read_area s) (inl (read_may_leave s))
     refused_goes (Doing.Take m now) f = same
     refused_goes (Doing.Resume now) f = same
     refused_goes (Doing.Settle t now) f = same
     refused_goes (Doing.Advance at now) f = same
     refused_goes (Doing.Forget at now) f = same
     refused_goes (Doing.Nudge t now) f = same
+    refused_goes Doing.Turn f = same
 
     did_goes : (doing : Doing) (st : Stepped) → effect (setup_of w.config n) w.bag s doing ≡ st → C (did w n s doing st).0
     unfolding did
@@ -138,19 +144,39 @@ module _ (w : World) (C : World → Type 0) (same : C w)
     failing_goes : (call : ℕ) (doing : Doing) (st : Stepped) → effect (setup_of w.config n) w.bag s doing ≡ st → C (did_with_failure w n s call doing st).0
     unfolding did_with_failure
     failing_goes call doing (Refuses f) e = did_goes doing (Refuses f) e
-    failing_goes call doing (Does None memory out) e = did_goes doing (Does None memory out) e
+    failing_goes call doing (Does None memory out) e = by_tests (turns doing) (nat_lt call 5) refl
+      where
+        by_tests : (a b : Bool) → turns doing ≡ a → C ((cond {A = After} (a && b) (set_shard n (failed_turn s call) w, Reply.Refused Device)
+            (did w n s doing (Does None memory out))).0)
+        by_tests true true k = turn_fails n s is call doing memory out k e
+        by_tests true false k = did_goes doing (Does None memory out) e
+        by_tests false b k = did_goes doing (Does None memory out) e
     failing_goes call doing (Does (Some r) memory out) e = by_test (nat_lt call 4)
       where
         by_test : (b : Bool) → C ((cond {A = After} b (set_shard n (failed_in s call r) w, Reply.Refused Device)
             (did w n s doing (Does (Some r) memory out))).0)
-        by_test true = fails n s is call r
+        by_test true = fails n s is call doing r memory out e
         by_test false = did_goes doing (Does (Some r) memory out) e
 
-    crash_within_goes : (call : ℕ) (fate : Fate) (doing : Doing) (st : Stepped) → C (set_shard n (crashed_in s call fate doing st) w)
+    refused_left_goes : (fate : Fate) (doing : Doing) → C (set_shard n (left_by_refused s fate doing) w)
+    refused_left_goes fate Doing.Open = crashes n s is (read_log s) (read_area s) (inl (read_may_leave s))
+    refused_left_goes fate (Doing.Take m now) = crashes n s is (left_log fate s) (left_area fate s) (inl (left_may_leave s fate))
+    refused_left_goes fate (Doing.Resume now) = crashes n s is (left_log fate s) (left_area fate s) (inl (left_may_leave s fate))
+    refused_left_goes fate (Doing.Settle t now) = crashes n s is (left_log fate s) (left_area fate s) (inl (left_may_leave s fate))
+    refused_left_goes fate (Doing.Advance at now) = crashes n s is (left_log fate s) (left_area fate s) (inl (left_may_leave s fate))
+    refused_left_goes fate (Doing.Forget at now) = crashes n s is (left_log fate s) (left_area fate s) (inl (left_may_leave s fate))
+    refused_left_goes fate (Doing.Nudge t now) = crashes n s is (left_log fate s) (left_area fate s) (inl (left_may_leave s fate))
+    refused_left_goes fate Doing.Turn = crashes n s is (left_log fate s) (left_area fate s) (inl (left_may_leave s fate))
+
+    crash_within_goes : (call : ℕ) (fate : Fate) (doing : Doing) (st : Stepped) → effect (setup_of w.config n) w.bag s doing ≡ st →
+        C (set_shard n (crashed_in s call fate doing st) w)
     unfolding crashed_in
-    crash_within_goes call fate doing (Refuses f) = crashes n s is (left_by_refused s fate doing)
-    crash_within_goes call fate doing (Does None memory out) = crashes n s is (read_log s)
-    crash_within_goes call fate doing (Does (Some r) memory out) = crashes n s is (read_log s ++ cond (is_left call fate) (r ∷ []) [])
+    crash_within_goes call fate doing (Refuses f) e = refused_left_goes fate doing
+    crash_within_goes call fate doing (Does None memory out) e =
+        crashes n s is (read_log s) (area_left_in call fate doing s) (none_left w n s doing call fate memory out e)
+    crash_within_goes call fate doing (Does (Some r) memory out) e =
+        let more : List Record = cond (is_left call fate) (r ∷ []) [] in
+        crashes n s is (read_log s ++ more) (with_records (read_area s) more) (some_left w n s doing r memory out e (is_left call fate))
 
   at_shard_goes : (n : ℕ) (f : Setup → ShardNow → After) → ((s : ShardNow) → slice_get w.shards n ≡ Some s → C (f (setup_of w.config n) s).0) →
       C (at_shard w n f).0
@@ -188,10 +214,11 @@ module _ (w : World) (C : World → Type 0) (same : C w)
   acts_go time (Act.Look n k at) may = at_shard_goes n (λ setup s. look_noted w k at (look_shard setup s k at)) (λ s is. looks n s is k at)
   acts_go time (Act.View n v k at) may = at_shard_goes n (λ setup s. look_noted w k at (look_at_view setup (slice_get s.views v) k at))
       (λ s is. views n s is v k at)
-  acts_go time (Act.Crash n) may = at_shard_goes n (λ setup s. (set_shard n (crashed s s.log) w, Reply.Crashed)) (λ s is. crashes n s is s.log)
+  acts_go time (Act.Crash n) may = at_shard_goes n (λ setup s. (set_shard n (crashed s s.log s.area) w, Reply.Crashed))
+      (λ s is. crashes n s is s.log s.area (inl (inl (refl, refl))))
   acts_go time (Act.CrashIn n call fate named doing) may =
       at_shard_goes n (λ setup s. (set_shard n (crashed_in s call fate doing (effect setup w.bag s doing)) w, Reply.Crashed))
-      (λ s is. crash_within_goes n s is call fate doing (effect (setup_of w.config n) w.bag s doing))
+      (λ s is. crash_within_goes n s is call fate doing (effect (setup_of w.config n) w.bag s doing) refl)
   acts_go time (Act.FailIn n call named doing) may =
       at_shard_goes n (λ setup s. did_with_failure w n s call doing (effect setup w.bag s doing))
       (λ s is. failing_goes n s is call doing (effect (setup_of w.config n) w.bag s doing) refl)

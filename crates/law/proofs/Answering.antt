@@ -31,7 +31,7 @@ use Rattle.protocol.proofs.InWay.{row_at}
 use Rattle.protocol.proofs.RowChanges.{row_as, find-with_row_same}
 use Rattle.law.specs.Among.{IsAmong}
 use Rattle.world.specs.Headline.{IsUnsure}
-use Rattle.world.specs.World.{World, ShardNow, View, State, Runs, IsStopped, IsDown, Unsure, setup_of}
+use Rattle.world.specs.World.{World, ShardNow, View, State, Runs, IsStopped, IsDown, Area, Unsure, setup_of}
 use Rattle.law.proofs.Members.{among_right}
 use Rattle.law.proofs.Fair.{AnswerFair, Answered, OfRow, OfLock}
 use Rattle.world.proofs.Sounds.{SoundLog, SoundShard}
@@ -162,9 +162,9 @@ module _ (n : ℕ) (t : Id) (k : Bytes) (e : ℕ) (x : Option Bytes) where
       (told_follows n t k e x) (told_logs n t k e x) (told_opens n t k e x) setup log
 
   -- of another shard nothing is said
-  apart_told : (setup : Setup) (log : List Record) (unsure : Unsure) (st : State) (views : List View) → (setup.shard ≡ n → ⊥) →
-      WellShard setup (shard_with log unsure st views) → ToldShard setup (shard_with log unsure st views)
-  apart_told setup log unsure (Runs m) views other h = record {
+  apart_told : (setup : Setup) (log : List Record) (area : Area) (unsure : Unsure) (st : State) (views : List View) → (setup.shard ≡ n → ⊥) →
+      WellShard setup (shard_with log area unsure st views) → ToldShard setup (shard_with log area unsure st views)
+  apart_told setup log area unsure (Runs m) views other h = record {
     left = λ l may. let z = h.left l may in record {
       memory = z.memory;
       sound = record { well = z.sound; held = λ q. absurd (other q) };
@@ -173,7 +173,7 @@ module _ (n : ℕ) (t : Id) (k : Bytes) (e : ℕ) (x : Option Bytes) where
     };
     state = (record { well = h.state.0; held = λ q. absurd (other q) }, h.state.1);
   }
-  apart_told setup log unsure (IsStopped m) views other h = record {
+  apart_told setup log area unsure (IsStopped m) views other h = record {
     left = λ l may. let z = h.left l may in record {
       memory = z.memory;
       sound = record { well = z.sound; held = λ q. absurd (other q) };
@@ -182,7 +182,7 @@ module _ (n : ℕ) (t : Id) (k : Bytes) (e : ℕ) (x : Option Bytes) where
     };
     state = tt;
   }
-  apart_told setup log unsure IsDown views other h = record {
+  apart_told setup log area unsure IsDown views other h = record {
     left = λ l may. let z = h.left l may in record {
       memory = z.memory;
       sound = record { well = z.sound; held = λ q. absurd (other q) };
@@ -193,10 +193,10 @@ module _ (n : ℕ) (t : Id) (k : Bytes) (e : ℕ) (x : Option Bytes) where
   }
 
   -- a running shard that holds the read
-  here_told : (setup : Setup) (log : List Record) (unsure : Unsure) (m : Memory) (views : List View) →
-      WellShard setup (shard_with log unsure (Runs m) views) → Held t k e x (facts_of log) m → (recorded (facts_of log) t ≡ Unrecorded) →
-      ToldShard setup (shard_with log unsure (Runs m) views)
-  here_told setup log unsure m views h held none = record {
+  here_told : (setup : Setup) (log : List Record) (area : Area) (unsure : Unsure) (m : Memory) (views : List View) →
+      WellShard setup (shard_with log area unsure (Runs m) views) → Held t k e x (facts_of log) m → (recorded (facts_of log) t ≡ Unrecorded) →
+      ToldShard setup (shard_with log area unsure (Runs m) views)
+  here_told setup log area unsure m views h held none = record {
     left = λ l may. elim may [
       | inl same ↦ subst (ToldLog setup) (sym same) (record {
         memory = m;
@@ -217,7 +217,7 @@ module _ (n : ℕ) (t : Id) (k : Bytes) (e : ℕ) (x : Option Bytes) where
       Held t k e x (facts_of s.log) m → recorded (facts_of s.log) t ≡ Unrecorded → KeptRead n t k e x w
   held_is_kept w s m well there runs held none j z at = elim (cases_eq j n) [
     | inl same ↦ by_place same
-    | inr other ↦ apart_told (setup_of w.config j) z.log z.unsure z.state z.views other (well j z at)
+    | inr other ↦ apart_told (setup_of w.config j) z.log z.area z.unsure z.state z.views other (well j z at)
   ]
     where
       some_shard : (a b : ShardNow) → Some a ≡ Some b → a ≡ b
@@ -228,9 +228,9 @@ module _ (n : ℕ) (t : Id) (k : Bytes) (e : ℕ) (x : Option Bytes) where
           let is : s ≡ z = some_shard s z (sym there ∙ subst (λ i. slice_get w.shards i ≡ Some z) same at) in
           subst (ToldShard (setup_of w.config j)) is (by_state s.state runs (subst (WellShard (setup_of w.config j)) (sym is) (well j z at)))
         where
-          by_state : (st : State) → st ≡ Runs m → WellShard (setup_of w.config j) (shard_with s.log s.unsure st s.views) →
-              ToldShard (setup_of w.config j) (shard_with s.log s.unsure st s.views)
-          by_state (Runs q) q_is h = here_told (setup_of w.config j) s.log s.unsure q s.views h
+          by_state : (st : State) → st ≡ Runs m → WellShard (setup_of w.config j) (shard_with s.log s.area s.unsure st s.views) →
+              ToldShard (setup_of w.config j) (shard_with s.log s.area s.unsure st s.views)
+          by_state (Runs q) q_is h = here_told (setup_of w.config j) s.log s.area s.unsure q s.views h
               (subst (Held t k e x (facts_of s.log)) (sym (memory_is q m q_is)) held) none
             where
               memory_is : (a b : Memory) → Runs a ≡ Runs b → a ≡ b

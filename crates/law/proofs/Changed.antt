@@ -36,8 +36,8 @@ use Rattle.law.specs.Acknowledged.{committed_to}
 use Rattle.law.specs.Among.{IsAmong}
 use Rattle.law.specs.Passes.{ShowsView, view_in}
 use Rattle.world.specs.Lawful.{may_act}
-use Rattle.world.specs.World.{World, ShardNow, View, State, Runs, IsStopped, IsDown, Unsure, shown_records, read_log, view_of, setup_of, finished}
-use Rattle.world.specs.World.{new_view, makes_view, crashed, failed_in, set_shard, set_client, put_out, acks_of, ack_of, commit_told, moved, answered}
+use Rattle.world.specs.World.{World, ShardNow, View, State, Runs, IsStopped, IsDown, Area, Unsure, shown_records, read_log, view_of, setup_of, finished}
+use Rattle.world.specs.World.{new_view, makes_view, crashed, failed_in, failed_turn, set_shard, set_client, put_out, acks_of, ack_of, commit_told, moved, answered}
 use Rattle.world.specs.World.{read_lines, look_noted, look_view, look_shard, look_at_view, begin, acts}
 use Rattle.world.specs.declared.event.Act.{Act}
 use Rattle.world.specs.declared.event.Doing.{Doing}
@@ -231,7 +231,7 @@ moved_changes : (w : World) (m : Moved) → (AllOnce w → OnceMoved m) → Chan
 moved_changes w (Denies f) h = unchanged w
 moved_changes w (Goes c out) h = put_changes w (set_client c w) out (set_client_changes w c h)
 
-heard_writes : (n : ℕ) (k : Bytes) (epoch : ℕ) (a : Answer) (c : Client) → (hears n k epoch a c).writes ≡ c.writes
+pub heard_writes : (n : ℕ) (k : Bytes) (epoch : ℕ) (a : Answer) (c : Client) → (hears n k epoch a c).writes ≡ c.writes
 unfolding hears
 heard_writes n k epoch a c = by_test (has_key c.awaited k && not (is_doomed c))
   where
@@ -402,9 +402,9 @@ set_changes w n old new there shows = record {
 some_view : (a b : View) → Some a ≡ Some b → a ≡ b
 some_view a b e = cc
 
-crashed_shows : (s : ShardNow) (log : List Record) (v : View) → ShowsView (crashed s log) v → ShowsView s v ⊎ RunsWith (crashed s log) v
-crashed_shows s log v (inl h) = inl (inl h)
-crashed_shows s log v (inr e) = cc
+crashed_shows : (s : ShardNow) (log : List Record) (area : Area) (v : View) → ShowsView (crashed s log area) v → ShowsView s v ⊎ RunsWith (crashed s log area) v
+crashed_shows s log area v (inl h) = inl (inl h)
+crashed_shows s log area v (inr e) = cc
 
 finished_shows : (s : ShardNow) (doing : Doing) (logged : Option Record) (m : Memory) (v : View) → ShowsView (finished s doing logged m) v →
     ShowsView s v ⊎ RunsWith (finished s doing logged m) v
@@ -422,20 +422,32 @@ finished_shows s doing logged m v (inl h) = elim (among_cases s.views (new_view 
     by_test false none = absurd none
 
 -- a shard that its device stops shows what it showed
-failed_shows : (setup : Setup) (log : List Record) (unsure : Unsure) (st : State) (views : List View) (call : ℕ) (r : Record) (v : View) →
-    WellShard setup (shard_with log unsure st views) →
-    ShowsView (failed_in (shard_with log unsure st views) call r) v → ShowsView (shard_with log unsure st views) v
-    ⊎ RunsWith (failed_in (shard_with log unsure st views) call r) v
+failed_shows : (setup : Setup) (log : List Record) (area : Area) (unsure : Unsure) (st : State) (views : List View) (call : ℕ) (r : Record) (v : View) →
+    WellShard setup (shard_with log area unsure st views) →
+    ShowsView (failed_in (shard_with log area unsure st views) call r) v → ShowsView (shard_with log area unsure st views) v
+    ⊎ RunsWith (failed_in (shard_with log area unsure st views) call r) v
 unfolding failed_in
-failed_shows setup log unsure st views call r v well (inl h) = inl (inl h)
-failed_shows setup log unsure (Runs m) views call r v well (inr e) =
+failed_shows setup log area unsure st views call r v well (inl h) = inl (inl h)
+failed_shows setup log area unsure (Runs m) views call r v well (inr e) =
     inl (inr (subst (λ l. Some (view_of (facts_of l) m) ≡ Some v) (ap (λ u. log ++ shown_records u) well.state.1 ∙ append-nil log) e))
-failed_shows setup log unsure (IsStopped m) views call r v well (inr e) = cc
-failed_shows setup log unsure IsDown views call r v well (inr e) = cc
+failed_shows setup log area unsure (IsStopped m) views call r v well (inr e) = cc
+failed_shows setup log area unsure IsDown views call r v well (inr e) = cc
+
+-- so does one whose turnover failed
+turn_failed_shows : (setup : Setup) (log : List Record) (area : Area) (unsure : Unsure) (st : State) (views : List View) (call : ℕ) (v : View) →
+    WellShard setup (shard_with log area unsure st views) →
+    ShowsView (failed_turn (shard_with log area unsure st views) call) v → ShowsView (shard_with log area unsure st views) v
+    ⊎ RunsWith (failed_turn (shard_with log area unsure st views) call) v
+unfolding failed_turn
+turn_failed_shows setup log area unsure st views call v well (inl h) = inl (inl h)
+turn_failed_shows setup log area unsure (Runs m) views call v well (inr e) =
+    inl (inr (subst (λ l. Some (view_of (facts_of l) m) ≡ Some v) (ap (λ u. log ++ shown_records u) well.state.1 ∙ append-nil log) e))
+turn_failed_shows setup log area unsure (IsStopped m) views call v well (inr e) = cc
+turn_failed_shows setup log area unsure IsDown views call v well (inr e) = cc
 
 module _ (w : World) (well : WellWorld w) (n : ℕ) (s : ShardNow) (there : slice_get w.shards n ≡ Some s) where
-  crash_changes : (log : List Record) → Changes w (set_shard n (crashed s log) w)
-  crash_changes log = set_changes w n s (crashed s log) there (crashed_shows s log)
+  crash_changes : (log : List Record) (area : Area) → Changes w (set_shard n (crashed s log area) w)
+  crash_changes log area = set_changes w n s (crashed s log area) there (crashed_shows s log area)
 
   -- ---- looks
 
@@ -512,9 +524,11 @@ acts_change w well =
     acts_go w (Changes w) (unchanged w) (λ t new. begin_changes w t)
     (λ c s there. moved_changes w (step_of w.config.splits s c) (λ all. stepped_once w.config.splits s c (all c there)))
     (λ c to a there named told. answered_changes w c a there)
-    (λ n s there log. set_changes w n s (crashed s log) there (crashed_shows s log))
+    (λ n s there log area left. set_changes w n s (crashed s log area) there (crashed_shows s log area))
     (λ n s there doing logged memory out is. put_changes w (set_shard n (finished s doing logged memory) w) out
     (set_changes w n s (finished s doing logged memory) there (finished_shows s doing logged memory)))
-    (λ n s there call r. set_changes w n s (failed_in s call r) there (λ v h. failed_shows
-    (setup_of w.config n) s.log s.unsure s.state s.views call r v (well n s there) h))
+    (λ n s there call doing r memory out is. set_changes w n s (failed_in s call r) there (λ v h. failed_shows
+    (setup_of w.config n) s.log s.area s.unsure s.state s.views call r v (well n s there) h))
+    (λ n s there call doing memory out turning is. set_changes w n s (failed_turn s call) there (λ v h. turn_failed_shows
+    (setup_of w.config n) s.log s.area s.unsure s.state s.views call v (well n s there) h))
     (look_changes w well) (λ n s there i k at. view_changes w well n s there i k at)

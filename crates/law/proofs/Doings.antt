@@ -24,7 +24,7 @@ use Rattle.protocol.specs.Rows.{Memory, Row, rebuilt, without_row, without_rows}
 use Rattle.protocol.specs.Plan.{time_limit, start_of_step, Plan, Planned, Change, Keeps, Ends, Drops, Puts, carried, after_change}
 use Rattle.protocol.specs.Step.{step_within, Stepped, Refuses, Does, plan_input, stepped}
 use Rattle.protocol.proofs.RowTable.{with_row-is}
-use Rattle.world.specs.World.{ShardNow, Runs, Unsure, Nothing, Shown, Hidden, read_log, shown_records, setup_of, step_of_opening, input_of, step_with}
+use Rattle.world.specs.World.{ShardNow, Runs, Unsure, Nothing, Shown, Hidden, TurnShown, TurnHidden, read_log, shown_records, setup_of, step_of_opening, input_of, step_with}
 use Rattle.world.specs.Lawful.{goes_to, may_do}
 use Rattle.world.specs.declared.event.Doing.{Doing}
 use Rattle.law.specs.Among.{IsAmong}
@@ -131,6 +131,7 @@ given sc n (Doing.Settle t now) h = let p = honest_given sc now h in (tt, p.0, p
 given sc n (Doing.Advance at now) h = let p = honest_given sc now (and_parts _ _ h).0 in (tt, p.0, p.1)
 given sc n (Doing.Forget at now) h = let p = honest_given sc now (and_parts _ _ h).0 in (tt, p.0, p.1)
 given sc n (Doing.Nudge t now) h = let p = honest_given sc now h in (tt, p.0, p.1)
+given sc n Doing.Turn h = tt
 given sc n Doing.Open h = tt
 
 -- ---- a doing of a shard
@@ -178,6 +179,8 @@ module _ (sc : Scene) (h : Holds sc) (n : ℕ) (s : ShardNow) (there : slice_get
       is_unsure (Shown q) (inl same) = same
       is_unsure (Shown q) (inr none) = absurd none
       is_unsure (Hidden q) none = absurd none
+      is_unsure (TurnShown other) none = absurd none
+      is_unsure (TurnHidden other) none = absurd none
 
   -- an opening
   pub opening_evidence : SteppedEvidence sc n (read_log s) (step_of_opening (facts_of (read_log s)))

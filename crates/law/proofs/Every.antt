@@ -98,7 +98,7 @@ module _ (sc : Scene) (h : Holds sc) (steady : IsSteady sc.world) (present : sli
       (λ s there. look_holds sc k at (look_shard (setup_of sc.world.config n) s k at) h)
   acts_hold (Act.View n v k at) may = at_shard_holds n (λ setup s. look_noted sc.world k at (look_at_view setup (slice_get s.views v) k at))
       (λ s there. look_holds sc k at (look_at_view (setup_of sc.world.config n) (slice_get s.views v) k at) h)
-  acts_hold (Act.Crash n) may = at_shard_holds n (λ setup s. (set_shard n (crashed s s.log) sc.world, Reply.Crashed))
+  acts_hold (Act.Crash n) may = at_shard_holds n (λ setup s. (set_shard n (crashed s s.log s.area) sc.world, Reply.Crashed))
       (λ s there. plain_crash_holds sc h steady present n s there)
   acts_hold (Act.CrashIn n call fate named doing) may =
       at_shard_holds n (λ setup s. (set_shard n (crashed_in s call fate doing (effect setup sc.world.bag s doing)) sc.world, Reply.Crashed))

@@ -12,7 +12,7 @@ use Rattle.units.specs.declared.setup.Setup.{Setup}
 use Rattle.units.proofs.IdLaws.{same_id-is, same_id-refl}
 use Rattle.units.proofs.ByIdLaws.{first_passes}
 use Rattle.truetime.specs.Interval.{Interval}
-use Rattle.record.specs.Accepted.{Accepted, taken, followed}
+use Rattle.record.specs.Accepted.{followed}
 use Rattle.record.specs.Facts.{Facts, facts_of, learn}
 use Rattle.record.specs.Installs.{installs_of}
 use Rattle.record.specs.Records.{Ended, StandsPrepared, StandsDecided, as_ended, is_aborted, committed_of, prepared_of, ended_of, status_by, status_of}
@@ -29,8 +29,8 @@ use Rattle.protocol.specs.Sound.{IsSound, Agrees}
 use Rattle.protocol.specs.Step.{plan_input, facts_after, IsInLimit}
 use Rattle.law.specs.Among.{IsAmong}
 use Rattle.world.specs.Headline.{IsUnsure}
-use Rattle.world.specs.World.{World, ShardNow, View, State, Runs, IsStopped, IsDown, Unsure, setup_of, view_of}
-use Rattle.world.proofs.Openings.{opening_taken, opening_follows}
+use Rattle.world.specs.World.{World, ShardNow, View, State, Runs, IsStopped, IsDown, Area, Unsure, setup_of, view_of}
+use Rattle.world.proofs.Openings.{opening_follows}
 use Rattle.protocol.proofs.RowChanges.{by_id-claims}
 use Rattle.law.proofs.Orderly.{IsOrderly, orderly, same_claim, one_decision, one_promise, decided_not_promised}
 use Rattle.law.proofs.Picked.{gather_among, map_among}
@@ -238,9 +238,9 @@ KeptShard n v setup s = SoundShard InLimit (Serves n v) (Shows n v) (serves_keep
     (shows_opens n v) setup s
 
 -- the shard of a view is another
-apart_kept : (n : ℕ) (v : View) (setup : Setup) (log : List Record) (unsure : Unsure) (st : State) (views : List View) → (setup.shard ≡ n → ⊥) →
-    WellShard setup (shard_with log unsure st views) → KeptShard n v setup (shard_with log unsure st views)
-apart_kept n v setup log unsure (Runs m) views other h = record {
+apart_kept : (n : ℕ) (v : View) (setup : Setup) (log : List Record) (area : Area) (unsure : Unsure) (st : State) (views : List View) → (setup.shard ≡ n → ⊥) →
+    WellShard setup (shard_with log area unsure st views) → KeptShard n v setup (shard_with log area unsure st views)
+apart_kept n v setup log area unsure (Runs m) views other h = record {
   left = λ l may. let x = h.left l may in record {
     memory = x.memory;
     sound = record { well = x.sound; served = λ e. absurd (other e) };
@@ -249,7 +249,7 @@ apart_kept n v setup log unsure (Runs m) views other h = record {
   };
   state = (record { well = h.state.0; served = λ e. absurd (other e) }, h.state.1);
 }
-apart_kept n v setup log unsure (IsStopped m) views other h = record {
+apart_kept n v setup log area unsure (IsStopped m) views other h = record {
   left = λ l may. let x = h.left l may in record {
     memory = x.memory;
     sound = record { well = x.sound; served = λ e. absurd (other e) };
@@ -258,7 +258,7 @@ apart_kept n v setup log unsure (IsStopped m) views other h = record {
   };
   state = tt;
 }
-apart_kept n v setup log unsure IsDown views other h = record {
+apart_kept n v setup log area unsure IsDown views other h = record {
   left = λ l may. let x = h.left l may in record {
     memory = x.memory;
     sound = record { well = x.sound; served = λ e. absurd (other e) };
@@ -280,12 +280,12 @@ shown_now setup log m well e = record {
   same = λ k at low. refl;
 }
 
-running_kept : (n : ℕ) (setup : Setup) (log : List Record) (unsure : Unsure) (st : State) (views : List View) (m : Memory) → st ≡ Runs m →
-    WellShard setup (shard_with log unsure st views) →
-    KeptShard n (view_of (facts_of log) m) setup (shard_with log unsure st views)
-running_kept n setup log unsure (IsStopped q) views m e h = cc
-running_kept n setup log unsure IsDown views m e h = cc
-running_kept n setup log unsure (Runs q) views m e h = record {
+running_kept : (n : ℕ) (setup : Setup) (log : List Record) (area : Area) (unsure : Unsure) (st : State) (views : List View) (m : Memory) → st ≡ Runs m →
+    WellShard setup (shard_with log area unsure st views) →
+    KeptShard n (view_of (facts_of log) m) setup (shard_with log area unsure st views)
+running_kept n setup log area unsure (IsStopped q) views m e h = cc
+running_kept n setup log area unsure IsDown views m e h = cc
+running_kept n setup log area unsure (Runs q) views m e h = record {
   left = λ l may. elim may [
     | inl same ↦ subst (SoundLog InLimit (Serves n (view_of (facts_of log) m)) (Shows n (view_of (facts_of log) m))
         (serves_keeps n (view_of (facts_of log) m)) (serves_opens n (view_of (facts_of log) m)) (shows_follows n (view_of (facts_of log) m))
@@ -322,7 +322,7 @@ present_is_kept w n v well present = subst (λ z. KeptView n z w) present.is by_
     by_place : KeptView n (view_of (facts_of present.shard.log) present.memory) w
     by_place k s there = elim (cases_eq k n) [
       | inl same ↦ here k s there (some_shard s present.shard (sym there ∙ subst (λ j. slice_get w.shards j ≡ Some present.shard) (sym same) present.there))
-      | inr other ↦ apart_kept n (view_of (facts_of present.shard.log) present.memory) (setup_of w.config k) s.log s.unsure s.state s.views other
+      | inr other ↦ apart_kept n (view_of (facts_of present.shard.log) present.memory) (setup_of w.config k) s.log s.area s.unsure s.state s.views other
           (well k s there)
     ]
       where
@@ -330,5 +330,5 @@ present_is_kept w n v well present = subst (λ z. KeptView n z w) present.is by_
             KeptShard n (view_of (facts_of present.shard.log) present.memory) (setup_of w.config j) x
         here j x at same =
             subst (λ (z : ShardNow). KeptShard n (view_of (facts_of z.log) present.memory) (setup_of w.config j) x) same
-            (running_kept n (setup_of w.config j) x.log x.unsure x.state x.views present.memory (ap (λ (z : ShardNow). z.state) same ∙ present.runs)
+            (running_kept n (setup_of w.config j) x.log x.area x.unsure x.state x.views present.memory (ap (λ (z : ShardNow). z.state) same ∙ present.runs)
             (well j x at))

@@ -10,7 +10,7 @@ use Rattle.units.specs.declared.lock.Lock.{Lock}
 use Rattle.units.specs.declared.setup.Setup.{Setup}
 use Rattle.units.specs.declared.writes.Write.{Write}
 use Rattle.truetime.specs.Interval.{Interval}
-use Rattle.record.specs.Accepted.{Accepted, taken, followed}
+use Rattle.record.specs.Accepted.{followed}
 use Rattle.record.specs.Facts.{TxnStatus, Facts, facts_of, learn}
 use Rattle.record.specs.Installs.{installs_of}
 use Rattle.record.specs.Records.{Status, Unrecorded, StandsPrepared, StandsDecided, HasAborted, HasSettled, HasClosed}
@@ -23,7 +23,6 @@ use Rattle.protocol.specs.Step.{plan_input, facts_after, IsInLimit}
 use Rattle.protocol.proofs.InWay.{row_at}
 use Rattle.law.specs.Among.{IsAmong}
 use Rattle.world.specs.World.{World}
-use Rattle.world.proofs.Openings.{opening_taken}
 use Rattle.law.proofs.Recorded.{among_first, among_gather}
 use Rattle.law.proofs.Fair.{Fair, IsFairInput, PlanFair, fairly, reads_of}
 use Rattle.world.proofs.Sounds.{SoundWorld}

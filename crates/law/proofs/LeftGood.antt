@@ -7,7 +7,6 @@ use Rattle.truetime.specs.Interval.{Interval}
 use Rattle.record.specs.Accepted.{followed}
 use Rattle.record.specs.Facts.{Facts, facts_of, learn}
 use Rattle.record.specs.declared.record.Record.{Record}
-use Rattle.record.proofs.LearnAgrees.{accepted_follows}
 use Rattle.message.specs.declared.message.Address.{Address}
 use Rattle.message.specs.declared.message.Address.TheVariants.{Shard, Session}
 use Rattle.message.specs.declared.message.Envelope.{Envelope}
@@ -24,7 +23,6 @@ use Rattle.world.specs.declared.event.Doing.{Doing}
 use Rattle.world.specs.declared.event.Event.{Event}
 use Rattle.world.proofs.EveryRun.{InLimit, IsWell, IsTaken, keeps, opening_keeps, opens, logs, always_well, in_limit, taken_follows}
 use Rattle.law.proofs.Logged.{AreLogged, each_logged}
-use Rattle.world.proofs.Openings.{opening_taken}
 use Rattle.world.proofs.Sounds.{ActAllowed, DoingAllowed, SoundWorld, left_good, logged_good}
 use Rattle.world.proofs.Untouched.{run_settings}
 use Rattle.law.proofs.Instants.{last_may}

@@ -2,6 +2,9 @@ pub mod Accepts
 pub mod Acts
 pub mod AllWhole
 pub mod Answering
+pub mod Areas
+pub mod AreasAscend
+pub mod AreasOwn
 pub mod Changed
 pub mod Changes
 pub mod Closings
@@ -10,6 +13,7 @@ pub mod Doings
 pub mod Every
 pub mod Fair
 pub mod Grows
+pub mod HasAreas
 pub mod HeldRead
 pub mod Homes
 pub mod InHistory

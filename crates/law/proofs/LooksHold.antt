@@ -32,7 +32,6 @@ use Rattle.law.proofs.Decisions.{log_in-is, there_in}
 use Rattle.law.proofs.Doings.{get_among}
 use Rattle.law.proofs.Homes.{log_in, log_logged, evidence}
 use Rattle.law.proofs.Instants.{Moment, moment}
-use Rattle.world.proofs.Openings.{opening_taken}
 use Rattle.law.proofs.Orderly.{orderly}
 use Rattle.law.proofs.Recorded.{among_first, among_keep}
 use Rattle.world.proofs.Sounds.{ActAllowed, acts_sound}

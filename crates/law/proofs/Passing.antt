@@ -17,7 +17,7 @@ use Rattle.message.specs.declared.message.ReadAnswer.{ReadAnswer}
 use Rattle.protocol.specs.Rows.{Memory, Row, find_row}
 use Rattle.world.specs.Headline.{MayBeLeft}
 use Rattle.world.specs.Lawful.{lawful, may_act}
-use Rattle.world.specs.World.{World, View, State, Unsure, Runs, IsStopped, IsDown, setup_of, start, run}
+use Rattle.world.specs.World.{World, View, State, Area, Unsure, Runs, IsStopped, IsDown, setup_of, start, run}
 use Rattle.world.specs.declared.event.Config.{Config}
 use Rattle.world.specs.declared.event.Event.{Event}
 use Rattle.world.proofs.EveryRun.{always_well, is_steady, shard_with}
@@ -180,24 +180,24 @@ module _ (config : Config) (es : List Event) (ls : List (List Record)) (fair : l
 
   while_open : HeldWhileOpen (run config es) a x
   unfolding facts_of
-  while_open s q row there runs epoch found opened = by_state s.log s.unsure s.state s.views runs epoch (kept a.from s there)
+  while_open s q row there runs epoch found opened = by_state s.log s.area s.unsure s.state s.views runs epoch (kept a.from s there)
     where
-      by_state : (log : List Record) (unsure : Unsure) (st : State) (views : List View) → st ≡ Runs q → (facts_of log).epoch ≡ a.epoch →
+      by_state : (log : List Record) (area : Area) (unsure : Unsure) (st : State) (views : List View) → st ≡ Runs q → (facts_of log).epoch ≡ a.epoch →
           SoundShard (IsAllowed a.from a.txn a.key a.epoch x) (Tells a.from a.txn a.key a.epoch x) (Right a.from a.txn a.key a.epoch x)
           (tells_keeps a.from a.txn a.key a.epoch x) (tells_opens a.from a.txn a.key a.epoch x)
           (told_follows a.from a.txn a.key a.epoch x) (told_logs a.from a.txn a.key a.epoch x) (told_opens a.from a.txn a.key a.epoch x)
-          (setup_of (run config es).config a.from) (shard_with log unsure st views) → IsHeld (shard_with log unsure st views) row a.key x
-      by_state log unsure (IsStopped z) views is now h = cc
-      by_state log unsure IsDown views is now h = cc
-      by_state log unsure (Runs z) views is now h = by_held (h.state.0.held refl).held
+          (setup_of (run config es).config a.from) (shard_with log area unsure st views) → IsHeld (shard_with log area unsure st views) row a.key x
+      by_state log area unsure (IsStopped z) views is now h = cc
+      by_state log area unsure IsDown views is now h = cc
+      by_state log area unsure (Runs z) views is now h = by_held (h.state.0.held refl).held
         where
           found_there : find_row z.rows a.txn ≡ Some row
           found_there = ap (λ (y : Memory). find_row y.rows a.txn) (memory_is z q is) ∙ found
 
-          by_held : ((facts_of log).epoch ≡ a.epoch → HeldIs a.txn a.key a.epoch x (facts_of log) z) → IsHeld (shard_with log unsure (Runs z) views) row a.key x
+          by_held : ((facts_of log).epoch ≡ a.epoch → HeldIs a.txn a.key a.epoch x (facts_of log) z) → IsHeld (shard_with log area unsure (Runs z) views) row a.key x
           by_held told = by_case (told now)
             where
-              by_case : HeldIs a.txn a.key a.epoch x (facts_of log) z → IsHeld (shard_with log unsure (Runs z) views) row a.key x
+              by_case : HeldIs a.txn a.key a.epoch x (facts_of log) z → IsHeld (shard_with log area unsure (Runs z) views) row a.key x
               by_case (Reads r at open_there holding value) = record {
                 held = subst (λ (y : Row). holds y.held a.key ≡ true) (some_row r row (sym at ∙ found_there)) holding;
                 value = value;

@@ -24,7 +24,7 @@ use Rattle.message.specs.declared.message.ReadAnswer.{ReadAnswer}
 use Rattle.protocol.specs.Rows.{Memory, find_row}
 use Rattle.law.specs.Among.{IsAmong}
 use Rattle.world.specs.Lawful.{lawful, lawful_from, may_act, may_do, may_happen, may_crash, goes_to}
-use Rattle.world.specs.World.{World, State, Unsure, View, Runs, IsStopped, IsDown, setup_of, start, run, run_from, happens}
+use Rattle.world.specs.World.{World, State, Area, Unsure, View, Runs, IsStopped, IsDown, setup_of, start, run, run_from, happens}
 use Rattle.world.specs.declared.event.Act.{Act}
 use Rattle.world.specs.declared.event.Config.{Config}
 use Rattle.world.specs.declared.event.Doing.{Doing}
@@ -165,6 +165,7 @@ module _ (to : Address) (a : ReadAnswer) (x : Option Bytes) (holds : a.answer �
       }) same
   doing_allowed w time n (Doing.Nudge u now) within may p same = given (setup_of w.config n) now (Input.Nudge u) p
       (record { limit = tt; fair = λ here. tt }) same
+  doing_allowed w time n Doing.Turn within may p same = cc
   doing_allowed w time n Doing.Open within may p same = cc
 
   pub act_allowed : (w : World) (time : ℕ) (act : Act) → ((z : Envelope) → IsAmong w.bag z → IsAmong all z) → may_act w time act ≡ true →
@@ -200,17 +201,17 @@ module _ (to : Address) (a : ReadAnswer) (x : Option Bytes) (holds : a.answer �
   now_kept : (w : World) → WellWorld w → HoldsNow w a x → KeptRead a.from a.txn a.key a.epoch x w
   now_kept w well now =
       held_is_kept a.from a.txn a.key a.epoch x w now.shard now.holds.memory well now.there now.holds.runs now.holds.held
-      (by_state now.shard.log now.shard.unsure now.shard.state now.shard.views now.holds.runs (well a.from now.shard now.there))
+      (by_state now.shard.log now.shard.area now.shard.unsure now.shard.state now.shard.views now.holds.runs (well a.from now.shard now.there))
     where
-      by_state : (log : List Record) (unsure : Unsure) (st : State) (views : List View) → st ≡ Runs now.holds.memory →
-          WellShard (setup_of w.config a.from) (shard_with log unsure st views) → recorded (facts_of log) a.txn ≡ Unrecorded
-      by_state log unsure (Runs m) views is h = open_unrecorded a.from (facts_of log) m a.txn now.holds.row h.state.0.sound
+      by_state : (log : List Record) (area : Area) (unsure : Unsure) (st : State) (views : List View) → st ≡ Runs now.holds.memory →
+          WellShard (setup_of w.config a.from) (shard_with log area unsure st views) → recorded (facts_of log) a.txn ≡ Unrecorded
+      by_state log area unsure (Runs m) views is h = open_unrecorded a.from (facts_of log) m a.txn now.holds.row h.state.0.sound
           (ap (λ (z : Memory). find_row z.rows a.txn) (memory_is m now.holds.memory is) ∙ now.holds.found) now.holds.opened
         where
           memory_is : (p q : Memory) → Runs p ≡ Runs q → p ≡ q
           memory_is p q r = cc
-      by_state log unsure (IsStopped m) views is h = cc
-      by_state log unsure IsDown views is h = cc
+      by_state log area unsure (IsStopped m) views is h = cc
+      by_state log area unsure IsDown views is h = cc
 
   pub run_keeps_read : (config : Config) (w : World) (es : List Event) → lawful_from w es ≡ true → IsKept config w →
       ((z : Envelope) → IsAmong (run_from w es).bag z → IsAmong all z) →

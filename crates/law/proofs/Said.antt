@@ -29,7 +29,7 @@ use Rattle.session.specs.Sessions.{epochs_agree, closes, gives_up, with_write, w
 use Rattle.session.specs.Sessions.{closing_messages, messages_for, prepare_for, parts_of, shards_told, begun}
 use Rattle.session.specs.declared.answered.Answered.{Answered as Taken}
 use Rattle.law.specs.Among.{IsAmong}
-use Rattle.world.specs.World.{World, ShardNow, setup_of, effect, finished, crashed, failed_in, set_shard, client_of, set_client, put_out, acks_of}
+use Rattle.world.specs.World.{World, ShardNow, setup_of, effect, finished, crashed, failed_in, failed_turn, set_shard, client_of, set_client, put_out, acks_of}
 use Rattle.world.specs.World.{ack_of, commit_told, moved, answered, read_lines, look_noted, look_shard, look_at_view, begin, acts}
 use Rattle.world.specs.declared.event.Act.{Act}
 use Rattle.world.specs.declared.event.Doing.{Doing}
@@ -544,6 +544,8 @@ acts_say w well =
     acts_go w (Says w) (silent w) (begin_says w)
     (λ c s there. moved_says w c (step_of w.config.splits s c) there (stepped_says w.config.splits s c))
     (answered_says w)
-    (λ n s there log. set_says w n (crashed s log)) (does_says w well) (λ n s there call r. set_says w n (failed_in s call r))
+    (λ n s there log area left. set_says w n (crashed s log area)) (does_says w well)
+    (λ n s there call doing r memory out is. set_says w n (failed_in s call r))
+    (λ n s there call doing memory out turning is. set_says w n (failed_turn s call))
     (λ n s there k at. noted_says w k at (look_shard (setup_of w.config n) s k at))
     (λ n s there i k at. noted_says w k at (look_at_view (setup_of w.config n) (slice_get s.views i) k at))

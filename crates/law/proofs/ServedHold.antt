@@ -20,7 +20,7 @@ use Rattle.protocol.specs.Rows.{Memory, safe}
 use Rattle.protocol.specs.Step.{plan_input, facts_after, IsInLimit}
 use Rattle.world.specs.Headline.{MayLeaveLog, IsUnsure}
 use Rattle.world.specs.Lawful.{lawful, lawful_from, may_happen}
-use Rattle.world.specs.World.{World, ShardNow, State, Unsure, View, Runs, IsStopped, IsDown, setup_of, start, run, run_from, happens}
+use Rattle.world.specs.World.{World, ShardNow, State, Area, Unsure, View, Runs, IsStopped, IsDown, setup_of, start, run, run_from, happens}
 use Rattle.world.specs.declared.event.Config.{Config}
 use Rattle.world.specs.declared.event.Event.{Event}
 use Rattle.world.proofs.EveryRun.{InLimit, WellWorld, in_limit, shard_with}
@@ -125,11 +125,11 @@ StaysShard n v base setup s = SoundShard InLimit (Serves n v) (Stays n v base) (
     (stays_logs n v base) (stays_opens n v base) setup s
 
 -- a view is kept, and each log that a crash may leave has grown
-with_grown : (n : ℕ) (v : View) (base : List Record) (setup : Setup) (log : List Record) (unsure : Unsure) (st : State) (views : List View) →
-    KeptShard n v setup (shard_with log unsure st views) →
-    ((l : List Record) → MayLeaveLog (shard_with log unsure st views) l → setup.shard ≡ n → IsAboveServed base l v.safe) →
-    StaysShard n v base setup (shard_with log unsure st views)
-with_grown n v base setup log unsure (Runs m) views kept grown = record {
+with_grown : (n : ℕ) (v : View) (base : List Record) (setup : Setup) (log : List Record) (area : Area) (unsure : Unsure) (st : State) (views : List View) →
+    KeptShard n v setup (shard_with log area unsure st views) →
+    ((l : List Record) → MayLeaveLog (shard_with log area unsure st views) l → setup.shard ≡ n → IsAboveServed base l v.safe) →
+    StaysShard n v base setup (shard_with log area unsure st views)
+with_grown n v base setup log area unsure (Runs m) views kept grown = record {
   left = λ l may. let x = kept.left l may in record {
     memory = x.memory;
     sound = x.sound;
@@ -137,7 +137,7 @@ with_grown n v base setup log unsure (Runs m) views kept grown = record {
   };
   state = kept.state;
 }
-with_grown n v base setup log unsure (IsStopped m) views kept grown = record {
+with_grown n v base setup log area unsure (IsStopped m) views kept grown = record {
   left = λ l may. let x = kept.left l may in record {
     memory = x.memory;
     sound = x.sound;
@@ -145,7 +145,7 @@ with_grown n v base setup log unsure (IsStopped m) views kept grown = record {
   };
   state = tt;
 }
-with_grown n v base setup log unsure IsDown views kept grown = record {
+with_grown n v base setup log area unsure IsDown views kept grown = record {
   left = λ l may. let x = kept.left l may in record {
     memory = x.memory;
     sound = x.sound;
@@ -181,7 +181,7 @@ module _ (w : World) (n : ℕ) (v : View) (well : WellWorld w) (p : IsPresent w 
 
   present_stays : StaysView n v p.shard.log w
   present_stays k s there =
-      with_grown n v p.shard.log (setup_of w.config k) s.log s.unsure s.state s.views (present_is_kept w n v well p k s there) (grown_now k s there)
+      with_grown n v p.shard.log (setup_of w.config k) s.log s.area s.unsure s.state s.views (present_is_kept w n v well p k s there) (grown_now k s there)
 
 -- ---- in a run
 
@@ -256,7 +256,7 @@ module _ (w : World) (n : ℕ) (v : View) (base : List Record) (kept : KeptView 
       ])
 
   stays_from : StaysView n v s.log w
-  stays_from k x at = with_grown n v s.log (setup_of w.config k) x.log x.unsure x.state x.views (kept k x at) (grown_on k x at)
+  stays_from k x at = with_grown n v s.log (setup_of w.config k) x.log x.area x.unsure x.state x.views (kept k x at) (grown_on k x at)
 
 pub served_is_below : ServedIsBelow
 unfolding run lawful

@@ -1,5 +1,5 @@
 -- What happens at a shard, crashes and failures with it, keeps something behind all that there is.
-use Rattle.std.proofs.Common.{◌≡◌, inl, inr, ℕ, Bool, true, false, cond, nat_lt, List, [], ◌∷◌, ◌++◌, Option, Some, None, slice_get, refl}
+use Rattle.std.proofs.Common.{◌≡◌, inl, inr, ℕ, Bool, true, false, cond, ◌&&◌, nat_lt, List, [], ◌∷◌, ◌++◌, Option, Some, None, slice_get, refl}
 use Rattle.std.proofs.Common.{sym, ap, subst, ◌∙◌, arith, option_to_list}
 use Rattle.std.proofs.lemmas.List.{append-nil}
 use Rattle.units.specs.declared.fault.Fault.{Fault}
@@ -15,16 +15,18 @@ use Rattle.message.specs.declared.message.Input.{Input}
 use Rattle.message.specs.declared.message.Message.{Message}
 use Rattle.protocol.specs.Rows.{Memory}
 use Rattle.protocol.specs.Step.{Stepped, Refuses, Does}
-use Rattle.gatelog.specs.Frames.{end_of}
 use Rattle.gatelog.specs.Gates.{is_left, is_read, opens_gate}
-use Rattle.world.specs.World.{After, ShardNow, State, Runs, IsStopped, IsDown, Unsure, Nothing, Shown, Hidden, shown_records, read_log, setup_of}
+use Rattle.world.specs.World.{is_left_turn, is_read_turn}
+use Rattle.world.specs.World.{After, ShardNow, State, Runs, IsStopped, IsDown, Area, Unsure, Nothing, Shown, Hidden, TurnShown, TurnHidden, shown_records}
+use Rattle.world.specs.World.{read_area, read_log, setup_of, area_left_in, failed_turn, gate_of, has_place, left_area, new_area, step_of_turnover, turns}
+use Rattle.world.specs.World.{with_records}
 use Rattle.world.specs.World.{step_of_opening, input_of, step_with, effect, wanted, where_room, has_room, finished, crashed, crashed_in, failed_in}
 use Rattle.world.specs.World.{left_of, left_unsure}
 use Rattle.world.specs.World.{left_by_refused, stopped, set_shard, did, did_with_failure, refused_doing, refused}
 use Rattle.world.specs.declared.event.Doing.{Doing}
 use Rattle.world.specs.declared.event.Reply.{Reply}
 use Rattle.law.specs.Among.{IsAmong}
-use Rattle.law.specs.Evidence.{Scene, log_at, RecordEvidence, StateEvidence, ShardEvidence, Told, MessageEvidence, Holds}
+use Rattle.law.specs.Evidence.{Scene, log_at, RecordEvidence, RowsEvidence, StateEvidence, ShardEvidence, Told, MessageEvidence, Holds}
 use Rattle.world.specs.Headline.{IsUnsure}
 use Rattle.world.specs.Steady.{IsSteady}
 use Rattle.law.proofs.Members.{among_left, among_cases}
@@ -59,9 +61,13 @@ module _ (sc : Scene) (h : Holds sc) (steady : IsSteady sc.world) (present : sli
   shown_unsure (Shown q) r (inl same) = same
   shown_unsure (Shown q) r (inr none) = absurd none
   shown_unsure (Hidden q) r k = absurd k
+  shown_unsure (TurnShown other) r k = absurd k
+  shown_unsure (TurnHidden other) r k = absurd k
 
   left_is_unsure : (fate : Fate) (u : Unsure) (r : Record) → IsAmong (left_of fate u) r → IsUnsure u r
   left_is_unsure fate Nothing r k = absurd k
+  left_is_unsure fate (TurnShown other) r k = absurd k
+  left_is_unsure fate (TurnHidden other) r k = absurd k
   left_is_unsure fate (Shown q) r k = by_test (opens_gate fate) k
     where
       by_test : (b : Bool) → IsAmong (cond b (q ∷ []) []) r → q ≡ r
@@ -110,6 +116,19 @@ module _ (sc : Scene) (h : Holds sc) (steady : IsSteady sc.world) (present : sli
   running o heard (IsStopped m) is = tt
   running o heard IsDown is = tt
 
+  -- a turnover
+  turned_over : (st : State) → s.state ≡ st →
+      SteppedEvidence sc n (read_log s) (elim st as (λ x. Stepped) [ Runs m ↦ step_of_turnover s m | _ ↦ Refuses Stopped ])
+  turned_over (IsStopped m) is = tt
+  turned_over IsDown is = tt
+  turned_over (Runs m) is = by_test (has_place (read_area s).slot (new_area s))
+    where
+      by_test : (b : Bool) → SteppedEvidence sc n (read_log s) (cond b (Does None m []) (Refuses TimeSpent))
+      by_test false = tt
+      by_test true =
+          let state : StateEvidence sc s n (Runs m) = subst (λ x. StateEvidence sc s n x) is (h.shards n s there).state in
+          record { rests = tt; rows = subst (λ l. RowsEvidence sc l n m.rows) (sym (no_more state.1)) state.0; told = tt }
+
   wanted_evidence : (doing : Doing) → Given sc n (input_of sc.world.bag doing) → SteppedEvidence sc n (read_log s)
       (wanted (setup_of sc.world.config n) sc.world.bag s doing)
   unfolding wanted
@@ -126,6 +145,7 @@ module _ (sc : Scene) (h : Holds sc) (steady : IsSteady sc.world) (present : sli
   wanted_evidence (Doing.Advance at now) heard = running (input_of sc.world.bag (Doing.Advance at now)) heard s.state refl
   wanted_evidence (Doing.Forget at now) heard = running (input_of sc.world.bag (Doing.Forget at now)) heard s.state refl
   wanted_evidence (Doing.Nudge t now) heard = running (input_of sc.world.bag (Doing.Nudge t now)) heard s.state refl
+  wanted_evidence Doing.Turn heard = turned_over s.state refl
 
   by_room : (gate : ℕ) (st : Stepped) → SteppedEvidence sc n (read_log s) st → SteppedEvidence sc n (read_log s) (where_room gate st)
   by_room gate (Refuses f) k = tt
@@ -139,7 +159,7 @@ module _ (sc : Scene) (h : Holds sc) (steady : IsSteady sc.world) (present : sli
   pub effect_evidence : (doing : Doing) → Given sc n (input_of sc.world.bag doing) → SteppedEvidence sc n (read_log s)
       (effect (setup_of sc.world.config n) sc.world.bag s doing)
   unfolding effect
-  effect_evidence doing heard = by_room (end_of (read_log s)) (wanted (setup_of sc.world.config n) sc.world.bag s doing) (wanted_evidence doing heard)
+  effect_evidence doing heard = by_room (gate_of (read_area s)) (wanted (setup_of sc.world.config n) sc.world.bag s doing) (wanted_evidence doing heard)
 
   -- ---- the shard after it
 
@@ -178,23 +198,24 @@ module _ (sc : Scene) (h : Holds sc) (steady : IsSteady sc.world) (present : sli
     );
   }
 
-  crashed_evidence : (log : List Record) → ((r : Record) → IsAmong log r → RecordEvidence sc log n r) → ShardEvidence sc n (crashed s log)
-  crashed_evidence log records = record { records = records; unsure = λ r none. absurd none; state = tt }
+  crashed_evidence : (log : List Record) (area : Area) → ((r : Record) → IsAmong log r → RecordEvidence sc log n r) →
+      ShardEvidence sc n (crashed s log area)
+  crashed_evidence log area records = record { records = records; unsure = λ r none. absurd none; state = tt }
 
-  crash_holds : (log : List Record) → Within s.log log → ((r : Record) → IsAmong log r → RecordEvidence sc log n r) →
-      Holds (with_world sc (set_shard n (crashed s log) sc.world))
-  crash_holds log within records = set_holds sc n s (crashed s log) there within (crashed_evidence log records) h
+  crash_holds : (log : List Record) (area : Area) → Within s.log log → ((r : Record) → IsAmong log r → RecordEvidence sc log n r) →
+      Holds (with_world sc (set_shard n (crashed s log area) sc.world))
+  crash_holds log area within records = set_holds sc n s (crashed s log area) there within (crashed_evidence log area records) h
 
-  read_crash_holds : Holds (with_world sc (set_shard n (crashed s (read_log s)) sc.world))
-  read_crash_holds = crash_holds (read_log s) read_within (λ r k. in_log (read_log s) read_within r (read_known r k))
+  read_crash_holds : (area : Area) → Holds (with_world sc (set_shard n (crashed s (read_log s) area) sc.world))
+  read_crash_holds area = crash_holds (read_log s) area read_within (λ r k. in_log (read_log s) read_within r (read_known r k))
 
-  pub plain_crash_holds : Holds (with_world sc (set_shard n (crashed s s.log) sc.world))
-  plain_crash_holds = crash_holds s.log (λ r k. k) (h.shards n s there).records
+  pub plain_crash_holds : Holds (with_world sc (set_shard n (crashed s s.log s.area) sc.world))
+  plain_crash_holds = crash_holds s.log s.area (λ r k. k) (h.shards n s there).records
 
-  left_holds : (fate : Fate) → Holds (with_world sc (set_shard n (crashed s (s.log ++ left_of fate s.unsure)) sc.world))
+  left_holds : (fate : Fate) → Holds (with_world sc (set_shard n (crashed s (s.log ++ left_of fate s.unsure) (left_area fate s)) sc.world))
   left_holds fate =
       let within : Within s.log (s.log ++ left_of fate s.unsure) = λ r k. among_left s.log (left_of fate s.unsure) r k in
-      crash_holds (s.log ++ left_of fate s.unsure) within
+      crash_holds (s.log ++ left_of fate s.unsure) (left_area fate s) within
       (λ r k. in_log (s.log ++ left_of fate s.unsure) within r (known (left_of fate s.unsure) (λ q j. left_is_unsure fate s.unsure q j) r k))
 
   -- ---- a doing that is done
@@ -220,17 +241,18 @@ module _ (sc : Scene) (h : Holds sc) (steady : IsSteady sc.world) (present : sli
       by_state : (st : State) → AfterHolds sc (elim st as (λ x. After) [
         | Runs m ↦ refused sc.world f
         | _ ↦
-            (set_shard n (crashed s (read_log s)) sc.world, Reply.Refused f)
+            (set_shard n (crashed s (read_log s) (read_area s)) sc.world, Reply.Refused f)
       ])
       by_state (Runs m) = h
-      by_state (IsStopped m) = read_crash_holds
-      by_state IsDown = read_crash_holds
+      by_state (IsStopped m) = read_crash_holds (read_area s)
+      by_state IsDown = read_crash_holds (read_area s)
   refused_holds (Doing.Take m now) f = h
   refused_holds (Doing.Resume now) f = h
   refused_holds (Doing.Settle t now) f = h
   refused_holds (Doing.Advance at now) f = h
   refused_holds (Doing.Forget at now) f = h
   refused_holds (Doing.Nudge t now) f = h
+  refused_holds Doing.Turn f = h
 
   did_holds : (doing : Doing) (stepped : Stepped) → SteppedEvidence sc n (read_log s) stepped → AfterHolds sc (did sc.world n s doing stepped)
   unfolding did
@@ -243,25 +265,27 @@ module _ (sc : Scene) (h : Holds sc) (steady : IsSteady sc.world) (present : sli
 
   -- ---- a crash within it
 
-  refused_left_holds : (fate : Fate) (doing : Doing) → Holds (with_world sc (set_shard n (crashed s (left_by_refused s fate doing)) sc.world))
-  refused_left_holds fate Doing.Open = read_crash_holds
+  refused_left_holds : (fate : Fate) (doing : Doing) → Holds (with_world sc (set_shard n (left_by_refused s fate doing) sc.world))
+  refused_left_holds fate Doing.Open = read_crash_holds (read_area s)
   refused_left_holds fate (Doing.Take m now) = left_holds fate
   refused_left_holds fate (Doing.Resume now) = left_holds fate
   refused_left_holds fate (Doing.Settle t now) = left_holds fate
   refused_left_holds fate (Doing.Advance at now) = left_holds fate
   refused_left_holds fate (Doing.Forget at now) = left_holds fate
   refused_left_holds fate (Doing.Nudge t now) = left_holds fate
+  refused_left_holds fate Doing.Turn = left_holds fate
 
   crashed_in_holds : (call : ℕ) (fate : Fate) (doing : Doing) (stepped : Stepped) → SteppedEvidence sc n (read_log s) stepped →
       Holds (with_world sc (set_shard n (crashed_in s call fate doing stepped) sc.world))
   unfolding crashed_in
   crashed_in_holds call fate doing (Refuses f) e = refused_left_holds fate doing
-  crashed_in_holds call fate doing (Does None memory out) e = read_crash_holds
+  crashed_in_holds call fate doing (Does None memory out) e = read_crash_holds (area_left_in call fate doing s)
   crashed_in_holds call fate doing (Does (Some r) memory out) e = by_test (is_left call fate)
     where
-      by_test : (b : Bool) → Holds (with_world sc (set_shard n (crashed s (read_log s ++ cond b (r ∷ []) [])) sc.world))
-      by_test true = crash_holds (read_log s ++ r ∷ []) (within_listed (Some r)) (logged_known (Some r) e.rests)
-      by_test false = crash_holds (read_log s ++ []) (within_listed None) (logged_known None tt)
+      by_test : (b : Bool) → Holds (with_world sc (set_shard n
+          (crashed s (read_log s ++ cond b (r ∷ []) []) (with_records (read_area s) (cond b (r ∷ []) []))) sc.world))
+      by_test true = crash_holds (read_log s ++ r ∷ []) (with_records (read_area s) (r ∷ [])) (within_listed (Some r)) (logged_known (Some r) e.rests)
+      by_test false = crash_holds (read_log s ++ []) (with_records (read_area s) []) (within_listed None) (logged_known None tt)
 
   pub crash_within_holds : (call : ℕ) (fate : Fate) (doing : Doing) → Given sc n (input_of sc.world.bag doing) →
       Holds (with_world sc (set_shard n (crashed_in s call fate doing (effect (setup_of sc.world.config n) sc.world.bag s doing)) sc.world))
@@ -295,11 +319,38 @@ module _ (sc : Scene) (h : Holds sc) (steady : IsSteady sc.world) (present : sli
   unfolding failed_in
   failed_holds call r e = set_holds sc n s (failed_in s call r) there read_within (failed_evidence call r e) h
 
+  turn_failed_evidence : (call : ℕ) → ShardEvidence sc n (failed_turn s call)
+  unfolding failed_turn
+  turn_failed_evidence call = record {
+    records = λ q k. in_log (read_log s) read_within q (read_known q k);
+    unsure = λ q k. absurd (no_record (is_read_turn call) (is_left_turn call Fate.New) q k);
+    state = by_state s.state;
+  }
+    where
+      no_record : (a b : Bool) (q : Record) → IsUnsure (cond a (TurnShown (new_area s)) (cond b (TurnHidden (new_area s)) Nothing)) q → ⊥
+      no_record true b q k = k
+      no_record false true q k = k
+      no_record false false q k = k
+
+      by_state : (st : State) → StateEvidence sc (failed_turn s call) n (stopped st)
+      by_state (Runs m) = tt
+      by_state (IsStopped m) = tt
+      by_state IsDown = tt
+
+  turn_failed_holds : (call : ℕ) → Holds (with_world sc (set_shard n (failed_turn s call) sc.world))
+  unfolding failed_turn
+  turn_failed_holds call = set_holds sc n s (failed_turn s call) there read_within (turn_failed_evidence call) h
+
   failing_holds : (call : ℕ) (doing : Doing) (stepped : Stepped) → SteppedEvidence sc n (read_log s) stepped →
       AfterHolds sc (did_with_failure sc.world n s call doing stepped)
   unfolding did_with_failure
   failing_holds call doing (Refuses f) e = did_holds doing (Refuses f) e
-  failing_holds call doing (Does None memory out) e = did_holds doing (Does None memory out) e
+  failing_holds call doing (Does None memory out) e = by_test (turns doing && nat_lt call 5)
+    where
+      by_test : (b : Bool) → AfterHolds sc (cond b (set_shard n (failed_turn s call) sc.world, Reply.Refused Device)
+          (did sc.world n s doing (Does None memory out)))
+      by_test true = turn_failed_holds call
+      by_test false = did_holds doing (Does None memory out) e
   failing_holds call doing (Does (Some r) memory out) e = by_test (nat_lt call 4)
     where
       by_test : (b : Bool) → AfterHolds sc (cond b (set_shard n (failed_in s call r) sc.world, Reply.Refused Device)

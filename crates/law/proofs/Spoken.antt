@@ -8,7 +8,6 @@ use Rattle.units.specs.Keys.{Bytes}
 use Rattle.units.specs.declared.fault.Fault.TheVariants.{Stopped, TimeSpent}
 use Rattle.units.specs.declared.setup.Setup.{Setup}
 use Rattle.truetime.specs.Interval.{Interval}
-use Rattle.gatelog.specs.Frames.{end_of}
 use Rattle.record.specs.Facts.{Facts, facts_of}
 use Rattle.record.specs.declared.record.Record.{Record}
 use Rattle.message.specs.declared.message.Address.{Address}
@@ -23,8 +22,8 @@ use Rattle.world.proofs.Rooms.{done_wanted}
 use Rattle.protocol.specs.Rows.{Memory, Row, find_row, rebuilt}
 use Rattle.protocol.specs.Step.{step_within, Stepped, Refuses, Does, plan_input, stepped, facts_after}
 use Rattle.law.specs.Among.{IsAmong}
-use Rattle.world.specs.World.{ShardNow, State, View, Unsure, Runs, IsStopped, IsDown, read_log, shown_records, step_of_opening, input_of, step_with}
-use Rattle.world.specs.World.{effect, wanted, finished}
+use Rattle.world.specs.World.{ShardNow, State, View, Area, Unsure, Runs, IsStopped, IsDown, read_log, shown_records, step_of_opening, input_of, step_with}
+use Rattle.world.specs.World.{effect, wanted, finished, gate_of, has_place, new_area, read_area, step_of_turnover}
 use Rattle.world.specs.declared.event.Doing.{Doing}
 use Rattle.law.proofs.Members.{all_at}
 use Rattle.protocol.specs.Sound.{is_open}
@@ -86,24 +85,24 @@ parts_of_does : (l1 l2 : Option Record) (m1 m2 : Memory) (o1 o2 : List Envelope)
 parts_of_does l1 l2 m1 m2 o1 o2 e = (cc, cc, cc)
 
 -- what a running shard tells it holds after the step
-step_holds : (setup : Setup) (log : List Record) (unsure : Unsure) (st : State) (views : List View) (o : Option (Interval × Input)) (doing : Doing)
+step_holds : (setup : Setup) (log : List Record) (area : Area) (unsure : Unsure) (st : State) (views : List View) (o : Option (Interval × Input)) (doing : Doing)
     (logged : Option Record) (memory : Memory) (out : List Envelope) (to : Address) (a : ReadAnswer) (x : Option Bytes) →
-    WellShard setup (shard_with log unsure st views) → (elim st as (λ z. Stepped) [
+    WellShard setup (shard_with log area unsure st views) → (elim st as (λ z. Stepped) [
       | Runs m ↦ step_with setup (facts_of log) m o
       | _ ↦
           Refuses Stopped
     ]) ≡ Does logged memory out →
     IsAmong out (record { to = to; message = Message.ReadAnswer a }) → a.answer ≡ Holds x → (a.from ≡ setup.shard)
-    × HoldsRead (finished (shard_with log unsure st views) doing logged memory) a x
+    × HoldsRead (finished (shard_with log area unsure st views) doing logged memory) a x
 unfolding finished step_within
-step_holds setup log unsure (IsStopped m) views o doing logged memory out to a x well e there holds = cc
-step_holds setup log unsure IsDown views o doing logged memory out to a x well e there holds = cc
-step_holds setup log unsure (Runs m) views None doing logged memory out to a x well e there holds = cc
-step_holds setup log unsure (Runs m) views (Some q) doing logged memory out to a x well e there holds =
+step_holds setup log area unsure (IsStopped m) views o doing logged memory out to a x well e there holds = cc
+step_holds setup log area unsure IsDown views o doing logged memory out to a x well e there holds = cc
+step_holds setup log area unsure (Runs m) views None doing logged memory out to a x well e there holds = cc
+step_holds setup log area unsure (Runs m) views (Some q) doing logged memory out to a x well e there holds =
     by_plan (plan_input setup (start_of_step most_rows setup (facts_of log) m) q.0 q.1) refl e
   where
     by_plan : (pl : Planned) → plan_input setup (start_of_step most_rows setup (facts_of log) m) q.0 q.1 ≡ pl → stepped m pl ≡ Does logged memory out →
-        (a.from ≡ setup.shard) × HoldsRead (finished (shard_with log unsure (Runs m) views) doing logged memory) a x
+        (a.from ≡ setup.shard) × HoldsRead (finished (shard_with log area unsure (Runs m) views) doing logged memory) a x
     by_plan (Err f) is k = cc
     by_plan (Ok p) is k =
         let same = parts_of_does p.logged logged (carried p m) memory p.outbox out k in
@@ -148,18 +147,31 @@ wanted_holds setup bag s Doing.Open logged memory out to a x well e there holds 
     by_state (Runs m) k = cc
     by_state (IsStopped m) k = opening_tells (facts_of (read_log s)) logged memory out (record { to = to; message = Message.ReadAnswer a }) k there
     by_state IsDown k = opening_tells (facts_of (read_log s)) logged memory out (record { to = to; message = Message.ReadAnswer a }) k there
-wanted_holds setup bag s (Doing.Take m now) logged memory out to a x well e there holds = step_holds setup s.log s.unsure s.state s.views
+wanted_holds setup bag s (Doing.Take m now) logged memory out to a x well e there holds = step_holds setup s.log s.area s.unsure s.state s.views
     (input_of bag (Doing.Take m now)) (Doing.Take m now) logged memory out to a x well e there holds
-wanted_holds setup bag s (Doing.Resume now) logged memory out to a x well e there holds = step_holds setup s.log s.unsure s.state s.views
+wanted_holds setup bag s (Doing.Resume now) logged memory out to a x well e there holds = step_holds setup s.log s.area s.unsure s.state s.views
     (input_of bag (Doing.Resume now)) (Doing.Resume now) logged memory out to a x well e there holds
 wanted_holds setup bag s (Doing.Settle t now) logged memory out to a x well e there holds =
-    step_holds setup s.log s.unsure s.state s.views (input_of bag (Doing.Settle t now)) (Doing.Settle t now) logged memory out to a x well e there holds
+    step_holds setup s.log s.area s.unsure s.state s.views (input_of bag (Doing.Settle t now)) (Doing.Settle t now) logged memory out to a x well e there holds
 wanted_holds setup bag s (Doing.Advance at now) logged memory out to a x well e there holds =
-    step_holds setup s.log s.unsure s.state s.views (input_of bag (Doing.Advance at now)) (Doing.Advance at now) logged memory out to a x well e there holds
+    step_holds setup s.log s.area s.unsure s.state s.views (input_of bag (Doing.Advance at now)) (Doing.Advance at now) logged memory out to a x well e there holds
 wanted_holds setup bag s (Doing.Forget at now) logged memory out to a x well e there holds =
-    step_holds setup s.log s.unsure s.state s.views (input_of bag (Doing.Forget at now)) (Doing.Forget at now) logged memory out to a x well e there holds
+    step_holds setup s.log s.area s.unsure s.state s.views (input_of bag (Doing.Forget at now)) (Doing.Forget at now) logged memory out to a x well e there holds
 wanted_holds setup bag s (Doing.Nudge t now) logged memory out to a x well e there holds =
-    step_holds setup s.log s.unsure s.state s.views (input_of bag (Doing.Nudge t now)) (Doing.Nudge t now) logged memory out to a x well e there holds
+    step_holds setup s.log s.area s.unsure s.state s.views (input_of bag (Doing.Nudge t now)) (Doing.Nudge t now) logged memory out to a x well e there holds
+wanted_holds setup bag s Doing.Turn logged memory out to a x well e there holds = absurd (by_state s.state e)
+  where
+    told : Envelope
+    told = record { to = to; message = Message.ReadAnswer a }
+
+    by_place : (m : Memory) (b : Bool) → cond b (Does None m []) (Refuses TimeSpent) ≡ Does logged memory out → ⊥
+    by_place m true k = subst (λ es. IsAmong es told) (sym (parts_of_does None logged m memory [] out k).2) there
+    by_place m false k = cc
+
+    by_state : (st : State) → (elim st as (λ z. Stepped) [ Runs m ↦ step_of_turnover s m | _ ↦ Refuses Stopped ]) ≡ Does logged memory out → ⊥
+    by_state (Runs m) k = by_place m (has_place (read_area s).slot (new_area s)) k
+    by_state (IsStopped m) k = cc
+    by_state IsDown k = cc
 
 pub doing_holds : (setup : Setup) (bag : List Envelope) (s : ShardNow) (doing : Doing) (logged : Option Record) (memory : Memory)
     (out : List Envelope) (to : Address) (a : ReadAnswer) (x : Option Bytes) →
@@ -168,4 +180,4 @@ pub doing_holds : (setup : Setup) (bag : List Envelope) (s : ShardNow) (doing : 
 unfolding effect
 doing_holds setup bag s doing logged memory out to a x well e there holds =
     wanted_holds setup bag s doing logged memory out to a x well
-    (done_wanted (end_of (read_log s)) (wanted setup bag s doing) logged memory out e) there holds
+    (done_wanted (gate_of (read_area s)) (wanted setup bag s doing) logged memory out e) there holds

@@ -13,7 +13,7 @@ use Rattle.units.specs.declared.writes.Install.{Install}
 use Rattle.units.specs.declared.writes.Write.{Write}
 use Rattle.units.proofs.IdLaws.{same_id-is}
 use Rattle.truetime.specs.Interval.{Interval}
-use Rattle.record.specs.Accepted.{Accepted, taken, followed}
+use Rattle.record.specs.Accepted.{followed}
 use Rattle.record.specs.Facts.{Facts, facts_of, learn, recorded, after_outcome}
 use Rattle.record.specs.Installs.{installs_of}
 use Rattle.record.specs.Records.{Status, StandsPrepared, StandsDecided, HasAborted}
@@ -30,7 +30,6 @@ use Rattle.protocol.proofs.PlanShapes.{shape_of}
 use Rattle.protocol.proofs.RowChanges.{by_id-claims}
 use Rattle.protocol.proofs.Shapes.{Shape, Answers, IsEnd, IsAbort, IsClose, IsSettle, IsLock, IsWait, IsPromise, IsDecision, ShapeOf, Acts, IsAdvance, IsForget}
 use Rattle.protocol.proofs.StatusChanges.{status_same, status_other}
-use Rattle.world.proofs.Openings.{opening_taken}
 use Rattle.law.proofs.Quiet.{IsAbove}
 use Rattle.law.proofs.Rising.{LoggedAbove, rising}
 use Rattle.law.proofs.Accepts.{each_at}

@@ -4,17 +4,21 @@ ghost use Rattle.law.specs.InOrder.{BeforeIsInFront, IdsStandOnce};
 ghost use Rattle.law.specs.Passes.{AllAreWhole, HeldReadsAreLatest, OutcomesHavePassed, PutOutIsLogged, ServedIsBelow, ShardsAreOfTheirLogs};
 ghost use Rattle.law.specs.TimeLaws.{InstalledInThePast, LooksShowAcknowledged};
 ghost use Rattle.law.specs.Written.{WrittenBySessions};
+ghost use Rattle.world.specs.Areas.{AreasKeep};
 ghost use Rattle.world.specs.Headline.{ExternalConsistency};
-ghost use Rattle.world.specs.Steady.{AlwaysSteady};
+ghost use Rattle.world.specs.Steady.{AlwaysHasAreas, AlwaysSteady};
 
 /// The law of the store, of every list of events and at every moment: the contract of a function that does nothing.
 ///
 /// Whatever crash strikes a lawful run, within a write or between two events: every log is taken by an opening, each
 /// acknowledged commit is in them at its timestamp and whole, each transaction stands at one timestamp on all its shards or
 /// on none, every answered look and every answered read of a committed transaction is that of the serial run by timestamp,
-/// and what began after an acknowledgement has the larger timestamp.
+/// and what began after an acknowledgement has the larger timestamp. So it is said of all records that were logged since the disks were
+/// formatted; where logs are turned over, the area that a crash leaves keeps what they say.
 pub fn moments()
     ensures consistent { ExternalConsistency }
+    // An opening takes the area of a disk, and it keeps what all records say, also where the crash struck within a turnover.
+    ensures areas { AreasKeep }
     // Each transaction of the logs is that of a session that closed, and writes just what the session wrote.
     ensures written { WrittenBySessions }
     // No version is installed before its timestamp has passed.
@@ -40,6 +44,13 @@ pub fn before_is_in_front()
 pub fn shards_are_of_their_logs()
     ensures records { AlwaysSteady }
     ensures rows { ShardsAreOfTheirLogs }
+{}
+
+/// The area of each disk is taken by an opening and is alike to all records that were logged: more records leave them alike, and a step over
+/// one is a step over the other. What they say may be renewed.
+pub fn areas_keep()
+    ensures left { AreasKeep }
+    ensures read { AlwaysHasAreas }
 {}
 
 /// Each vote, each outcome and each done that was ever put out has its record in a log: the promise; the abort; or the decision with its

@@ -5,6 +5,6 @@
 mod laws;
 
 pub use laws::{
-    all_are_whole, before_is_in_front, held_reads_are_latest, ids_stand_once, moments,
+    all_are_whole, areas_keep, before_is_in_front, held_reads_are_latest, ids_stand_once, moments,
     outcomes_have_passed, served_is_below, shards_are_of_their_logs, what_was_put_out_is_logged,
 };

@@ -1,5 +1,5 @@
 -- The places of the versions, as a record is learnt.
-use Rattle.std.proofs.Common.{◌≡◌, ℕ, ◌+◌, ◌≤◌, arith, max, Bool, true, not, ◌||◌, List, [], ◌++◌, Some, None, length, refl, sym, ap, subst, ◌∙◌}
+use Rattle.std.proofs.Common.{◌≡◌, ℕ, ◌+◌, ◌≤◌, arith, max, Bool, true, not, ◌||◌, List, [], ◌++◌, Some, None, length, take, refl, sym, ap, subst, ◌∙◌}
 use Rattle.std.proofs.lemmas.Bool.{and_from, and_parts, or_right}
 use Rattle.std.proofs.lemmas.List.{append-nil, length-append, length-map}
 use Rattle.units.specs.Versions.{versions, above_versions, version_before}
@@ -14,7 +14,12 @@ use Rattle.record.specs.declared.record.Record.TheVariants.{Opened, Ceiling, Pre
 use Rattle.versions.specs.Headed.{Headed}
 use Rattle.versions.specs.Orders.{Orders, AreBehind}
 use Rattle.versions.proofs.Orders.{orders_more, behind_written}
+use Rattle.versions.proofs.Same.{same-higher}
+use Rattle.versions.specs.Arranged.{arranged}
+use Rattle.protocol.specs.Showable.{rises_by_key}
 use Rattle.protocol.specs.Sound.{writes_standing}
+use Rattle.protocol.proofs.Rising.{installs_rise, rise_none}
+use Rattle.protocol.proofs.Serves.{versions_follow}
 use Rattle.facts.specs.Stages.{comes_behind, follows_head, follows_next, is_head, past_head, stage_after, stage_of}
 use Rattle.facts.specs.Rules.{follows_facts}
 use Rattle.facts.specs.declared.stage.Stage.{Stage}
@@ -128,6 +133,10 @@ pub none_rising : head_ascends (stage_of []) (facts_of []).installs ≡ true
 unfolding stage_of facts_of installs_of
 none_rising = refl
 
+pub none_rise : rises_by_key [] (facts_of []).installs ≡ true
+unfolding facts_of installs_of
+none_rise = rise_none []
+
 -- ---- the horizon
 
 -- what is read from a horizon up is read from a later one up
@@ -137,11 +146,7 @@ later_orders h n t known p up o = record {
   few = o.few;
   kept = o.kept;
   headed = o.headed;
-  same = record {
-    now = o.same.now;
-    at = λ key at low. o.same.at key at (omega (arith, up, low));
-    above = o.same.above;
-  };
+  same = same-higher h n (arranged t p.places) (take known t) up o.same;
 }
 
 -- no record lowers it
@@ -190,3 +195,11 @@ module _ (facts : Facts) (item : Record) (i : Installs facts item) where
   as_many_more =
       ap length i.all ∙ length-append facts.installs (versions (writes_given facts item) i.at)
       ∙ ap (λ n. length facts.installs + n) (length-map (writes_given facts item) (λ w. record { key = w.key; at = i.at; value = w.value }))
+
+  -- and the versions of each key rise
+  pub still_rise : rises_by_key [] facts.installs ≡ true → ascends write_before (writes_given facts item) ≡ true
+      → rises_by_key [] (learn facts item).installs ≡ true
+  still_rise rise up =
+      subst (λ t. rises_by_key [] t ≡ true) (sym i.all)
+      (installs_rise facts.installs (versions (writes_given facts item) i.at) rise
+      (versions_follow facts.installs i.at (writes_given facts item) up i.above))

@@ -1,1 +1,2 @@
 pub mod Learns
+pub mod Renewed

@@ -1,5 +1,5 @@
 //! The facts of a log beside the versions by key.
-ghost use Rattle.std.specs.Prelude.{◌≡◌, ℕ, ◌<◌, ◌≤◌, ◌^◌, [], length, IsTrue, IsOk, IfErr, OnOk};
+ghost use Rattle.std.specs.Prelude.{◌≡◌, ℕ, ◌<◌, ◌≤◌, ◌^◌, ◌++◌, [], length, IsTrue, IsOk, IfErr, OnOk};
 ghost use Rattle.std.specs.Option.{option_copied};
 ghost use Rattle.units.specs.Keys.{write_before};
 ghost use Rattle.units.specs.Lists.{ascends};
@@ -10,8 +10,10 @@ ghost use Rattle.facts.specs.Shown.{meant};
 ghost use Rattle.facts.specs.Stages.{follows_head, follows_next, stage_after, stage_of};
 ghost use Rattle.protocol.specs.Sound.{writes_standing};
 ghost use Rattle.versions.specs.Orders.{Orders};
+ghost use Rattle.renewal.specs.Turned.{turned};
 ghost use Rattle.ledger.specs.Ledger.{writes_given, CanInstall};
 
+use crate::renewing::{Recorder, renew};
 use facts::{Facts, Status};
 use record::Record;
 use std::alloc::Global;
@@ -38,8 +40,9 @@ impl Drop for Ledger {
 }
 
 impl Model for Ledger {
-    ghost use Rattle.std.specs.Prelude.{IsTrue, length};
+    ghost use Rattle.std.specs.Prelude.{IsTrue, [], length};
     ghost use Rattle.facts.specs.Known.{Known, room_for};
+    ghost use Rattle.protocol.specs.Showable.{rises_by_key};
     ghost use Rattle.versions.specs.Orders.{Orders};
     ghost use Rattle.ledger.specs.Ledger.{head_ascends};
 
@@ -54,7 +57,8 @@ impl Model for Ledger {
 
     ghost invariant = { λ l. Orders l.facts.facts.horizon l.facts.facts.installs
         (length l.facts.facts.installs) l.places
-        × IsTrue (head_ascends l.facts.stage l.facts.facts.installs) };
+        × IsTrue (head_ascends l.facts.stage l.facts.facts.installs)
+        × IsTrue (rises_by_key [] l.facts.facts.installs) };
 }
 
 impl Ledger {
@@ -207,6 +211,16 @@ impl Ledger {
         let known = self.facts.installs().len();
         self.facts.learn_next(item);
         self.places.follow(self.facts.installs(), known);
+    }
+
+    /// Hands on the records of the renewed log, one by one: the numbers, the versions that are held, who ended, who stands.
+    pub fn renew<R: Recorder>(&self, alloc: Global, recorder: &mut R) -> Result<(), Fault>
+        requires { 0 < self.now.facts.epoch }
+        ensures all { OnOk result
+            (R.records recorder.new ≡ R.records recorder.old ++ turned self.now.facts) }
+        ensures memory { IfErr result (λ fault. fault ≡ Fault.Memory) }
+    {
+        renew(alloc, &self.facts, &self.places, recorder)
     }
 
     // Learns a horizon that comes next in the log.

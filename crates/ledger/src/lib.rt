@@ -4,6 +4,8 @@
 
 mod ended;
 mod ledger;
+mod renewing;
 
 pub use ended::Ended;
 pub use ledger::Ledger;
+pub use renewing::Recorder;

@@ -12,9 +12,9 @@ use Rattle.record.specs.declared.record.Record.{Record}
 use Rattle.shard.specs.Logs.{KeepsRecords, items_of, records_in}
 use Rattle.simdisk.specs.State.{disk_file, disk_plan}
 use Rattle.simdisk.specs.declared.simdisk.SimDisk.{SimDisk}
-use Rattle.world.specs.World.{ShardNow, read_log}
+use Rattle.world.specs.World.{ShardNow}
 use Rattle.lives.specs.Fleet.{IsOn}
-use Rattle.lives.specs.Lives.{HoldsLog}
+use Rattle.lives.specs.Lives.{HoldsLog, disk_log}
 
 -- a disk that was read and synced holds what was read, whatever a crash leaves
 pub ends_on : (old new : SimDisk) (entries : List Placed) (records : List Record) → log (surface (disk_file old)).seen ≡ Ok entries
@@ -36,16 +36,16 @@ ok_same a b x y is there same = cc
 -- it is the log that the disk holds
 pub ends_with : (s : ShardNow) (disk : SimDisk) (entries : List Placed) (records : List Record) → HoldsLog s disk
     → log (surface (disk_file disk)).seen ≡ Ok entries
-    → records ≡ map (λ (e : Placed). e.item) entries → records ≡ read_log s
+    → records ≡ map (λ (e : Placed). e.item) entries → records ≡ disk_log s
 ends_with s disk entries records h read same =
-    same ∙ ok_same (map (λ (e : Placed). e.item) entries) (read_log s) (records_in (surface (disk_file disk)).seen) (records_in (surface (disk_file disk)).seen)
-    (ap items_of read) h.read refl
+    same ∙ ok_same (map (λ (e : Placed). e.item) entries) (disk_log s) (records_in (surface (disk_file disk)).seen) (records_in (surface (disk_file disk)).seen)
+    (ap items_of read) h.read.0 refl
 
 -- no fault but want of memory
 pub no_fault : (s : ShardNow) (disk : SimDisk) (fault : Fault) → HoldsLog s disk
     → (fault ≡ Memory) ⊎ (IsTrue (is_no_log fault) × (log (surface (disk_file disk)).seen ≡ Err fault)) → fault ≡ Memory
 no_fault s disk fault h (inl memory) = memory
-no_fault s disk fault h (inr none) = absurd (not_ok (read_log s) (sym (ap items_of none.1) ∙ h.read))
+no_fault s disk fault h (inr none) = absurd (not_ok (disk_log s) (sym (ap items_of none.1) ∙ h.read.0))
   where
     not_ok : (a : List Record) → Err fault ≡ Ok a → ⊥
     not_ok a e = cc

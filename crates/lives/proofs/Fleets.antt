@@ -12,12 +12,13 @@ use Rattle.units.specs.declared.setup.Setup.{Setup}
 use Rattle.record.specs.declared.record.Record.{Record}
 use Rattle.message.specs.declared.message.Envelope.{Envelope}
 use Rattle.simdisk.specs.declared.simdisk.SimDisk.{SimDisk}
-use Rattle.world.specs.World.{ShardNow, effect, fresh_shard, read_log, setup_of}
+use Rattle.world.specs.World.{ShardNow, effect, fresh_shard, setup_of}
 use Rattle.world.specs.Lawful.{is_down, is_up}
 use Rattle.world.specs.declared.event.Config.{Config}
 use Rattle.world.specs.declared.event.Doing.{Doing}
 use Rattle.world.specs.declared.event.Reply.{Reply}
 use Rattle.lives.specs.Carries.{Comes, answer_of}
+use Rattle.lives.specs.Lives.{disk_log}
 use Rattle.lives.specs.Fleet.{ActsAt, AreOn, AreShards, AreStanding, CrashesAt, IsOn, known_of}
 use Rattle.lives.specs.Shows.{Acts, StandsFor, done_by}
 use Rattle.lives.specs.declared.fleet.Known.{Known}
@@ -181,7 +182,7 @@ by_place config ss n bag call doing o =
     elim o as (λ x. Result (List Envelope) Fault × List ShardNow) [
       | None ↦ (Err Stranger, ss)
       | Some s ↦ (
-        answer_of call (effect (setup_of config n) bag s doing),
+        answer_of call doing (effect (setup_of config n) bag s doing),
         replaced ss n (done_by s call doing (effect (setup_of config n) bag s doing)),
       )
     ]
@@ -209,7 +210,7 @@ module _ (config : Config) (ss : List ShardNow) (n : ℕ) (old new : Shards) (be
       → ActsAt config bag ss n call doing new result
   acts_there bag call doing result act = λ orderly. by_answer (act place.0 place.2 (orderly place.0 place.1))
     where
-      by_answer : Comes call (effect (setup_of config n) bag place.0 doing) result
+      by_answer : Comes call doing (effect (setup_of config n) bag place.0 doing) result
           (StandsFor (setup_of config n) after (done_by place.0 call doing (effect (setup_of config n) bag place.0 doing)))
           → Answers config ss n new bag call doing result (slice_get ss n)
       by_answer (inl memory) = inl memory
@@ -248,23 +249,23 @@ on_more (d ∷ disks) (l ∷ logs) disk log h k = (h.0, on_more disks logs disk 
 abbrev pub AreTaken : List RunShard → List (List Record) → List RunShard → Type 0
 AreTaken all logs left =
     (config : Config) (n : ℕ) (ss : List ShardNow) → AreStanding config n all ss
-    → (m : ℕ) × (rest : List ShardNow) × AreStanding config m left rest × (map read_log ss ≡ logs ++ map read_log rest)
+    → (m : ℕ) × (rest : List ShardNow) × AreStanding config m left rest × (map disk_log ss ≡ logs ++ map disk_log rest)
 
 pub one_taken : (all left after : List RunShard) (logs : List (List Record)) (r : RunShard) (log : List Record) → left ≡ r ∷ after
-    → ((setup : Setup) (s : ShardNow) → StandsFor setup r s → log ≡ read_log s) → AreTaken all logs left → AreTaken all (logs ++ log ∷ []) after
+    → ((setup : Setup) (s : ShardNow) → StandsFor setup r s → log ≡ disk_log s) → AreTaken all logs left → AreTaken all (logs ++ log ∷ []) after
 one_taken all left after logs r log is read h = λ config n ss running. let p = h config n ss running in
-    by_rest config p.0 p.1 (map read_log ss) (subst (λ l. AreStanding config p.0 l p.1) is p.2) p.3
+    by_rest config p.0 p.1 (map disk_log ss) (subst (λ l. AreStanding config p.0 l p.1) is p.2) p.3
   where
     by_rest : (config : Config) (m : ℕ) (rest : List ShardNow) (whole : List (List Record)) → AreStanding config m (r ∷ after) rest →
-        whole ≡ logs ++ map read_log rest
-        → (k : ℕ) × (others : List ShardNow) × AreStanding config k after others × (whole ≡ (logs ++ log ∷ []) ++ map read_log others)
+        whole ≡ logs ++ map disk_log rest
+        → (k : ℕ) × (others : List ShardNow) × AreStanding config k after others × (whole ≡ (logs ++ log ∷ []) ++ map disk_log others)
     by_rest config m [] whole k e = absurd k
     by_rest config m (s ∷ rest) whole k e = (
       suc m,
       rest,
       k.1,
-      e ∙ ap (λ l. logs ++ l ∷ map read_log rest) (sym (read (setup_of config m) s k.0))
-          ∙ sym (append_assoc logs (log ∷ []) (map read_log rest)),
+      e ∙ ap (λ l. logs ++ l ∷ map disk_log rest) (sym (read (setup_of config m) s k.0))
+          ∙ sym (append_assoc logs (log ∷ []) (map disk_log rest)),
     )
 
 -- the first that is left

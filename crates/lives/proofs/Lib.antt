@@ -1,4 +1,5 @@
 pub mod Acts
+pub mod Alikes
 pub mod Copies
 pub mod Crashing
 pub mod Ending
@@ -13,3 +14,4 @@ pub mod Replying
 pub mod Shared
 pub mod Showing
 pub mod Stepping
+pub mod Turning

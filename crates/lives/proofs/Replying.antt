@@ -1,5 +1,5 @@
 -- What the parts of a run answer is what the event comes to.
-use Rattle.std.proofs.Common.{◌≡◌, ◌⊎◌, inl, inr, ℕ, zero, suc, Bool, true, false, cond, nat_lt, List, [], ◌∷◌, slice_get, Option}
+use Rattle.std.proofs.Common.{◌≡◌, ◌⊎◌, inl, inr, ℕ, zero, suc, Bool, true, false, cond, ◌&&◌, nat_lt, List, [], ◌∷◌, slice_get, Option}
 use Rattle.std.proofs.Common.{Some, None, Result, Ok, Err}
 use Rattle.std.proofs.Common.{refl, sym, ap, ◌∙◌, subst}
 use Rattle.units.specs.Ids.{Id}
@@ -16,9 +16,8 @@ use Rattle.message.specs.declared.message.Message.{Message}
 use Rattle.protocol.specs.Step.{Stepped, Refuses, Does}
 use Rattle.world.specs.World.{World, After, ShardNow, State, Runs, IsStopped, IsDown, at_shard, crashed, crashed_in, deliver_to, did}
 use Rattle.world.specs.World.{did_with_failure, do_at}
-use Rattle.world.specs.World.{effect, failed_in, finished, look_noted, put_out, read_log, refused, refused_doing}
+use Rattle.world.specs.World.{effect, failed_in, failed_turn, finished, look_noted, put_out, read_area, read_log, refused, refused_doing, turns}
 use Rattle.world.specs.World.{set_client, set_shard, setup_of, to_session}
-use Rattle.world.specs.Steady.{IsSteady}
 use Rattle.world.specs.Hosts.{Hosts}
 use Rattle.world.specs.Passed.{IsOutput}
 use Rattle.world.specs.Comes.{ComesOf, HasHeard, HasReplied, Notes, TakesMessage}
@@ -27,9 +26,9 @@ use Rattle.world.specs.declared.event.Doing.{Doing}
 use Rattle.world.specs.declared.event.Reply.{Reply}
 use Rattle.lives.specs.Carries.{answer_of, left_by_refusal, unopened}
 use Rattle.lives.specs.Fleet.{ActsAt, AreShards, CrashesAt, IsOrderlyAt, crash_within, looked, shards_by}
-use Rattle.lives.specs.Runs.{ComesAfter, IsRun, act_at}
+use Rattle.lives.specs.Runs.{ComesAfter, IsRun, KeepsLaws, act_at}
 use Rattle.lives.specs.Shows.{done_by, look_by}
-use Rattle.lives.proofs.Crashing.{crash_is_old}
+use Rattle.lives.proofs.Crashing.{crash_is_old, none_below}
 use Rattle.lives.specs.declared.run.Run.{Run}
 
 -- the same shard put back leaves all
@@ -147,9 +146,10 @@ module _ (w : World) (old new : Run) (h : IsRun old w) where
   refused_is n s (Doing.Advance at now) fault there = same_there n s fault there
   refused_is n s (Doing.Forget at now) fault there = same_there n s fault there
   refused_is n s (Doing.Nudge t now) fault there = same_there n s fault there
+  refused_is n s Doing.Turn fault there = same_there n s fault there
   refused_is n s Doing.Open fault there = by_state s.state
     where
-      by_state : (st : State) → elim st as (λ x. After) [ Runs m ↦ refused w fault | _ ↦ (set_shard n (crashed s (read_log s)) w, Reply.Refused fault) ]
+      by_state : (st : State) → elim st as (λ x. After) [ Runs m ↦ refused w fault | _ ↦ (set_shard n (crashed s (read_log s) (read_area s)) w, Reply.Refused fault) ]
           ≡ (record w { shards = replaced w.shards n (unopened s st) }, Reply.Refused fault)
       by_state (Runs m) = same_there n s fault there
       by_state (IsStopped m) = refl
@@ -161,7 +161,7 @@ module _ (w : World) (old new : Run) (h : IsRun old w) where
   did_by n s (Some call) doing st = did_with_failure w n s call doing st
 
   abbrev stood_by : ℕ → ShardNow → Option ℕ → Doing → Stepped → After
-  stood_by n s call doing st = by_shards (answer_of call st, replaced w.shards n (done_by s call doing st))
+  stood_by n s call doing st = by_shards (answer_of call doing st, replaced w.shards n (done_by s call doing st))
 
   did_is : (n : ℕ) (s : ShardNow) (call : Option ℕ) (doing : Doing) (st : Stepped) → slice_get w.shards n ≡ Some s
       → did_by n s call doing st ≡ stood_by n s call doing st
@@ -169,8 +169,31 @@ module _ (w : World) (old new : Run) (h : IsRun old w) where
   did_is n s None doing (Refuses fault) there = refused_is n s doing fault there
   did_is n s (Some call) doing (Refuses fault) there = refused_is n s doing fault there
   did_is n s None doing (Does None memory out) there = refl
-  did_is n s (Some call) doing (Does None memory out) there = refl
   did_is n s None doing (Does (Some r) memory out) there = refl
+  did_is n s (Some call) doing (Does None memory out) there = by_turn (turns doing)
+    where
+      by_test : (b : Bool) → cond {A = After} b (set_shard n (failed_turn s call) w, Reply.Refused Device)
+          (put_out out (set_shard n (finished s doing None memory) w), Reply.Done)
+          ≡ by_shards (
+            cond {A = Result (List Envelope) Fault} b (Err Device)
+                (Ok out),
+            replaced w.shards n (cond b (failed_turn s call) (finished s doing None memory)),
+          )
+      by_test true = refl
+      by_test false = refl
+
+      by_turn : (t : Bool) → cond {A = After} (t && nat_lt call 5) (set_shard n (failed_turn s call) w, Reply.Refused Device)
+          (put_out out (set_shard n (finished s doing None memory) w), Reply.Done)
+          ≡ by_shards (
+            cond {A = Result (List Envelope) Fault} (nat_lt call (cond t 5 0)) (Err Device)
+                (Ok out),
+            replaced w.shards n (cond (nat_lt call (cond t 5 0)) (failed_turn s call) (finished s doing None memory)),
+          )
+      by_turn true = by_test (nat_lt call 5)
+      by_turn false = ap (λ b. by_shards (
+        cond {A = Result (List Envelope) Fault} b (Err Device) (Ok out),
+        replaced w.shards n (cond b (failed_turn s call) (finished s doing None memory)),
+      )) (sym (none_below call))
   did_is n s (Some call) doing (Does (Some r) memory out) there = by_test (nat_lt call 4)
     where
       by_test : (b : Bool) → cond {A = After} b (set_shard n (failed_in s call r) w, Reply.Refused Device)
@@ -199,7 +222,7 @@ module _ (w : World) (old new : Run) (h : IsRun old w) where
           ≡ by_shards (elim o as (λ x. Result (List Envelope) Fault × List ShardNow) [
             | None ↦ (Err Stranger, w.shards)
             | Some s ↦ (
-              answer_of call (effect (setup_of w.config n) w.bag s doing),
+              answer_of call doing (effect (setup_of w.config n) w.bag s doing),
               replaced w.shards n (done_by s call doing (effect (setup_of w.config n) w.bag s doing)),
             )
           ])
@@ -207,11 +230,13 @@ module _ (w : World) (old new : Run) (h : IsRun old w) where
       by_place (Some s) there = did_is n s call doing (effect (setup_of w.config n) w.bag s doing) there
 
   -- its log is taken, and what it logs follows
-  pub orderly_at : (n : ℕ) (doing : Doing) → IsSteady w → IsOrderlyAt w.config w.bag w.shards n doing
-  orderly_at n doing steady s there = record {
+  pub orderly_at : (n : ℕ) (doing : Doing) → KeepsLaws w → IsOrderlyAt w.config w.bag w.shards n doing
+  orderly_at n doing laws s there = record {
     unbooked = refl;
-    takes = steady.takes n s there;
-    follows = λ r memory out is. steady.logged n s doing r memory out there is;
+    takes = laws.1.takes n s there;
+    alike = laws.1.alike n s there;
+    lasting = laws.1.lasting n s there;
+    follows = λ r memory out is. laws.0.logged n s doing r memory out there is;
   }
 
   -- with other shards
@@ -231,7 +256,7 @@ module _ (w : World) (old new : Run) (h : IsRun old w) where
       (r.1, record { sessions = hosts_in sessions; shards = shards; output = r.2; time = time ∙ h.time })
   answered_so (Err why, ss) (Err fault) shards r sessions time = r
 
-  pub shard_comes : (n : ℕ) (call : Option ℕ) (doing : Doing) (answer : Result (List Envelope) Fault) (result : Result Reply Fault) → IsSteady w
+  pub shard_comes : (n : ℕ) (call : Option ℕ) (doing : Doing) (answer : Result (List Envelope) Fault) (result : Result Reply Fault) → KeepsLaws w
       → ActsAt w.config w.bag w.shards n call doing new.shards answer → ((v : World) → IsOutput old.output v → HasReplied v answer new.output result)
       → new.sessions ≡ old.sessions → new.time ≡ old.time → ComesAfter (act_at w n call doing) new result
   shard_comes n call doing answer result steady acts replies sessions time = by_answer (acts (orderly_at n doing steady))
@@ -293,9 +318,9 @@ module _ (w : World) (old new : Run) (h : IsRun old w) where
 
   pub crash_comes : (n : ℕ) (result : Result Reply Fault) → CrashesAt w.config (crash_within w.config w.bag n None Left.Old) w.shards n new.shards result
       → new.sessions ≡ old.sessions → new.output ≡ old.output → new.time ≡ old.time
-      → ComesAfter (at_shard w n (λ setup s. (set_shard n (crashed s s.log) w, Reply.Crashed))) new result
+      → ComesAfter (at_shard w n (λ setup s. (set_shard n (crashed s s.log s.area) w, Reply.Crashed))) new result
   crash_comes n result c =
-      crashes n (λ s. crashed s s.log) result (subst (λ f. CrashesAt w.config f w.shards n new.shards result) (λ i s. crash_is_old s i) c)
+      crashes n (λ s. crashed s s.log s.area) result (subst (λ f. CrashesAt w.config f w.shards n new.shards result) (λ i s. crash_is_old s i) c)
 
   pub crash_in_comes : (n call : ℕ) (fate : Left) (doing : Doing) (result : Result Reply Fault)
       → CrashesAt w.config (crash_within w.config w.bag n (Some (call, doing)) fate) w.shards n new.shards result

@@ -1,6 +1,6 @@
 -- A look at a view is one at the core that shows its versions and later ones.
 use Rattle.std.specs.List.{list_all}
-use Rattle.std.proofs.Common.{◌≡◌, ℕ, zero, suc, ◌+◌, ◌≤◌, Bool, true, false, not, cond, nat_eq, nat_le, nat_lt, List, [], ◌∷◌, ◌++◌, take, drop}
+use Rattle.std.proofs.Common.{◌≡◌, ℕ, zero, suc, ◌+◌, ◌≤◌, Bool, true, false, not, cond, nat_eq, nat_le, nat_lt, List, [], ◌∷◌, ◌++◌, length, take, drop}
 use Rattle.std.proofs.Common.{filter, slice_get, Some, refl, sym, ap, ◌∙◌, subst, arith}
 use Rattle.std.proofs.lemmas.Bool.{and_parts}
 use Rattle.std.proofs.lemmas.Bool.Decides.{nat_tests}
@@ -11,16 +11,14 @@ use Rattle.units.specs.Versions.{at_time, latest}
 use Rattle.units.specs.declared.fault.Fault.TheVariants.{NotYet, Stranger, TooOld}
 use Rattle.units.specs.declared.setup.Setup.{Setup}
 use Rattle.units.specs.declared.writes.Install.{Install}
-use Rattle.protocol.specs.Rows.{Memory}
-use Rattle.record.specs.Facts.{facts_of}
 use Rattle.shard.specs.Look.{safe_at}
 use Rattle.shard.specs.On.{CoreView}
 use Rattle.simdisk.specs.declared.simdisk.SimDisk.{SimDisk}
 use Rattle.world.specs.World.{ShardNow, State, Runs, IsStopped, IsDown}
 use Rattle.world.specs.declared.event.Reply.{Reply}
-use Rattle.lives.specs.Lives.{IsCoreIn, IsCoreOf}
+use Rattle.lives.specs.Lives.{IsCoreIn}
 use Rattle.lives.specs.Looks.{is_above, look_at, look_core}
-use Rattle.lives.specs.Shows.{ShowsLog, is_apart}
+use Rattle.lives.specs.Shows.{is_apart}
 use Rattle.lives.specs.declared.view.View.{View as CodeView}
 
 not_upto : (safe at time : ℕ) → at ≤ safe → nat_lt safe time ≡ true → nat_le time at ≡ false
@@ -61,12 +59,20 @@ abbrev by_tests : Bool → Bool → Bool → Reply → Reply
 by_tests here old served shows =
     cond (not here) (Reply.Refused Stranger) (cond old (Reply.Refused TooOld) (cond served shows (Reply.Refused NotYet)))
 
-pub by_core : (setup : Setup) (s : ShardNow) (core : CoreView SimDisk) (is : List Install) (from high : ℕ) (vs : List CodeView) (n : ℕ) (v : CodeView)
-    (here : Bool) (k : Bytes) (at : ℕ) → IsCoreIn setup s core s.state → ShowsLog is from s s.state →
+pub by_core : (setup : Setup) (core : CoreView SimDisk) (is : List Install) (from high : ℕ) (vs : List CodeView) (n : ℕ) (v : CodeView)
+    (here : Bool) (k : Bytes) (at : ℕ) → core.setup ≡ setup → (from ≤ length is) × (drop from is ≡ core.facts.installs) →
     list_all (is_apart is high) vs ≡ true → slice_get vs n ≡ Some v → v.from ≡ from → (v.horizon ≤ at) × (at ≤ v.safe) →
     (core.facts.horizon ≤ at) × (at ≤ safe_at core) → here ≡ nat_eq (shard_of setup.splits k) setup.shard →
     look_core core k at ≡ look_at here (take v.count (drop v.from is)) v.horizon v.safe k at
-by_core setup s core is from high vs n v here k at lives shows apart there same was now is_here = by_state s.state lives shows
+by_core setup core is from high vs n v here k at setup_is shows apart there same was now is_here =
+    let all : at_time core.facts.installs k at ≡ at_time (take v.count (drop v.from is)) k at =
+    ap (λ l. at_time l k at) (sym shows.1 ∙ ap (λ f. drop f is) (sym same)) ∙ value in
+    let owns : nat_eq (shard_of core.setup.splits k) core.setup.shard ≡ here =
+    (λ i. nat_eq (shard_of (setup_is i).splits k) (setup_is i).shard) ∙ sym is_here in
+    let serve : nat_le at (safe_at core) ≡ nat_le at v.safe = at_most at (safe_at core) now.1 ∙ sym (at_most at v.safe was.1) in
+    let forget : nat_lt at core.facts.horizon ≡ nat_lt at v.horizon =
+    not_below core.facts.horizon at now.0 ∙ sym (not_below v.horizon at was.0) in
+    λ i. by_tests (owns i) (forget i) (serve i) (Reply.Shows (all i))
   where
     later : list_all (is_above v.safe) (drop v.count (drop v.from is)) ≡ true
     later = ap (list_all (is_above v.safe)) (drop-drop v.count v.from is)
@@ -76,20 +82,8 @@ by_core setup s core is from high vs n v here k at lives shows apart there same 
     value = ap (λ l. at_time l k at) (sym (take-append-drop v.count (drop v.from is)))
         ∙ earlier v.safe at (take v.count (drop v.from is)) (drop v.count (drop v.from is)) k was.1 later
 
-    of_core : (m : Memory) → IsCoreOf setup s m core → drop from is ≡ (facts_of s.log).installs →
-        look_core core k at ≡ look_at here (take v.count (drop v.from is)) v.horizon v.safe k at
-    of_core m c shown =
-        let all : at_time core.facts.installs k at ≡ at_time (take v.count (drop v.from is)) k at =
-        ap (λ l. at_time l k at) ((λ i. (c.knows i).installs) ∙ sym shown ∙ ap (λ f. drop f is) (sym same)) ∙ value in
-        let owns : nat_eq (shard_of core.setup.splits k) core.setup.shard ≡ here =
-        (λ i. nat_eq (shard_of (c.setup_is i).splits k) (c.setup_is i).shard) ∙ sym is_here in
-        let serve : nat_le at (safe_at core) ≡ nat_le at v.safe = at_most at (safe_at core) now.1 ∙ sym (at_most at v.safe was.1) in
-        let forget : nat_lt at core.facts.horizon ≡ nat_lt at v.horizon =
-        not_below core.facts.horizon at now.0 ∙ sym (not_below v.horizon at was.0) in
-        λ i. by_tests (owns i) (forget i) (serve i) (Reply.Shows (all i))
-
-    by_state : (st : State) → IsCoreIn setup s core st → ShowsLog is from s st →
-        look_core core k at ≡ look_at here (take v.count (drop v.from is)) v.horizon v.safe k at
-    by_state (Runs m) c shown = of_core m c.core_of shown.1
-    by_state (IsStopped m) c shown = of_core m c.core_of shown.1
-    by_state IsDown c shown = absurd c
+-- a core of a shard was told what the shard is told
+pub told_as : (setup : Setup) (s : ShardNow) (core : CoreView SimDisk) (state : State) → IsCoreIn setup s core state → core.setup ≡ setup
+told_as setup s core (Runs m) c = c.core_of.setup_is
+told_as setup s core (IsStopped m) c = c.core_of.setup_is
+told_as setup s core IsDown c = absurd c

@@ -44,7 +44,7 @@ shards_by config bag ss n call doing =
     elim (slice_get ss n) [
       | None ↦ (Err Stranger, ss)
       | Some s ↦
-          (answer_of call (effect (setup_of config n) bag s doing), replaced ss n (done_by s call doing (effect (setup_of config n) bag s doing)))
+          (answer_of call doing (effect (setup_of config n) bag s doing), replaced ss n (done_by s call doing (effect (setup_of config n) bag s doing)))
     ]
 
 -- its shard takes its log, and what the doing logs follows

@@ -1,62 +1,62 @@
 -- How a core, or the disk of one that is down, stands for a shard of the definitions.
-use Rattle.std.specs.Prelude.{◌≡◌, true, false, List, ◌++◌, get_or, Ok}
+use Rattle.std.specs.Prelude.{◌≡◌, ℕ, true, false, List, get_or, Ok}
 use Rattle.units.specs.declared.setup.Setup.{Setup}
 use Rattle.disk.specs.File.{surface, crash_leaves}
 use Rattle.disk.specs.declared.plan.FailurePlan.{FailurePlan}
 use Rattle.disk.specs.declared.plan.Fate.{Fate}
-use Rattle.record.specs.Facts.{Facts, facts_of}
+use Rattle.record.specs.Facts.{facts_of}
 use Rattle.record.specs.declared.record.Record.{Record}
 use Rattle.gatelog.specs.Crash.{Begins}
-use Rattle.gatelog.specs.Frames.{end_of}
-use Rattle.gatelog.specs.Gates.{first_gate}
+use Rattle.gatelog.specs.Slots.{Beginning, begins_in}
 use Rattle.protocol.specs.Rows.{Memory}
+use Rattle.renewal.specs.Keeps.{Alike}
 use Rattle.shard.specs.Core.{seen}
 use Rattle.shard.specs.Logs.{records_in}
 use Rattle.shard.specs.On.{CoreView}
 use Rattle.simdisk.specs.State.{disk_file, disk_plan}
 use Rattle.simdisk.specs.declared.simdisk.SimDisk.{SimDisk}
-use Rattle.world.specs.World.{ShardNow, State, Runs, IsStopped, IsDown, Nothing, crashed, left_of, read_log}
+use Rattle.world.specs.World.{Area, ShardNow, State, Runs, IsStopped, IsDown, Nothing, crashed, gate_of, left_area, left_log, read_area}
 use Rattle.lives.specs.declared.life.Life.{Life}
 use Rattle.lives.specs.declared.life.Life.TheVariants.{Up, Down}
 
--- what a read of a shard's disk gives. Today it is all that the law reads of it
+-- the records that a read of a shard's disk gives
 abbrev pub disk_log : ShardNow → List Record
-disk_log s = read_log s
+disk_log s = (read_area s).records
 
--- what a crash leaves on it, where the oldest change that is not synced has this fate
-abbrev pub left_log : Fate → ShardNow → List Record
-left_log fate s = s.log ++ left_of fate s.unsure
+-- where the log of an area begins in its file, and how many slots are open
+abbrev pub beginning_of : Area → Beginning
+beginning_of area = record { at = area.begins; slots = area.slot }
+
+-- an image of a disk has this area
+abbrev pub HoldsArea : Area → List ℕ → Type 0
+HoldsArea area image = (records_in image ≡ Ok area.records) × (begins_in image ≡ beginning_of area)
 
 -- a crash by a fate
 abbrev pub crash_by : Fate → ShardNow → ShardNow
-crash_by fate s = crashed s (left_log fate s)
+crash_by fate s = crashed s (left_log fate s) (left_area fate s)
 
--- A disk that is not to fail, and holds a shard's log: a read gives what the definitions read, and a crash leaves, by each
--- choice, what they leave by the fate of the oldest change.
+-- A disk that is not to fail, and holds a shard's log: a read gives the area that the definitions read, and a crash leaves, by each
+-- choice, the one that they leave by the fate of the oldest change.
 pub record HoldsLog (s : ShardNow) (disk : SimDisk) : Type 0 where
   pub never : disk_plan disk ≡ FailurePlan.Never
-  pub read : records_in (surface (disk_file disk)).seen ≡ Ok (disk_log s)
-  pub left : (fates : List Fate) → records_in (crash_leaves fates (disk_file disk)) ≡ Ok (left_log (get_or fates 0 Fate.Old) s)
-  -- the log is that of the first area
-  pub begins : Begins (surface (disk_file disk)) first_gate
+  pub read : HoldsArea (read_area s) (surface (disk_file disk)).seen
+  pub left : (fates : List Fate) → HoldsArea (left_area (get_or fates 0 Fate.Old) s) (crash_leaves fates (disk_file disk))
 
--- how what a core knows agrees with its log. Today it is what the whole log says
-abbrev pub KnowsLog : Facts → List Record → Type 0
-KnowsLog facts log = facts ≡ facts_of log
-
--- a core that knows a shard's log and keeps this memory, on a disk that holds the log
+-- a core whose facts are alike to what a shard's records say, and which keeps this memory, on a disk that holds the log
 pub record IsCoreOf (setup : Setup) (s : ShardNow) (m : Memory) (core : CoreView SimDisk) : Type 0 where
   pub setup_is : core.setup ≡ setup
-  pub knows : KnowsLog core.facts s.log
+  pub knows : Alike core.facts (facts_of s.log)
   pub memory : core.memory ≡ m
   pub disk : HoldsLog s core.disk
 
--- it runs, at the log's end, and nothing is unsure
+-- it runs, at the log's end, with the next free slot, nothing is unsure, and whatever a crash leaves, the log begins where it does
 pub record IsRunningAs (setup : Setup) (s : ShardNow) (m : Memory) (core : CoreView SimDisk) : Type 0 where
   pub core_of : IsCoreOf setup s m core
   pub runs : core.stopped ≡ false
   pub sure : s.unsure ≡ Nothing
-  pub gate : core.gate ≡ end_of (disk_log s)
+  pub gate : core.gate ≡ gate_of (read_area s)
+  pub slot : core.slot ≡ (read_area s).slot
+  pub begins : Begins (surface (disk_file core.disk)) (beginning_of (read_area s))
 
 -- it was stopped by its device
 pub record IsStoppedAs (setup : Setup) (s : ShardNow) (m : Memory) (core : CoreView SimDisk) : Type 0 where

@@ -6,6 +6,7 @@ use Rattle.units.specs.declared.fault.Reason.TheVariants.{Unlawful}
 use Rattle.world.specs.World.{World, After, at_shard, did_with_failure, do_at, effect, happens}
 use Rattle.world.specs.Lawful.{may_happen}
 use Rattle.world.specs.Hosts.{Hosts}
+use Rattle.world.specs.Steady.{HasAreas, IsSteady}
 use Rattle.world.specs.Passed.{IsOutput}
 use Rattle.world.specs.declared.event.Doing.{Doing}
 use Rattle.world.specs.declared.event.Event.{Event}
@@ -19,6 +20,10 @@ pub record IsRun (r : Run) (w : World) : Type 0 where
   pub shards : AreShards w.config r.shards w.shards
   pub output : IsOutput r.output w
   pub time : r.time ≡ w.time
+
+-- what is known of each world of a lawful run
+abbrev pub KeepsLaws : World → Type 0
+KeepsLaws w = IsSteady w × HasAreas w
 
 -- the run is the world after an event, with its reply; or memory was refused
 abbrev pub ComesAfter : After → Run → Result Reply Fault → Type 0

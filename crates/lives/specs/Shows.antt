@@ -1,24 +1,24 @@
 -- How a shard of a run in the code stands for one of the definitions, with its views.
 use Rattle.std.specs.List.{list_all}
-use Rattle.std.specs.Prelude.{◌≡◌, ◌≤◌, ℕ, ◌+◌, ◌-◌, Bool, true, false, cond, nat_le, ◌&&◌, List, [], ◌∷◌, ◌++◌, length, map, take, drop, Option, Some}
+use Rattle.std.specs.Prelude.{◌≡◌, ◌≤◌, ℕ, ◌+◌, ◌-◌, Bool, true, false, cond, nat_le, ◌&&◌, List, [], ◌∷◌, ◌++◌, length, take, drop, Option, Some}
 use Rattle.std.specs.Prelude.{None, Result, slice_get}
 use Rattle.units.specs.Keys.{Bytes}
+use Rattle.units.specs.Versions.{at_time}
 use Rattle.units.specs.declared.fault.Fault.{Fault}
 use Rattle.units.specs.declared.setup.Setup.{Setup}
 use Rattle.units.specs.declared.writes.Install.{Install}
 use Rattle.disk.specs.declared.plan.Fate.{Fate}
-use Rattle.record.specs.Facts.{facts_of}
 use Rattle.message.specs.declared.message.Envelope.{Envelope}
 use Rattle.protocol.specs.Step.{Stepped, Refuses, Does}
 use Rattle.shard.specs.Core.{seen}
 use Rattle.shard.specs.Look.{safe_at}
 use Rattle.shard.specs.On.{CoreView}
 use Rattle.simdisk.specs.declared.simdisk.SimDisk.{SimDisk}
-use Rattle.world.specs.World.{ShardNow, State, Runs, IsStopped, IsDown, View, crashed_in, effect, failed_in, finished, look_at_view, look_shard, makes_view}
+use Rattle.world.specs.World.{ShardNow, View, crashed_in, effect, finished, look_at_view, look_shard, makes_view}
 use Rattle.lives.specs.Inputs.{goes_on}
 use Rattle.world.specs.declared.event.Doing.{Doing}
 use Rattle.world.specs.declared.event.Reply.{Reply}
-use Rattle.lives.specs.Carries.{Comes, IsOrderly, by_call, left_by_refusal}
+use Rattle.lives.specs.Carries.{Comes, IsOrderly, by_call, calls_of, failed_by, left_by_refusal}
 use Rattle.lives.specs.Lives.{LivesAs, crash_by}
 use Rattle.lives.specs.Looks.{is_above}
 use Rattle.lives.specs.declared.life.Life.{Life}
@@ -26,9 +26,21 @@ use Rattle.lives.specs.declared.life.Life.TheVariants.{Up, Down}
 use Rattle.lives.specs.declared.run_shard.RunShard.{RunShard}
 use Rattle.lives.specs.declared.view.View.{View as CodeView}
 
--- a view, by all versions that its shard ever showed
-abbrev pub shown_view : List Install → CodeView → View
-shown_view installs v = record { installs = take v.count (drop v.from installs); safe = v.safe; horizon = v.horizon }
+-- the versions of a view, among all that its shard ever showed
+abbrev pub versions_of : List Install → CodeView → List Install
+versions_of installs v = take v.count (drop v.from installs)
+
+-- a view shows what one of the definitions does: the same value of each key at each time from its horizon up
+pub record IsView (installs : List Install) (v : CodeView) (w : View) : Type 0 where
+  pub safe : v.safe ≡ w.safe
+  pub horizon : v.horizon ≡ w.horizon
+  pub values : (k : Bytes) (at : ℕ) → v.horizon ≤ at → at_time (versions_of installs v) k at ≡ at_time w.installs k at
+
+-- so each view
+abbrev pub AreViews : List Install → List CodeView → List View → Type 0
+AreViews installs [] [] = Unit {0}
+AreViews installs (v ∷ vs) (w ∷ ws) = IsView installs v w × AreViews installs vs ws
+AreViews installs _ _ = ⊥
 
 -- all of its versions are among these
 abbrev pub is_within : List Install → CodeView → Bool
@@ -38,20 +50,19 @@ is_within installs v = nat_le (v.from + v.count) (length installs)
 abbrev pub is_apart : List Install → ℕ → CodeView → Bool
 is_apart installs high v = nat_le v.safe high && list_all (is_above v.safe) (drop (v.from + v.count) installs)
 
--- while a shard runs or is stopped, the last versions are those of its log
-abbrev pub ShowsLog : List Install → ℕ → ShardNow → State → Type 0
-ShowsLog installs from s (Runs m) = (from ≤ length installs) × (drop from installs ≡ (facts_of s.log).installs)
-ShowsLog installs from s (IsStopped m) = (from ≤ length installs) × (drop from installs ≡ (facts_of s.log).installs)
-ShowsLog installs from s IsDown = Unit {0}
+-- while there is a core, the last versions are those that it shows
+abbrev pub ShowsLife : List Install → ℕ → Life → Type 0
+ShowsLife installs from (Up core) = (from ≤ length installs) × (drop from installs ≡ (seen core).facts.installs)
+ShowsLife installs from (Down disk) = Unit {0}
 
 -- what lives of it, and its views
 pub record StandsFor (setup : Setup) (r : RunShard) (s : ShardNow) : Type 0 where
   pub setup_is : r.setup ≡ setup
   pub lives : LivesAs setup s r.life
-  pub views : map (shown_view r.installs.items) r.views.items ≡ s.views
+  pub views : AreViews r.installs.items r.views.items s.views
   pub within : list_all (is_within r.installs.items) r.views.items ≡ true
   pub apart : r.rises ≡ true → list_all (is_apart r.installs.items r.high) r.views.items ≡ true
-  pub shows : ShowsLog r.installs.items r.from s s.state
+  pub shows : ShowsLife r.installs.items r.from r.life
 
 -- what a call of it leaves, but for what lives
 pub record IsKept (old new : RunShard) : Type 0 where
@@ -65,8 +76,8 @@ pub record IsKept (old new : RunShard) : Type 0 where
 -- a shard after a doing, with the view that it makes, where a refusal leaves that other one
 abbrev pub leads_to : ShardNow → ShardNow → Option ℕ → Doing → Stepped → ShardNow
 leads_to s refused call doing (Refuses fault) = refused
-leads_to s refused call doing (Does None memory out) = finished s doing None memory
-leads_to s refused call doing (Does (Some r) memory out) = by_call call (λ c. failed_in s c r) (finished s doing (Some r) memory)
+leads_to s refused call doing (Does logged memory out) =
+    by_call (calls_of doing logged) call (failed_by s logged) (finished s doing logged memory)
 
 -- a shard after a doing, with a call armed or with none
 abbrev pub done_by : ShardNow → Option ℕ → Doing → Stepped → ShardNow
@@ -76,7 +87,7 @@ done_by s call doing st = leads_to s (left_by_refusal s doing) call doing st
 abbrev pub Acts : Setup → List Envelope → ShardNow → Option ℕ → Doing → RunShard → Result (List Envelope) Fault → Type 0
 Acts setup bag s call doing new result =
     IsOrderly setup s (effect setup bag s doing)
-    → Comes call (effect setup bag s doing) result (StandsFor setup new (done_by s call doing (effect setup bag s doing)))
+    → Comes call doing (effect setup bag s doing) result (StandsFor setup new (done_by s call doing (effect setup bag s doing)))
 
 -- ---- what is kept of a core behind a doing
 

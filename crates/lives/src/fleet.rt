@@ -1,8 +1,9 @@
 //! The shards of a run.
 ghost use Rattle.std.specs.Prelude.{◌≡◌, [], ℕ, Some, List, IfOk, IfErr, OnOk, map};
-ghost use Rattle.world.specs.World.{ShardNow, read_log};
+ghost use Rattle.world.specs.World.{ShardNow};
 ghost use Rattle.world.specs.declared.event.Config.{Config};
 ghost use Rattle.lives.specs.Fleet.{AreOn, AreStanding, are_fresh};
+ghost use Rattle.lives.specs.Lives.{disk_log};
 
 use crate::run_shard::{RunShard, read_back};
 use disk::Fate;
@@ -133,7 +134,7 @@ pub fn take_logs(
         (AreOn disks.new.items (map (λ log. log.items) logs.new.items)) }
     ensures logs { (config : Config) (n : ℕ) (ss : List ShardNow)
         → AreStanding config n shards.old.items ss
-        → OnOk result (map (λ log. log.items) logs.new.items ≡ map read_log ss) }
+        → OnOk result (map (λ log. log.items) logs.new.items ≡ map disk_log ss) }
     ensures memory { (config : Config) (n : ℕ) (ss : List ShardNow)
         → AreStanding config n shards.old.items ss → IfErr result (λ fault. fault ≡ Fault.Memory) }
 {

@@ -3,12 +3,11 @@
 ghost use Rattle.std.specs.Prelude.{◌≡◌, Some, true, not, IfOk, IfErr, OnErr, OnOk};
 ghost use Rattle.units.specs.declared.setup.Setup.{Setup};
 ghost use Rattle.shard.specs.Core.{seen};
-ghost use Rattle.world.specs.World.{ShardNow, input_of};
-ghost use Rattle.lives.specs.Inputs.{goes_on};
-ghost use Rattle.lives.specs.Inputs.{IsNoInput};
+ghost use Rattle.world.specs.World.{ShardNow, input_of, turns};
+ghost use Rattle.lives.specs.Inputs.{IsNoInput, goes_on, has_input};
 ghost use Rattle.world.specs.Lawful.{is_up};
 ghost use Rattle.lives.specs.Lives.{HoldsLog, LivesAs, crash_by};
-ghost use Rattle.lives.specs.Carries.{Carries, DoesInput, OpensDisk};
+ghost use Rattle.lives.specs.Carries.{Carries, DoesInput, OpensDisk, TurnsOver};
 
 use disk::{Disk, Fate};
 use message::{Envelope, Input, Outbox};
@@ -66,7 +65,7 @@ impl Life {
         Ok(Reply::Crashed)
     }
 
-    /// What a shard does, with a device call of its append, by its number from 0, armed to fail, or with none.
+    /// What a shard does, with a device call of its append or its turnover, by its number from 0, armed to fail, or with none.
     #[tactic(none)]
     pub fn carry(
         &mut self,
@@ -77,7 +76,7 @@ impl Life {
         doing: &Doing,
     ) -> Result<Outbox, Fault>
         ensures { (s : ShardNow) → LivesAs setup.now s self.old
-            → Carries setup.now bag.now s call doing.now self.new result }
+            → Carries setup.now bag.now s call doing.now self.old self.new result }
     {
         if opens(doing) {
             if self.is_up() {
@@ -89,9 +88,29 @@ impl Life {
             return result;
         }
         match self {
-            Life::Up(core) => do_input(core, alloc, bag, call, doing),
+            Life::Up(core) => {
+                if turns(doing) {
+                    turn_over(core, alloc, call)
+                } else {
+                    do_input(core, alloc, bag, call, doing)
+                }
+            }
             Life::Down(_) => Err(Fault::Stopped),
         }
+    }
+}
+
+// A core turns its log over, with a device call armed, or with none. Behind it no call is armed.
+#[tactic(none)]
+fn turn_over(core: &mut Core<SimDisk>, alloc: Global, call: Option<u64>) -> Result<Outbox, Fault>
+    ensures { TurnsOver (seen core.old) (seen core.new) call result }
+{
+    core.arm(call);
+    let result = core.turn_over(alloc);
+    core.arm(None);
+    match result {
+        Ok(()) => Ok(Outbox::none(alloc)),
+        Err(fault) => Err(fault),
     }
 }
 
@@ -104,7 +123,7 @@ fn do_input(
     call: Option<u64>,
     doing: &Doing,
 ) -> Result<Outbox, Fault>
-    requires { goes_on doing.now ≡ true }
+    requires { has_input doing.now ≡ true }
     ensures { DoesInput (seen core.old) (seen core.new) bag.now call doing.now result }
 {
     match input_of(alloc, bag, doing) {
@@ -182,13 +201,27 @@ pub fn opens(doing: &Doing) -> bool
 {
     match doing {
         Doing::Open => true,
-        _ => false,
+        Doing::Take(_, _) | Doing::Resume(_) | Doing::Settle(_, _) => false,
+        Doing::Advance(_, _) | Doing::Nudge(_, _) | Doing::Forget(_, _) => false,
+        Doing::Turn => false,
+    }
+}
+
+// The doing is a turnover.
+fn turns(doing: &Doing) -> bool
+    ensures { result ≡ turns doing.now }
+{
+    match doing {
+        Doing::Turn => true,
+        Doing::Take(_, _) | Doing::Resume(_) | Doing::Settle(_, _) => false,
+        Doing::Advance(_, _) | Doing::Nudge(_, _) | Doing::Forget(_, _) => false,
+        Doing::Open => false,
     }
 }
 
 // The input of a doing, with its reading. A message that was not put out is refused.
 fn input_of(alloc: Global, bag: &[Envelope], doing: &Doing) -> Result<(Reading, Input), Fault>
-    requires { goes_on doing.now ≡ true }
+    requires { has_input doing.now ≡ true }
     ensures found { IfOk result (λ p. input_of bag.now doing.now ≡ Some (p.0, p.1)) }
     ensures cause { IfErr result (λ fault. IsNoInput (input_of bag.now doing.now) fault) }
 {
@@ -205,6 +238,6 @@ fn input_of(alloc: Global, bag: &[Envelope], doing: &Doing) -> Result<(Reading, 
         Doing::Advance(at, now) => Ok((*now, Input::Advance(*at))),
         Doing::Nudge(txn, now) => Ok((*now, Input::Nudge(*txn))),
         Doing::Forget(at, now) => Ok((*now, Input::Forget(*at))),
-        Doing::Open => unreachable!(),
+        Doing::Turn | Doing::Open => unreachable!(),
     }
 }

@@ -1,10 +1,9 @@
 //! A run of events.
 ghost use Rattle.std.specs.Prelude.{◌≡◌, ◌<◌, ◌-◌, ◌^◌, ℕ, true, map, slice_get, IfOk, IfErr};
-ghost use Rattle.world.specs.World.{World, acts, deliver_to, logs_of, start};
+ghost use Rattle.world.specs.World.{World, acts, areas_of, deliver_to, start};
 ghost use Rattle.world.specs.Lawful.{may_act};
-ghost use Rattle.world.specs.Steady.{IsSteady};
 ghost use Rattle.lives.specs.Fleet.{AreOn};
-ghost use Rattle.lives.specs.Runs.{ComesAfter, IsRun, TakesEvent, act_at};
+ghost use Rattle.lives.specs.Runs.{ComesAfter, IsRun, KeepsLaws, TakesEvent, act_at};
 
 use crate::fleet::{Shards, fill, spend_all, take_logs};
 use crate::lawfulness::{may_be_done, may_come, shard_of};
@@ -72,7 +71,7 @@ impl<'s> Run<'s> {
     /// The event of a number, from 0, happens, where it may. The reply to it is answered.
     pub fn take(&mut self, alloc: Global, number: u64, event: &Event) -> Result<Reply, Fault>
         requires { number < 2 ^ 64 - 1 }
-        ensures { (w : World) → w.event ≡ number → IsRun self.old w → IsSteady w
+        ensures { (w : World) → w.event ≡ number → IsRun self.old w → KeepsLaws w
             → TakesEvent w event.now self.new result }
     {
         if event.time < self.time || !self.may_act(event.time, &event.act) {
@@ -90,7 +89,7 @@ impl<'s> Run<'s> {
 
     // The act is done.
     fn act(&mut self, alloc: Global, act: &Act) -> Result<Reply, Fault>
-        ensures { (time : ℕ) (w : World) → IsRun self.old w → IsSteady w
+        ensures { (time : ℕ) (w : World) → IsRun self.old w → KeepsLaws w
             → may_act w time act.now ≡ true → ComesAfter (acts w act.now) self.new result }
     {
         match act {
@@ -120,7 +119,7 @@ impl<'s> Run<'s> {
 
     // A message comes to the shard or to the session that it was put out for.
     fn deliver(&mut self, alloc: Global, number: u64, now: Reading) -> Result<Reply, Fault>
-        ensures { (w : World) → IsRun self.old w → IsSteady w
+        ensures { (w : World) → IsRun self.old w → KeepsLaws w
             → ComesAfter (deliver_to w number now (slice_get w.bag number)) self.new result }
     {
         let Some(envelope) = self.output.bag.nth(number) else {
@@ -135,7 +134,7 @@ impl<'s> Run<'s> {
         }
     }
 
-    // A shard does something, with a device call of its append armed to fail, or with none.
+    // A shard does something, with a device call of it armed to fail, or with none.
     fn act_at(
         &mut self,
         alloc: Global,
@@ -143,7 +142,7 @@ impl<'s> Run<'s> {
         call: Option<u64>,
         doing: &Doing,
     ) -> Result<Reply, Fault>
-        ensures { (w : World) → IsRun self.old w → IsSteady w
+        ensures { (w : World) → IsRun self.old w → KeepsLaws w
             → ComesAfter (act_at w shard call doing.now) self.new result }
     {
         let at = shard.number() as usize;
@@ -160,7 +159,7 @@ impl<'s> Run<'s> {
         ensures disks { IfOk result
             (λ r. AreOn r.disks.items (map (λ log. log.items) r.logs.items)) }
         ensures done { (w : World) → IsRun self.entry w
-            → IfOk result (λ r. (r.bag ≡ w.bag) × (map (λ log. log.items) r.logs.items ≡ logs_of w)
+            → IfOk result (λ r. (r.bag ≡ w.bag) × (map (λ log. log.items) r.logs.items ≡ areas_of w)
             × (r.lines.items ≡ w.lines)) }
         ensures memory { (w : World) → IsRun self.entry w
             → IfErr result (λ fault. fault ≡ Fault.Memory) }

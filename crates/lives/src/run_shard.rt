@@ -1,9 +1,9 @@
 //! A shard of a run: what there is of it, and the views that it has made.
 ghost use Rattle.std.specs.Prelude.{◌≡◌, ◌≢◌, ◌++◌, ◌≤◌, ℕ, Some, Err, true, not, IfOk, IfErr, OnOk, length, map};
 ghost use Rattle.units.specs.declared.setup.Setup.{Setup};
-ghost use Rattle.world.specs.World.{ShardNow, effect, fresh_shard, makes_view, read_log, setup_of};
+ghost use Rattle.world.specs.World.{ShardNow, effect, fresh_shard, makes_view, setup_of};
 ghost use Rattle.world.specs.declared.event.Config.{Config};
-ghost use Rattle.lives.specs.Lives.{HoldsLog};
+ghost use Rattle.lives.specs.Lives.{HoldsLog, disk_log};
 ghost use Rattle.lives.specs.Carries.{IsOrderly};
 ghost use Rattle.lives.specs.Fleet.{IsOn};
 ghost use Rattle.lives.specs.Shows.{BeginsAt, StandsFor};
@@ -120,7 +120,7 @@ impl RunShard {
         self.views.len() as u64
     }
 
-    /// Carries out what the shard does, with a device call of its append, by its number from 0, armed to fail, or with none.
+    /// Carries out what the shard does, with a device call of it, by its number from 0, armed to fail, or with none.
     pub fn act(
         &mut self,
         alloc: Global,
@@ -270,7 +270,7 @@ impl RunShard {
 pub fn read_back(alloc: Global, disk: SimDisk) -> Result<(SimDisk, Vec<Record>), Fault>
     ensures disk { IfOk result (λ r. IsOn r.0 r.1.items) }
     ensures log { (s : ShardNow) → HoldsLog s disk
-        → IfOk result (λ r. r.1.items ≡ read_log s) }
+        → IfOk result (λ r. r.1.items ≡ disk_log s) }
     ensures memory { (s : ShardNow) → HoldsLog s disk
         → IfErr result (λ fault. fault ≡ Fault.Memory) }
 {
@@ -363,6 +363,6 @@ fn makes_view(doing: &Doing) -> bool
     match doing {
         Doing::Open | Doing::Advance(_, _) => true,
         Doing::Take(_, _) | Doing::Resume(_) | Doing::Settle(_, _) => false,
-        Doing::Nudge(_, _) | Doing::Forget(_, _) => false,
+        Doing::Nudge(_, _) | Doing::Forget(_, _) | Doing::Turn => false,
     }
 }

@@ -31,6 +31,8 @@ mod folder;
 #[cfg(test)]
 mod forgotten;
 #[cfg(test)]
+mod handed;
+#[cfg(test)]
 mod heads;
 #[cfg(test)]
 mod horizons;

@@ -2,9 +2,9 @@
 use crate::checks::{check, check_rows};
 use crate::{
     clocks, crowd, devices, disks, documents, drawers, drive_lines, figures, files, forgotten,
-    heads, horizons, known, ledgers, left, limits, looks, messages, migrated, plain, records,
-    refusals, renewed, screens, seated, sessions, spellings, tables, terminals, turned, verdicts,
-    versioned,
+    handed, heads, horizons, known, ledgers, left, limits, looks, messages, migrated, plain,
+    records, refusals, renewed, screens, seated, sessions, spellings, tables, terminals, turned,
+    verdicts, versioned,
 };
 
 #[test]
@@ -70,6 +70,11 @@ fn renewed_logs(rt: HostRuntime) {
     check_rows(&rt, &rt, "spellings of heads", &heads::VECTORS);
     check_rows(&rt, &rt, "bytes of heads", &heads::READ);
     check_rows(&rt, &rt, "what renewed logs determine", &known::RENEWED);
+}
+
+#[test]
+fn records_of_renewed_logs(rt: HostRuntime) {
+    check_rows(&rt, &rt, "records that are handed on", &handed::HANDED);
 }
 
 #[test]

@@ -1,6 +1,6 @@
 //! What a shard keeps in memory.
 ghost use Rattle.std.specs.List.{list_all};
-ghost use Rattle.std.specs.Prelude.{◌≡◌, ◌≤◌, ◌^◌, ◌<◌, [], true, false, Some, None, MatchOption, IfSome, IfOk, IfErr};
+ghost use Rattle.std.specs.Prelude.{◌≡◌, ◌≤◌, ◌^◌, ◌<◌, ◌++◌, [], true, false, Some, None, MatchOption, IfSome, IfOk, IfErr, OnOk};
 ghost use Rattle.std.specs.Option.{option_copied};
 ghost use Rattle.units.specs.LockLaws.{IsLawfulTable};
 ghost use Rattle.units.specs.Locks.{exclusive, holds, ready};
@@ -10,6 +10,8 @@ ghost use Rattle.facts.specs.Stages.{follows_next};
 ghost use Rattle.record.specs.Facts.{recorded};
 ghost use Rattle.protocol.specs.Rows.{safe, claims, find_row, held_in};
 ghost use Rattle.protocol.specs.Plan.{in_way, opens, is_crowded};
+ghost use Rattle.renewal.specs.Keeps.{IsRegular};
+ghost use Rattle.renewal.specs.Turned.{turned};
 ghost use Rattle.rows.specs.CodeRows.{phase_of};
 ghost use Rattle.rows.specs.RowTable.{needs_in};
 ghost use Rattle.memory.specs.Carry.{Asks, may_ask, may_end};
@@ -18,7 +20,7 @@ ghost use Rattle.protocol.specs.Sound.{writes_standing};
 ghost use Rattle.memory.specs.Standings.{standing_in, standing_of, row_by, Allows, HasRowIn};
 
 use crate::standing::{Standing, by_records, by_row};
-use ledger::{Ended, Ledger};
+use ledger::{Ended, Ledger, Recorder};
 use locks::exclusive;
 use record::Record;
 use rows::{Row, Rows};
@@ -127,6 +129,16 @@ impl State {
         ensures { option_copied result ≡ at_time self.now.facts.installs key.now at }
     {
         self.ledger.at(key, at)
+    }
+
+    /// Hands on the records of the renewed log, one by one: the numbers, the versions that are held, who ended, who stands.
+    pub fn renew<R: Recorder>(&self, alloc: Global, recorder: &mut R) -> Result<(), Fault>
+        requires regular { IsRegular self.now.facts }
+        ensures all { OnOk result
+            (R.records recorder.new ≡ R.records recorder.old ++ turned self.now.facts) }
+        ensures memory { IfErr result (λ fault. fault ≡ Fault.Memory) }
+    {
+        self.ledger.renew(alloc, recorder)
     }
 
     /// The record may come next in the log.

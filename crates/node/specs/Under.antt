@@ -23,6 +23,7 @@ use Rattle.shard.specs.Look.{safe_at}
 use Rattle.board.specs.Board.{first_entries, safe_on}
 use Rattle.board.specs.Views.{Published, Viewing}
 use Rattle.desk.specs.InStep.{HasTaken, HasAdvanced, HasNotAdvanced, HasKept, IsNewBoard, AreOnBoard}
+use Rattle.desk.specs.Renewed.{HasTurnedOver, HasRenewed}
 use Rattle.node.specs.Restart.{PlaceView, Serving, Resting}
 
 -- what the shard is told, and the place
@@ -99,3 +100,16 @@ module _ {D : Type 0} (keeps obeys : Type 0) (file : D → File) (clock : D → 
   HasKeptIn (Serving old) (Serving new) now micros result = HasKept keeps obeys file clock since failures plan old new now micros result
   HasKeptIn (Resting old) (Resting new) now micros result = (new ≡ old) × (result ≡ Err Stopped)
   HasKeptIn _ _ now micros result = ⊥
+
+  -- the desk turned its log over, or that was refused
+  abbrev pub HasTurnedIn : PlaceView D → PlaceView D → Result (Unit {0}) Fault → Type 0
+  HasTurnedIn (Serving old) (Serving new) result = HasTurnedOver keeps obeys file clock since failures plan old new result
+  HasTurnedIn (Resting old) (Resting new) result = (new ≡ old) × (result ≡ Err Stopped)
+  HasTurnedIn _ _ result = ⊥
+
+  -- the desk was asked for that horizon, and turned its log over where it had grown
+  abbrev pub HasRenewedIn : PlaceView D → PlaceView D → Interval → ℕ → ℕ → Result (Unit {0}) Fault → Type 0
+  HasRenewedIn (Serving old) (Serving new) now micros least result =
+      HasRenewed keeps obeys file clock since failures plan old new now micros least result
+  HasRenewedIn (Resting old) (Resting new) now micros least result = (new ≡ old) × (result ≡ Err Stopped)
+  HasRenewedIn _ _ now micros least result = ⊥

@@ -5,6 +5,7 @@ ghost use Rattle.desk.specs.InStep.{IsNoDesk};
 ghost use Rattle.node.specs.Restart.{AreOnNewBoard, HasRestarted, HasNotRestarted, is_at_rest, disk_of_place, told_of};
 ghost use Rattle.node.specs.Seen.{seen_place};
 ghost use Rattle.node.specs.Under.{IsDeskOf, IsUnder, IsEarliestIn, Became, HasDelivered, HasAdvancedIn, HasNotAdvancedIn, HasKeptUp, HasNotKeptUp, HasKeptIn};
+ghost use Rattle.node.specs.Under.{HasTurnedIn, HasRenewedIn};
 ghost use Rattle.node.specs.Under.{is_ready_in, due_in, versions_in};
 ghost use Rattle.shard.specs.Core.{seen, book_of};
 ghost use Rattle.shard.specs.Look.{safe_at};
@@ -121,6 +122,30 @@ impl<D: Disk + Drop, R: Wait + Drop> Held<D, R> {
     {
         match &mut self.place {
             Some(Place::Serving(desk)) => desk.keep_for(now, micros),
+            Some(Place::Resting(_)) | None => Err(Fault::Stopped),
+        }
+    }
+
+    /// Turns the log of the core over. A disk alone is refused as a core that is stopped.
+    pub fn turn_over(&mut self) -> Result<(), Fault>
+        ensures { Became (seen_held self.old) (seen_held self.new)
+            (λ old. λ new. HasTurnedIn D.keeps_model D.obeys D.file D.clock D.since D.failures D.plan
+            old new result) }
+    {
+        match &mut self.place {
+            Some(Place::Serving(desk)) => desk.turn_over(),
+            Some(Place::Resting(_)) | None => Err(Fault::Stopped),
+        }
+    }
+
+    /// Asks the core for that horizon, and turns its log over where it has grown. A disk alone is refused as a core that is stopped.
+    pub fn renew(&mut self, now: &Reading, micros: u64, least: u64) -> Result<(), Fault>
+        ensures { Became (seen_held self.old) (seen_held self.new)
+            (λ old. λ new. HasRenewedIn D.keeps_model D.obeys D.file D.clock D.since D.failures D.plan
+            old new now.now micros least result) }
+    {
+        match &mut self.place {
+            Some(Place::Serving(desk)) => desk.renew(now, micros, least),
             Some(Place::Resting(_)) | None => Err(Fault::Stopped),
         }
     }

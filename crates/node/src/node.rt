@@ -81,6 +81,22 @@ impl<D: Disk + Drop, R: Wait + Drop> Node<D, R> {
         self.held.lock(rt).keep_for(now, micros)
     }
 
+    /// Turns the log of the core over, under the lock.
+    pub fn turn_over<W: Wait>(&self, rt: &W) -> Result<(), Fault> {
+        self.held.lock(rt).turn_over()
+    }
+
+    /// `keep_for`, and a turnover of the log where it has grown, by so many bytes at least, under the lock (`Desk::renew`).
+    pub fn renew<W: Wait>(
+        &self,
+        rt: &W,
+        now: &Reading,
+        micros: u64,
+        least: u64,
+    ) -> Result<(), Fault> {
+        self.held.lock(rt).renew(now, micros, least)
+    }
+
     /// Opens the disk of a node that was stopped again, with a new board and so many viewers. A node that is not stopped is
     /// refused. Where the opening or the board is refused, the node keeps the disk alone, and may be asked again; till then it
     /// refuses letters as a core that is stopped. The viewers of the old board are refused from then on.

@@ -74,6 +74,21 @@ impl<D: Disk + Drop, R: Wait + Drop> Node<D, R> {
         }
     }
 
+    /// `renew` at a reading that is taken under the lock. Where the clock has none, it is refused as `TimeSpent`.
+    pub fn renew_by<W: Wait, C: Clock>(
+        &self,
+        rt: &W,
+        clock: &mut C,
+        micros: u64,
+        least: u64,
+    ) -> Result<(), Fault> {
+        let mut held = self.held.lock(rt);
+        match clock.now() {
+            Some(now) => held.renew(&now, micros, least),
+            None => Err(Fault::TimeSpent),
+        }
+    }
+
     /// Serves the letters of the inbox until one says to close, or the inbox is closed. Whenever none is there the node does its
     /// chores, and every millisecond or 64 letters while letters come.
     pub fn serve<W: Wait + time::Clock, P: Post, C: Clock, G: Gate>(

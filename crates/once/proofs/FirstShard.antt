@@ -7,7 +7,7 @@ use Rattle.disk.specs.File.{surface}
 use Rattle.disk.specs.declared.plan.FailurePlan.TheVariants.{Never}
 use Rattle.gatelog.specs.Frames.{IsFull, end_from, end_of, next_gate}
 use Rattle.gatelog.specs.Gates.{first_gate}
-use Rattle.gatelog.specs.Slots.{begins_in}
+use Rattle.gatelog.specs.Slots.{Beginning, begins_in}
 use Rattle.gatelog.specs.Log.{log as scanned_log}
 use Rattle.gatelog.specs.Placed.{Placed}
 use Rattle.protocol.specs.Rows.{rebuilt}
@@ -38,7 +38,7 @@ unfolding facts_of installs_of learn
 first_facts = refl
 
 module _ (disk : SimDisk) (never : disk_plan disk ≡ Never) (empty : records_in (surface (disk_file disk)).seen ≡ Ok [])
-    (begins : begins_in (surface (disk_file disk)).seen ≡ first_gate) where
+    (begins : begins_in (surface (disk_file disk)).seen ≡ record { at = first_gate; slots = 0 }) where
   pub is_opened : (core : CoreView SimDisk)
       → HasOpened (Unit {0}) (Unit {0}) disk_file disk_clock LeftSince disk_failures disk_plan disk only_setup core → HasLog new_log core
   is_opened core h =
@@ -46,7 +46,7 @@ module _ (disk : SimDisk) (never : disk_plan disk ≡ Never) (empty : records_in
       let whole : and_logged (records_in (surface (disk_file disk)).seen) (opening_of (records_in (surface (disk_file disk)).seen)) ≡ Ok new_log =
       ap (λ x. and_logged x (opening_of x)) empty in
       let gate : core.gate ≡ next_gate (end_of []) (next_opening []) =
-      (h.gate [] tt empty).0 ∙ ap (λ n. next_gate (end_from n []) (next_opening [])) begins in
+      (h.gate [] tt empty).0 ∙ ap (λ (b : Beginning). next_gate (end_from b.at []) (next_opening [])) begins in
       record {
         setup = h.setup;
         facts = facts;
@@ -79,7 +79,7 @@ module _ (disk : SimDisk) (never : disk_plan disk ≡ Never) (empty : records_in
       by_reason (inl found) = absurd (no_fault (scanned_log (surface (disk_file disk)).seen) fault empty found)
       by_reason (inr (is, (others, spent))) =
           let none : others ≡ [] = ok_same others [] (records_in (surface (disk_file disk)).seen) spent.read empty in
-          absurd (no_spent (subst (λ n. (2 ^ 62 ≤ epoch_of [] + 1) ⊎ IsFull (end_from n []) (next_opening [])) begins
+          absurd (no_spent (subst (λ (b : Beginning). (2 ^ 62 ≤ epoch_of [] + 1) ⊎ IsFull (end_from b.at []) (next_opening [])) begins
           (subst (λ l. (2 ^ 62 ≤ epoch_of l + 1) ⊎ IsFull (end_in (surface (disk_file disk)).seen l) (next_opening l)) none spent.spent)))
         where
           ok_same : (a b : List Record) (x : Result (List Record) Fault) → x ≡ Ok a → x ≡ Ok b → a ≡ b

@@ -9,10 +9,10 @@ use Rattle.units.specs.declared.fault.Fault.TheVariants.{Memory, BadRequest}
 use Rattle.units.specs.declared.fault.Reason.TheVariants.{Unlawful}
 use Rattle.world.specs.World.{World, happens, replies_of_run, replies_from, run, run_from, start}
 use Rattle.world.specs.Lawful.{first_unlawful_from, lawful, lawful_from, may_happen}
-use Rattle.world.specs.Steady.{IsSteady}
-use Rattle.lives.specs.Runs.{IsRun, TakesEvent}
+use Rattle.lives.specs.Runs.{IsRun, KeepsLaws, TakesEvent}
 use Rattle.playing.specs.Reports.{IsNoReport, IsReport, IsUnlawful, Plays, Reports, counts_from, counts_of_run}
 use Rattle.world.proofs.EveryRun.{is_steady}
+use Rattle.law.proofs.HasAreas.{always_has_areas}
 use Rattle.world.proofs.Untouched.{counts_one}
 use Rattle.world.specs.declared.event.Config.{Config}
 use Rattle.world.specs.declared.event.Event.{Event}
@@ -73,8 +73,8 @@ unfolding run lawful replies_of_run counts_of_run start
 none_played config r answers counts h none = record { fair = refl; event = refl; stands = h; told = none.0; counted = none.1 }
 
 module _ (config : Config) (es : List Event) (r new : Run) (answers : List Reply) (counts : List ℕ) (h : HasPlayed config es r answers counts) where
-  pub steady : IsSteady (run config es)
-  steady = is_steady config es h.fair
+  pub laws : KeepsLaws (run config es)
+  laws = (is_steady config es h.fair, always_has_areas config es h.fair)
 
   pub one_played : (e : Event) (reply : Reply) (count : ℕ) → count ≡ length new.output.bag → TakesEvent (run config es) e new (Ok reply) →
       HasPlayed config (es ++ e ∷ []) new (answers ++ reply ∷ []) (counts ++ count ∷ [])
@@ -112,12 +112,12 @@ module _ (config : Config) (es : List Event) (n : ℕ) (e : Event) (lt : n < len
   so_many : length (take n es) ≡ n
   so_many = length-take-le n es (omega (arith, lt))
 
-  taken : (result : Result Reply Fault) → ((w : World) → w.event ≡ n → IsRun r w → IsSteady w → TakesEvent w e new result) →
+  taken : (result : Result Reply Fault) → ((w : World) → w.event ≡ n → IsRun r w → KeepsLaws w → TakesEvent w e new result) →
       TakesEvent (run config (take n es)) e new result
-  taken result f = f (run config (take n es)) (h.event ∙ so_many) h.stands (steady config (take n es) r r answers counts h)
+  taken result f = f (run config (take n es)) (h.event ∙ so_many) h.stands (laws config (take n es) r r answers counts h)
 
   pub next_played : (reply : Reply) (count : ℕ) (told : List Reply) (counted : List ℕ) → told ≡ answers ++ reply ∷ [] → counted ≡ counts ++ count ∷ [] →
-      count ≡ length new.output.bag → ((w : World) → w.event ≡ n → IsRun r w → IsSteady w → TakesEvent w e new (Ok reply))
+      count ≡ length new.output.bag → ((w : World) → w.event ≡ n → IsRun r w → KeepsLaws w → TakesEvent w e new (Ok reply))
       → HasPlayed config (take (n + 1) es) new told counted
   next_played reply count told counted are many is_many f =
       subst (λ xs. HasPlayed config xs new told counted) (sym (front_is es n e lt is))
@@ -126,7 +126,7 @@ module _ (config : Config) (es : List Event) (n : ℕ) (e : Event) (lt : n < len
       (one_played config (take n es) r new answers counts h e reply count is_many (taken (Ok reply) f))))
 
   pub none_next : (fault : Fault) (result : Result (Unit {0}) Fault) (told : List Reply) (counted : List ℕ) → result ≡ Err fault →
-      ((w : World) → w.event ≡ n → IsRun r w → IsSteady w → TakesEvent w e new (Err fault))
+      ((w : World) → w.event ≡ n → IsRun r w → KeepsLaws w → TakesEvent w e new (Err fault))
       → Plays config es new told counted result
   none_next fault result told counted is_err f =
       subst (λ x. Plays config es new told counted x) (sym is_err)

@@ -3,7 +3,7 @@ use Rattle.std.specs.Prelude.{ℕ, ◌≡◌, ◌⊎◌, IsTrue, List, [], ◌�
 use Rattle.units.specs.declared.fault.Fault.{Fault}
 use Rattle.units.specs.declared.fault.Fault.TheVariants.{Memory, BadRequest}
 use Rattle.units.specs.declared.fault.Reason.TheVariants.{Unlawful}
-use Rattle.world.specs.World.{World, counted_lines, happens, logs_of, replies_of_run, run, start}
+use Rattle.world.specs.World.{World, areas_of, counted_lines, happens, replies_of_run, run, start}
 use Rattle.lives.specs.Fleet.{AreOn}
 use Rattle.lives.specs.Runs.{IsRun}
 use Rattle.world.specs.Lawful.{first_unlawful_from, lawful}
@@ -30,8 +30,8 @@ pub record IsReport (config : Config) (es : List Event) (r : Report) : Type 0 wh
   pub counts : r.counts.items ≡ counts_of_run config es
   pub bag : r.bag ≡ (run config es).bag
   pub disks : AreOn r.disks.items (map (λ log. log.items) r.logs.items)
-  pub logs : map (λ log. log.items) r.logs.items ≡ logs_of (run config es)
-  pub lines : r.lines.items ≡ counted_lines (logs_of (run config es)) (run config es).lines
+  pub logs : map (λ log. log.items) r.logs.items ≡ areas_of (run config es)
+  pub lines : r.lines.items ≡ counted_lines (areas_of (run config es)) (run config es).lines
 
 -- the first event that may not happen is the one of that number
 abbrev pub IsUnlawful : Config → List Event → Fault → Type 0
@@ -53,5 +53,5 @@ pub record Reports (w : World) (answers : List Reply) (counts : List ℕ) (r : R
   pub counted : r.counts.items ≡ counts
   pub bag : r.bag ≡ w.bag
   pub disks : AreOn r.disks.items (map (λ log. log.items) r.logs.items)
-  pub logs : map (λ log. log.items) r.logs.items ≡ logs_of w
-  pub lines : r.lines.items ≡ counted_lines (logs_of w) w.lines
+  pub logs : map (λ log. log.items) r.logs.items ≡ areas_of w
+  pub lines : r.lines.items ≡ counted_lines (areas_of w) w.lines

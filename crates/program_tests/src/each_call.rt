@@ -1,6 +1,6 @@
 //! One transaction over three shards is stopped at each device call of each append: the shard crashes in the call, or the call fails.
 //! Then the shard is opened, each message comes once more, the transaction is settled, and each message comes again. In the end it is
-//! committed on all three, at one timestamp.
+//! committed on all three, at one timestamp. So it is too where each shard's log was turned over behind the decision.
 use crate::given::{AMPLE, File, PLAY, print};
 use std::alloc::{AllocError, Global};
 
@@ -145,11 +145,29 @@ static KINDS: [Kind; 4] = [
     },
 ];
 
+// The place of the decision among the steps.
+const DECISION: usize = 4;
+
+// Behind the decision each shard's log is turned over.
+const TURNED: &str = "236 turn 0
+236 turn 1
+236 turn 2
+";
+
 // Adds the events up to the stop, and the opening behind it.
-fn add_stop(text: &mut String, stop: &Stop, kind: &Kind, call: u64) -> Result<(), AllocError> {
+fn add_stop(
+    text: &mut String,
+    stop: &Stop,
+    kind: &Kind,
+    call: u64,
+    turned: bool,
+) -> Result<(), AllocError> {
     text.push_str(BEGUN)?;
     for (place, step) in STEPS.iter().enumerate() {
         let Step { time, shard, act } = step;
+        if turned && place == DECISION + 1 {
+            text.push_str(TURNED)?;
+        }
         if place < stop.place {
             write!(text, "{time} {act}\n")?;
         } else if place == stop.place {
@@ -243,17 +261,23 @@ verdict yes
 }
 
 // The schedule of a stop, to its end.
-fn whole(alloc: Global, stop: &Stop, kind: &Kind, call: u64) -> Result<String, AllocError> {
+fn whole(
+    alloc: Global,
+    stop: &Stop,
+    kind: &Kind,
+    call: u64,
+    turned: bool,
+) -> Result<String, AllocError> {
     let mut text = String::new(alloc);
-    add_stop(&mut text, stop, kind, call)?;
+    add_stop(&mut text, stop, kind, call, turned)?;
     deliver_all(alloc, &mut text, 305, "300 310")?;
     text.push_str("405 settle 0 1.1 400 410\n")?;
     deliver_all(alloc, &mut text, 505, "500 510")?;
     Ok(text)
 }
 
-fn is_so(alloc: Global, stop: &Stop, kind: &Kind, call: u64) -> bool {
-    let Ok(text) = whole(alloc, stop, kind, call) else {
+fn is_so(alloc: Global, stop: &Stop, kind: &Kind, call: u64, turned: bool) -> bool {
+    let Ok(text) = whole(alloc, stop, kind, call, turned) else {
         return false;
     };
     let at = if call < kind.kept_from {
@@ -264,15 +288,33 @@ fn is_so(alloc: Global, stop: &Stop, kind: &Kind, call: u64) -> bool {
     is_committed(alloc, &played(alloc, text.as_str()), at)
 }
 
+// A stop in each call comes to what the row says.
+fn are_so(alloc: Global, stop: &Stop, turned: bool) -> bool {
+    for kind in &KINDS {
+        for call in 0..4 {
+            if !is_so(alloc, stop, kind, call, turned) {
+                return false;
+            }
+        }
+    }
+    true
+}
+
 /// The first row that is wrong.
 pub fn wrong(alloc: Global) -> &'static str {
     for stop in &STOPS {
-        for kind in &KINDS {
-            for call in 0..4 {
-                if !is_so(alloc, stop, kind, call) {
-                    return stop.name;
-                }
-            }
+        if !are_so(alloc, stop, false) {
+            return stop.name;
+        }
+    }
+    ""
+}
+
+/// The first row behind the decision that is wrong where each shard's log was turned over behind it.
+pub fn wrong_turned(alloc: Global) -> &'static str {
+    for stop in &STOPS {
+        if stop.place > DECISION && !are_so(alloc, stop, true) {
+            return stop.name;
         }
     }
     ""

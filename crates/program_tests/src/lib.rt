@@ -38,6 +38,8 @@ mod stops;
 #[cfg(test)]
 mod tests;
 #[cfg(test)]
+mod turnovers;
+#[cfg(test)]
 mod unlawful;
 #[cfg(test)]
 mod whole_schedules;

@@ -19,6 +19,7 @@ stride 7
 1 advance 0 5 1 9
 1 nudge 1 1.1 1 9
 1 forget 0 5 1 9
+1 turn 0
 1 look 0 a 5
 1 view 0 3 a 5
 2 crash 0
@@ -30,6 +31,8 @@ stride 7
 4 fail 0 3 advance 0 5 1 9
 4 crash 0 2 new forget 0 5 1 9
 4 fail 0 3 forget 0 5 1 9
+4 crash 1 3 37 turn 1
+4 fail 0 4 turn 0
 ";
 
 // What a schedule is read as: why it is refused, or how many events it has, and of the first one, where it is a stop in another
@@ -46,10 +49,10 @@ struct Row {
 
 // Each kind of event is read. An event within another names its own shard, which is kept beside the first: whether they agree is no
 // matter of the grammar.
-static ROWS: [Row; 24] = [
+static ROWS: [Row; 30] = [
     Row {
         text: EACH_KIND,
-        read: Read::As(23, None),
+        read: Read::As(26, None),
     },
     Row {
         text: "shards 2\nsplit m\nstride 0\n2 crash 0 1 old open 0\n",
@@ -82,6 +85,18 @@ static ROWS: [Row; 24] = [
     Row {
         text: "shards 2\nsplit m\nstride 0\n2 fail 1 3 forget 1 5 1 9\n",
         read: Read::As(1, Some((1, 3, 1))),
+    },
+    Row {
+        text: "shards 2\nsplit m\nstride 0\n2 turn 1\n",
+        read: Read::As(1, None),
+    },
+    Row {
+        text: "shards 2\nsplit m\nstride 0\n2 crash 0 3 new turn 1\n",
+        read: Read::As(1, Some((0, 3, 1))),
+    },
+    Row {
+        text: "shards 2\nsplit m\nstride 0\n2 fail 1 4 turn 1\n",
+        read: Read::As(1, Some((1, 4, 1))),
     },
     Row {
         text: "",
@@ -129,6 +144,18 @@ static ROWS: [Row; 24] = [
     },
     Row {
         text: "shards 1\nstride 0\n100 forget 0 4611686018427387904 100 110\n",
+        read: Read::Refused(Reason::Syntax(3)),
+    },
+    Row {
+        text: "shards 1\nstride 0\n100 turn\n",
+        read: Read::Refused(Reason::Syntax(3)),
+    },
+    Row {
+        text: "shards 1\nstride 0\n100 turn 0 100 110\n",
+        read: Read::Refused(Reason::Syntax(3)),
+    },
+    Row {
+        text: "shards 1\nstride 0\n100 turn 16\n",
         read: Read::Refused(Reason::Syntax(3)),
     },
     Row {

@@ -3,10 +3,11 @@ use crate::cases::CASES;
 use crate::crashes::CRASHES;
 use crate::horizons::HORIZONS;
 use crate::stops::FAILED;
+use crate::turnovers::TURNOVERS;
 use crate::whole_schedules::SCHEDULES;
 use crate::{
     asked, comparing, each_call, horizons, of_logs, of_migrations, outside, places, played,
-    printed, schedule_texts, stops, unlawful,
+    printed, schedule_texts, stops, turnovers, unlawful,
 };
 use std::process::Abort;
 
@@ -38,6 +39,12 @@ fn answers(rt: HostRuntime) {
     }
     check(&rt, "crashes in calls", stops::wrong(alloc));
     check(&rt, "stops in each call", each_call::wrong(alloc));
+    check(
+        &rt,
+        "stops behind turnovers",
+        each_call::wrong_turned(alloc),
+    );
+    check(&rt, "stops in turnovers", turnovers::wrong(alloc));
     check(&rt, "stops at horizons", horizons::wrong(alloc));
     check(&rt, "texts", schedule_texts::wrong(alloc));
     check(&rt, "lists", unlawful::wrong(alloc));
@@ -52,4 +59,5 @@ fn whole_runs(rt: HostRuntime) {
     check(&rt, "crashes", comparing::wrong(alloc, &CRASHES));
     check(&rt, "failing calls", comparing::wrong(alloc, &FAILED));
     check(&rt, "horizons", comparing::wrong(alloc, &HORIZONS));
+    check(&rt, "turnovers", comparing::wrong(alloc, &TURNOVERS));
 }

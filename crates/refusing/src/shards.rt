@@ -200,6 +200,25 @@ pub fn advance<R: Wait>(
     }
 }
 
+/// The log of a shard is turned over. Where that is refused for memory, it ends where it did.
+pub fn turn<R: Wait>(teller: &mut Teller<'_>, shard: &mut Shard<'_, R>) -> Option<()> {
+    let before = seen_of(shard.core());
+    let gate = shard.core().gate();
+    let turned = match shard.turn_over() {
+        Err(Fault::Memory) => {
+            let is_same = seen_of(shard.core()) == before && shard.core().gate() == gate;
+            teller.left("turnover", is_same);
+            shard.turn_over()
+        }
+        turned => turned,
+    };
+    if seen_of(shard.core()) == before {
+        turned.ok()
+    } else {
+        None
+    }
+}
+
 /// Ends a shard, and says what its log holds.
 pub fn close<R: Wait>(
     teller: &Teller<'_>,

@@ -1,5 +1,5 @@
 //! The stories.
-use crate::shards::{Shard, advance, close, give, open, reading, splits};
+use crate::shards::{Shard, advance, close, give, open, reading, splits, turn};
 use crate::teller::Teller;
 use board::Viewer;
 use made::{id, key, stamp};
@@ -199,7 +199,13 @@ fn see<R: Wait>(
     teller.look(viewer)
 }
 
-/// Tells both stories, and what a viewer of shard 1 sees then. Both shards are ended, and their logs told.
+// Both shards turn their logs over.
+fn turn_both<R: Wait>(teller: &mut Teller<'_>, pair: &mut Pair<'_, R>) -> Option<()> {
+    turn(teller, &mut pair.first)?;
+    turn(teller, &mut pair.second)
+}
+
+/// Tells both stories, turns both logs over, and tells what a viewer of shard 1 sees then. Both shards are ended, and their logs told.
 pub fn tell<R: Wait>(teller: &mut Teller<'_>, rt: &R, alloc: Global) -> Option<()> {
     let splits = splits(teller, alloc)?;
     let (first, viewers) = open(teller, rt, alloc, 0)?;
@@ -207,10 +213,12 @@ pub fn tell<R: Wait>(teller: &mut Teller<'_>, rt: &R, alloc: Global) -> Option<(
     let (second, mut viewers) = open(teller, rt, alloc, 1)?;
     let mut pair = Pair { first, second };
     let told = tell_both(teller, &mut pair, alloc, &splits);
+    let turned = turn_both(teller, &mut pair);
     let seen = see(teller, &mut pair.second, &mut viewers);
     let Pair { first, second } = pair;
     close(teller, alloc, 0, first)?;
     close(teller, alloc, 1, second)?;
     told?;
+    turned?;
     seen
 }

@@ -1,19 +1,30 @@
 -- Logs that are alike keep the same, and stay alike by one more record.
-use Rattle.std.proofs.Common.{◌≡◌, ℕ, ◌≤◌, Bool, max, List, [], ◌∷◌, ◌++◌, filter, refl, sym, ap, subst, ◌∙◌, arith}
+use Rattle.std.proofs.Common.{◌≡◌, ℕ, Bool, max, List, [], ◌∷◌, ◌++◌, filter, refl, sym, ap, subst, ◌∙◌, arith}
 use Rattle.units.specs.Lists.{follow}
 use Rattle.units.specs.Keys.{same_key}
 use Rattle.units.specs.Versions.{newest}
 use Rattle.units.specs.declared.writes.Install.{Install}
 use Rattle.record.specs.Records.{StandsPrepared, StandsDecided, HasAborted, HasSettled, HasClosed, stamp_in}
 use Rattle.record.specs.Facts.{Facts, learn, recorded, with_status, after_outcome, installs_at, or_floor}
-use Rattle.record.specs.declared.record.Record.{Record}
 use Rattle.record.specs.declared.record.Record.TheVariants.{Opened, Ceiling, Prepare, Commit, Abort, Outcome, Horizon, Base, Version, Settled, Closed}
 use Rattle.facts.specs.Shown.{status_in}
 use Rattle.versions.specs.Ordered.{is_by}
 use Rattle.versions.proofs.Newest.{at_time_is}
-use Rattle.renewal.specs.Keeps.{Alike, SameVersions}
+use Rattle.versions.specs.Places.{SameVersions}
+use Rattle.versions.proofs.Same.{same-higher}
+use Rattle.renewal.specs.Keeps.{Alike}
 use Rattle.renewal.specs.Laws.{AlikeKeeps, AlikeStays}
 use Rattle.renewal.proofs.Newest.{newer_of, newest-more}
+
+-- facts are alike to themselves
+pub alike-refl : (a : Facts) → Alike a a
+alike-refl a = record {
+  epoch = refl;
+  floor = refl;
+  horizon = refl;
+  entries = refl;
+  versions = record { now = λ k. refl; at = λ k t le. refl };
+}
 
 pub alike-keeps : AlikeKeeps
 alike-keeps a b h = record {
@@ -35,15 +46,6 @@ same-append h a b c same = record {
   where
     by_test : (test : Install → Bool) → newest (filter test a) ≡ newest (filter test b) → newest (filter test (a ++ c)) ≡ newest (filter test (b ++ c))
     by_test test e = newest-more test a c ∙ ap (λ n. newer_of n (newest (filter test c))) e ∙ sym (newest-more test b c)
-
-pub same-higher : (h n : ℕ) (a b : List Install) → h ≤ n → SameVersions h a b → SameVersions n a b
-same-higher h n a b le same = record { now = same.now; at = λ k t more. same.at k t (omega (arith, le, more)) }
-
-pub same-then : (h : ℕ) (a b c : List Install) → SameVersions h a b → SameVersions h b c → SameVersions h a c
-same-then h a b c p q = record { now = λ k. p.now k ∙ q.now k; at = λ k t le. p.at k t le ∙ q.at k t le }
-
-pub same-back : (h : ℕ) (a b : List Install) → SameVersions h a b → SameVersions h b a
-same-back h a b p = record { now = λ k. sym (p.now k); at = λ k t le. sym (p.at k t le) }
 
 -- ---- one more record
 

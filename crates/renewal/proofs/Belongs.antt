@@ -1,7 +1,7 @@
 -- The records of a renewed log name keys of the shard alone, where the log did.
 use Rattle.std.specs.List.{AllByRecursion, list_all}
 use Rattle.std.specs.Prelude.{IsTrue, nat_eq}
-use Rattle.std.proofs.Common.{◌≡◌, true, ◌&&◌, List, [], ◌∷◌, ◌++◌, map, refl, ◌∙◌}
+use Rattle.std.proofs.Common.{◌≡◌, true, List, [], ◌∷◌, ◌++◌, map, refl, ◌∙◌}
 use Rattle.std.proofs.lemmas.Bool.{and_from}
 use Rattle.std.proofs.lemmas.List.Folds.{list_all-append}
 use Rattle.units.specs.Ids.{Id}
@@ -13,7 +13,6 @@ use Rattle.units.proofs.ListLaws.{all-keep}
 use Rattle.record.specs.Accepted.{belongs}
 use Rattle.record.specs.Facts.{Facts, TxnStatus}
 use Rattle.record.specs.Records.{Status, Unrecorded, StandsPrepared, StandsDecided, HasAborted, HasSettled, HasClosed}
-use Rattle.record.specs.declared.record.Record.{Record}
 use Rattle.record.specs.declared.record.Record.TheVariants.{Version}
 use Rattle.versions.specs.Pruned.{pruned}
 use Rattle.renewal.specs.Keeps.{NamesOwn}

@@ -6,60 +6,13 @@ use Rattle.std.proofs.lemmas.List.{append-nil}
 use Rattle.std.proofs.lemmas.List.Elements.{filter-append}
 use Rattle.std.proofs.lemmas.List.Folds.{list_all-append}
 use Rattle.units.specs.Keys.{Bytes, same_key}
-use Rattle.units.specs.Versions.{newest, of_key}
+use Rattle.units.specs.Versions.{of_key}
 use Rattle.units.specs.declared.writes.Install.{Install}
-use Rattle.units.proofs.KeyLaws.{same_key-is}
-use Rattle.versions.specs.Ordered.{is_by, is_above, installed, all_installed}
-use Rattle.versions.proofs.Newest.{above_newest, was_before}
-use Rattle.versions.proofs.OneMore.{newest-installed, newest-last, keep-installed, keep-last}
+use Rattle.versions.specs.Ordered.{installed, all_installed}
+use Rattle.versions.proofs.SameMore.{same-one}
 use Rattle.protocol.specs.Showable.{rises_by_key}
 use Rattle.protocol.proofs.Rising.{below, rise_none, rise_one, rise_parts}
-use Rattle.renewal.specs.Keeps.{SameVersions}
-
--- what holds of each of more holds of each of fewer
-each-fewer : (p q r : Install → Bool) → ((x : Install) → r x ≡ true → q x ≡ true) → (a : List Install) → list_all p (filter q a) ≡ true
-    → list_all p (filter r a) ≡ true
-each-fewer p q r more [] h = refl
-each-fewer p q r more (x ∷ a) h = by_tests (q x) (r x) refl refl h (each-fewer p q r more a)
-  where
-    by_tests : (c d : Bool) → q x ≡ c → r x ≡ d → list_all p (cond c (x ∷ filter q a) (filter q a)) ≡ true
-        → (list_all p (filter q a) ≡ true → list_all p (filter r a) ≡ true) → list_all p (cond d (x ∷ filter r a) (filter r a)) ≡ true
-    by_tests true true k l h rest = and_from _ _ ((and_parts _ _ h).0) (rest ((and_parts _ _ h).1))
-    by_tests true false k l h rest = rest ((and_parts _ _ h).1)
-    by_tests false true k l h rest = let clash : false ≡ true = sym k ∙ more x l in cc
-    by_tests false false k l h rest = rest h
-
--- the versions of its key are below one that is above them, whatever else is asked of them
-below-test : (x : Install) (k : Bytes) (test : Install → Bool) (a : List Install) → ((y : Install) → test y ≡ true → same_key y.key k ≡ true)
-    → is_above a x.key x.at ≡ true → test x ≡ true → list_all (λ z. nat_lt z.at x.at) (filter test a) ≡ true
-below-test x k test a only above is =
-    let here : x.key ≡ k = same_key-is x.key k (only x is) in
-    each-fewer (λ z. nat_lt z.at x.at) (λ z. same_key z.key x.key) test
-    (λ y e. subst (λ (j : Bytes). same_key y.key j ≡ true) (sym here) (only y e)) a above
-
--- one version more, above those of its key, at its place in one list and at the end of the other
-same-test : (x : Install) (k : Bytes) (test : Install → Bool) (a b : List Install) → ((y : Install) → test y ≡ true → same_key y.key k ≡ true)
-    → is_above a x.key x.at ≡ true → is_above b x.key x.at ≡ true → newest (filter test a) ≡ newest (filter test b)
-    → newest (filter test (installed a x)) ≡ newest (filter test (b ++ x ∷ []))
-same-test x k test a b only over_a over_b same = by_test (test x) refl
-  where
-    by_test : (c : Bool) → test x ≡ c → newest (filter test (installed a x)) ≡ newest (filter test (b ++ x ∷ []))
-    by_test true e =
-        newest-installed test x a e (below-test x k test a only over_a e) ∙ sym (newest-last test x b e (below-test x k test b only over_b e))
-    by_test false e = ap newest (keep-installed test x a e) ∙ same ∙ sym (ap newest (keep-last test x b e))
-
--- what is above the versions of a key in the one list is so in the other
-pub above-same : (h : ℕ) (x : Install) (a b : List Install) → is_above b x.key x.at ≡ true → SameVersions h a b → is_above a x.key x.at ≡ true
-above-same h x a b over same =
-    above_newest x.at (of_key a x.key) ∙ ap (was_before x.at) (same.now x.key) ∙ sym (above_newest x.at (of_key b x.key)) ∙ over
-
-pub same-one : (x : Install) (a b : List Install) → is_above b x.key x.at ≡ true → SameVersions 0 a b → SameVersions 0 (installed a x) (b ++ x ∷ [])
-same-one x a b over same =
-    let over_a : is_above a x.key x.at ≡ true = above-same 0 x a b over same in
-    record {
-      now = λ k. same-test x k (λ y. same_key y.key k) a b (λ y e. e) over_a over (same.now k);
-      at = λ k t le. same-test x k (is_by k t) a b (λ y e. (and_parts _ _ e).0) over_a over (same.at k t le);
-    }
+use Rattle.versions.specs.Places.{SameVersions}
 
 -- what is above the versions of one list is above those of the other
 abbrev pub IsUnder : List Install → List Install → Type 0
@@ -86,7 +39,7 @@ same-all a b acc [] same under up = subst (SameVersions 0 a) (sym (append-nil b)
 same-all a b acc (x ∷ xs) same under up =
     let parts = rise_parts acc x xs up in
     subst (SameVersions 0 (all_installed (installed a x) xs)) (append_one b x xs)
-    (same-all (installed a x) (b ++ x ∷ []) (x ∷ acc) xs (same-one x a b (under x.key x.at parts.0) same) (under-last x b acc under) parts.1)
+    (same-all (installed a x) (b ++ x ∷ []) (x ∷ acc) xs (same-one 0 x a b (under x.key x.at parts.0) same) (under-last x b acc under) parts.1)
 
 pub same-in_order : (xs : List Install) → rises_by_key [] xs ≡ true → SameVersions 0 (all_installed [] xs) xs
 same-in_order xs up = same-all [] [] [] xs (record { now = λ k. refl; at = λ k t le. refl }) (λ key at h. h) up

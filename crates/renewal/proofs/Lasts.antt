@@ -1,13 +1,9 @@
 -- A log of all kinds may be renewed, where each record may come next and has its place.
 use Rattle.std.specs.List.{AllByRecursion, list_all}
-use Rattle.std.proofs.Common.{◌≡◌, ℕ, ◌≤◌, Bool, true, false, ◌&&◌, ◌||◌, cond, max, nat_lt, List, [], ◌∷◌, ◌++◌, Some, None, refl, sym, ap, subst, ◌∙◌}
+use Rattle.std.proofs.Common.{◌≡◌, ℕ, ◌≤◌, Bool, true, false, ◌&&◌, ◌||◌, max, List, [], ◌∷◌, ◌++◌, Some, None, refl, sym, ap, subst, ◌∙◌}
 use Rattle.std.proofs.Common.{append_assoc, append-nil, arith}
-use Rattle.std.proofs.lemmas.Bool.{and_parts, and_from, false≢true}
-use Rattle.std.proofs.lemmas.List.Elements.{filter-append}
-use Rattle.std.proofs.lemmas.List.Folds.{list_all-append}
+use Rattle.std.proofs.lemmas.Bool.{and_parts}
 use Rattle.units.specs.Ids.{Id}
-use Rattle.units.specs.Keys.{same_key}
-use Rattle.units.specs.Versions.{of_key}
 use Rattle.units.specs.declared.writes.Install.{Install}
 use Rattle.units.proofs.ByIdLaws.{all-with}
 use Rattle.units.proofs.ListLaws.{all_of_each, each_of_all}
@@ -17,19 +13,21 @@ use Rattle.record.specs.Facts.{Facts, TxnStatus, no_facts, facts_of, learn, with
 use Rattle.record.specs.Installs.{installs_of}
 use Rattle.record.specs.declared.record.Record.{Record}
 use Rattle.record.specs.declared.record.Record.TheVariants.{Opened, Ceiling, Prepare, Commit, Abort, Outcome, Horizon, Base, Version, Settled, Closed}
-use Rattle.record.proofs.LearnAgrees.{followed_more, learn_agrees}
+use Rattle.record.proofs.LearnAgrees.{accepted_follows, followed_more, learn_agrees}
 use Rattle.record.proofs.Sound.{base_first}
 use Rattle.facts.specs.Rules.{follows_facts}
 use Rattle.facts.specs.Stages.{follows_head, follows_next, stage_of}
 use Rattle.facts.proofs.Known.{follows_as_known, version_above}
 use Rattle.protocol.specs.Showable.{record_ascends}
 use Rattle.protocol.proofs.Rising.{below, installs_rise, rise_none, rise_one}
+use Rattle.protocol.proofs.Taken.{taken_is_showable}
 use Rattle.renewal.specs.Keeps.{IsLasting, IsOfShard, IsPlaced, writes_ascend}
-use Rattle.renewal.specs.Laws.{LogIsOfShard, LogLasts}
+use Rattle.renewal.specs.Laws.{LogIsOfShard, LogLasts, TakenLasts}
 use Rattle.renewal.specs.Rules.{AllFit, fits_facts}
 use Rattle.renewal.proofs.Entries.{entry, id_of, with_status-is}
 use Rattle.renewal.proofs.Shards.{put, step-of-shard}
-use Rattle.renewal.proofs.Stays.{at-most, put-regular, raised-regular, step-lasting, step-of}
+use Rattle.renewal.proofs.Bounded.{IsBounded, at-most, bounded, bounded-stays, more-bounded, put-bounded, regular, step-of}
+use Rattle.renewal.proofs.Stays.{step-lasting}
 
 -- ---- one more record
 
@@ -42,7 +40,7 @@ put-ascends es t s one all =
 ended-lasting : (facts : Facts) (floor : ℕ) (t : Id) (s : Status) → IsLasting facts → facts.floor ≤ floor → IsPlaced floor (entry t s)
     → writes_ascend (entry t s) ≡ true → IsLasting (record facts { floor = floor; entries = with_status facts.entries t s })
 ended-lasting facts floor t s l le p up = record {
-  regular = put-regular facts l.regular floor le t s p;
+  regular = regular _ (put-bounded facts (bounded facts l.regular) floor le t s p) l.regular.rising;
   entries = put-ascends facts.entries t s up l.entries;
 }
 
@@ -59,23 +57,12 @@ based-lasting e f h le = record {
 
 version-lasting : (facts : Facts) (v : Install) → IsLasting facts → below facts.installs v.key v.at ≡ true
     → IsLasting (record facts { floor = max facts.floor v.at; installs = facts.installs ++ v ∷ [] })
-version-lasting facts v l above =
-    let high = raised-regular facts (max facts.floor v.at) l.regular (omega arith) in
-    record {
-      regular = record {
-        order = high.order;
-        placed = high.placed;
-        rising = installs_rise facts.installs (v ∷ []) high.rising (rise_one facts.installs v [] above (rise_none _));
-        covered = covered-one facts.installs high.covered;
-        under = high.under;
-      };
-      entries = l.entries;
-    }
-  where
-    covered-one : (is : List Install) → AllByRecursion (λ (i : Install). i.at ≤ max facts.floor v.at) is
-        → AllByRecursion (λ (i : Install). i.at ≤ max facts.floor v.at) (is ++ v ∷ [])
-    covered-one [] all = (omega arith, tt)
-    covered-one (i ∷ is) all = (all.0, covered-one is all.1)
+version-lasting facts v l above = record {
+  regular =
+      regular _ (more-bounded facts (bounded facts l.regular) (max facts.floor v.at) (omega arith) (v ∷ []) (omega arith, tt))
+      (installs_rise facts.installs (v ∷ []) l.regular.rising (rise_one facts.installs v [] above (rise_none _)));
+  entries = l.entries;
+}
 
 -- what is known of no record
 nothing-known : facts_of [] ≡ no_facts
@@ -169,6 +156,65 @@ pub log-lasts : LogLasts
 unfolding followed
 log-lasts shard log h fits up =
     (lasts-all shard [] log (nothing-lasts shard) h (subst (λ x. AllFit x log) (sym nothing-known) fits) up).lasting
+
+-- ---- a log that is taken
+
+none-bounded : IsBounded no_facts
+none-bounded = record { order = tt; placed = tt; covered = tt; under = omega arith }
+
+based-bounded : (e f h : ℕ) → h ≤ f → IsBounded (learn no_facts (Base e f h))
+unfolding learn
+based-bounded e f h le = record { order = tt; placed = tt; covered = tt; under = omega (arith, le) }
+
+bounded-item : (shard : ℕ) (log : List Record) (r : Record) → IsBounded (facts_of log) → follows shard log r ≡ true
+    → follows_next shard (stage_of log) (facts_of log) r ≡ true → IsBounded (learn (facts_of log) r)
+unfolding follows_next follows_head learn
+bounded-item shard log (Opened e) b h known = bounded-stays shard (facts_of log) (Opened e) b refl
+bounded-item shard log (Ceiling at) b h known = bounded-stays shard (facts_of log) (Ceiling at) b refl
+bounded-item shard log (Horizon at) b h known =
+    bounded-stays shard (facts_of log) (Horizon at) b (step-of shard (facts_of log) (Horizon at) (by-step _ _ refl known))
+bounded-item shard log (Prepare p) b h known =
+    bounded-stays shard (facts_of log) (Prepare p) b (step-of shard (facts_of log) (Prepare p) (by-step _ _ refl known))
+bounded-item shard log (Commit c) b h known =
+    bounded-stays shard (facts_of log) (Commit c) b (step-of shard (facts_of log) (Commit c) (by-step _ _ refl known))
+bounded-item shard log (Abort t) b h known =
+    bounded-stays shard (facts_of log) (Abort t) b (step-of shard (facts_of log) (Abort t) (by-step _ _ refl known))
+bounded-item shard log (Outcome t o) b h known =
+    bounded-stays shard (facts_of log) (Outcome t o) b (step-of shard (facts_of log) (Outcome t o) (by-step _ _ refl known))
+bounded-item shard log (Base e f n) b h known =
+    subst (λ x. IsBounded (learn x (Base e f n))) (sym (ap facts_of (base_first shard log e f n h) ∙ nothing-known))
+    (based-bounded e f n (under-floor shard log e f n h))
+bounded-item shard log (Version v) b h known =
+    more-bounded (facts_of log) b (max (facts_of log).floor v.at) (omega arith) (v ∷ []) (omega arith, tt)
+bounded-item shard log (Settled t at ps) b h known =
+    put-bounded (facts_of log) b (max (facts_of log).floor at) (omega arith) t (HasSettled at ps) (omega arith)
+bounded-item shard log (Closed t c None) b h known =
+    put-bounded (facts_of log) b (facts_of log).floor (omega arith) t (HasClosed c None) tt
+bounded-item shard log (Closed t c (Some at)) b h known =
+    put-bounded (facts_of log) b (max (facts_of log).floor at) (omega arith) t (HasClosed c (Some at)) (omega arith)
+
+bounded-all : (shard : ℕ) (before log : List Record) → followed shard before ≡ true → followed_from shard before log ≡ true
+    → IsBounded (facts_of before) → IsBounded (facts_of (before ++ log))
+bounded-all shard before [] a h b = subst (λ l. IsBounded (facts_of l)) (sym (append-nil before)) b
+bounded-all shard before (r ∷ rs) a h b =
+    let come = and_parts _ _ h in
+    let more = on shard before r a come.0 in
+    subst (λ l. IsBounded (facts_of l)) (append_assoc before (r ∷ []) rs)
+    (bounded-all shard (before ++ r ∷ []) rs more come.1
+    (subst IsBounded (sym (learn_agrees shard before r more))
+    (bounded-item shard before r b ((and_parts _ _ come.0).1) (sym (follows_as_known shard before r a) ∙ more))))
+
+followed-bounded : (shard : ℕ) (log : List Record) → followed shard log ≡ true → IsBounded (facts_of log)
+unfolding followed
+followed-bounded shard log h = bounded-all shard [] log (nothing-followed shard) h (subst IsBounded (sym nothing-known) none-bounded)
+
+pub taken-lasts : TakenLasts
+taken-lasts setup log accepted up =
+    let showable = taken_is_showable setup log accepted up in
+    record {
+      regular = regular (facts_of log) (followed-bounded setup.shard log (accepted_follows setup log accepted)) showable.installs;
+      entries = showable.entries;
+    }
 
 -- ---- what is said of ids
 

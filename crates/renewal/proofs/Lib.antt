@@ -1,17 +1,19 @@
-mod Newest
-mod Alike
-mod Takes
-mod Steps
-mod InOrder
-mod One
-mod Entries
-mod Said
-mod Again
-mod Stands
-mod Come
-mod Fits
-mod Stays
-mod Shards
-mod Rows
-mod Lasts
-mod Belongs
+pub mod Newest
+pub mod Alike
+pub mod Takes
+pub mod Steps
+pub mod InOrder
+pub mod One
+pub mod Entries
+pub mod Said
+pub mod Again
+pub mod Stands
+pub mod Come
+pub mod Fits
+pub mod Bounded
+pub mod Props
+pub mod Stays
+pub mod Shards
+pub mod Rows
+pub mod Lasts
+pub mod Belongs

@@ -1,6 +1,6 @@
 -- Logs that are alike are turned over into the same records.
 use Rattle.std.proofs.Common.{◌≡◌, ◌⊎◌, inl, inr, ℕ, ◌<◌, ◌≤◌, Bool, true, false, cond, nat_lt, nat_le, List, [], ◌∷◌, ◌++◌, map, Option, Some, None}
-use Rattle.std.proofs.Common.{refl, sym, ap, subst, ◌∙◌, arith}
+use Rattle.std.proofs.Common.{max, refl, sym, ap, subst, ◌∙◌, arith}
 use Rattle.std.proofs.Common.{filter}
 use Rattle.std.specs.List.{AllByRecursion}
 use Rattle.std.proofs.lemmas.Bool.Decides.{nat_tests}
@@ -19,11 +19,13 @@ use Rattle.versions.proofs.Kept.{kept-installed}
 use Rattle.versions.proofs.Newest.{newer}
 use Rattle.protocol.specs.Showable.{rises_by_key}
 use Rattle.protocol.proofs.Rising.{rise_parts}
-use Rattle.renewal.specs.Keeps.{Alike, IsRegular, SameVersions}
-use Rattle.renewal.specs.Laws.{AlikeTurned}
+use Rattle.versions.specs.Places.{SameVersions}
+use Rattle.renewal.specs.Keeps.{Alike, IsRegular}
+use Rattle.renewal.specs.Laws.{AlikeTurned, HeldInOrder}
 use Rattle.renewal.specs.Turned.{ended_item, standing_item, turned, versions_held}
-use Rattle.renewal.proofs.InOrder.{IsUnder, above-same, rising-some, same-in_order, same-one, under-last}
-use Rattle.renewal.proofs.Newest.{pruned-part, same-pruned}
+use Rattle.versions.proofs.Pruned.{ascending-keep, pruned-part, same-pruned}
+use Rattle.versions.proofs.SameMore.{above-same, same-one}
+use Rattle.renewal.proofs.InOrder.{IsUnder, rising-some, same-in_order, under-last}
 
 clash : ¬ (false ≡ true)
 clash e = cc
@@ -296,22 +298,35 @@ kept-all n a b acc [] same under up all kept = kept
 kept-all n a b acc (x ∷ xs) same under up all kept =
     let parts = rise_parts acc x xs up in
     let over : is_above b x.key x.at ≡ true = under x.key x.at parts.0 in
-    kept-all n (installed a x) (b ++ x ∷ []) (x ∷ acc) xs (same-one x a b over same) (under-last x b acc under) parts.1 all.1
+    kept-all n (installed a x) (b ++ x ∷ []) (x ∷ acc) xs (same-one 0 x a b over same) (under-last x b acc under) parts.1 all.1
     (kept-installed n x a (above-same 0 x a b over same) all.0 kept)
 
--- what is held of facts that may be renewed
-pub held-rises : (facts : Facts) → IsRegular facts → rises_by_key [] (pruned facts.horizon facts.installs) ≡ true
+-- some timestamp covers them all
+some-bound : (xs : List Install) → (n : ℕ) × AllByRecursion (λ i. i.at ≤ n) xs
+some-bound [] = (0, tt)
+some-bound (x ∷ xs) =
+    let rest = some-bound xs in
+    (max x.at rest.0, (omega arith, all_gives (λ (i : Install). i.at ≤ rest.0) (λ (i : Install). i.at ≤ max x.at rest.0) (λ i le. omega (arith, le)) xs rest.1))
+
+in-order : (xs : List Install) → rises_by_key [] xs ≡ true → AscendsByVersion (all_installed [] xs)
+in-order xs up =
+    let bound = some-bound xs in
+    (kept-all bound.0 [] [] [] xs (record { now = λ k. refl; at = λ k t le. refl }) (λ key at h. h) up bound.1 (record { order = tt; in_time = tt })).order
+
+-- what is held of versions that rise
+pruned-rises : (h : ℕ) (xs : List Install) → rises_by_key [] xs ≡ true → rises_by_key [] (pruned h xs) ≡ true
 unfolding pruned
-held-rises facts r = rising-some _ facts.installs r.rising
+pruned-rises h xs up = rising-some _ xs up
+
+pub held-rises : (facts : Facts) → IsRegular facts → rises_by_key [] (pruned facts.horizon facts.installs) ≡ true
+held-rises facts r = pruned-rises facts.horizon facts.installs r.rising
 
 pub held-covered : (facts : Facts) → IsRegular facts → AllByRecursion (λ i. i.at ≤ facts.floor) (pruned facts.horizon facts.installs)
 unfolding pruned
 held-covered facts r = all-keep _ _ facts.installs r.covered
 
 pub ordered : (facts : Facts) → IsRegular facts → AscendsByVersion (versions_held facts)
-ordered facts r =
-    (kept-all facts.floor [] [] [] (pruned facts.horizon facts.installs) (record { now = λ k. refl; at = λ k t le. refl }) (λ key at h. h)
-    (held-rises facts r) (held-covered facts r) (record { order = tt; in_time = tt })).order
+ordered facts r = in-order (pruned facts.horizon facts.installs) (held-rises facts r)
 
 -- the versions that are held are the same
 one-versions : (a b : Facts) → Alike a b → IsRegular a → IsRegular b → versions_held a ≡ versions_held b
@@ -321,6 +336,18 @@ one-versions a b h r s =
     ∙ same-pruned-all a.horizon a.installs b.installs h.versions k t
     ∙ ap (λ n. newest (filter (is_by k t) (pruned n b.installs))) h.horizon
     ∙ sym ((same-in_order (pruned b.horizon b.installs) (held-rises b s)).at k t (omega arith)))
+
+-- they are those of any list in order that has the same newest versions, without what the horizon lets go
+pruned-ascends : (h : ℕ) (t : List Install) → AscendsByVersion t → AscendsByVersion (pruned h t)
+unfolding pruned
+pruned-ascends h t up = ascending-keep _ t up
+
+pub held-in_order : HeldInOrder
+held-in_order facts t rising up same =
+    let held = pruned-rises facts.horizon facts.installs rising in
+    determined (pruned facts.horizon t) (versions_held facts) (pruned-ascends facts.horizon t up) (in-order (pruned facts.horizon facts.installs) held)
+    (λ k at. same-pruned-all facts.horizon t facts.installs same k at
+    ∙ sym ((same-in_order (pruned facts.horizon facts.installs) held).at k at (omega arith)))
 
 pub one-turnover : AlikeTurned
 unfolding turned

@@ -17,10 +17,10 @@ use Rattle.versions.specs.Pruned.{pruned}
 use Rattle.renewal.specs.Keeps.{Alike, IsPlaced, IsRegular}
 use Rattle.renewal.specs.Laws.{TurnedKeeps, TurnedSays}
 use Rattle.renewal.specs.Turned.{versions_held, ended_item, standing_item, turned}
-use Rattle.renewal.proofs.Alike.{same-back, same-higher, same-then}
+use Rattle.versions.proofs.Pruned.{same-pruned}
+use Rattle.versions.proofs.Same.{same-back, same-higher, same-then}
 use Rattle.renewal.proofs.Entries.{entry, is_ended, put_all, together, with_status-is}
 use Rattle.renewal.proofs.InOrder.{append_one, same-in_order}
-use Rattle.renewal.proofs.Newest.{same-pruned}
 use Rattle.renewal.proofs.One.{held-covered, held-rises}
 
 pub max-covers : (n m : ℕ) → m ≤ n → max n m ≡ n

@@ -15,7 +15,7 @@ use Rattle.renewal.specs.Keeps.{IsOfShard}
 use Rattle.renewal.specs.Laws.{OfShardStays}
 use Rattle.renewal.specs.Rules.{takes}
 use Rattle.renewal.proofs.Entries.{entry, id_of, with_status-is}
-use Rattle.renewal.proofs.Stays.{step-of}
+use Rattle.renewal.proofs.Bounded.{step-of}
 
 -- what is not below a timestamp above 0 is above 0
 later : (at s : ℕ) → nat_lt 0 at ≡ true → nat_le at s ≡ true → nat_lt 0 s ≡ true

@@ -26,7 +26,7 @@ use Rattle.protocol.specs.Cells.{plan_promise, plan_abort, plan_decide, plan_com
 use Rattle.protocol.specs.Cells.{plan_count, plan_tell, plan_vote, plan_outcome, plan_give_up, plan_ask, plan_go_on, plan_resume_row, plan_resume_id}
 use Rattle.protocol.specs.Cells.{plan_resume, plan_settle, plan_advance, plan_nudge, plan_forget}
 use Rattle.versions.proofs.Newest.{latest_is}
-use Rattle.renewal.specs.Keeps.{SameVersions}
+use Rattle.versions.specs.Places.{SameVersions}
 use Rattle.renewal.specs.Laws.{AlikeSteps}
 
 module _ (rows shard epoch floor : ℕ) (es : List TxnStatus) (is js : List Install) (horizon : ℕ) (memory : Memory)

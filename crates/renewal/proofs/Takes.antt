@@ -18,7 +18,8 @@ use Rattle.facts.specs.Shown.{status_in}
 use Rattle.protocol.specs.Rows.{held_stamp, standing_row}
 use Rattle.protocol.specs.Sound.{writes_standing}
 use Rattle.versions.proofs.Newest.{above_newest, was_before}
-use Rattle.renewal.specs.Keeps.{Alike, SameVersions}
+use Rattle.versions.specs.Places.{SameVersions}
+use Rattle.renewal.specs.Keeps.{Alike}
 use Rattle.renewal.specs.Laws.{AlikeTakes}
 use Rattle.renewal.specs.Rules.{stands_in, fits_facts, takes}
 

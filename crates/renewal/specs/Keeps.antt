@@ -1,16 +1,15 @@
 -- When one log keeps what another says, and what is asked of facts that are renewed.
 use Rattle.std.specs.List.{AllByRecursion, list_all}
-use Rattle.std.specs.Prelude.{◌≡◌, ℕ, ◌≤◌, IsTrue, Bool, nat_eq, nat_lt, List, [], None, Some, filter}
+use Rattle.std.specs.Prelude.{◌≡◌, ℕ, ◌≤◌, IsTrue, Bool, nat_eq, nat_lt, [], None, Some}
 use Rattle.units.specs.Lists.{ascends, head, when}
 use Rattle.units.specs.ById.{IsById}
 use Rattle.units.specs.Keys.{Bytes, write_before}
-use Rattle.units.specs.Versions.{newest, of_key, at_time}
+use Rattle.units.specs.Versions.{at_time}
 use Rattle.units.specs.declared.setup.Setup.{Setup}
-use Rattle.units.specs.declared.writes.Install.{Install}
 use Rattle.record.specs.Records.{Unrecorded, StandsPrepared, StandsDecided, HasAborted, HasSettled, HasClosed}
 use Rattle.record.specs.Accepted.{is_timed, keys_belong}
 use Rattle.record.specs.Facts.{Facts, TxnStatus}
-use Rattle.versions.specs.Ordered.{is_by}
+use Rattle.versions.specs.Places.{SameVersions}
 use Rattle.protocol.specs.Sound.{writes_standing}
 use Rattle.protocol.specs.Showable.{rises_by_key}
 
@@ -22,11 +21,6 @@ pub record Keeps (a b : Facts) : Type 0 where
   pub horizon : a.horizon ≡ b.horizon
   pub entries : a.entries ≡ b.entries
   pub values : (k : Bytes) (t : ℕ) → a.horizon ≤ t → at_time a.installs k t ≡ at_time b.installs k t
-
--- the newest version of every key is the same, now and at every timestamp from a horizon up
-pub record SameVersions (horizon : ℕ) (a b : List Install) : Type 0 where
-  pub now : (k : Bytes) → newest (of_key a k) ≡ newest (of_key b k)
-  pub at : (k : Bytes) (t : ℕ) → horizon ≤ t → newest (filter (is_by k t) a) ≡ newest (filter (is_by k t) b)
 
 -- Both keep the same, by versions in place of values: this is what more records leave true.
 pub record Alike (a b : Facts) : Type 0 where

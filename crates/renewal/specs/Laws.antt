@@ -1,21 +1,26 @@
 -- What a renewed log keeps, and what may be done over it.
-use Rattle.std.specs.Prelude.{◌≡◌, ◌≤◌, ◌<◌, nat_eq, true, ℕ, List, [], length, Bool, IsTrue}
+use Rattle.std.specs.Prelude.{◌≡◌, ◌≤◌, ◌<◌, nat_eq, true, ℕ, List, [], length, IsTrue}
 use Rattle.std.specs.List.{AllByRecursion, list_all}
 use Rattle.units.specs.Ids.{Id}
 use Rattle.units.specs.Keys.{shard_of}
 use Rattle.units.specs.Limits.{most_rows}
 use Rattle.units.specs.declared.setup.Setup.{Setup}
+use Rattle.units.specs.declared.writes.Install.{Install}
 use Rattle.truetime.specs.Interval.{Interval}
-use Rattle.record.specs.Accepted.{belongs, followed}
+use Rattle.record.specs.Accepted.{Accepted, belongs, followed, taken}
 use Rattle.record.specs.FactLaws.{learnt}
 use Rattle.record.specs.Facts.{Facts, no_facts, facts_of, learn}
 use Rattle.record.specs.Whole.{stands_at}
 use Rattle.record.specs.declared.record.Record.{Record}
 use Rattle.message.specs.declared.message.Input.{Input}
 use Rattle.protocol.specs.Rows.{Memory}
-use Rattle.protocol.specs.Showable.{record_ascends}
+use Rattle.facts.specs.Rules.{follows_facts}
+use Rattle.protocol.specs.Showable.{IsShowable, record_ascends, rises_by_key}
 use Rattle.protocol.specs.Sound.{IsSound}
 use Rattle.protocol.specs.Step.{step_within}
+use Rattle.versions.specs.Ordered.{AscendsByVersion}
+use Rattle.versions.specs.Places.{SameVersions}
+use Rattle.versions.specs.Pruned.{pruned}
 use Rattle.renewal.specs.Turned.{turned, versions_held}
 use Rattle.renewal.specs.Keeps.{Keeps, Alike, IsRegular, IsLasting, IsOfShard, NamesOwn}
 use Rattle.renewal.specs.Rules.{AllFit, takes}
@@ -54,6 +59,13 @@ TurnedLasts = (facts : Facts) → IsLasting facts → IsLasting (learnt no_facts
 -- into the same records
 abbrev pub TurnedAgain : Type 0
 TurnedAgain = (facts : Facts) → IsLasting facts → turned (learnt no_facts (turned facts)) ≡ turned facts
+
+-- its versions are those of any list in order, by which the newest version of every key is the same, without what the horizon lets go
+abbrev pub HeldInOrder : Type 0
+HeldInOrder =
+    (facts : Facts) (ordered : List Install) → IsTrue (rises_by_key [] facts.installs) → AscendsByVersion ordered →
+    SameVersions facts.horizon ordered facts.installs →
+    pruned facts.horizon ordered ≡ versions_held facts
 
 -- where its versions and what stands name keys of the shard alone, so does each of its records
 abbrev pub TurnedBelongs : Type 0
@@ -99,6 +111,10 @@ LogLasts =
     (shard : ℕ) (log : List Record) → IsTrue (followed shard log) → AllFit no_facts log → IsTrue (list_all record_ascends log) →
     IsLasting (facts_of log)
 
+-- so may what a log says that an opening takes up
+abbrev pub TakenLasts : Type 0
+TakenLasts = (setup : Setup) (log : List Record) → taken setup log ≡ Accepted → IsTrue (list_all record_ascends log) → IsLasting (facts_of log)
+
 -- and what it says of ids is of its shard
 abbrev pub LogIsOfShard : Type 0
 LogIsOfShard = (shard : ℕ) (log : List Record) → IsTrue (followed shard log) → AllByRecursion (IsOfShard shard) (facts_of log).entries
@@ -110,6 +126,12 @@ abbrev pub LastingStays : Type 0
 LastingStays =
     (setup : Setup) (facts : Facts) (r : Record) → IsLasting facts → IsTrue (record_ascends r) → takes setup facts r ≡ true →
     IsLasting (learn facts r)
+
+-- or behind a record that follows, and with which the versions may be put on a board
+abbrev pub LastingFollows : Type 0
+LastingFollows =
+    (shard : ℕ) (facts : Facts) (memory : Memory) (r : Record) → IsLasting facts → follows_facts shard facts r ≡ true →
+    IsShowable (learn facts r) memory → IsLasting (learn facts r)
 
 -- and what it says of ids is of its shard
 abbrev pub OfShardStays : Type 0

@@ -1,6 +1,6 @@
 //! Laws of renewed logs. Each is the contract of a function that does nothing.
-ghost use Rattle.renewal.specs.Laws.{AlikeKeeps, AlikeStands, AlikeStays, AlikeSteps, AlikeTakes, AlikeTurned, LastingStays};
-ghost use Rattle.renewal.specs.Laws.{LogIsOfShard, LogLasts, OfShardStays};
+ghost use Rattle.renewal.specs.Laws.{AlikeKeeps, AlikeStands, AlikeStays, AlikeSteps, AlikeTakes, AlikeTurned, HeldInOrder};
+ghost use Rattle.renewal.specs.Laws.{LastingFollows, LastingStays, LogIsOfShard, LogLasts, OfShardStays, TakenLasts};
 ghost use Rattle.renewal.specs.Laws.{TurnedAgain, TurnedBelongs, TurnedFits, TurnedKeeps, TurnedLasts, TurnedLogKeeps, TurnedMayCome, TurnedSays};
 
 /// A renewed log, learnt record by record, says what the log said, with the versions that were held.
@@ -26,6 +26,11 @@ pub fn turned_log_keeps()
 /// Each of its records has its place beside what stands by those before it.
 pub fn turned_fits()
     ensures { TurnedFits }
+{}
+
+/// Its versions are those of the places in order of the log's versions, without what the horizon lets go.
+pub fn held_in_order()
+    ensures { HeldInOrder }
 {}
 
 /// They name keys of the shard alone, where the log did.
@@ -83,9 +88,19 @@ pub fn log_is_of_shard()
     ensures { LogIsOfShard }
 {}
 
+/// What a log says may be renewed where an opening takes it up.
+pub fn taken_lasts()
+    ensures { TakenLasts }
+{}
+
 /// What may be renewed may be renewed behind each record of a step that is taken,
 pub fn lasting_stays()
     ensures { LastingStays }
+{}
+
+/// or that follows, and with which the versions may be put on a board,
+pub fn lasting_follows()
+    ensures { LastingFollows }
 {}
 
 /// and what is said of ids stays of the shard.

@@ -4,7 +4,8 @@
 mod laws;
 
 pub use laws::{
-    alike_keeps, alike_stands, alike_stays, alike_steps, alike_takes, alike_turned, lasting_stays,
-    log_is_of_shard, log_lasts, of_shard_stays, turned_again, turned_belongs, turned_fits,
-    turned_keeps, turned_lasts, turned_log_keeps, turned_may_come, turned_says,
+    alike_keeps, alike_stands, alike_stays, alike_steps, alike_takes, alike_turned, held_in_order,
+    lasting_follows, lasting_stays, log_is_of_shard, log_lasts, of_shard_stays, taken_lasts,
+    turned_again, turned_belongs, turned_fits, turned_keeps, turned_lasts, turned_log_keeps,
+    turned_may_come, turned_says,
 };

@@ -1,20 +1,32 @@
 -- The logs that a run ends with are some that a crash may leave, and the lines that count are some of its lines.
-use Rattle.std.proofs.Common.{◌≡◌, inl, inr, ℕ, zero, suc, Bool, true, false, cond, List, [], ◌∷◌, ◌++◌, map, filter, slice_get, Option, Some}
-use Rattle.std.proofs.Common.{None, refl, sym, subst}
+use Rattle.std.proofs.Common.{◌≡◌, inl, inr, ℕ, zero, suc, Bool, true, false, cond, IsTrue, List, [], ◌∷◌, ◌++◌, length, map, filter, slice_get}
+use Rattle.std.proofs.Common.{Option, Some, None, refl, sym, ap, ◌∙◌, subst}
 use Rattle.std.proofs.lemmas.List.{append-nil}
-use Rattle.record.specs.Verdict.{verdict}
+use Rattle.record.specs.Accepted.{Accepted, taken}
+use Rattle.record.specs.Facts.{facts_of}
+use Rattle.record.specs.Verdict.{are_renewed, verdict}
 use Rattle.record.specs.Lines.{IsLine}
-use Rattle.record.specs.VerdictLaws.{IsBorneOut, ReadsCommitted, SoundIsYes}
+use Rattle.record.specs.VerdictLaws.{IsBorneOut, SoundIsYes}
+use Rattle.units.specs.Ids.{Id}
+use Rattle.units.specs.Keys.{Bytes}
 use Rattle.units.specs.Lists.{when}
 use Rattle.units.specs.declared.line.Line.{Line}
 use Rattle.units.specs.declared.line.Verdict.TheVariants.{Yes}
 use Rattle.record.specs.declared.record.Record.{Record}
 use Rattle.record.specs.History.{Txn, find_txn, history}
-use Rattle.world.specs.World.{ShardNow, Unsure, Nothing, Shown, Hidden, counted_lines, line_counts, logs_of, read_log, run, shown_records}
+use Rattle.renewal.specs.Keeps.{Keeps}
+use Rattle.renewal.proofs.Alike.{alike-keeps}
+use Rattle.world.proofs.Untouched.{run_settings}
+use Rattle.world.specs.Lawful.{lawful}
+use Rattle.world.specs.World.{World, ShardNow, Unsure, Nothing, Shown, Hidden, TurnShown, TurnHidden, areas_of, counted_lines, line_counts, logs_of}
+use Rattle.world.specs.World.{read_area, read_log, run, setup_of, shown_records}
 use Rattle.world.specs.Headline.{IsExternallyConsistent, IsUnsure, MayLeaveLog, MayLeaveLogs}
+use Rattle.law.proofs.HasAreas.{always_has_areas}
 use Rattle.law.proofs.WholeLaw.{externally_consistent}
 use Rattle.reported.specs.Reported.{ReportsAreConsistent}
+use Rattle.reported.proofs.Plain.{plain_logs}
 use Rattle.world.specs.declared.event.Config.{Config}
+use Rattle.world.specs.declared.event.Event.{Event}
 
 -- a read of the disk is one of the logs that a crash may leave
 may_leave : (s : ShardNow) → MayLeaveLog s (read_log s)
@@ -24,6 +36,8 @@ may_leave s = by_unsure s.unsure refl
     by_unsure Nothing is = inl (append-nil s.log)
     by_unsure (Shown r) is = inr (r, subst (λ u. IsUnsure u r) (sym is) refl, refl)
     by_unsure (Hidden r) is = inl (append-nil s.log)
+    by_unsure (TurnShown other) is = inl (append-nil s.log)
+    by_unsure (TurnHidden other) is = inl (append-nil s.log)
 
 all_may_leave : (ss : List ShardNow) → MayLeaveLogs ss (map read_log ss)
 all_may_leave [] = tt
@@ -81,8 +95,9 @@ found None e = absurd (cc)
 found (Some u) e = (u, refl)
 
 -- each read that counts is of a transaction that is committed
-reads_committed : (logs : List (List Record)) (ls : List Line) → ReadsCommitted logs (filter (line_counts (history logs)) ls)
-reads_committed logs ls whole t k x is = found (find_txn (history logs) t) (passes (line_counts (history logs)) ls (Line.Read t k x) is)
+reads_committed : (logs : List (List Record)) (ls : List Line) (t : Id) (k : Bytes) (x : Option Bytes)
+    → IsLine (filter (line_counts (history logs)) ls) (Line.Read t k x) → (u : Txn) × (find_txn (history logs) t ≡ Some u)
+reads_committed logs ls t k x is = found (find_txn (history logs) t) (passes (line_counts (history logs)) ls (Line.Read t k x) is)
 
 borne_out : (config : Config) (logs : List (List Record)) (lines : List Line) → IsExternallyConsistent config logs lines → IsBorneOut logs lines
 borne_out config logs lines h = record {
@@ -93,19 +108,62 @@ borne_out config logs lines h = record {
   order = h.order;
 }
 
+-- the shard of a place in a list that is made of shards
+shard_at : {A : Type 0} (f : ShardNow → A) (ss : List ShardNow) (n : ℕ) (x : A) → slice_get (map f ss) n ≡ Some x
+    → (s : ShardNow) × (slice_get ss n ≡ Some s) × (x ≡ f s)
+shard_at f [] n x e = absurd (cc)
+shard_at f (s ∷ ss) zero x e = (s, refl, one (f s) x e)
+  where
+    one : {B : Type 0} (a b : B) → Some a ≡ Some b → b ≡ a
+    one a b same = cc
+shard_at f (s ∷ ss) (suc n) x e = shard_at f ss n x e
+
+as_many : {A B : Type 0} (f : ShardNow → A) (g : ShardNow → B) (ss : List ShardNow) → length (map f ss) ≡ length (map g ss)
+as_many f g [] = refl
+as_many f g (s ∷ ss) = ap suc (as_many f g ss)
+
+-- the area of each shard keeps what its records say
+each_keeps : (config : Config) (es : List Event) → IsTrue (lawful config es) → (n : ℕ) (all log : List Record)
+    → slice_get (logs_of (run config es)) n ≡ Some all → slice_get (areas_of (run config es)) n ≡ Some log
+    → (taken (setup_of config n) log ≡ Accepted) × Keeps (facts_of all) (facts_of log)
+unfolding logs_of areas_of
+each_keeps config es fair n all log of_all of_log =
+    let w : World = run config es in
+    let one = shard_at read_log w.shards n all of_all in
+    let other = shard_at (λ (s : ShardNow). (read_area s).records) w.shards n log of_log in
+    let same : one.0 ≡ other.0 = some_same one.0 other.0 (sym one.1 ∙ other.1) in
+    let areas = always_has_areas config es fair in
+    let log_is : log ≡ (read_area one.0).records = other.2 ∙ ap (λ (s : ShardNow). (read_area s).records) (sym same) in (
+      subst (λ l. taken (setup_of config n) l ≡ Accepted) (sym log_is)
+          (subst (λ (c : Config). taken (setup_of c n) (read_area one.0).records ≡ Accepted) (run_settings config es) (areas.takes n one.0 one.1)),
+      subst (λ l. Keeps (facts_of l) (facts_of log)) (sym one.2)
+          (subst (λ l. Keeps (facts_of (read_log one.0)) (facts_of l)) (sym log_is)
+          (alike-keeps (facts_of (read_log one.0)) (facts_of (read_area one.0).records) (areas.alike n one.0 one.1))),
+    )
+  where
+    some_same : (a b : ShardNow) → Some a ≡ Some b → a ≡ b
+    some_same a b e = cc
+
 pub consistent : SoundIsYes → ReportsAreConsistent
-unfolding logs_of counted_lines
+unfolding logs_of areas_of counted_lines
 consistent sound_is_yes config es r h =
-    let logs : List (List Record) = logs_of (run config es) in
-    let ends = fewer config logs (run config es).lines (counted_lines logs (run config es).lines)
-    (λ l is. was_there (line_counts (history logs)) (run config es).lines l is)
-    (externally_consistent config es logs h.fair (inl (all_may_leave (run config es).shards))) in
-    let is_yes : verdict logs (counted_lines logs (run config es).lines) ≡ Yes =
-    sound_is_yes logs (counted_lines logs (run config es).lines) (borne_out config logs (counted_lines logs (run config es).lines) ends)
-    (reads_committed logs (run config es).lines) in
+    let w : World = run config es in
+    let logs : List (List Record) = logs_of w in
+    let areas : List (List Record) = areas_of w in
+    let lines : List Line = counted_lines areas w.lines in
+    let ends = fewer config logs w.lines lines
+    (λ l is. was_there (line_counts (history areas)) w.lines l is)
+    (externally_consistent config es logs h.fair (inl (all_may_leave w.shards))) in
+    let is_yes : are_renewed areas ≡ false → verdict areas lines ≡ Yes = λ none.
+    sound_is_yes areas lines
+    (borne_out config areas lines (subst (λ ls. IsExternallyConsistent config ls lines) (sym (plain_logs config es h.fair none)) ends))
+    (λ whole t k x is. reads_committed areas w.lines t k x is) in
     record {
       on_disks = h.disks;
-      consistent = subst (λ logs. IsExternallyConsistent config logs r.lines.items) (sym h.logs)
-          (subst (IsExternallyConsistent config logs) (sym h.lines) ends);
-      judged = subst (λ logs. verdict logs r.lines.items ≡ Yes) (sym h.logs) (subst (λ lines. verdict logs lines ≡ Yes) (sym h.lines) is_yes);
+      consistent = subst (IsExternallyConsistent config logs) (sym h.lines) ends;
+      count = ap length h.logs ∙ as_many (λ (s : ShardNow). (read_area s).records) read_log w.shards;
+      keeps = λ n all log of_all of_log. each_keeps config es h.fair n all log of_all (sym (ap (λ ls. slice_get ls n) h.logs) ∙ of_log);
+      plain = λ none. h.logs ∙ plain_logs config es h.fair (sym (ap are_renewed h.logs) ∙ none);
+      judged = λ none. subst (λ ls. verdict ls r.lines.items ≡ Yes) (sym h.logs) (subst (λ ls. verdict areas ls ≡ Yes) (sym h.lines)
+          (is_yes (sym (ap are_renewed h.logs) ∙ none)));
     }

@@ -22,11 +22,12 @@ pub enum Happening {
     Advance,
     Nudge,
     Forget,
+    Turn,
     Open,
 }
 
 /// The forms. Of two with one name the first that fits counts.
-pub static FORMS: [Form<Happening>; 18] = [
+pub static FORMS: [Form<Happening>; 19] = [
     Form {
         name: "begin",
         words: &[Kind::Txn],
@@ -111,6 +112,11 @@ pub static FORMS: [Form<Happening>; 18] = [
         name: "forget",
         words: &[Kind::Shard, Kind::Stamp, Kind::Earliest, Kind::Latest],
         is: Happening::Forget,
+    },
+    Form {
+        name: "turn",
+        words: &[Kind::Shard],
+        is: Happening::Turn,
     },
     Form {
         name: "open",

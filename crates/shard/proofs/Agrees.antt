@@ -1,38 +1,76 @@
 -- What a core knows goes on to agree with its log.
-use Rattle.std.proofs.Common.{◌≡◌, ◌∙◌, ◌⊎◌, inl, inr, ℕ, Bool, true, false, IsTrue, IsFalse, ◌≤◌, List, [], Option, Some, None, Result, Ok, Err, sym, ap, subst}
-use Rattle.std.proofs.Math.Logic.{∥∥₁_elim, ∥∥₁_map}
-use Rattle.std.proofs.Props.{props}
+use Rattle.std.proofs.Common.{◌≡◌, ◌∙◌, ◌⊎◌, inl, inr, ⊎_elim, ℕ, Bool, false, IsTrue, IsFalse, ◌≤◌, List, [], ◌∷◌, ◌++◌, fold, Option, Some, None}
+use Rattle.std.proofs.Common.{Result, Ok, Err, refl, sym, ap, subst}
+use Rattle.std.proofs.Math.Logic.{∥∥₁_map}
 use Rattle.disk.specs.File.{File, surface}
 use Rattle.disk.specs.Image.{Surface, MayLeave}
 use Rattle.disk.specs.Moments.{LeavesOnly}
-use Rattle.record.specs.Facts.{Facts}
+use Rattle.record.specs.FactLaws.{learnt}
+use Rattle.record.specs.Facts.{Facts, learn, no_facts}
 use Rattle.record.specs.declared.record.Record.{Record}
 use Rattle.units.specs.declared.fault.Fault.{Fault}
 use Rattle.units.specs.declared.fault.Fault.TheVariants.{Memory as WantsMemory, Device, Stopped, TimeSpent}
+use Rattle.gatelog.specs.Slots.{begins_in}
+use Rattle.renewal.specs.Keeps.{Alike, IsRegular}
+use Rattle.renewal.specs.Laws.{AlikeStays, TurnedKeeps}
+use Rattle.renewal.specs.Turned.{turned}
+use Rattle.renewal.proofs.Alike.{alike-refl}
 use Rattle.shard.specs.Agrees.{AgreesWithLog, AreHeld}
-use Rattle.shard.specs.Logs.{KeepsRecords, HoldsOldOrWith, facts_logged, learned, records_in}
+use Rattle.shard.specs.Logs.{KeepsRecords, HoldsOldOrWith, and_logged, facts_logged, learned, records_in}
+use Rattle.shard.specs.Turned.{IsOldOrTurned, turned_to}
+
+-- they are learnt one by one
+pub fold_is : (f : Facts) (rs : List Record) → fold learn f rs ≡ learnt f rs
+fold_is f [] = refl
+fold_is f (r ∷ rs) = fold_is (learn f r) rs
+
+-- one more record is learnt behind the others
+learned-append : (f : Facts) (rs : List Record) (r : Record) → fold learn f (rs ++ r ∷ []) ≡ learn (fold learn f rs) r
+learned-append f [] r = refl
+learned-append f (q ∷ qs) r = learned-append (learn f q) qs r
 
 abbrev given : Option Facts → Facts
 given (Some f) = f
 given None = learned []
 
+-- facts are alike to those of the records that a read gives
+abbrev pub IsKnown : Result (List Record) Fault → Facts → Type 0
+IsKnown (Ok records) facts = Alike facts (learned records)
+IsKnown (Err fault) facts = ⊥
+
+-- so are those that are learnt of them
+pub known-logged : (read : Result (List Record) Fault) (facts : Facts) → facts_logged read ≡ Some facts → IsKnown read facts
+known-logged (Ok records) facts is = subst (Alike facts) (sym (ap given is)) (alike-refl facts)
+known-logged (Err fault) facts is = absurd (cc)
+
+-- with one more
+pub known-more : AlikeStays → (read : Result (List Record) Fault) (facts : Facts) (r : Record) → IsKnown read facts
+    → IsKnown (and_logged read (Some r)) (learn facts r)
+known-more law (Ok records) facts r known =
+    subst (Alike (learn facts r)) (sym (learned-append no_facts records r)) (law facts (learned records) r known)
+known-more law (Err fault) facts r known = known
+
+-- those of a renewed log are known
+pub turned-known : TurnedKeeps → (facts : Facts) → IsRegular facts → IsKnown (Ok (turned facts)) facts
+turned-known law facts regular = subst (Alike facts) (sym (fold_is no_facts (turned facts))) (law facts regular)
+
 -- the records of a running core are those that a read gives
-pub facts-held : (stopped : Bool) (disk : Surface) (facts : Facts) → IsFalse stopped → MayLeave disk disk.seen → ∥ AgreesWithLog stopped disk facts ∥₁
-    → facts_logged (records_in disk.seen) ≡ Some facts
-facts-held stopped disk facts running now agrees =
-    ∥∥₁_elim agrees (hlevel props) (λ a.
-    let held : AreHeld false disk a.records = subst (λ b. AreHeld b disk a.records) running a.held in
-    ap facts_logged (held disk.seen now) ∙ ap (λ (f : Facts). Some f) (sym a.learnt))
+pub known-held : (stopped : Bool) (disk : Surface) (facts : Facts) → IsFalse stopped → MayLeave disk disk.seen → ∥ AgreesWithLog stopped disk facts ∥₁
+    → ∥ IsKnown (records_in disk.seen) facts ∥₁
+known-held stopped disk facts running now agrees =
+    ∥∥₁_map agrees (λ a.
+    let held : AreHeld false disk facts a.records = subst (λ b. AreHeld b disk facts a.records) running a.held in
+    subst (λ read. IsKnown read facts) (sym (held disk.seen now)) a.learnt)
 
 -- every image has the records that are known
 pub agrees_kept : (stopped : Bool) (disk : Surface) (read : Result (List Record) Fault) (facts : Facts) → IsFalse stopped → KeepsRecords disk read
-    → facts_logged read ≡ Some facts → AgreesWithLog stopped disk facts
+    → IsKnown read facts → AgreesWithLog stopped disk facts
 agrees_kept stopped disk (Ok records) facts running keeps known = record {
   records = records;
-  learnt = sym (ap given known);
-  held = subst (λ b. AreHeld b disk records) (sym running) keeps;
+  learnt = known;
+  held = subst (λ b. AreHeld b disk facts records) (sym running) keeps;
 }
-agrees_kept stopped disk (Err fault) facts running keeps known = absurd (cc)
+agrees_kept stopped disk (Err fault) facts running keeps known = absurd known
 
 -- nothing was done to the log
 pub agrees_still : (was stopped : Bool) (before disk : Surface) (known facts : Facts) → stopped ≡ was → disk ≡ before → facts ≡ known
@@ -51,18 +89,39 @@ pub agrees_refused : {D : Type 0} (file : D → File) (clock : D → ℕ) (since
     → ∥ AgreesWithLog was (surface (file old)) known ∥₁ → ∥ AgreesWithLog stopped (surface (file new)) facts ∥₁
 agrees_refused file clock since counts_now old new was stopped known facts r running now is (inl stops) moments agrees =
     ∥∥₁_map agrees (λ a.
-    let held : AreHeld false (surface (file old)) a.records = subst (λ b. AreHeld b (surface (file old)) a.records) running a.held in
+    let held : AreHeld false (surface (file old)) known a.records = subst (λ b. AreHeld b (surface (file old)) known a.records) running a.held in
     record {
       records = a.records;
-      learnt = is ∙ a.learnt;
-      held = subst (λ b. AreHeld b (surface (file new)) a.records) (sym stops) (
+      learnt = subst (λ f. Alike f (learned a.records)) (sym is) a.learnt;
+      held = subst (λ b. AreHeld b (surface (file new)) facts a.records) (sym stops) (inl (
         r,
         λ image may. subst (λ records. HoldsOldOrWith records (Some r) image) (held (surface (file old)).seen now)
             (moments.each image (counts_now new (clock old) image moments.later may)),
-      );
+      ));
     })
 agrees_refused file clock since counts_now old new was stopped known facts r running now is (inr same) moments agrees =
     agrees_still was stopped (surface (file old)) (surface (file new)) known facts same.0 (ap surface same.1) is agrees
+
+-- a turnover failed: the core is stopped, and has the old records where they began, or those of the renewed log
+pub agrees_unturned : {D : Type 0} (file : D → File) (clock : D → ℕ) (since : D → ℕ → List ℕ → Type 0)
+    → ((d : D) (moment : ℕ) (image : List ℕ) → moment ≤ clock d → MayLeave (surface (file d)) image → since d moment image)
+    → (old new : D) (was stopped : Bool) (facts : Facts) (gate slot : ℕ) → IsFalse was → MayLeave (surface (file old)) (surface (file old)).seen
+    → IsTrue stopped → LeavesOnly clock since old new (IsOldOrTurned (surface (file old)) gate slot (turned facts))
+    → ∥ AgreesWithLog was (surface (file old)) facts ∥₁ → ∥ AgreesWithLog stopped (surface (file new)) facts ∥₁
+agrees_unturned file clock since counts_now old new was stopped facts gate slot running now stops moments agrees =
+    ∥∥₁_map agrees (λ a.
+    let held : AreHeld false (surface (file old)) facts a.records = subst (λ b. AreHeld b (surface (file old)) facts a.records) running a.held in
+    record {
+      records = a.records;
+      learnt = a.learnt;
+      held = subst (λ b. AreHeld b (surface (file new)) facts a.records) (sym stops) (inr (record {
+        began = begins_in (surface (file old)).seen;
+        begins = turned_to gate slot;
+        each = λ image may.
+            ⊎_elim (λ same. inl (same.0 ∙ held (surface (file old)).seen now, same.1)) (λ new. inr new)
+            (moments.each image (counts_now new (clock old) image moments.later may));
+      }));
+    })
 
 -- a refused append leaves the log as it was, or the core stopped
 pub stopped-or-same : (fault : Fault) (was stopped : Bool) (Full Failed Gate Same : Type 0)

@@ -1,39 +1,27 @@
 -- A plan that was made ready and carried out, and what a core keeps then.
-use Rattle.std.proofs.Common.{◌≡◌, ◌∙◌, List, [], ◌∷◌, ◌++◌, fold, Option, Some, None, Result, Ok, Err, refl, sym, ap, subst}
+use Rattle.std.proofs.Common.{◌≡◌, ◌∙◌, ℕ, Option, Some, None, sym, ap, subst}
 use Rattle.std.proofs.Math.Logic.{∥∥₁_map}
-use Rattle.units.specs.declared.fault.Fault.{Fault}
 use Rattle.units.specs.declared.setup.Setup.{Setup}
-use Rattle.units.specs.declared.writes.Write.{Write}
-use Rattle.record.specs.Facts.{Facts, learn, no_facts}
+use Rattle.record.specs.Facts.{Facts}
 use Rattle.record.specs.declared.record.Record.{Record}
 use Rattle.protocol.specs.Rows.{Memory}
 use Rattle.protocol.specs.Plan.{carried}
 use Rattle.protocol.specs.Step.{facts_after}
 use Rattle.protocol.specs.Sound.{IsSound}
-use Rattle.memory.specs.Carry.{AdmissionIsUnseen, ReadyIsCarriable, HasMemoryFor, IsCarriable, MayInstall}
+use Rattle.memory.specs.Carry.{AdmissionIsUnseen, ReadyIsCarriable, HasMemoryFor, IsCarriable, MayFollow}
 use Rattle.memory.specs.Kept.{Kept}
 use Rattle.memory.specs.Plans.{plan_of}
 use Rattle.memory.specs.declared.plan.Step.{Step}
+use Rattle.protocol.specs.Showable.{IsShowable}
+use Rattle.renewal.specs.Keeps.{IsLasting}
+use Rattle.renewal.specs.Laws.{LastingFollows}
 use Rattle.shard.specs.Due.{IsDue}
-use Rattle.shard.specs.Logs.{and_logged, facts_logged}
 
--- ---- the facts of a log
-
-learned-append : (f : Facts) (rs : List Record) (r : Record) → fold learn f (rs ++ r ∷ []) ≡ learn (fold learn f rs) r
-learned-append f [] r = refl
-learned-append f (q ∷ qs) r = learned-append (learn f q) qs r
-
-abbrev given : Option Facts → Facts
-given (Some f) = f
-given None = no_facts
-
--- one more record is learnt
-pub facts-logged : (records : Result (List Record) Fault) (f : Facts) (r : Record) → facts_logged records ≡ Some f
-    → facts_logged (and_logged records (Some r)) ≡ Some (learn f r)
-facts-logged (Ok rs) f r known = ap Some (learned-append no_facts rs r ∙ ap (λ g. learn g r) (ap given known))
-facts-logged (Err fault) f r known = absurd (cc)
-
--- ---- a step
+-- what may be renewed may be renewed behind it
+lasts-behind : LastingFollows → (shard : ℕ) (facts : Facts) (memory : Memory) (logged : Option Record) → MayFollow shard facts logged
+    → IsShowable (facts_after facts logged) memory → IsLasting facts → IsLasting (facts_after facts logged)
+lasts-behind law shard facts memory None follows showable lasts = lasts
+lasts-behind law shard facts memory (Some r) follows showable lasts = law shard facts memory r lasts follows showable
 
 -- its plan is carried out once its record is logged
 module _ (k ready : Kept) (s : Step) (due : IsDue k s) (made : HasMemoryFor k ready s.plan) where
@@ -58,3 +46,10 @@ module _ (k ready : Kept) (s : Step) (due : IsDue k s) (made : HasMemoryFor k re
       subst (λ (t : Setup). IsSound t.shard facts memory) (sym is_setup)
       (subst (λ f. IsSound k.setup.shard f memory) (sym is_facts)
       (subst (IsSound k.setup.shard (facts_after k.facts s.logged)) (sym is_memory) o)))
+
+  -- and its facts may be renewed
+  pub lasting_then : LastingFollows → (facts : Facts) → facts ≡ facts_after k.facts s.logged → ∥ IsLasting k.facts ∥₁ → ∥ IsLasting facts ∥₁
+  lasting_then law facts is_facts lasting =
+      ∥∥₁_map lasting (λ l.
+      subst IsLasting (sym is_facts)
+      (lasts-behind law k.setup.shard k.facts (carried (plan_of k.memory.rows s) k.memory) s.logged due.follows due.showable l))

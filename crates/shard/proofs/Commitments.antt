@@ -1,6 +1,6 @@
 -- A decision that stands was logged.
 use Rattle.std.specs.List.{list_any}
-use Rattle.std.proofs.Common.{◌≡◌, ◌⊎◌, inl, inr, ⊎_elim, ℕ, Bool, true, false, ◌&&◌, ◌||◌, nat_eq, List, [], ◌∷◌, ◌++◌, fold, Option, Some, None}
+use Rattle.std.proofs.Common.{◌≡◌, ◌⊎◌, inl, inr, ⊎_elim, ℕ, Bool, true, false, ◌&&◌, ◌||◌, nat_eq, List, [], ◌∷◌, ◌++◌, fold, Option, Some}
 use Rattle.std.proofs.Common.{Result, Ok, Err, refl, sym, ap, ◌∙◌, subst, arith}
 use Rattle.std.proofs.lemmas.Bool.Decides.{nat_tests}
 use Rattle.std.proofs.lemmas.Bool.{or_right, or_left}
@@ -12,8 +12,9 @@ use Rattle.record.specs.declared.record.Committed.{Committed}
 use Rattle.record.specs.declared.record.Record.{Record}
 use Rattle.record.specs.Records.{Status, Unrecorded, StandsPrepared, StandsDecided, HasAborted, HasSettled, HasClosed}
 use Rattle.record.specs.Facts.{Facts, TxnStatus, learn, recorded, or_unrecorded, with_status, after_outcome, no_facts}
-use Rattle.shard.specs.Logs.{and_logged, facts_logged, learned}
+use Rattle.shard.specs.Logs.{and_logged}
 use Rattle.shard.specs.Settled.{is_commit, HasCommit}
+use Rattle.shard.proofs.Agrees.{IsKnown}
 use Rattle.protocol.proofs.StatusChanges.{entry_same, entry_other}
 
 -- the entry of an id
@@ -93,15 +94,11 @@ module _ (t : Id) (c : Committed) where
       step false e ih = ih e
   any-more test [] more h = cc
 
-  abbrev given-facts : Option Facts → Facts
-  given-facts (Some f) = f
-  given-facts None = no_facts
-
-  -- what stands decided by the facts of a log is in that log, and in one with a record more
-  pub has-commit : (records : Result (List Record) Fault) (facts : Facts) (r : Record) → facts_logged records ≡ Some facts → recorded facts t ≡ StandsDecided c
+  -- what stands decided by facts that are alike to those of a log is in that log, and in one with a record more
+  pub has-commit : (records : Result (List Record) Fault) (facts : Facts) (r : Record) → IsKnown records facts → recorded facts t ≡ StandsDecided c
       → HasCommit (and_logged records (Some r)) t c.at
-  has-commit (Ok rs) facts r logged stands =
-      let same : learned rs ≡ facts = ap given-facts logged in
+  has-commit (Ok rs) facts r known stands =
       any-more (is_commit t c.at) rs (r ∷ [])
-      (⊎_elim (λ before. absurd (cc)) (λ is. is) (learn-all no_facts rs (ap (λ f. recorded f t) same ∙ stands)))
-  has-commit (Err fault) facts r logged stands = absurd (cc)
+      (⊎_elim (λ before. absurd (cc)) (λ is. is)
+      (learn-all no_facts rs (sym (ap (λ es. or_unrecorded (entry_for es t)) known.entries) ∙ stands)))
+  has-commit (Err fault) facts r known stands = absurd known

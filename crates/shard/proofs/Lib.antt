@@ -9,3 +9,4 @@ pub mod Settling
 pub mod Openings
 pub mod TakenUp
 pub mod Showable
+pub mod Turnings

@@ -17,7 +17,8 @@ use Rattle.memory.specs.Carry.{IsFit, MayFollow, MayInstall}
 use Rattle.memory.specs.Kept.{Kept}
 use Rattle.memory.specs.Plans.{plan_of}
 use Rattle.memory.specs.declared.plan.Step.{Step}
-use Rattle.protocol.specs.Showable.{IsShowable}
+use Rattle.protocol.specs.Showable.{IsShowable, rises_by_key}
+use Rattle.renewal.specs.Keeps.{IsLasting}
 use Rattle.shard.specs.Due.{IsDue}
 use Rattle.units.specs.declared.setup.Setup.{Setup}
 use Rattle.disk.specs.File.{File, surface}
@@ -35,6 +36,14 @@ use Rattle.shard.proofs.Showable.{opening-showable}
 pub first-learnt : facts_logged (and_logged (Ok []) (Some (Record.Opened 1))) ≡ Some (facts_of (Record.Opened 1 ∷ []))
 unfolding facts_of installs_of learn
 first-learnt = λ i. Some (facts_of (Record.Opened 1 ∷ []))
+
+-- what it tells may be renewed
+pub first-lasting : IsLasting (facts_of (Record.Opened 1 ∷ []))
+unfolding facts_of installs_of rises_by_key
+first-lasting = record {
+  regular = record { order = tt; placed = tt; rising = refl; covered = tt; under = omega arith };
+  entries = refl;
+}
 
 -- the shard is sound as it starts
 pub first-sound : (told setup : Setup) (facts : Facts) (memory : Memory) → FreshIsSound → setup ≡ told → facts ≡ facts_of (Record.Opened 1 ∷ [])

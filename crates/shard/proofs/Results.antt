@@ -78,6 +78,7 @@ module _ {D : Type 0} (keeps obeys : Type 0) (file : D → File) (clock : D → 
           → HasWritten keeps obeys file clock since failures plan core (with_known setup facts memory) logged (no_answer fault)
       refused-written is_memory logged fault other = record {
         setup = is_setup;
+        slot = refl;
         failures_stay = omega arith;
         any_moment = λ run keep. untouched logged keep;
         begins = λ run keep. begins-untouched;
@@ -122,6 +123,7 @@ module _ {D : Type 0} (keeps obeys : Type 0) (file : D → File) (clock : D → 
       served after out is_memory = record {
         written = record {
           setup = is_setup;
+          slot = refl;
           failures_stay = omega arith;
           any_moment = λ run keep. untouched None keep;
           begins = λ run keep. begins-untouched;
@@ -157,7 +159,7 @@ module _ {D : Type 0} (keeps obeys : Type 0) (file : D → File) (clock : D → 
     -- a record is logged
     pub logged_as : (new : CoreView D) (r : Record) (step_logged : Option Record) (after : Memory) (out answer : List Envelope) →
         step_logged ≡ Some r → answer ≡ out → new.setup ≡ core.setup → new.facts ≡ facts_after core.facts (Some r)
-        → new.memory ≡ after → IsFalse new.stopped → failures core.disk ≤ failures new.disk
+        → new.memory ≡ after → new.slot ≡ core.slot → IsFalse new.stopped → failures core.disk ≤ failures new.disk
         → (IsFalse core.stopped → keeps → LeavesOnly clock since core.disk new.disk (HoldsOldOrWith (records_in (surface (file core.disk)).seen) (Some r)))
         → (IsFalse core.stopped → keeps → LeavesOnly clock since core.disk new.disk (BeginsAsBefore (surface (file core.disk))))
         → (keeps → KeepsRecords (surface (file new.disk)) (and_logged (records_in (surface (file core.disk)).seen) (Some r)))
@@ -166,10 +168,11 @@ module _ {D : Type 0} (keeps obeys : Type 0) (file : D → File) (clock : D → 
         → (obeys → plan core.disk ≡ Never → plan new.disk ≡ Never)
         → ((call : ℕ) → IsFalse core.stopped → obeys → keeps → plan core.disk ≡ AfterWrite call → IsFalse (nat_lt call 4))
         → HasStepped keeps obeys file clock since failures plan core new (Does step_logged after out) (Ok answer)
-    logged_as new r step_logged after out answer is_logged is_out setup facts memory runs stay moments begins durable read gate place never past =
+    logged_as new r step_logged after out answer is_logged is_out setup facts memory slot runs stay moments begins durable read gate place never past =
         restated new (Some r) step_logged after out answer is_logged is_out (record {
           written = record {
             setup = setup;
+            slot = slot;
             failures_stay = stay;
             any_moment = moments;
             begins = begins;

@@ -28,8 +28,9 @@ use Rattle.protocol.proofs.RowChanges.{row_as}
 use Rattle.memory.specs.Kept.{Kept, start_of}
 use Rattle.memory.specs.Plans.{plan_of}
 use Rattle.memory.specs.declared.plan.Step.{Step}
-use Rattle.shard.specs.Logs.{and_logged, facts_logged, KeepsRecords}
+use Rattle.shard.specs.Logs.{and_logged, KeepsRecords}
 use Rattle.shard.specs.Settled.{HasCommit, IsDurablySettled}
+use Rattle.shard.proofs.Agrees.{IsKnown}
 use Rattle.shard.proofs.Commitments.{has-commit}
 
 -- what a plan that settles a transaction does
@@ -97,17 +98,18 @@ HasCommit-prop (Err fault) t at = hlevel props
 module _ (k : Kept) (now : Interval) (p : Step) (sound : ∥ IsSound k.setup.shard k.facts k.memory ∥₁) where
   -- its decision is in the log, and in one with a record more
   decision_there : (records : Result (List Record) Fault) (r : Record) (t : Id) (done : Settles (start_of k) t (plan_of k.memory.rows p))
-      → facts_logged records ≡ Some k.facts → HasCommit (and_logged records (Some r)) t done.at
+      → ∥ IsKnown records k.facts ∥₁ → HasCommit (and_logged records (Some r)) t done.at
   decision_there records r t done known =
       ∥∥₁_elim sound (HasCommit-prop (and_logged records (Some r)) t done.at) (λ s.
+      ∥∥₁_elim known (HasCommit-prop (and_logged records (Some r)) t done.at) (λ h.
       let there = decided-stands k.facts.installs k.memory.last (recorded k.facts t) t done.held done.at done.parts
       (find_row k.memory.rows t) done.row (s.agrees t) in
-      subst (HasCommit (and_logged records (Some r)) t) there.2 (has-commit t there.0 records k.facts r known there.1))
+      subst (HasCommit (and_logged records (Some r)) t) there.2 (has-commit t there.0 records k.facts r h there.1)))
 
   durably : (keeps : Type 0) (disk : Surface) (records : Result (List Record) Fault) (t : Id) (result : Result (List Envelope) Fault)
       → Settles (start_of k) t (plan_of k.memory.rows p) → IfOk result (λ out. out ≡ p.plan.outbox) →
       OnOk result (keeps → KeepsRecords disk (and_logged records p.logged))
-      → (keeps → facts_logged records ≡ Some k.facts) → IsDurablySettled keeps disk (Input.Settle t) result
+      → (keeps → ∥ IsKnown records k.facts ∥₁) → IsDurablySettled keeps disk (Input.Settle t) result
   durably keeps disk records t (Err fault) done out durable known = tt
   durably keeps disk records t (Ok out) done is durable known = (
     done.at,
@@ -121,7 +123,7 @@ module _ (k : Kept) (now : Interval) (p : Step) (sound : ∥ IsSound k.setup.sha
   -- what an input that is taken puts out and leaves on the disk
   pub durably_settled : (keeps : Type 0) (disk : Surface) (records : Result (List Record) Fault) (i : Input) (result : Result (List Envelope) Fault)
       → plan_input k.setup (start_of k) now i ≡ Ok (plan_of k.memory.rows p) → IfOk result (λ out. out ≡ p.plan.outbox)
-      → OnOk result (keeps → KeepsRecords disk (and_logged records p.logged)) → (keeps → facts_logged records ≡ Some k.facts)
+      → OnOk result (keeps → KeepsRecords disk (and_logged records p.logged)) → (keeps → ∥ IsKnown records k.facts ∥₁)
       → IsDurablySettled keeps disk i result
   unfolding plan_input
   durably_settled keeps disk records (Input.Settle t) result planned out durable known =

@@ -19,6 +19,8 @@ use Rattle.memory.specs.Kept.{Kept, start_of}
 use Rattle.memory.specs.Plans.{plan_of}
 use Rattle.memory.specs.declared.plan.Step.{Step}
 use Rattle.recovery.specs.Recovered.{items}
+use Rattle.renewal.specs.Keeps.{IsLasting}
+use Rattle.renewal.specs.Laws.{TakenLasts}
 use Rattle.protocol.specs.Showable.{IsShowable, KeepsShowable, StepKeepsShowable, TakenIsShowable, WritesAscend, record_ascends}
 
 pub as-showable : (facts given : Facts) (memory held : Memory) → facts ≡ given → memory ≡ held → IsShowable given held → IsShowable facts memory
@@ -50,6 +52,12 @@ pub taken-showable : TakenIsShowable → (setup : Setup) (entries : List Placed)
     → IsShowable k.facts k.memory
 taken-showable law setup entries k accepted up facts memory =
     as-showable k.facts _ k.memory _ facts memory (law setup (items entries) accepted (each_item entries ∙ up))
+
+-- and what it tells may be renewed
+pub taken-lasting : TakenLasts → (setup : Setup) (entries : List Placed) (facts : Facts) → taken setup (items entries) ≡ Accepted
+    → list_all (λ e. record_ascends e.item) entries ≡ true → facts ≡ facts_of (items entries) → IsLasting facts
+taken-lasting law setup entries facts accepted up is =
+    subst IsLasting (sym is) (law setup (items entries) accepted (each_item entries ∙ up))
 
 -- an opening changes no version and no row
 pub opening-showable : (facts : Facts) (epoch : ℕ) → IsShowable facts (rebuilt facts)

@@ -1,5 +1,5 @@
 -- What an opening leaves, from what was read, the verdict on it, and what adding the opening's record did.
-use Rattle.std.proofs.Common.{◌≡◌, ◌∙◌, ◌⊎◌, inl, inr, ⊎_elim, ℕ, ◌+◌, ◌^◌, ◌<◌, ◌≤◌, true, IsTrue, List, [], ◌∷◌, ◌++◌, fold, Option, Some, None}
+use Rattle.std.proofs.Common.{◌≡◌, ◌∙◌, ◌⊎◌, inl, inr, ⊎_elim, ℕ, ◌+◌, ◌^◌, ◌<◌, ◌≤◌, true, IsTrue, List, [], ◌∷◌, ◌++◌, Option, Some, None}
 use Rattle.std.proofs.Common.{Result, Ok, Err, ◌||◌, refl, sym, ap, subst, arith}
 use Rattle.std.specs.Prelude.{IfOk, slice_get}
 use Rattle.std.proofs.lemmas.Bool.{false≢true}
@@ -23,6 +23,7 @@ use Rattle.facts.specs.Stages as stages
 use Rattle.facts.specs.declared.stage.Stage.{Stage}
 use Rattle.facts.proofs.Known.{follows_as_known}
 use Rattle.gatelog.specs.Armed.{waits}
+use Rattle.gatelog.specs.Crash.{Begins}
 use Rattle.gatelog.specs.Frames.{IsFull, next_gate}
 use Rattle.gatelog.specs.Log.{log, is_no_log}
 use Rattle.gatelog.specs.Placed.{Placed}
@@ -34,13 +35,10 @@ use Rattle.shard.specs.Logs.{records_in, and_logged, facts_logged, items_of, Kee
 use Rattle.shard.specs.On.{CoreView}
 use Rattle.shard.specs.Opened.{HasAppended, HasNotAppended, HasNotOpened, HasOpened, HasLawfulEpoch, IsSpent, IsTaken, IsToldReason, is_reason, LeavesOpening, end_in}
 use Rattle.shard.specs.Opened.{fault_of, next_opening, opening_of}
+use Rattle.shard.proofs.Agrees.{fold_is}
 use Rattle.shard.proofs.Openings.{follows_next}
 
 -- ---- the facts of what was read
-
-fold_is : (f : Facts) (rs : List Record) → fold learn f rs ≡ learnt f rs
-fold_is f [] = refl
-fold_is f (r ∷ rs) = fold_is (learn f r) rs
 
 no_facts_is : no_facts ≡ facts_of []
 unfolding facts_of installs_of
@@ -117,18 +115,29 @@ pub from_four : {T E : Type 0} (r : Result T E) (A B C G Z : T → Type 0) → (
 from_four (Ok x) A B C G Z h a b c g = h x a b c g
 from_four (Err e) A B C G Z h a b c g = tt
 
+-- and in five
+pub from_five : {T E : Type 0} (r : Result T E) (A B C F G Z : T → Type 0) → ((x : T) → A x → B x → C x → F x → G x → Z x) → IfOk r A → IfOk r B
+    → IfOk r C → IfOk r F → IfOk r G → IfOk r Z
+from_five (Ok x) A B C F G Z h a b c f g = h x a b c f g
+from_five (Err e) A B C F G Z h a b c f g = tt
+
 module _ {D : Type 0} (keeps obeys : Type 0) (file : D → File) (clock : D → ℕ) (since : D → ℕ → List ℕ → Type 0) (failures : D → ℕ)
     (plan : D → FailurePlan) where
+  -- this moment is one of those since an earlier one
+  abbrev pub IsSince : Type 0
+  IsSince = (d : D) (moment : ℕ) (image : List ℕ) → moment ≤ clock d → MayLeave (surface (file d)) image → since d moment image
+
   -- what was read, and what reading it did to the disk
-  pub record Found (disk mid : D) (gate : ℕ) (entries : List Placed) : Type 0 where
+  pub record Found (disk mid : D) (gate slot : ℕ) (entries : List Placed) : Type 0 where
     pub entries_are : keeps → log (surface (file disk)).seen ≡ Ok entries
     pub ends : keeps → gate ≡ end_in (surface (file disk)).seen (items entries)
+    pub slots : keeps → slot ≡ (begins_in (surface (file disk)).seen).slots
     pub clean : keeps → surface (file mid) ≡ after_sync (surface (file disk))
     pub moment : keeps → LeavesOnly clock since disk mid (MayLeave (surface (file disk)))
     pub failures_stay : failures disk ≤ failures mid
     pub planned : obeys → waits (plan disk) ≡ true → plan mid ≡ plan disk
 
-  module _ (disk mid : D) (gate : ℕ) (entries : List Placed) (found : Found disk mid gate entries) where
+  module _ (disk mid : D) (gate slot : ℕ) (entries : List Placed) (found : Found disk mid gate slot entries) where
     -- it reads as before
     pub same_records : keeps → records_in (surface (file mid)).seen ≡ records_in (surface (file disk)).seen
     same_records keep = ap (λ s. records_in s.seen) (found.clean keep)
@@ -170,12 +179,19 @@ module _ {D : Type 0} (keeps obeys : Type 0) (file : D → File) (clock : D → 
         (λ left. inr (ap begins_in (as_synced keep image left)))
         (λ same. inr (same ∙ ap (λ s. begins_in s.seen) (found.clean keep))) begins)
 
-    pub opened : (told : Setup) (item : Record) (core : CoreView D) → item ≡ next_opening (items entries) →
+    -- from then on it begins where the one that was read does
+    starts : IsSince → keeps → (end : D) → LeavesOnly clock since mid end (BeginsAsBefore (surface (file mid)))
+        → Begins (surface (file end)) (begins_in (surface (file disk)).seen)
+    starts counts_now keep end second image may =
+        ⊎_elim (λ left. ap begins_in (as_synced keep image left)) (λ same. same ∙ ap (λ s. begins_in s.seen) (found.clean keep))
+        (second.each image (counts_now end (clock mid) image second.later may))
+
+    pub opened : IsSince → (told : Setup) (item : Record) (core : CoreView D) → item ≡ next_opening (items entries) →
         HasAppended keeps obeys file clock since failures plan mid gate item core
-        → core.setup ≡ told → core.memory ≡ rebuilt core.facts → taken told (items entries) ≡ Accepted →
+        → core.slot ≡ slot → core.setup ≡ told → core.memory ≡ rebuilt core.facts → taken told (items entries) ≡ Accepted →
         core.facts ≡ facts_of (items entries ++ next_opening (items entries) ∷ [])
         → HasOpened keeps obeys file clock since failures plan disk told core
-    opened told item core same appended setup memory accepted facts =
+    opened counts_now told item core same appended slots setup memory accepted facts =
         let it = subst (λ r. HasAppended keeps obeys file clock since failures plan mid gate r core) same appended in
         record {
           setup = setup;
@@ -184,6 +200,8 @@ module _ {D : Type 0} (keeps obeys : Type 0) (file : D → File) (clock : D → 
           memory = memory;
           any_moment = λ keep. leaves keep core.disk (it.any_moment keep);
           begins = λ keep. begun keep core.disk (it.begins keep);
+          begun = λ keep. starts counts_now keep core.disk (it.begins keep);
+          slot = λ keep. slots ∙ found.slots keep;
           durable = λ keep. subst (KeepsRecords (surface (file core.disk))) (with_opening keep) (it.durable keep);
           read = λ keep. it.read keep ∙ with_opening keep;
           gate = λ records keep read.
@@ -200,11 +218,11 @@ module _ {D : Type 0} (keeps obeys : Type 0) (file : D → File) (clock : D → 
           armed = λ call obey keep is. it.armed call obey keep (found.planned obey (ap waits is) ∙ is);
         }
 
-    pub not_opened : (told : Setup) (item : Record) (full : Type 0) (fault : Fault) (back : D) → item ≡ next_opening (items entries)
+    pub not_opened : IsSince → (told : Setup) (item : Record) (full : Type 0) (fault : Fault) (back : D) → item ≡ next_opening (items entries)
         → taken told (items entries) ≡ Accepted → (full → (2 ^ 62 ≤ epoch_of (items entries) + 1) ⊎ IsFull gate (next_opening (items entries)))
         → HasNotAppended keeps obeys file clock since failures plan mid gate item full fault back →
         HasNotOpened keeps obeys file clock since failures plan disk told fault back
-    not_opened told item full fault back same accepted spent refused = record {
+    not_opened counts_now told item full fault back same accepted spent refused = record {
       cause = ⊎_elim (λ memory. inl memory) (⊎_elim (λ device. inr (inl (device.0, omega (arith, found.failures_stay, device.1))))
           (λ late. inr (inr (reason late)))) refused.cause;
       any_moment = λ keep. leaves keep back (subst (λ r. LeavesOnly clock since mid back (HoldsOldOrWith (records_in (surface (file mid)).seen)
@@ -220,7 +238,10 @@ module _ {D : Type 0} (keeps obeys : Type 0) (file : D → File) (clock : D → 
                 (subst (λ rs. FailsIn call gate rs (Some (next_opening (items entries))) (file back) fault) (same_records keep ∙ records_are keep)
                 (subst (λ r. FailsIn call gate (records_in (surface (file mid)).seen) (Some r) (file back) fault) same
                 (refused.armed call obey keep (found.planned obey (ap waits is) ∙ is))))),
-            λ device. subst (λ rs. epoch_of rs + 1 < 2 ^ 62) these (subst HasLawfulEpoch same (refused.epoch device)),
+            λ device. (
+              subst (λ rs. epoch_of rs + 1 < 2 ^ 62) these (subst HasLawfulEpoch same (refused.epoch device)),
+              starts counts_now keep back (refused.begins keep),
+            ),
           );
       planned = λ obey never.
           ⊎_elim (λ memory. inl memory) (⊎_elim (λ device. absurd (refused.planned obey (found.planned obey (ap waits never) ∙ never) device.0))

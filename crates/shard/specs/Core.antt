@@ -1,16 +1,17 @@
 -- What a contract sees of a core.
 use Rattle.std.specs.Prelude.{Option}
-use Rattle.gatelog.specs.Shown.{disk_of, gate_at, is_stopped}
+use Rattle.gatelog.specs.Shown.{disk_of, gate_at, next_slot, is_stopped}
 use Rattle.book.specs.Books.{BookView}
 use Rattle.shard.specs.declared.machine.Machine.{Machine}
 use Rattle.shard.specs.declared.shard_core.Core.{Core}
 use Rattle.shard.specs.On.{CoreView}
 
--- its disk, its log's end, whether it is stopped, its setup, its facts and its memory
+-- its disk, its log's end, its log's next free slot, whether it is stopped, its setup, its facts and its memory
 abbrev pub seen_machine : {D : Type 0} {g : _} → Machine D g → CoreView D
 seen_machine machine = record {
   disk = disk_of machine.gate_log;
   gate = gate_at machine.gate_log;
+  slot = next_slot machine.gate_log;
   stopped = is_stopped machine.gate_log;
   setup = machine.state.setup;
   facts = machine.state.facts;

@@ -9,3 +9,4 @@ pub mod Core
 pub mod Look
 pub mod Opened
 pub mod Taking
+pub mod Turned

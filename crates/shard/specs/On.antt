@@ -18,11 +18,12 @@ use Rattle.gatelog.specs.Frames.{next_gate, IsFull}
 use Rattle.shard.specs.Logs.{records_in, and_logged, KeepsRecords, HoldsOldOrWith, BeginsAsBefore}
 use Rattle.shard.specs.Armed.{FailsIn, GoesPast, HasPlace}
 
--- what a contract sees of a core: its disk, where its log ends there, whether its device failed, what it was told when it
--- was opened, the facts of its log, and what it keeps in memory beside them
+-- what a contract sees of a core: its disk, where its log ends there, the number of its log's next free slot, whether its device
+-- failed, what it was told when it was opened, the facts of its log, and what it keeps in memory beside them
 pub record CoreView (D : Type 0) : Type 0 where
   pub disk : D
   pub gate : ℕ
+  pub slot : ℕ
   pub stopped : Bool
   pub setup : Setup
   pub facts : Facts
@@ -74,6 +75,7 @@ module _ {D : Type 0} (keeps obeys : Type 0) (file : D → File) (clock : D → 
   -- what holds of a core's disk over a call that logs a record, or nothing, whatever it answers
   pub record HasWritten {T : Type 0} (old new : CoreView D) (logged : Option Record) (result : Result T Fault) : Type 0 where
     pub setup : new.setup ≡ old.setup
+    pub slot : new.slot ≡ old.slot
     pub failures_stay : failures old.disk ≤ failures new.disk
     -- a crash at any moment since the start leaves the old records, or these with the new one
     pub any_moment : IsFalse old.stopped → keeps →

@@ -16,6 +16,7 @@ use Rattle.record.specs.declared.record.Record.{Record}
 use Rattle.gatelog.specs.Frames.{IsFull, end_from, next_gate}
 use Rattle.gatelog.specs.Log.{log}
 use Rattle.gatelog.specs.Slots.{begins_in}
+use Rattle.gatelog.specs.Crash.{Begins}
 use Rattle.gatelog.specs.Placed.{Placed}
 use Rattle.protocol.specs.Rows.{rebuilt}
 use Rattle.recovery.specs.Recovered.{fault_in, items}
@@ -52,7 +53,7 @@ LeavesOpening disk image = MayLeave disk image ⊎ HoldsOldOrWith (records_in di
 
 -- where a log with these records ends in a file
 abbrev pub end_in : List ℕ → List Record → ℕ
-end_in image records = end_from (begins_in image) records
+end_in image records = end_from (begins_in image).at records
 
 -- the records are taken, but the opening has no room: epochs are at their limit, or the log is full
 pub record IsSpent (setup : Setup) (disk : Surface) (records : List Record) : Type 0 where
@@ -116,6 +117,8 @@ module _ {D : Type 0} (keeps obeys : Type 0) (file : D → File) (clock : D → 
     pub any_moment : keeps → LeavesOnly clock since disk core.disk (LeavesOpening (surface (file disk)))
     -- and the log begins where it began
     pub begins : keeps → LeavesOnly clock since disk core.disk (BeginsAsBefore (surface (file disk)))
+    -- from then on every crash leaves a log that begins where the one that was read does
+    pub begun : keeps → Begins (surface (file core.disk)) (begins_in (surface (file disk)).seen)
     -- from then on every crash leaves what was read with the opening, and a read gives it
     pub durable : keeps → KeepsRecords (surface (file core.disk)) (and_logged (records_in (surface (file disk)).seen)
         (opening_of (records_in (surface (file disk)).seen)))
@@ -124,6 +127,8 @@ module _ {D : Type 0} (keeps obeys : Type 0) (file : D → File) (clock : D → 
     pub gate : (records : List Record) → keeps → records_in (surface (file disk)).seen ≡ Ok records
         → (core.gate ≡ next_gate (end_in (surface (file disk)).seen records) (next_opening records))
         × HasPlace (end_in (surface (file disk)).seen records) (Some (next_opening records))
+    -- the next free slot is the one behind those that are open in the file
+    pub slot : keeps → core.slot ≡ (begins_in (surface (file disk)).seen).slots
     pub epoch : (records : List Record) → keeps → records_in (surface (file disk)).seen ≡ Ok records → epoch_of records + 1 < 2 ^ 62
     pub failures_stay : failures disk ≤ failures core.disk
     pub planned : obeys → plan disk ≡ Never → plan core.disk ≡ Never
@@ -142,6 +147,6 @@ module _ {D : Type 0} (keeps obeys : Type 0) (file : D → File) (clock : D → 
     -- with a call armed, counted from 0 in the append of the opening: it fails there, and leaves this
     pub armed : (call : ℕ) (records : List Record) → obeys → keeps → plan disk ≡ AfterWrite call → records_in (surface (file disk)).seen ≡ Ok records
         → FailsIn call (end_in (surface (file disk)).seen records) (Ok records) (Some (next_opening records)) (file back) fault
-        × (fault ≡ Device → epoch_of records + 1 < 2 ^ 62)
+        × (fault ≡ Device → (epoch_of records + 1 < 2 ^ 62) × Begins (surface (file back)) (begins_in (surface (file disk)).seen))
     -- with no call armed, it is for want of memory or for that reason
     pub planned : obeys → plan disk ≡ Never → (fault ≡ WantsMemory) ⊎ IsToldReason keeps told (surface (file disk)) fault

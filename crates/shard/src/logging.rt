@@ -4,7 +4,7 @@ ghost use Rattle.disk.specs.File.{surface};
 ghost use Rattle.disk.specs.declared.plan.FailurePlan.TheVariants.{Never, AfterWrite};
 ghost use Rattle.disk.specs.Moments.{LeavesOnly};
 ghost use Rattle.gatelog.specs.Frames.{next_gate, IsFull};
-ghost use Rattle.gatelog.specs.Shown.{disk_of, gate_at, is_stopped};
+ghost use Rattle.gatelog.specs.Shown.{disk_of, gate_at, next_slot, is_stopped};
 ghost use Rattle.shard.specs.Armed.{FailsIn, GoesPast};
 ghost use Rattle.shard.specs.Logs.{records_in, and_logged, KeepsRecords, HoldsOldOrWith, BeginsAsBefore};
 
@@ -26,6 +26,7 @@ pub fn append_record<D: Disk>(
         (IsFalse (is_stopped gate_log.old) × IsFalse (is_stopped gate_log.new)) }
     ensures gate { OnOk result ((gate_at gate_log.new ≡ next_gate (gate_at gate_log.old) item)
         × (gate_at gate_log.new ≤ gate_at gate_log.old + 2 ^ 20 + 5)) }
+    ensures slot { next_slot gate_log.new ≡ next_slot gate_log.old }
     ensures place { OnOk result (next_gate (gate_at gate_log.old) item + 1 ≤ 2 ^ 40) }
     ensures cause { IfErr result
         (λ fault. ((fault ≡ Fault.Stopped) × IsTrue (is_stopped gate_log.old))

@@ -2,7 +2,7 @@
 ghost use Rattle.std.specs.Prelude.{◌≡◌, ◌⊎◌, ◌<◌, ◌+◌, ◌^◌, [], ◌∷◌, Some, Ok, Err, IsTrue, IsFalse, IfOk, IfErr, OnOk, ◌≤◌};
 ghost use Rattle.disk.specs.File.{surface};
 ghost use Rattle.gatelog.specs.Frames.{IsFull, IsNearLimit};
-ghost use Rattle.gatelog.specs.Shown.{disk_of, gate_at, is_stopped};
+ghost use Rattle.gatelog.specs.Shown.{disk_of, gate_at, next_slot, is_stopped};
 ghost use Rattle.memory.specs.Kept.{start_of};
 ghost use Rattle.memory.specs.Plans.{plan_of};
 ghost use Rattle.protocol.specs.Rows.{rebuilt};
@@ -11,6 +11,7 @@ ghost use Rattle.protocol.specs.Step.{Does, plan_input};
 ghost use Rattle.protocol.specs.Sound.{IsSound};
 ghost use Rattle.record.specs.Facts.{facts_of, learn};
 ghost use Rattle.protocol.specs.Showable.{IsShowable};
+ghost use Rattle.renewal.specs.Keeps.{IsLasting};
 ghost use Rattle.shard.specs.Agrees.{AgreesWithLog};
 ghost use Rattle.shard.specs.Armed.{HasPlace};
 ghost use Rattle.shard.specs.Due.{IsDue};
@@ -29,6 +30,7 @@ use protocol::{
     own_refusals, step_keeps_showable, step_keeps_sound, writes_ascend,
 };
 use record::Record;
+use renewal::{alike_stays, lasting_follows};
 use std::alloc::Global;
 use truetime::Reading;
 use units::{Epoch, Fault, Setup};
@@ -41,6 +43,7 @@ pub(crate) struct Machine<D: Disk> {
     ghost agrees: { D.keeps_model → ∥ AgreesWithLog (is_stopped gate_log) (surface (D.file (disk_of gate_log))) state.facts ∥₁ },
     ghost sound: { ∥ IsSound state.setup.shard state.facts state.memory ∥₁ },
     ghost showable: { IsShowable state.facts state.memory },
+    ghost lasting: { ∥ IsLasting state.facts ∥₁ },
 }
 
 impl<D: Disk> Machine<D> {
@@ -107,6 +110,8 @@ impl<D: Disk> Machine<D> {
             step.plan.outbox) result }
     {
         ready_plans_can_be_carried();
+        alike_stays();
+        lasting_follows();
         let Step { plan, logged } = step;
         let ready = match self.state.make_ready(alloc, &plan) {
             Ok(ready) => ready,
@@ -144,6 +149,8 @@ impl<D: Disk> Machine<D> {
         ensures memory { IfOk result
             (λ machine. (seen_machine machine).memory ≡
             record { last = 0; rows = []; ended = [] }) }
+        ensures slot { IfOk result
+            (λ machine. (seen_machine machine).slot ≡ next_slot gate_log) }
         ensures appended { IfOk result
             (λ machine. HasAppended D.keeps_model D.obeys D.file D.clock D.since D.failures D.plan
             (disk_of gate_log) (gate_at gate_log) (Record.Opened 1) (seen_machine machine)) }
@@ -189,6 +196,7 @@ impl<D: Disk> Machine<D> {
         requires rebuilt { state.memory ≡ rebuilt state.facts }
         requires sound { ∥ IsSound state.setup.shard state.facts state.memory ∥₁ }
         requires showable { IsShowable state.facts state.memory }
+        requires lasting { ∥ IsLasting state.facts ∥₁ }
         ensures setup { IfOk result (λ machine. (seen_machine machine).setup ≡ state.setup) }
         ensures facts { IfOk result
             (λ machine. (seen_machine machine).facts ≡ learn state.facts
@@ -196,6 +204,8 @@ impl<D: Disk> Machine<D> {
         ensures memory { IfOk result
             (λ machine. (seen_machine machine).memory ≡ rebuilt
             (learn state.facts (Record.Opened (state.facts.epoch + 1)))) }
+        ensures slot { IfOk result
+            (λ machine. (seen_machine machine).slot ≡ next_slot gate_log) }
         ensures appended { IfOk result
             (λ machine. HasAppended D.keeps_model D.obeys D.file D.clock D.since D.failures D.plan
             (disk_of gate_log) (gate_at gate_log) (Record.Opened (state.facts.epoch + 1))

@@ -19,7 +19,9 @@ ghost use Rattle.shard.specs.Booked.{HasEntered, IsCrowded, IsFirst, stand_of};
 ghost use Rattle.shard.specs.Due.{IsDue};
 ghost use Rattle.shard.specs.Logs.{records_in, KeepsRecords};
 ghost use Rattle.shard.specs.On.{HasStepped, step_of};
+ghost use Rattle.renewal.specs.Keeps.{IsLasting};
 ghost use Rattle.shard.specs.Opened.{HasOpened, HasNotOpened};
+ghost use Rattle.shard.specs.Turned.{HasTurned};
 ghost use Rattle.shard.specs.Look.{IsLook, safe_at};
 ghost use Rattle.shard.specs.Settled.{IsDurablySettled};
 ghost use Rattle.units.specs.Locks.{ready};
@@ -34,6 +36,7 @@ use memory::Step;
 use message::{Input, Outbox};
 use protocol::{own_refusals, taken_is_showable};
 use record::{Record, accepted_follows, learn_agrees, learnt_agrees};
+use renewal::taken_lasts;
 use std::alloc::Global;
 use truetime::Reading;
 use units::{Epoch, Fault, Install, Key, Seen, Setup, Stamp, TxnId, may_look, show};
@@ -69,6 +72,7 @@ impl<D: Disk> Core<D> {
         learn_agrees();
         accepted_follows();
         taken_is_showable();
+        taken_lasts();
         let mut opening = match Opening::new(alloc, &setup) {
             Ok(opening) => opening,
             Err(fault) => return Err((fault, disk)),
@@ -128,6 +132,17 @@ impl<D: Disk> Core<D> {
             Ok(step) => self.enter(alloc, now, input, step),
             Err(fault) => Err(self.first_refusal(fault)),
         }
+    }
+
+    /// Turns its log over: the file gets a new area, with the records of a renewed log that is made of its facts, behind the closed
+    /// gate, and the next slot then names it. What it knows and keeps stays, and no page is added to its book. All growth is made
+    /// before the file is changed. `TimeSpent` where no slot is left, or the file would grow beyond 2^40 bytes.
+    pub fn turn_over(&mut self, alloc: Global) -> Result<(), Fault>
+        ensures turned { HasTurned D.keeps_model D.obeys D.file D.clock D.since D.failures D.plan
+            (seen self.old) (seen self.new) result }
+        ensures book { book_of self.new ≡ book_of self.old }
+    {
+        self.machine.turn_over(alloc)
     }
 
     // What is answered where the plan was refused: a full book comes before want of memory, but not near the log's limit, where a
@@ -240,6 +255,13 @@ impl<D: Disk> Core<D> {
         self.machine.state.last()
     }
 
+    /// Where its log ends in the file: the offset of the closed gate.
+    pub fn gate(&self) -> u64
+        ensures { result ≡ (seen self.now).gate }
+    {
+        self.machine.gate_log.gate()
+    }
+
     /// How often the log was opened.
     pub fn epoch(&self) -> Epoch
         ensures { result ≡ (seen self.now).facts.epoch }
@@ -270,6 +292,7 @@ impl<D: Disk> Core<D> {
         ensures plan { D.obeys → D.plan (seen self.new).disk ≡ armed call }
         ensures log { ((seen self.new).gate ≡ (seen self.old).gate)
             × ((seen self.new).stopped ≡ (seen self.old).stopped) }
+        ensures slot { (seen self.new).slot ≡ (seen self.old).slot }
         ensures state { ((seen self.new).setup ≡ (seen self.old).setup)
             × ((seen self.new).facts ≡ (seen self.old).facts)
             × ((seen self.new).memory ≡ (seen self.old).memory) }
@@ -310,12 +333,13 @@ impl<D: Disk> Core<D> {
         self.machine.gate_log.is_stopped()
     }
 
-    /// Its rows, facts and locks agree, its versions may be put on a board, its facts are those of its log (where it is stopped, of
-    /// the log before the step that stopped it), and its book replays. It does nothing.
+    /// Its rows, facts and locks agree, its versions may be put on a board, its facts may be renewed and are alike to those of its log
+    /// (where it is stopped, of the log before the step or the turnover that stopped it), and its book replays. It does nothing.
     pub fn is_sound(&self)
         ensures sound { ∥ IsSound (seen self.now).setup.shard (seen self.now).facts
             (seen self.now).memory ∥₁ }
         ensures showable { IsShowable (seen self.now).facts (seen self.now).memory }
+        ensures lasting { IsLasting (seen self.now).facts }
         ensures agrees { D.keeps_model → ∥ AgreesWithLog (seen self.now).stopped
             (surface (D.file (seen self.now).disk)) (seen self.now).facts ∥₁ }
         ensures replays { ∥ IsBookOf (seen self.now).setup (book_of self.now)

@@ -15,7 +15,7 @@ use Rattle.gatelog.specs.First.{first_header, first_log, first_scan, moved}
 use Rattle.gatelog.specs.Frames.{header}
 use Rattle.gatelog.specs.Areas.{fresh_with, area_bytes, placed_from}
 use Rattle.gatelog.specs.Log.{log, framed, entries_at, scan}
-use Rattle.gatelog.specs.Slots.{named}
+use Rattle.gatelog.specs.Slots.{named, open_slots, begins_in}
 use Rattle.gatelog.specs.Turns.{named_new}
 use Rattle.gatelog.specs.ArmedTurn.{turned}
 use Rattle.slots.specs.Laws.{FreshHasNext}
@@ -39,6 +39,11 @@ fresh-length = refl
 fresh-log : scan fresh ≡ Ok ([], 9224)
 unfolding scan named entries_at
 fresh-log = refl
+
+-- it begins there, with no slot open
+fresh-begins : begins_in fresh ≡ record { at = 9224; slots = 0 }
+unfolding named open_slots
+fresh-begins = refl
 
 pub fresh-has-next : FreshHasNext
 fresh-has-next = (fresh-log, record { within = omega arith; former = λ i lt. absurd (omega (arith, lt)); shut = λ e. absurd (omega (arith, e)) })
@@ -141,6 +146,10 @@ turned-log : scan turned_file ≡ Ok (
 unfolding computing turned_file kept at_rest first_file settled
 turned-log = refl
 
+turned-begins : begins_in turned_file ≡ record { at = 9312; slots = 1 }
+unfolding turned_file kept at_rest first_file settled named open_slots parts_spelling
+turned-begins = refl
+
 -- turned over once more, into no record: the next slot is open too
 twice : List ℕ
 twice = (named_new 1 9357 [] (surface (at_rest turned_file))).seen
@@ -152,6 +161,10 @@ twice-slots = refl
 twice-log : scan twice ≡ Ok ([], 9358)
 unfolding twice turned_file kept at_rest first_file settled scan named entries_at parts_spelling
 twice-log = refl
+
+twice-begins : begins_in twice ≡ record { at = 9358; slots = 2 }
+unfolding twice turned_file kept at_rest first_file settled named open_slots parts_spelling
+twice-begins = refl
 
 -- ---- a turnover whose call fails
 
@@ -171,6 +184,14 @@ gate-is-not-left = refl
 gate-is-left : scan (crash_leaves (New ∷ []) (failed 3)) ≡ Ok (placed_from 9312 kept)
 unfolding computing failed kept at_rest first_file settled
 gate-is-left = refl
+
+gate-is-not-left-begins : begins_in (crash_leaves [] (failed 3)) ≡ record { at = 9224; slots = 0 }
+unfolding failed kept at_rest first_file settled named open_slots parts_spelling
+gate-is-not-left-begins = refl
+
+gate-is-left-begins : begins_in (crash_leaves (New ∷ []) (failed 3)) ≡ record { at = 9312; slots = 1 }
+unfolding failed kept at_rest first_file settled named open_slots parts_spelling
+gate-is-left-begins = refl
 
 -- the sync before it fails: a crash that leaves all that was written leaves the old log
 sync-fails : scan (crash_leaves (New ∷ New ∷ []) (failed 2)) ≡ Ok (placed_from 9224 settled)
@@ -208,6 +229,10 @@ two-slots : scan (file_with (open_slot 9232 ++ open_slot 9233)) ≡ Ok ([], 9233
 unfolding file_with open_slot scan named entries_at
 two-slots = refl
 
+two-begin : begins_in (file_with (open_slot 9232 ++ open_slot 9233)) ≡ record { at = 9233; slots = 2 }
+unfolding file_with open_slot named open_slots
+two-begin = refl
+
 -- an open slot behind a closed one is damaged
 behind-closed : scan (file_with (closed_slot ++ open_slot 9232)) ≡ Err (Damaged 17)
 unfolding file_with open_slot closed_slot scan named
@@ -216,6 +241,11 @@ behind-closed = refl
 behind-closed-too : scan (file_with (open_slot 9232 ++ closed_slot ++ open_slot 9233)) ≡ Err (Damaged 26)
 unfolding file_with open_slot closed_slot scan named
 behind-closed-too = refl
+
+-- it is not counted, and a file whose slots are damaged begins at its first area
+behind-closed-begins : begins_in (file_with (open_slot 9232 ++ closed_slot ++ open_slot 9233)) ≡ record { at = 9224; slots = 1 }
+unfolding file_with open_slot closed_slot named open_slots
+behind-closed-begins = refl
 
 -- so is one whose offset does not ascend
 not-above : scan (file_with (open_slot 9232 ++ open_slot 9232)) ≡ Err (Damaged 17)
@@ -241,13 +271,17 @@ unfolding file_with open_slot scan named
 too-high = refl
 
 -- all slots are open: the log is that of the last one, and no slot is left
-open_slots : ℕ → ℕ → List ℕ
-open_slots zero offset = []
-open_slots (suc left) offset = open_slot offset ++ open_slots left (offset + 1)
+all_slots : ℕ → ℕ → List ℕ
+all_slots zero offset = []
+all_slots (suc left) offset = open_slot offset ++ all_slots left (offset + 1)
 
-all-open : scan (header ++ open_slots 1024 9225 ++ replicate 1040 0) ≡ Ok ([], 10248)
-unfolding open_slots open_slot scan named entries_at
+all-open : scan (header ++ all_slots 1024 9225 ++ replicate 1040 0) ≡ Ok ([], 10248)
+unfolding all_slots open_slot scan named entries_at
 all-open = refl
+
+all-begin : begins_in (header ++ all_slots 1024 9225 ++ replicate 1040 0) ≡ record { at = 10248; slots = 1024 }
+unfolding all_slots open_slot named open_slots
+all-begin = refl
 
 -- a gate with any other byte is closed, as in a log
 other-byte : scan (file_with (0x5a ∷ to_be_bytes w64 9232)) ≡ Ok ([], 9224)

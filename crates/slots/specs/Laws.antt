@@ -9,6 +9,7 @@ use Rattle.gatelog.specs.Areas.{fresh_with, placed_from}
 use Rattle.gatelog.specs.Gates.{first_gate}
 use Rattle.gatelog.specs.Log.{scan}
 use Rattle.gatelog.specs.Placed.{Placed}
+use Rattle.gatelog.specs.Slots.{begins_in}
 use Rattle.gatelog.specs.Turns.{MayTurn, IsTurnover, IsNext, IsNextOrNone, named_new}
 
 abbrev pub TurnoverKeeps : Type 0
@@ -21,7 +22,8 @@ abbrev pub FailingCalls : Type 0
 FailingCalls =
     (file : File) (es : List Placed) (gate slot : ℕ) (items : List Record) → MayTurn (surface file) es gate slot items → (call : ℕ) →
     (fails_in_turnover (AfterWrite call) ≡ nat_lt call 5)
-    × IsArmedTurn call (Ok (es, gate)) (Ok (placed_from (gate + 1) items)) (turned (AfterWrite call) slot gate items file)
+    × IsArmedTurn call (Ok (es, gate)) (Ok (placed_from (gate + 1) items)) (begins_in (surface file).seen) (record { at = gate + 1; slots = slot + 1 })
+    (turned (AfterWrite call) slot gate items file)
 
 -- behind an append the next slot is the same, and behind a turnover it is the one after it
 abbrev pub NextStays : Type 0

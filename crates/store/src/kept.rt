@@ -1,4 +1,4 @@
-//! Nodes whose shards keep the past for a while.
+//! Nodes whose shards keep the past for a while, and their logs short.
 use disk::Disk;
 use letters::{Due, Serves};
 use message::{Input, Outbox};
@@ -9,12 +9,13 @@ use std::sync::atomic::{AtomicU64, Ordering};
 use truetime::Clock;
 use units::{Fault, ShardNo, Stamp, TxnId};
 
-/// A node that is served as it is, but that forgets, whenever it advances, what is older than so many microseconds; and when it was asked last
-/// to forget.
+/// A node that is served as it is, but that forgets, whenever it advances, what is older than so many microseconds, and renews its log once
+/// that has grown by so many bytes; and when it was asked last.
 #[derive(Drop)]
 pub struct Kept<'n, D: Disk + Drop, H: Wait + Drop> {
     node: &'n Node<D, H>,
     keep: Option<u64>,
+    renew: Option<u64>,
     asked: AtomicU64,
 }
 
@@ -25,22 +26,38 @@ const SHORTEST_PAUSE: u64 = 100_000;
 const SHARE_OF_PAUSE: u64 = 8;
 
 impl<D: Disk + Drop, H: Wait + Drop> Kept<'_, D, H> {
-    // Asks the node to forget, where enough time has passed since it was asked last. Where that is refused it is asked again behind the next
-    // pause.
-    fn forget<W: Wait, C: Clock>(&self, rt: &W, clock: &mut C) {
-        let Some(keep) = self.keep else {
+    // How long it is asked no more. Where nothing is forgotten, it is asked as often as may be.
+    fn pause(&self) -> u64 {
+        match self.keep {
+            Some(keep) => (keep / SHARE_OF_PAUSE).max(SHORTEST_PAUSE),
+            None => SHORTEST_PAUSE,
+        }
+    }
+
+    // Asks the node to forget, and to renew its log, where enough time has passed since it was asked last. Where that is refused it is asked
+    // again behind the next pause. What is kept for good goes back to the beginning, so no horizon is asked for.
+    fn tidy<W: Wait, C: Clock>(&self, rt: &W, clock: &mut C) {
+        if self.keep.is_none() && self.renew.is_none() {
             return;
-        };
+        }
         let Some(now) = clock.now() else {
             return;
         };
         let now = now.latest().micros();
-        let pause = (keep / SHARE_OF_PAUSE).max(SHORTEST_PAUSE);
-        if now < self.asked.load(Ordering::SeqCst).saturating_add(pause) {
+        if now
+            < self
+                .asked
+                .load(Ordering::SeqCst)
+                .saturating_add(self.pause())
+        {
             return;
         }
         self.asked.store(now, Ordering::SeqCst);
-        drop(self.node.keep_by(rt, clock, keep));
+        let keep = self.keep.unwrap_or(u64::MAX);
+        drop(match self.renew {
+            Some(least) => self.node.renew_by(rt, clock, keep, least),
+            None => self.node.keep_by(rt, clock, keep),
+        });
     }
 }
 
@@ -79,7 +96,7 @@ impl<D: Disk + Drop, H: Wait + Drop> Serves for Kept<'_, D, H> {
     }
 
     fn keep_up<W: Wait, C: Clock>(&self, rt: &W, clock: &mut C) -> Option<Stamp> {
-        self.forget(rt, clock);
+        self.tidy(rt, clock);
         self.node.keep_up(rt, clock)
     }
 
@@ -88,17 +105,19 @@ impl<D: Disk + Drop, H: Wait + Drop> Serves for Kept<'_, D, H> {
     }
 }
 
-/// The nodes, each of which keeps the past for so many microseconds, or for good.
+/// The nodes, each of which keeps the past for so many microseconds, or for good, and renews a log that has grown by so many bytes, or none.
 pub fn kept_nodes<'n, D: Disk + Drop, H: Wait + Drop>(
     alloc: Global,
     nodes: &'n [Node<D, H>],
     keep: Option<u64>,
+    renew: Option<u64>,
 ) -> Result<Vec<Kept<'n, D, H>>, Fault> {
     let mut kept = Vec::new(alloc);
     for node in nodes {
         kept.push(Kept {
             node,
             keep,
+            renew,
             asked: AtomicU64::new(0),
         })?;
     }

@@ -23,6 +23,10 @@ pub struct Options {
     /// A shard that is written to or looked at forgets now and then what is older. A view of that is refused as `TooOld`, for good, also
     /// where the store is opened again by other options.
     pub keep: Option<u64>,
+    /// By how many bytes the log of a shard has to grow before it is turned over, in its file, into one of what the shard holds; it also has
+    /// to be more than twice as long as it was behind the last turnover. Or `None`, never. So an opening reads no more than some twice of
+    /// what is held. The file does not shrink, and takes 1,024 turnovers: of a few bytes they are soon spent, and then its log grows on.
+    pub renew: Option<u64>,
 }
 
 impl Drop for Options {
@@ -34,6 +38,7 @@ impl Drop for Options {
             clients: _,
             patience: _,
             keep: _,
+            renew: _,
         } = self;
     }
 }
@@ -43,7 +48,7 @@ const STRIDE: u64 = 100_000;
 
 impl Options {
     /// So many clients over these shards: a stride of 100,000 microseconds, an epsilon of 1,000, and a patience of 100 milliseconds.
-    /// Nothing is forgotten.
+    /// Nothing is forgotten, and no log is turned over.
     pub fn new(splits: Splits, clients: u64) -> Options {
         let stride = match Stride::new(STRIDE) {
             Some(stride) => stride,
@@ -56,6 +61,7 @@ impl Options {
             clients,
             patience: 5,
             keep: None,
+            renew: None,
         }
     }
 

@@ -26,7 +26,8 @@ use truetime::Clock;
 use units::{Epoch, Fault, Stamp};
 use workers::{MachineClock, Viewers};
 
-/// Serves nodes, each on a thread, while `work` goes on with its clients. They keep the past for as long as the options say.
+/// Serves nodes, each on a thread, while `work` goes on with its clients. They keep the past for as long as the options say, and
+/// renew their logs as these say.
 pub fn serve_kept<
     R: Threads + Wait + time::Clock + Sync,
     D: Disk + Drop + Send,
@@ -47,7 +48,7 @@ pub fn serve_kept<
     ensures { IfOk result (λ answer. (clients : _) × F.post work clients answer
         × All (IsFresh epoch options.now.splits) clients.items) }
 {
-    let kept = kept_nodes(alloc, nodes, options.keep)?;
+    let kept = kept_nodes(alloc, nodes, options.keep, options.renew)?;
     serve_nodes(rt, alloc, options, epoch, last, &kept, viewers, work)
 }
 

@@ -1,5 +1,5 @@
 -- What a horizon leaves of a few versions.
-use Rattle.std.proofs.Common.{◌≡◌, ℕ, List, [], ◌∷◌, Option, Some, None, refl}
+use Rattle.std.proofs.Common.{◌≡◌, ℕ, [], ◌∷◌, Option, Some, None, refl}
 use Rattle.units.specs.Keys.{Bytes}
 use Rattle.units.specs.Versions.{at_time, latest}
 use Rattle.units.specs.declared.writes.Install.{Install}

@@ -9,6 +9,8 @@ pub mod Heads
 pub mod Spots
 pub mod Orders
 pub mod Found
+pub mod Same
+pub mod SameMore
 pub mod Pruned
 pub mod Passed
 pub mod Shorter

@@ -12,13 +12,14 @@ use Rattle.versions.specs.Headed.{Headed}
 use Rattle.versions.specs.Heads.{AreHeads}
 use Rattle.versions.specs.Ordered.{installed, is_above, IsInOrder}
 use Rattle.versions.specs.Orders.{Orders, AreBehind}
-use Rattle.versions.specs.Places.{SameFrom}
+use Rattle.versions.specs.Places.{SameVersions}
 use Rattle.versions.proofs.Arranged.{still_arranged}
 use Rattle.versions.proofs.AtOnce.{still_above, rest_ascends}
 use Rattle.versions.proofs.Kept.{kept-installed}
 use Rattle.versions.proofs.Pruned.{kept-pruned, pruned_after}
 use Rattle.versions.specs.Pruned.{pruned}
-use Rattle.versions.proofs.OneMore.{place_does_not_matter_from}
+use Rattle.versions.proofs.Same.{same-from}
+use Rattle.versions.proofs.SameMore.{above-same, same-one}
 
 pub take_whole : (t : List Install) → take (length t) t ≡ t
 take_whole [] = refl
@@ -41,20 +42,24 @@ orders_more h t more p o =
       few = o.few;
       kept = subst (IsInOrder (2 ^ 62 - 1)) same o.kept;
       headed = subst (λ r. AreHeads p.prefix r p.heads) same o.headed;
-      same = subst (λ r. SameFrom h r (take (length t) (t ++ more))) same
-          (subst (SameFrom h (arranged t p.places)) (take_whole t ∙ sym (take_front t more)) o.same);
+      same = subst (λ r. SameVersions h r (take (length t) (t ++ more))) same
+          (subst (SameVersions h (arranged t p.places)) (take_whole t ∙ sym (take_front t more)) o.same);
     }
 
 -- what is read by the places is read of the list
 module _ (h : ℕ) (t : List Install) (p : Headed) (o : Orders h t (length t) p) where
+  -- the newest versions are those of the list
+  pub same_by : SameVersions h (arranged t p.places) t
+  same_by = subst (SameVersions h (arranged t p.places)) (take_whole t) o.same
+
   pub latest_by : (key : List ℕ) → latest t key ≡ latest (arranged t p.places) key
-  latest_by key = ap (λ r. latest r key) (sym (take_whole t)) ∙ sym (o.same.now key)
+  latest_by key = sym ((same-from h _ t same_by).now key)
 
   pub at_time_by : (key : List ℕ) (at : ℕ) → h ≤ at → at_time t key at ≡ at_time (arranged t p.places) key at
-  at_time_by key at le = ap (λ r. at_time r key at) (sym (take_whole t)) ∙ sym (o.same.at key at le)
+  at_time_by key at le = sym ((same-from h _ t same_by).at key at le)
 
   pub above_by : (key : List ℕ) (at : ℕ) → is_above t key at ≡ is_above (arranged t p.places) key at
-  above_by key at = ap (λ r. is_above r key at) (sym (take_whole t)) ∙ sym (o.same.above key at)
+  above_by key at = sym ((same-from h _ t same_by).above key at)
 
 -- the writes of one transaction came behind
 pub behind_written : (t : List Install) (ws : List Write) (at : ℕ) → ascends write_before ws ≡ true → above_versions t at ws ≡ true
@@ -111,15 +116,15 @@ module _ (t : List Install) (k : ℕ) (lt : k < length t) where
   orders_next h p q o b items within heads long in_time =
       let x = get_or t k no_install in
       let above = first_above b in
-      let above_here = o.same.above x.key x.at ∙ above in
+      let above_here = above-same h x (arranged t p.places) (take k t) above o.same in
       record {
         within = within;
         few = omega (arith, long, o.few);
         kept = subst (IsInOrder (2 ^ 62 - 1)) (sym items) (kept-installed (2 ^ 62 - 1) x (arranged t p.places) above_here (omega (arith, in_time)) o.kept);
         headed = heads;
-        same = subst (λ r. SameFrom h r (take (k + 1) t)) (sym items)
-            (subst (SameFrom h (installed (arranged t p.places) x)) (sym (take_more t k no_install lt))
-            (place_does_not_matter_from h x (arranged t p.places) (take k t) above o.same));
+        same = subst (λ r. SameVersions h r (take (k + 1) t)) (sym items)
+            (subst (SameVersions h (installed (arranged t p.places) x)) (sym (take_more t k no_install lt))
+            (same-one h x (arranged t p.places) (take k t) above o.same));
       }
 
 -- what is below a horizon is forgotten
@@ -130,5 +135,5 @@ orders_forgotten before h t p q o items within heads fewer = record {
   few = omega (arith, fewer, o.few);
   kept = subst (IsInOrder (2 ^ 62 - 1)) (sym items) (kept-pruned (2 ^ 62 - 1) h (arranged t p.places) o.kept);
   headed = heads;
-  same = subst (λ r. SameFrom (max before h) r (take (length t) t)) (sym items) (pruned_after before h (arranged t p.places) (take (length t) t) o.same);
+  same = subst (λ r. SameVersions (max before h) r (take (length t) t)) (sym items) (pruned_after before h (arranged t p.places) (take (length t) t) o.same);
 }

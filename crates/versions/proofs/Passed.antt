@@ -1,6 +1,6 @@
 -- Among versions in order those that a horizon lets go are those whose next one is of the same key and not above it.
 use Rattle.std.specs.List.{list_all, AllByRecursion}
-use Rattle.std.proofs.Common.{◌≡◌, ℕ, zero, suc, ◌+◌, ◌<◌, ◌≤◌, Bool, true, false, not, ◌&&◌, ◌||◌, cond, nat_lt, nat_le, List, [], ◌∷◌, ◌++◌, Option, Some}
+use Rattle.std.proofs.Common.{◌≡◌, ℕ, zero, ◌+◌, ◌<◌, ◌≤◌, Bool, true, false, not, ◌&&◌, ◌||◌, cond, nat_lt, nat_le, List, [], ◌∷◌, ◌++◌, Option, Some}
 use Rattle.std.proofs.Common.{None, length, get_or, set, take, drop, filter, refl, sym, ap, ◌∙◌, arith}
 use Rattle.std.proofs.lemmas.Bool.Decides.{nat_tests}
 use Rattle.std.proofs.lemmas.List.{append_assoc, drop_more, drop_all, take_more_set, drop-set-lt}
@@ -11,7 +11,7 @@ use Rattle.units.proofs.KeyLaws.{same_key-is, same_key_comm, key_before-irreflex
 use Rattle.units.proofs.ListLaws.{all_gives, keep-alike}
 use Rattle.versions.specs.Arranged.{no_install}
 use Rattle.versions.specs.Ordered.{is_by, is_not_after, version_before, AscendsByVersion}
-use Rattle.versions.specs.Pruned.{at_of, kept_from, pruned, is_passed}
+use Rattle.versions.specs.Pruned.{at_of, pruned, is_passed, first_left}
 use Rattle.versions.proofs.Halves.{after_passes}
 use Rattle.versions.proofs.Heads.{not_back}
 use Rattle.versions.proofs.Newest.{newer, none_by}
@@ -163,3 +163,33 @@ pass_over_all h t at kept le = ap (λ (r : List Install). take kept t ++ left_of
     nothing : (r : List Install) → r ++ [] ≡ r
     nothing [] = refl
     nothing (x ∷ r) = ap (λ q. x ∷ q) (nothing r)
+
+-- ---- those that are left, one by one
+
+pub no_first : (h : ℕ) (t : List Install) (at : ℕ) → at < length t → first_left h (drop at t) ≡ None → left_of h (drop (at + 1) t) ≡ left_of h (drop at t)
+no_first h t at lt none =
+    let x = get_or t at no_install in
+    sym (ap (left_of h) (drop_more t at no_install lt)
+    ∙ by_test (is_passed h x (drop (at + 1) t)) (sym (ap (first_left h) (drop_more t at no_install lt)) ∙ none))
+  where
+    by_test : (b : Bool) → cond {A = Option Install} b None (Some (get_or t at no_install)) ≡ None
+        → cond b (left_of h (drop (at + 1) t)) (get_or t at no_install ∷ left_of h (drop (at + 1) t)) ≡ left_of h (drop (at + 1) t)
+    by_test true e = refl
+    by_test false e = cc
+
+pub one_first : (h : ℕ) (t : List Install) (at : ℕ) (y : Install) → at < length t → first_left h (drop at t) ≡ Some y
+    → y ∷ left_of h (drop (at + 1) t) ≡ left_of h (drop at t)
+one_first h t at y lt some =
+    let x = get_or t at no_install in
+    sym (ap (left_of h) (drop_more t at no_install lt)
+    ∙ by_test (is_passed h x (drop (at + 1) t)) (sym (ap (first_left h) (drop_more t at no_install lt)) ∙ some))
+  where
+    by_test : (b : Bool) → cond {A = Option Install} b None (Some (get_or t at no_install)) ≡ Some y
+        → cond b (left_of h (drop (at + 1) t)) (get_or t at no_install ∷ left_of h (drop (at + 1) t)) ≡ y ∷ left_of h (drop (at + 1) t)
+    by_test true e = cc
+    by_test false e = let is : get_or t at no_install ≡ y = cc in ap (λ (z : Install). z ∷ left_of h (drop (at + 1) t)) is
+
+-- the first that is left, told from the version at a place and whether it is passed
+pub first_is : (h : ℕ) (t : List Install) (at : ℕ) → at < length t
+    → first_left h (drop at t) ≡ cond (is_passed h (get_or t at no_install) (drop (at + 1) t)) None (Some (get_or t at no_install))
+first_is h t at lt = ap (first_left h) (drop_more t at no_install lt)

@@ -1,25 +1,20 @@
 -- Versions that a horizon lets go are not missed from it up.
-use Rattle.std.specs.List.{AllByRecursion}
-use Rattle.std.proofs.Common.{◌≡◌, ℕ, ◌≤◌, Bool, true, false, ◌&&◌, nat_lt, nat_le, List, [], ◌∷◌, Option, cond, max, filter, refl, sym, ap, ◌∙◌, arith}
+use Rattle.std.proofs.Common.{◌≡◌, ℕ, ◌≤◌, Bool, true, false, ◌&&◌, nat_le, List, [], ◌∷◌, cond, max, filter, refl, sym, ap, ◌∙◌, arith}
+use Rattle.std.proofs.lemmas.Bool.{and_parts}
 use Rattle.std.proofs.lemmas.Bool.Decides.{nat_tests}
 use Rattle.units.specs.Keys.{Bytes, same_key}
-use Rattle.units.specs.Lists.{follow}
-use Rattle.units.specs.Versions.{newest, of_key}
+use Rattle.units.specs.Versions.{newest}
 use Rattle.units.specs.declared.writes.Install.{Install}
 use Rattle.units.proofs.KeyLaws.{same_key-is}
 use Rattle.units.proofs.ListLaws.{keep-keep, keep-alike, all-keep}
 use Rattle.versions.specs.Ordered.{is_by, version_before, AscendsByVersion, IsInOrder}
-use Rattle.versions.specs.Places.{SameValues, SameFrom, AllFromTheBeginning, AllFromAnyTime}
+use Rattle.versions.specs.Places.{SameFrom, SameVersions, AllFromTheBeginning, AllFromAnyTime}
 use Rattle.versions.specs.Pruned.{kept_from, pruned, PrunedIsNotMissed, PrunedAgainIsNotMissed}
 use Rattle.versions.proofs.Found.{from_on, newest-from, newest-wider, found-from}
-use Rattle.versions.proofs.Newest.{at_time_is, latest_is, above_newest, was_before}
-
-and_parts : (a b : Bool) → (a && b) ≡ true → (a ≡ true) × (b ≡ true)
-and_parts true b h = (refl, h)
-and_parts false b h = cc
+use Rattle.versions.proofs.Same.{same-from, same-higher, same-then}
 
 -- by a test that versions of the key alone pass
-pruned-part : (h : ℕ) (a : List Install) (k : Bytes) (test : Install → Bool) → ((x : Install) → test x ≡ true → same_key x.key k ≡ true)
+pub pruned-part : (h : ℕ) (a : List Install) (k : Bytes) (test : Install → Bool) → ((x : Install) → test x ≡ true → same_key x.key k ≡ true)
     → newest (filter test (pruned h a)) ≡ from_on (kept_from h a k) (newest (filter test a))
 unfolding pruned
 pruned-part h a k test only =
@@ -47,23 +42,18 @@ pruned-by : (h : ℕ) (a : List Install) (k : Bytes) (test : Install → Bool) �
 pruned-by h a k test only wide =
     pruned-part h a k test only ∙ found-from (kept_from h a k) (newest (filter test a)) (newest-wider (is_by k h) test wide a)
 
--- so the newest version of a key is the same
-newest_of : (h : ℕ) (a : List Install) (k : Bytes) → newest (of_key (pruned h a) k) ≡ newest (of_key a k)
-newest_of h a k = pruned-by h a k (λ x. same_key x.key k) (λ x e. e) (λ x e. (and_parts _ _ e).0)
-
--- and that at each time from the horizon up
-newest_at : (h : ℕ) (a : List Install) (k : Bytes) (t : ℕ) → h ≤ t → newest (filter (is_by k t) (pruned h a)) ≡ newest (filter (is_by k t) a)
-newest_at h a k t le = pruned-by h a k (is_by k t) (λ x e. (and_parts _ _ e).0) (λ x e. grind (arith, nat_tests))
-
-pub pruned_is_not_missed : PrunedIsNotMissed
-pruned_is_not_missed h a = record {
-  now = λ k. latest_is k (pruned h a) ∙ ap (λ (f : Option Install). follow f (λ i. i.value)) (newest_of h a k) ∙ sym (latest_is k a);
-  at = λ k t le. at_time_is k t (pruned h a) ∙ ap (λ (f : Option Install). follow f (λ i. i.value)) (newest_at h a k t le) ∙ sym (at_time_is k t a);
-  above = λ k t. above_newest t (of_key (pruned h a) k) ∙ ap (was_before t) (newest_of h a k) ∙ sym (above_newest t (of_key a k));
+-- so the newest version of a key is the same, and that at each time from the horizon up
+pub same-pruned : (h : ℕ) (a : List Install) → SameVersions h (pruned h a) a
+same-pruned h a = record {
+  now = λ k. pruned-by h a k (λ x. same_key x.key k) (λ x e. e) (λ x e. (and_parts _ _ e).0);
+  at = λ k t le. pruned-by h a k (is_by k t) (λ x e. (and_parts _ _ e).0) (λ x e. grind (arith, nat_tests));
 }
 
+pub pruned_is_not_missed : PrunedIsNotMissed
+pruned_is_not_missed h a = same-from h (pruned h a) a (same-pruned h a)
+
 -- what is the same from a time up is so from a later one up
-pub same_later : (before h : ℕ) (a b : List Install) → before ≤ h → SameFrom before a b → SameFrom h a b
+same_later : (before h : ℕ) (a b : List Install) → before ≤ h → SameFrom before a b → SameFrom h a b
 same_later before h a b le same = record {
   now = same.now;
   at = λ k t from. same.at k t (omega (arith, le, from));
@@ -82,10 +72,10 @@ pruned_again_is_not_missed before h kept log le same =
     same_trans h (pruned h kept) kept log (pruned_is_not_missed h kept) (same_later before h kept log le same)
 
 -- whichever of two horizons is the later one
-pub pruned_after : (before h : ℕ) (kept log : List Install) → SameFrom before kept log → SameFrom (max before h) (pruned h kept) log
+pub pruned_after : (before h : ℕ) (kept log : List Install) → SameVersions before kept log → SameVersions (max before h) (pruned h kept) log
 pruned_after before h kept log same =
-    same_trans (max before h) (pruned h kept) kept log (same_later h (max before h) (pruned h kept) kept (omega arith) (pruned_is_not_missed h kept))
-    (same_later before (max before h) kept log (omega arith) same)
+    same-then (max before h) (pruned h kept) kept log (same-higher h (max before h) (pruned h kept) kept (omega arith) (same-pruned h kept))
+    (same-higher before (max before h) kept log (omega arith) same)
 
 pub all_from_the_beginning : AllFromTheBeginning
 all_from_the_beginning a b same = record {
@@ -102,7 +92,7 @@ all_from_any_time h a b same = record {
 }
 
 -- what is kept stays in order
-ascending-keep : (keeps : Install → Bool) (t : List Install) → AscendsByVersion t → AscendsByVersion (filter keeps t)
+pub ascending-keep : (keeps : Install → Bool) (t : List Install) → AscendsByVersion t → AscendsByVersion (filter keeps t)
 ascending-keep keeps [] up = tt
 ascending-keep keeps (x ∷ t) up = elim (keeps x) as (λ b. AscendsByVersion (cond b (x ∷ filter keeps t) (filter keeps t))) [
   | true ↦ (all-keep (λ next. version_before x next ≡ true) keeps t up.0, ascending-keep keeps t up.1)

@@ -1,5 +1,5 @@
 -- Fewer places, in pieces and beside the versions and heads.
-use Rattle.std.proofs.Common.{◌≡◌, ℕ, zero, suc, ◌+◌, ◌-◌, ◌<◌, ◌≤◌, Bool, true, false, nat_lt, List, [], ◌∷◌, ◌++◌, length, map, take, get_or, set}
+use Rattle.std.proofs.Common.{◌≡◌, ℕ, zero, suc, ◌-◌, ◌<◌, ◌≤◌, Bool, true, false, nat_lt, List, [], ◌∷◌, ◌++◌, length, map, take, get_or, set}
 use Rattle.std.proofs.Common.{refl, sym, ap, ◌∙◌, arith}
 use Rattle.std.specs.List.{AllByRecursion}
 use Rattle.std.proofs.lemmas.Bool.Decides.{nat_tests}
@@ -8,7 +8,7 @@ use Rattle.units.specs.declared.writes.Install.{Install}
 use Rattle.versions.specs.Arranged.{arranged, no_install, AreWithin}
 use Rattle.versions.specs.Heads.{AreBytes, head, AreHeads}
 use Rattle.versions.specs.declared.chunk.Spot.{Spot}
-use Rattle.versions.specs.Pieces.{joined, IsFilled, IsLaid}
+use Rattle.versions.specs.Pieces.{IsFilled}
 use Rattle.versions.proofs.Arranged.{place_within}
 use Rattle.versions.proofs.Halves.{each_at}
 

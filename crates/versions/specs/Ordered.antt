@@ -1,7 +1,7 @@
 -- Versions in order: by key, and then by timestamp.
-use Rattle.std.specs.Prelude.{ℕ, IsTrue, Bool, ◌&&◌, ◌||◌, nat_lt, nat_le, List, [], ◌∷◌, length, cond, filter}
+use Rattle.std.specs.Prelude.{ℕ, IsTrue, Bool, nat_lt, nat_le, List, [], ◌∷◌, length, filter}
 use Rattle.std.specs.List.{AllByRecursion, list_all}
-use Rattle.units.specs.Keys.{Bytes, same_key, key_before}
+use Rattle.units.specs.Keys.{Bytes}
 use Rattle.units.specs.Versions.{of_key}
 pub use Rattle.units.specs.Versions.{version_before}
 pub use Rattle.units.specs.Installed.{is_not_after, is_by, installed, all_installed}

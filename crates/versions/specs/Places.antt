@@ -1,11 +1,11 @@
 -- Versions in order answer as the same versions in the order of the log.
-use Rattle.std.specs.Prelude.{◌≡◌, ℕ, ◌≤◌, IsTrue, List, [], ◌∷◌, ◌++◌}
+use Rattle.std.specs.Prelude.{◌≡◌, ℕ, ◌≤◌, IsTrue, List, [], ◌∷◌, ◌++◌, filter}
 use Rattle.units.specs.Keys.{Bytes, write_before}
 use Rattle.units.specs.Lists.{ascends}
-use Rattle.units.specs.Versions.{latest, at_time, versions, above_versions}
+use Rattle.units.specs.Versions.{latest, at_time, newest, of_key, versions, above_versions}
 use Rattle.units.specs.declared.writes.Install.{Install}
 use Rattle.units.specs.declared.writes.Write.{Write}
-use Rattle.versions.specs.Ordered.{installed, all_installed, is_above}
+use Rattle.versions.specs.Ordered.{installed, all_installed, is_above, is_by}
 
 -- the two lists give each key the same values, and take the same timestamps as new
 pub record SameValues (a b : List Install) : Type 0 where
@@ -18,6 +18,11 @@ pub record SameFrom (horizon : ℕ) (a b : List Install) : Type 0 where
   pub now : (key : Bytes) → latest a key ≡ latest b key
   pub at : (key : Bytes) (t : ℕ) → horizon ≤ t → at_time a key t ≡ at_time b key t
   pub above : (key : Bytes) (t : ℕ) → is_above a key t ≡ is_above b key t
+
+-- the newest version of every key is the same, now and at every timestamp from a horizon up: by versions what the above says by values
+pub record SameVersions (horizon : ℕ) (a b : List Install) : Type 0 where
+  pub now : (key : Bytes) → newest (of_key a key) ≡ newest (of_key b key)
+  pub at : (key : Bytes) (t : ℕ) → horizon ≤ t → newest (filter (is_by key t) a) ≡ newest (filter (is_by key t) b)
 
 -- one more version, above its key's others, answers at its place in order as it does at the end of the log
 abbrev pub PlaceDoesNotMatter : Type 0

@@ -1,5 +1,5 @@
 -- Versions without those below a horizon, which no look from the horizon up reads.
-use Rattle.std.specs.Prelude.{ℕ, ◌≤◌, Bool, false, nat_le, List, [], ◌∷◌, Option, Some, None, filter}
+use Rattle.std.specs.Prelude.{ℕ, ◌≤◌, Bool, false, cond, nat_le, List, [], ◌∷◌, Option, Some, None, filter}
 use Rattle.units.specs.Keys.{Bytes}
 use Rattle.units.specs.Versions.{newest}
 use Rattle.units.specs.declared.writes.Install.{Install}
@@ -23,6 +23,11 @@ pruned horizon installs = filter (λ i. nat_le (kept_from horizon installs i.key
 abbrev pub is_passed : ℕ → Install → List Install → Bool
 is_passed horizon install [] = false
 is_passed horizon install (next ∷ rest) = is_by install.key horizon next
+
+-- the first of some versions in order, where it is not passed
+abbrev pub first_left : ℕ → List Install → Option Install
+first_left horizon [] = None
+first_left horizon (install ∷ rest) = cond (is_passed horizon install rest) None (Some install)
 
 -- what a horizon lets go is not missed from it up
 abbrev pub PrunedIsNotMissed : Type 0

@@ -40,8 +40,8 @@ pub fn forget(installs: &[Install], places: &mut Places, horizon: Stamp)
     places.shorten(kept);
 }
 
-// The next version is of the same key, and not above the horizon. So no look from the horizon up reads the one at this place.
-fn is_passed(installs: &[Install], places: &Places, at: usize, horizon: Stamp) -> bool
+/// The next version is of the same key, and not above the horizon. So no look from the horizon up reads the one at this place.
+pub fn is_passed(installs: &[Install], places: &Places, at: usize, horizon: Stamp) -> bool
     requires within { AreWithin places.now.places (length installs.now) }
     requires at { at < length places.now.places }
     ensures { result ≡ is_passed horizon

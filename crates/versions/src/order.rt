@@ -1,13 +1,13 @@
 //! Versions that stand in a list of their own, read in the order of their places.
-ghost use Rattle.std.specs.Prelude.{◌≡◌, ℕ, ◌+◌, ◌≤◌, length, max};
+ghost use Rattle.std.specs.Prelude.{◌≡◌, ℕ, ◌+◌, ◌<◌, ◌≤◌, drop, length, max};
 ghost use Rattle.std.specs.Option.{option_copied};
 ghost use Rattle.units.specs.Versions.{latest, at_time};
 ghost use Rattle.versions.specs.Arranged.{arranged};
 ghost use Rattle.versions.specs.Orders.{Orders, AreBehind};
 ghost use Rattle.versions.specs.Ordered.{is_above};
-ghost use Rattle.versions.specs.Pruned.{pruned};
+ghost use Rattle.versions.specs.Pruned.{first_left, pruned};
 
-use crate::forgetting;
+use crate::forgetting::{self, is_passed};
 use crate::placed::Places;
 use crate::search::{self, place};
 use units::{Install, Key, Stamp, Value};
@@ -36,6 +36,24 @@ impl Places {
         ensures { option_copied result ≡ at_time installs.now key.now at }
     {
         search::value_at(installs, self, key, at)
+    }
+
+    /// The version at a place in order, where a horizon leaves it: where it is not passed by the next one.
+    pub fn left<'a>(
+        &self,
+        installs: &'a [Install],
+        at: usize,
+        horizon: Stamp,
+    ) -> Option<&'a Install>
+        requires orders { (before : ℕ) × Orders before installs.now (length installs.now) self.now }
+        requires at { at < length self.now.places }
+        ensures { option_copied result ≡
+            first_left horizon (drop at (arranged installs.now self.now.places)) }
+    {
+        if is_passed(installs, self, at, horizon) {
+            return None;
+        }
+        Some(&installs[self.get(at)])
     }
 
     /// Takes in the versions that came behind the first so many, whose places are known: the writes of one transaction, above their

@@ -51,7 +51,7 @@ impl Places {
     }
 
     /// How many there are.
-    pub(crate) fn len(&self) -> usize
+    pub fn len(&self) -> usize
         ensures { result ≡ length self.now.places }
     {
         self.spots.len()

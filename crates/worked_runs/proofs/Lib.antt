@@ -7,4 +7,5 @@ pub mod OneShardRun
 pub mod RandomRuns
 pub mod Recovery
 pub mod Served
+pub mod Turnovers
 pub mod TwoShardRun

@@ -18,7 +18,6 @@ use Rattle.facts.specs.Rules.{follows_facts}
 use Rattle.facts.specs.Stages.{follows_head, follows_next, stage_of}
 use Rattle.facts.specs.declared.stage.Stage.{Stage}
 use Rattle.facts.proofs.Known.{follows_as_known}
-use Rattle.gatelog.specs.Frames.{end_of}
 use Rattle.message.specs.declared.message.Envelope.{Envelope}
 use Rattle.message.specs.declared.message.Input.{Input}
 use Rattle.protocol.specs.Rows.{Memory, rebuilt}
@@ -35,7 +34,8 @@ use Rattle.protocol.proofs.StepSound.{fresh_is_sound, step_keeps_sound}
 use Rattle.protocol.proofs.WithinLimit.{stays_within}
 use Rattle.world.specs.Lawful.{lawful, may_act, may_crash, may_do, may_happen}
 use Rattle.world.specs.Steady.{AlwaysSteady}
-use Rattle.world.specs.World.{World, ShardNow, State, Runs, IsStopped, IsDown, Unsure, View, shown_records, read_log, setup_of, step_of_opening}
+use Rattle.world.specs.World.{World, ShardNow, State, Runs, IsStopped, IsDown, Area, Unsure, View, shown_records, read_area, read_log, setup_of, gate_of}
+use Rattle.world.specs.World.{has_place, new_area, step_of_opening, step_of_turnover}
 use Rattle.world.specs.World.{input_of, step_with, effect, wanted, fresh_log, run}
 use Rattle.world.specs.declared.event.Act.{Act}
 use Rattle.world.specs.declared.event.Config.{Config}
@@ -147,6 +147,7 @@ doing_limit setup w time n (Doing.Advance at now) may p same =
 doing_limit setup w time n (Doing.Forget at now) may p same =
     given now (Input.Forget at) p (leb-true at time_limit (and_parts (is_honest time now) (nat_le at time_limit) may).1) same
 doing_limit setup w time n (Doing.Nudge t now) may p same = given now (Input.Nudge t) p tt same
+doing_limit setup w time n Doing.Turn may p same = cc
 doing_limit setup w time n Doing.Open may p same = cc
 
 pub limits : (w : World) (time : ℕ) (a : Act) → may_act w time a ≡ true → ActAllowed InLimit w a
@@ -187,8 +188,8 @@ always_well = always_sound InLimit IsWell IsTaken keeps opens taken_follows logs
 -- ---- what is logged follows, whatever timestamp an input names
 
 -- a shard by its fields
-abbrev pub shard_with : List Record → Unsure → State → List View → ShardNow
-shard_with log unsure state views = record { log = log; unsure = unsure; state = state; views = views }
+abbrev pub shard_with : List Record → Area → Unsure → State → List View → ShardNow
+shard_with log area unsure state views = record { log = log; area = area; unsure = unsure; state = state; views = views }
 
 logged_is : (a b : Option Record) (m q : Memory) (out more : List Envelope) → Does a m out ≡ Does b q more → a ≡ b
 logged_is a b m q out more e = cc
@@ -196,16 +197,16 @@ logged_is a b m q out more e = cc
 some_record : (a b : Record) → Some a ≡ Some b → a ≡ b
 some_record a b e = cc
 
-step_logs : (setup : Setup) (log : List Record) (unsure : Unsure) (st : State) (views : List View) (o : Option (Interval × Input)) (r : Record)
+step_logs : (setup : Setup) (log : List Record) (area : Area) (unsure : Unsure) (st : State) (views : List View) (o : Option (Interval × Input)) (r : Record)
     (memory : Memory) (out : List Envelope) →
-    WellShard setup (shard_with log unsure st views) →
+    WellShard setup (shard_with log area unsure st views) →
     (elim st as (λ x. Stepped) [ Runs m ↦ step_with setup (facts_of log) m o | _ ↦ Refuses Stopped ]) ≡ Does (Some r) memory out →
     IsTaken setup ((log ++ shown_records unsure) ++ r ∷ [])
 unfolding step_within
-step_logs setup log unsure (IsStopped m) views o r memory out well e = cc
-step_logs setup log unsure IsDown views o r memory out well e = cc
-step_logs setup log unsure (Runs m) views None r memory out well e = cc
-step_logs setup log unsure (Runs m) views (Some q) r memory out well e =
+step_logs setup log area unsure (IsStopped m) views o r memory out well e = cc
+step_logs setup log area unsure IsDown views o r memory out well e = cc
+step_logs setup log area unsure (Runs m) views None r memory out well e = cc
+step_logs setup log area unsure (Runs m) views (Some q) r memory out well e =
     by_plan (plan_input setup (start_of_step most_rows setup (facts_of log) m) q.0 q.1) refl e
   where
     log_is : log ++ shown_records unsure ≡ log
@@ -220,7 +221,7 @@ step_logs setup log unsure (Runs m) views (Some q) r memory out well e =
 
 module _ (config : Config) (bag : List Envelope) (n : ℕ) (s : ShardNow) (well : WellShard (setup_of config n) s) where
   -- a read of the disk gives a log that is taken
-  good : IsTaken (setup_of config n) (read_log s)
+  pub good : IsTaken (setup_of config n) (read_log s)
   good = (well.left (read_log s) (read_left InLimit IsWell IsTaken keeps opens taken_follows logs opening_keeps config bag n s well)).good
 
   opening_logs : (r : Record) (memory : Memory) (out : List Envelope) → step_of_opening (facts_of (read_log s)) ≡ Does (Some r) memory out →
@@ -249,24 +250,34 @@ module _ (config : Config) (bag : List Envelope) (n : ℕ) (s : ShardNow) (well 
       by_state (Runs m) k = cc
       by_state (IsStopped m) k = opening_logs r memory out k
       by_state IsDown k = opening_logs r memory out k
-  wanted_logs (Doing.Take m now) r memory out e = step_logs (setup_of config n) s.log s.unsure s.state s.views
+  wanted_logs (Doing.Take m now) r memory out e = step_logs (setup_of config n) s.log s.area s.unsure s.state s.views
       (input_of bag (Doing.Take m now)) r memory out well e
-  wanted_logs (Doing.Resume now) r memory out e = step_logs (setup_of config n) s.log s.unsure s.state s.views
+  wanted_logs (Doing.Resume now) r memory out e = step_logs (setup_of config n) s.log s.area s.unsure s.state s.views
       (input_of bag (Doing.Resume now)) r memory out well e
-  wanted_logs (Doing.Settle t now) r memory out e = step_logs (setup_of config n) s.log s.unsure s.state s.views
+  wanted_logs (Doing.Settle t now) r memory out e = step_logs (setup_of config n) s.log s.area s.unsure s.state s.views
       (input_of bag (Doing.Settle t now)) r memory out well e
-  wanted_logs (Doing.Advance at now) r memory out e = step_logs (setup_of config n) s.log s.unsure s.state s.views
+  wanted_logs (Doing.Advance at now) r memory out e = step_logs (setup_of config n) s.log s.area s.unsure s.state s.views
       (input_of bag (Doing.Advance at now)) r memory out well e
-  wanted_logs (Doing.Forget at now) r memory out e = step_logs (setup_of config n) s.log s.unsure s.state s.views
+  wanted_logs (Doing.Forget at now) r memory out e = step_logs (setup_of config n) s.log s.area s.unsure s.state s.views
       (input_of bag (Doing.Forget at now)) r memory out well e
-  wanted_logs (Doing.Nudge t now) r memory out e = step_logs (setup_of config n) s.log s.unsure s.state s.views
+  wanted_logs (Doing.Nudge t now) r memory out e = step_logs (setup_of config n) s.log s.area s.unsure s.state s.views
       (input_of bag (Doing.Nudge t now)) r memory out well e
+  wanted_logs Doing.Turn r memory out e = absurd (by_state s.state e)
+    where
+      by_place : (m : Memory) (b : Bool) → cond b (Does None m []) (Refuses TimeSpent) ≡ Does (Some r) memory out → ⊥
+      by_place m true k = cc
+      by_place m false k = cc
 
-  doing_logs : (doing : Doing) (r : Record) (memory : Memory) (out : List Envelope) → effect (setup_of config n) bag s doing ≡ Does (Some r) memory out →
+      by_state : (st : State) → (elim st as (λ x. Stepped) [ Runs m ↦ step_of_turnover s m | _ ↦ Refuses Stopped ]) ≡ Does (Some r) memory out → ⊥
+      by_state (Runs m) k = by_place m (has_place (read_area s).slot (new_area s)) k
+      by_state (IsStopped m) k = cc
+      by_state IsDown k = cc
+
+  pub doing_logs : (doing : Doing) (r : Record) (memory : Memory) (out : List Envelope) → effect (setup_of config n) bag s doing ≡ Does (Some r) memory out →
       IsTaken (setup_of config n) (read_log s ++ r ∷ [])
   unfolding effect
   doing_logs doing r memory out e =
-      wanted_logs doing r memory out (done_wanted (end_of (read_log s)) (wanted (setup_of config n) bag s doing) (Some r) memory out e)
+      wanted_logs doing r memory out (done_wanted (gate_of (read_area s)) (wanted (setup_of config n) bag s doing) (Some r) memory out e)
 
 -- every lawful run is steady
 pub is_steady : AlwaysSteady

@@ -10,5 +10,7 @@ pub mod Replying
 pub mod Rooms
 pub mod Sounds
 pub mod StepKinds
+pub mod TakenByFacts
+pub mod Turns
 pub mod Untouched
 pub mod Adding

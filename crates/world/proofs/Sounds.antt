@@ -1,6 +1,6 @@
 -- What each step of a shard keeps and each opening brings back holds at every moment of a run. A step may rest on what is
 -- given to its shard: `Allowed` says what that is.
-use Rattle.std.proofs.Common.{◌≡◌, nat_le, inl, inr, ℕ, suc, ◌+◌, Bool, true, false, cond, nat_lt, List, [], ◌∷◌, ◌++◌, length, Option, Some}
+use Rattle.std.proofs.Common.{◌≡◌, nat_le, inl, inr, ℕ, suc, ◌+◌, Bool, true, false, cond, ◌&&◌, nat_lt, List, [], ◌∷◌, ◌++◌, length, Option, Some}
 use Rattle.std.proofs.Common.{None, slice_get, refl, sym, ap, subst, ◌∙◌}
 use Rattle.std.specs.Prelude.{Ok, Err, option_to_list}
 use Rattle.std.proofs.lemmas.Bool.{cases_eq, and_parts}
@@ -25,11 +25,12 @@ use Rattle.protocol.specs.Plan.{time_limit, Plan, Planned, start_of_step, carrie
 use Rattle.protocol.specs.Step.{step_within, Stepped, Refuses, Does, facts_after, plan_input, stepped}
 use Rattle.world.specs.Lawful.{lawful, lawful_from, may_happen, may_act}
 use Rattle.session.specs.Sessions.{reads, buffers, closes, gives_up}
-use Rattle.gatelog.specs.Frames.{end_of}
 use Rattle.gatelog.specs.Gates.{is_left, is_read, opens_gate}
-use Rattle.world.specs.World.{World, ShardNow, State, Runs, IsStopped, IsDown, Unsure, Nothing, Shown, Hidden, shown_records, read_log, setup_of}
+use Rattle.world.specs.World.{is_left_turn, is_read_turn}
+use Rattle.world.specs.World.{World, ShardNow, State, Runs, IsStopped, IsDown, Area, Unsure, Nothing, Shown, Hidden, TurnShown, TurnHidden, shown_records}
+use Rattle.world.specs.World.{read_area, read_log, setup_of, gate_of, has_place, new_area, failed_turn, turns, area_left_in}
 use Rattle.world.specs.World.{step_of_opening, input_of, step_with, effect, wanted, where_room, has_room, finished, crashed, crashed_in, failed_in}
-use Rattle.world.specs.World.{left_of, left_by_refused}
+use Rattle.world.specs.World.{left_of, left_by_refused, step_of_turnover, with_records}
 use Rattle.world.specs.World.{stopped, set_shard, fresh_log, fresh_shard, After, client_of, put_out, refused, if_open}
 use Rattle.world.specs.World.{if_not_over, to_session, refused_doing, did, did_with_failure, at_shard, do_at, deliver_to, look_noted, look_shard}
 use Rattle.world.specs.World.{look_at_view, acts, happens, start, run, run_from}
@@ -124,6 +125,8 @@ module _ (Allowed : Setup → Input → Type 0) (Sound : Setup → Facts → Mem
         by_unsure Nothing is = inl (append-nil s.log)
         by_unsure (Shown r) is = inr (r, subst (λ u. IsUnsure u r) (sym is) refl, refl)
         by_unsure (Hidden r) is = inl (append-nil s.log)
+        by_unsure (TurnShown other) is = inl (append-nil s.log)
+        by_unsure (TurnHidden other) is = inl (append-nil s.log)
 
     running : (L : Type 0) (o : Option (Interval × Input)) → ((p : Interval × Input) → o ≡ Some p → L → Allowed (setup_of config n) p.1) →
         (st : State) → s.state ≡ st →
@@ -142,6 +145,20 @@ module _ (Allowed : Setup → Input → Type 0) (Sound : Setup → Facts → Mem
         subst (λ l. SteppedSound L (setup_of config n) l (step_with (setup_of config n) (facts_of s.log) m (Some p))) (sym read_is)
         (of_plan L (setup_of config n) s.log m p.0 p.1 (allowed p refl) plain.good state.0
         (plan_input (setup_of config n) (start_of_step most_rows (setup_of config n) (facts_of s.log) m) p.0 p.1) refl)
+
+    -- a turnover of its log
+    turned_over : (L : Type 0) (st : State) → s.state ≡ st →
+        SteppedSound L (setup_of config n) (read_log s) (elim st as (λ x. Stepped) [ Runs m ↦ step_of_turnover s m | _ ↦ Refuses Stopped ])
+    turned_over L (IsStopped m) is = tt
+    turned_over L IsDown is = tt
+    turned_over L (Runs m) is = by_test (has_place (read_area s).slot (new_area s))
+      where
+        by_test : (b : Bool) → SteppedSound L (setup_of config n) (read_log s) (cond b (Does None m []) (Refuses TimeSpent))
+        by_test false = tt
+        by_test true =
+            let state : SoundState (setup_of config n) s (Runs m) = subst (SoundState (setup_of config n) s) is sound.state in
+            let read_is : read_log s ≡ s.log = ap (λ u. s.log ++ shown_records u) state.1 ∙ append-nil s.log in
+            subst (λ l. SoundStep L (setup_of config n) l m) (sym read_is) (record { sound = λ l. state.0; good = λ l. plain.good })
 
     opened : SteppedSound (Unit {0}) (setup_of config n) (read_log s) (step_of_opening (facts_of (read_log s)))
     unfolding step_of_opening
@@ -183,6 +200,7 @@ module _ (Allowed : Setup → Input → Type 0) (Sound : Setup → Facts → Mem
         (input_of bag (Doing.Forget at now)) (λ p e l. l p e) s.state refl
     wanted_sound (Doing.Nudge t now) = running (DoingAllowed Allowed (setup_of config n) bag (Doing.Nudge t now)) (input_of bag (Doing.Nudge t now))
         (λ p e l. l p e) s.state refl
+    wanted_sound Doing.Turn = turned_over (DoingAllowed Allowed (setup_of config n) bag Doing.Turn) s.state refl
 
     by_room : (L : Type 0) (gate : ℕ) (st : Stepped) → SteppedSound L (setup_of config n) (read_log s) st →
         SteppedSound L (setup_of config n) (read_log s) (where_room gate st)
@@ -197,7 +215,7 @@ module _ (Allowed : Setup → Input → Type 0) (Sound : Setup → Facts → Mem
     pub effect_sound : (doing : Doing) → SteppedSound (DoingAllowed Allowed (setup_of config n) bag doing) (setup_of config n) (read_log s)
         (effect (setup_of config n) bag s doing)
     unfolding effect
-    effect_sound doing = by_room (DoingAllowed Allowed (setup_of config n) bag doing) (end_of (read_log s)) (wanted (setup_of config n) bag s doing)
+    effect_sound doing = by_room (DoingAllowed Allowed (setup_of config n) bag doing) (gate_of (read_area s)) (wanted (setup_of config n) bag s doing)
         (wanted_sound doing)
 
     -- ---- the shard after it
@@ -211,8 +229,8 @@ module _ (Allowed : Setup → Input → Type 0) (Sound : Setup → Facts → Mem
         by_left log (inl same) = subst (SoundLog (setup_of config n)) (sym same) l
         by_left log (inr unsure) = absurd (subst (λ u. IsUnsure u unsure.0) none unsure.1)
 
-    pub crashed_sound : (log : List Record) → SoundLog (setup_of config n) log → SoundShard (setup_of config n) (crashed s log)
-    crashed_sound log l = sure (crashed s log) refl l tt
+    pub crashed_sound : (log : List Record) (area : Area) → SoundLog (setup_of config n) log → SoundShard (setup_of config n) (crashed s log area)
+    crashed_sound log area l = sure (crashed s log area) refl l tt
 
     left_sound : (fate : Fate) → SoundLog (setup_of config n) (s.log ++ left_of fate s.unsure)
     left_sound fate = sound.left (s.log ++ left_of fate s.unsure) (by_unsure s.unsure refl)
@@ -225,6 +243,8 @@ module _ (Allowed : Setup → Input → Type 0) (Sound : Setup → Facts → Mem
         by_unsure Nothing is = inl (append-nil s.log)
         by_unsure (Shown r) is = by_gate r (subst (λ u. IsUnsure u r) (sym is) refl) (opens_gate fate)
         by_unsure (Hidden r) is = by_gate r (subst (λ u. IsUnsure u r) (sym is) refl) (opens_gate fate)
+        by_unsure (TurnShown other) is = inl (append-nil s.log)
+        by_unsure (TurnHidden other) is = inl (append-nil s.log)
 
     with_listed : (o : Option Record) → with_record (read_log s) o ≡ read_log s ++ option_to_list o
     with_listed None = sym (append-nil (read_log s))
@@ -237,25 +257,28 @@ module _ (Allowed : Setup → Input → Type 0) (Sound : Setup → Facts → Mem
         let k = subst (λ l. SoundStep L (setup_of config n) l memory) (with_listed logged) e in
         sure (finished s doing logged memory) refl (record { memory = memory; sound = k.sound allowed; good = k.good allowed }) (k.sound allowed, refl)
 
-    pub refused_left_sound : (fate : Fate) (doing : Doing) → SoundShard (setup_of config n) (crashed s (left_by_refused s fate doing))
-    refused_left_sound fate Doing.Open = crashed_sound (read_log s) (sound.left (read_log s) read_left)
-    refused_left_sound fate (Doing.Take m now) = crashed_sound _ (left_sound fate)
-    refused_left_sound fate (Doing.Resume now) = crashed_sound _ (left_sound fate)
-    refused_left_sound fate (Doing.Settle t now) = crashed_sound _ (left_sound fate)
-    refused_left_sound fate (Doing.Advance at now) = crashed_sound _ (left_sound fate)
-    refused_left_sound fate (Doing.Forget at now) = crashed_sound _ (left_sound fate)
-    refused_left_sound fate (Doing.Nudge t now) = crashed_sound _ (left_sound fate)
+    pub refused_left_sound : (fate : Fate) (doing : Doing) → SoundShard (setup_of config n) (left_by_refused s fate doing)
+    refused_left_sound fate Doing.Open = crashed_sound (read_log s) (read_area s) (sound.left (read_log s) read_left)
+    refused_left_sound fate (Doing.Take m now) = crashed_sound _ _ (left_sound fate)
+    refused_left_sound fate (Doing.Resume now) = crashed_sound _ _ (left_sound fate)
+    refused_left_sound fate (Doing.Settle t now) = crashed_sound _ _ (left_sound fate)
+    refused_left_sound fate (Doing.Advance at now) = crashed_sound _ _ (left_sound fate)
+    refused_left_sound fate (Doing.Forget at now) = crashed_sound _ _ (left_sound fate)
+    refused_left_sound fate (Doing.Nudge t now) = crashed_sound _ _ (left_sound fate)
+    refused_left_sound fate Doing.Turn = crashed_sound _ _ (left_sound fate)
 
     pub crashed_in_sound : (L : Type 0) → L → (call : ℕ) (fate : Fate) (doing : Doing) (st : Stepped) →
         SteppedSound L (setup_of config n) (read_log s) st → SoundShard (setup_of config n) (crashed_in s call fate doing st)
     unfolding crashed_in
     crashed_in_sound L allowed call fate doing (Refuses f) e = refused_left_sound fate doing
-    crashed_in_sound L allowed call fate doing (Does None memory out) e = crashed_sound (read_log s) (sound.left (read_log s) read_left)
+    crashed_in_sound L allowed call fate doing (Does None memory out) e =
+        crashed_sound (read_log s) (area_left_in call fate doing s) (sound.left (read_log s) read_left)
     crashed_in_sound L allowed call fate doing (Does (Some r) memory out) e = by_test (is_left call fate)
       where
-        by_test : (b : Bool) → SoundShard (setup_of config n) (crashed s (read_log s ++ cond b (r ∷ []) []))
-        by_test true = crashed_sound (read_log s ++ r ∷ []) (record { memory = memory; sound = e.sound allowed; good = e.good allowed })
-        by_test false = crashed_sound (read_log s ++ []) (subst (SoundLog (setup_of config n)) (sym (append-nil (read_log s)))
+        by_test : (b : Bool) → SoundShard (setup_of config n)
+            (crashed s (read_log s ++ cond b (r ∷ []) []) (with_records (read_area s) (cond b (r ∷ []) [])))
+        by_test true = crashed_sound (read_log s ++ r ∷ []) (with_records (read_area s) (r ∷ [])) (record { memory = memory; sound = e.sound allowed; good = e.good allowed })
+        by_test false = crashed_sound (read_log s ++ []) (with_records (read_area s) []) (subst (SoundLog (setup_of config n)) (sym (append-nil (read_log s)))
             (sound.left (read_log s) read_left))
 
     pub failed_sound : (L : Type 0) → L → (call : ℕ) (r : Record) (memory : Memory) → SoundStep L (setup_of config n) (read_log s ++ r ∷ []) memory →
@@ -279,6 +302,24 @@ module _ (Allowed : Setup → Input → Type 0) (Sound : Setup → Facts → Mem
             let is : r ≡ x.0 = unsure_is (is_read call) (is_left call Fate.New) x.0 x.1 in
             subst (SoundLog (setup_of config n)) (sym x.2) (subst (λ q. SoundLog (setup_of config n) (read_log s ++ q ∷ [])) is
             (record { memory = memory; sound = e.sound allowed; good = e.good allowed }))
+
+    pub turn_failed_sound : (call : ℕ) → SoundShard (setup_of config n) (failed_turn s call)
+    unfolding failed_turn
+    turn_failed_sound call = record { left = by_left; state = by_state s.state }
+      where
+        by_state : (st : State) → SoundState (setup_of config n) (failed_turn s call) (stopped st)
+        by_state (Runs m) = tt
+        by_state (IsStopped m) = tt
+        by_state IsDown = tt
+
+        no_record : (a b : Bool) (q : Record) → IsUnsure (cond a (TurnShown (new_area s)) (cond b (TurnHidden (new_area s)) Nothing)) q → ⊥
+        no_record true b q k = k
+        no_record false true q k = k
+        no_record false false q k = k
+
+        by_left : (log : List Record) → MayLeaveLog (failed_turn s call) log → SoundLog (setup_of config n) log
+        by_left log (inl same) = subst (SoundLog (setup_of config n)) (sym same) (sound.left (read_log s) read_left)
+        by_left log (inr x) = absurd (no_record (is_read_turn call) (is_left_turn call Fate.New) x.0 x.1)
 
   -- ---- a world
 
@@ -311,14 +352,14 @@ module _ (Allowed : Setup → Input → Type 0) (Sound : Setup → Facts → Mem
       refused_sound : (doing : Doing) (f : Fault) → SoundWorld ((refused_doing w n s doing f).0)
       refused_sound Doing.Open f = by_state s.state
         where
-          down : SoundWorld (set_shard n (crashed s (read_log s)) w)
-          down = set_sound n s (crashed s (read_log s)) there (crashed_sound w.config w.bag n s (sound n s there) (read_log s)
+          down : SoundWorld (set_shard n (crashed s (read_log s) (read_area s)) w)
+          down = set_sound n s (crashed s (read_log s) (read_area s)) there (crashed_sound w.config w.bag n s (sound n s there) (read_log s) (read_area s)
               ((sound n s there).left (read_log s) (read_left w.config w.bag n s (sound n s there))))
 
           by_state : (st : State) → SoundWorld ((elim st as (λ x. After) [
             | Runs m ↦ refused w f
             | _ ↦
-                (set_shard n (crashed s (read_log s)) w, Reply.Refused f)
+                (set_shard n (crashed s (read_log s) (read_area s)) w, Reply.Refused f)
           ]).0)
           by_state (Runs m) = sound
           by_state (IsStopped m) = down
@@ -329,6 +370,7 @@ module _ (Allowed : Setup → Input → Type 0) (Sound : Setup → Facts → Mem
       refused_sound (Doing.Advance at now) f = sound
       refused_sound (Doing.Forget at now) f = sound
       refused_sound (Doing.Nudge t now) f = sound
+      refused_sound Doing.Turn f = sound
 
       did_sound : (doing : Doing) → DoingAllowed Allowed (setup_of w.config n) w.bag doing → (st : Stepped) →
           SteppedSound (DoingAllowed Allowed (setup_of w.config n) w.bag doing) (setup_of w.config n) (read_log s) st → SoundWorld ((did w n s doing st).0)
@@ -342,7 +384,12 @@ module _ (Allowed : Setup → Input → Type 0) (Sound : Setup → Facts → Mem
           SoundWorld ((did_with_failure w n s call doing st).0)
       unfolding did_with_failure
       failing_sound call doing allowed (Refuses f) e = did_sound doing allowed (Refuses f) e
-      failing_sound call doing allowed (Does None memory out) e = did_sound doing allowed (Does None memory out) e
+      failing_sound call doing allowed (Does None memory out) e = by_test (turns doing && nat_lt call 5)
+        where
+          by_test : (b : Bool) → SoundWorld ((cond {A = After} b (set_shard n (failed_turn s call) w, Reply.Refused Device)
+              (did w n s doing (Does None memory out))).0)
+          by_test true = set_sound n s (failed_turn s call) there (turn_failed_sound w.config w.bag n s (sound n s there) call)
+          by_test false = did_sound doing allowed (Does None memory out) e
       failing_sound call doing allowed (Does (Some r) memory out) e = by_test (nat_lt call 4)
         where
           by_test : (b : Bool) → SoundWorld ((cond {A = After} b (set_shard n (failed_in s call r) w, Reply.Refused Device)
@@ -401,8 +448,9 @@ module _ (Allowed : Setup → Input → Type 0) (Sound : Setup → Facts → Mem
         at_shard_sound n (λ setup s. look_noted w k at (look_at_view setup (slice_get s.views v) k at))
         (λ s there. untouched ((look_noted w k at (look_at_view (setup_of w.config n) (slice_get s.views v) k at)).0)
         (noted_keeps w k at (look_at_view (setup_of w.config n) (slice_get s.views v) k at)))
-    acts_sound (Act.Crash n) allowed = at_shard_sound n (λ setup s. (set_shard n (crashed s s.log) w, Reply.Crashed))
-        (λ s there. set_sound n s (crashed s s.log) there (crashed_sound w.config w.bag n s (sound n s there) s.log ((sound n s there).left s.log (inl refl))))
+    acts_sound (Act.Crash n) allowed = at_shard_sound n (λ setup s. (set_shard n (crashed s s.log s.area) w, Reply.Crashed))
+        (λ s there. set_sound n s (crashed s s.log s.area) there
+        (crashed_sound w.config w.bag n s (sound n s there) s.log s.area ((sound n s there).left s.log (inl refl))))
     acts_sound (Act.CrashIn n call fate named doing) allowed =
         at_shard_sound n (λ setup s. (set_shard n (crashed_in s call fate doing (effect setup w.bag s doing)) w, Reply.Crashed))
         (λ s there. set_sound n s (crashed_in s call fate doing (effect (setup_of w.config n) w.bag s doing)) there

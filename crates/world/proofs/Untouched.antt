@@ -1,5 +1,5 @@
 -- Sessions and looks touch no shard, and nothing touches the settings.
-use Rattle.std.proofs.Common.{◌≡◌, ℕ, suc, Bool, true, false, cond, nat_lt, List, [], ◌∷◌, Option, Some, None, slice_get, refl, ap, ◌∙◌}
+use Rattle.std.proofs.Common.{◌≡◌, ℕ, suc, Bool, true, false, cond, ◌&&◌, nat_lt, List, [], ◌∷◌, Option, Some, None, slice_get, refl, ap, ◌∙◌}
 use Rattle.units.specs.Keys.{Bytes}
 use Rattle.units.specs.declared.fault.Fault.{Fault}
 use Rattle.units.specs.declared.fault.Fault.TheVariants.{Stranger, Device}
@@ -13,9 +13,9 @@ use Rattle.message.specs.declared.message.ReadAnswer.{ReadAnswer}
 use Rattle.session.specs.Sessions.{Client, Stage, IsOpen, IsClosing, IsOver, Moved, Denies, Goes, reads, buffers, closes, gives_up, finishes}
 use Rattle.protocol.specs.Step.{Stepped, Refuses, Does}
 use Rattle.world.specs.World.{World, After, client_of, put_out, moved, refused, if_open, if_not_over, if_closing, if_hearing, answered, to_session}
-use Rattle.world.specs.World.{look_noted, ShardNow, State, Runs, IsStopped, IsDown, setup_of, read_log, effect, crashed, crashed_in, failed_in}
+use Rattle.world.specs.World.{look_noted, ShardNow, State, Runs, IsStopped, IsDown, setup_of, read_log, read_area, effect, crashed, crashed_in, failed_in}
 use Rattle.world.specs.World.{set_shard, refused_doing, did, did_with_failure, at_shard, do_at, deliver_to, look_shard, look_at_view, acts, happens}
-use Rattle.world.specs.World.{start, run, run_from}
+use Rattle.world.specs.World.{start, run, run_from, failed_turn, turns}
 use Rattle.world.specs.declared.event.Act.{Act}
 use Rattle.world.specs.declared.event.Config.{Config}
 use Rattle.world.specs.declared.event.Doing.{Doing}
@@ -95,7 +95,7 @@ module _ (w : World) where
   refused_settings : (n : ℕ) (s : ShardNow) (doing : Doing) (f : Fault) → Fixed w (refused_doing w n s doing f).0
   refused_settings n s Doing.Open f = by_state s.state
     where
-      by_state : (st : State) → Fixed w ((elim st as (λ x. After) [ Runs m ↦ refused w f | _ ↦ (set_shard n (crashed s (read_log s)) w, Reply.Refused f) ]).0)
+      by_state : (st : State) → Fixed w ((elim st as (λ x. After) [ Runs m ↦ refused w f | _ ↦ (set_shard n (crashed s (read_log s) (read_area s)) w, Reply.Refused f) ]).0)
       by_state (Runs m) = (refl, refl)
       by_state (IsStopped m) = (refl, refl)
       by_state IsDown = (refl, refl)
@@ -105,6 +105,7 @@ module _ (w : World) where
   refused_settings n s (Doing.Advance at now) f = (refl, refl)
   refused_settings n s (Doing.Forget at now) f = (refl, refl)
   refused_settings n s (Doing.Nudge t now) f = (refl, refl)
+  refused_settings n s Doing.Turn f = (refl, refl)
 
   did_settings : (n : ℕ) (s : ShardNow) (doing : Doing) (st : Stepped) → Fixed w (did w n s doing st).0
   unfolding did put_out
@@ -114,7 +115,12 @@ module _ (w : World) where
   failing_settings : (n : ℕ) (s : ShardNow) (call : ℕ) (doing : Doing) (st : Stepped) → Fixed w (did_with_failure w n s call doing st).0
   unfolding did_with_failure
   failing_settings n s call doing (Refuses f) = did_settings n s doing (Refuses f)
-  failing_settings n s call doing (Does None memory out) = did_settings n s doing (Does None memory out)
+  failing_settings n s call doing (Does None memory out) = by_test (turns doing && nat_lt call 5)
+    where
+      by_test : (b : Bool) → Fixed w ((cond {A = After} b (set_shard n (failed_turn s call) w, Reply.Refused Device)
+          (did w n s doing (Does None memory out))).0)
+      by_test true = (refl, refl)
+      by_test false = did_settings n s doing (Does None memory out)
   failing_settings n s call doing (Does (Some r) memory out) = by_test (nat_lt call 4)
     where
       by_test : (b : Bool) → Fixed w ((cond {A = After} b (set_shard n (failed_in s call r) w, Reply.Refused Device)
@@ -156,7 +162,7 @@ module _ (w : World) where
   acts_settings (Act.View n v k at) =
       at_shard_settings n (λ setup s. look_noted w k at (look_at_view setup (slice_get s.views v) k at))
       (λ s. let k = noted_keeps k at (look_at_view (setup_of w.config n) (slice_get s.views v) k at) in (k.1, k.2))
-  acts_settings (Act.Crash n) = at_shard_settings n (λ setup s. (set_shard n (crashed s s.log) w, Reply.Crashed)) (λ s. (refl, refl))
+  acts_settings (Act.Crash n) = at_shard_settings n (λ setup s. (set_shard n (crashed s s.log s.area) w, Reply.Crashed)) (λ s. (refl, refl))
   acts_settings (Act.CrashIn n call fate named doing) =
       at_shard_settings n (λ setup s. (set_shard n (crashed_in s call fate doing (effect setup w.bag s doing)) w, Reply.Crashed)) (λ s. (refl, refl))
   acts_settings (Act.FailIn n call named doing) =

@@ -10,7 +10,7 @@ use Rattle.record.specs.Accepted.{Accepted, taken}
 use Rattle.record.specs.Whole.{is_whole, Resolves}
 use Rattle.record.specs.Lines.{IsLine, is_in_at}
 use Rattle.protocol.specs.Step.{Does}
-use Rattle.world.specs.World.{World, ShardNow, Unsure, Nothing, Shown, Hidden, read_log, effect, setup_of, run}
+use Rattle.world.specs.World.{World, ShardNow, Unsure, Nothing, Shown, Hidden, TurnShown, TurnHidden, read_log, effect, setup_of, run}
 use Rattle.world.specs.Lawful.{lawful}
 use Rattle.record.specs.declared.record.Record.{Record}
 use Rattle.units.specs.declared.line.Line.{Line}
@@ -52,6 +52,8 @@ abbrev pub IsUnsure : Unsure → Record → Type 0
 IsUnsure Nothing r = ⊥
 IsUnsure (Shown q) r = q ≡ r
 IsUnsure (Hidden q) r = q ≡ r
+IsUnsure (TurnShown other) r = ⊥
+IsUnsure (TurnHidden other) r = ⊥
 
 -- what a crash may leave of one shard's log: its records, with an unsure one or without
 abbrev pub MayLeaveLog : ShardNow → List Record → Type 0

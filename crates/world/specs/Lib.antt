@@ -1,4 +1,5 @@
 pub mod Among
+pub mod Areas
 pub mod Comes
 pub mod Computing
 pub mod Counts

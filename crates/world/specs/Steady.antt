@@ -1,11 +1,13 @@
 -- What is known of the shards of a world one by one.
 use Rattle.std.specs.Prelude.{ℕ, ◌≡◌, IsTrue, List, [], ◌∷◌, ◌++◌, slice_get, Some}
 use Rattle.record.specs.Accepted.{Accepted, followed, taken}
+use Rattle.record.specs.Facts.{facts_of}
 use Rattle.record.specs.declared.record.Record.{Record}
 use Rattle.message.specs.declared.message.Envelope.{Envelope}
 use Rattle.protocol.specs.Rows.{Memory}
 use Rattle.protocol.specs.Step.{Does}
-use Rattle.world.specs.World.{World, ShardNow, setup_of, effect, read_log, run}
+use Rattle.renewal.specs.Keeps.{Alike, IsLasting}
+use Rattle.world.specs.World.{World, ShardNow, setup_of, effect, read_area, read_log, run}
 use Rattle.world.specs.Lawful.{lawful}
 use Rattle.world.specs.Headline.{MayLeaveLog}
 use Rattle.world.specs.declared.event.Config.{Config}
@@ -23,3 +25,13 @@ pub record IsSteady (w : World) : Type 0 where
 -- so at every moment of a lawful run
 abbrev pub AlwaysSteady : Type 0
 AlwaysSteady = (config : Config) (es : List Event) → IsTrue (lawful config es) → IsSteady (run config es)
+
+-- an opening takes the area that a read of the disk gives, and it is alike to all records that were logged. What is said may be renewed
+pub record HasAreas (w : World) : Type 0 where
+  pub takes : (n : ℕ) (s : ShardNow) → slice_get w.shards n ≡ Some s → taken (setup_of w.config n) (read_area s).records ≡ Accepted
+  pub alike : (n : ℕ) (s : ShardNow) → slice_get w.shards n ≡ Some s → Alike (facts_of (read_log s)) (facts_of (read_area s).records)
+  pub lasting : (n : ℕ) (s : ShardNow) → slice_get w.shards n ≡ Some s → IsLasting (facts_of (read_log s))
+
+-- so at every moment of a lawful run
+abbrev pub AlwaysHasAreas : Type 0
+AlwaysHasAreas = (config : Config) (es : List Event) → IsTrue (lawful config es) → HasAreas (run config es)

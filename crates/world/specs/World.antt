@@ -2,7 +2,7 @@
 -- session, by a step of a shard, by a crash or by an opening.
 use Rattle.std.specs.List.{list_any}
 use Rattle.std.specs.Prelude.{ℕ, suc, ◌+◌, ◌^◌, Bool, true, false, not, cond, ◌&&◌, nat_eq, nat_lt, nat_le, List, [], ◌∷◌, ◌++◌, length, map}
-use Rattle.std.specs.Prelude.{replicate, slice_get, Option, Some, None, filter, flat_map, option_map, option_to_list}
+use Rattle.std.specs.Prelude.{if◌then◌else◌, replicate, slice_get, Option, Some, None, filter, flat_map, option_map, option_to_list}
 use Rattle.units.specs.Lists.{first, replaced, when}
 use Rattle.units.specs.Ids.{Id, same_id}
 use Rattle.units.specs.Keys.{Bytes, shard_of}
@@ -21,8 +21,10 @@ use Rattle.units.specs.declared.setup.Setup.{Setup}
 use Rattle.units.specs.declared.setup.Book.TheVariants.{Off}
 use Rattle.units.specs.declared.line.Line.{Line}
 use Rattle.record.specs.declared.record.Record.{Record}
-use Rattle.gatelog.specs.Frames.{end_of, next_gate}
-use Rattle.gatelog.specs.Gates.{is_left, is_read, opens_gate}
+use Rattle.gatelog.specs.Frames.{end_from, next_gate}
+use Rattle.gatelog.specs.Gates.{first_gate, is_left, is_read, opens_gate}
+use Rattle.gatelog.specs.declared.frame.TheConstants.{SLOTS}
+use Rattle.renewal.specs.Turned.{turned}
 use Rattle.message.specs.declared.message.Message.{Message}
 use Rattle.message.specs.declared.message.Envelope.{Envelope}
 use Rattle.message.specs.declared.message.Address.TheVariants.{Shard, Session}
@@ -49,15 +51,26 @@ pub data State : Type 0 where
   IsStopped : Memory → State
   IsDown : State
 
--- a record whose append failed: a read of the disk gives it, or gives it not, and a crash may leave it
+-- the area of a file that its log is in: where it begins, the number of the next free slot, and its records
+pub record Area : Type 0 where
+  pub begins : ℕ
+  pub slot : ℕ
+  pub records : List Record
+
+-- A record whose append failed, or an area to which a turnover failed: a read of the disk gives it, or gives it not, and a crash may
+-- leave it
 pub data Unsure : Type 0 where
   Nothing : Unsure
   Shown : Record → Unsure
   Hidden : Record → Unsure
+  TurnShown : Area → Unsure
+  TurnHidden : Area → Unsure
 
--- a shard: the records that are surely on its disk, one that may be, its state and its views
+-- A shard: the records that it surely has logged since it was formatted, the area of its disk that surely keeps what they say, a record or
+-- an area that may be there beside, its state and its views
 pub record ShardNow : Type 0 where
   pub log : List Record
+  pub area : Area
   pub unsure : Unsure
   pub state : State
   pub views : List View
@@ -78,15 +91,42 @@ pub record World : Type 0 where
 abbrev pub setup_of : Config → ℕ → Setup
 setup_of config n = record { shard = n; splits = config.splits; stride = config.stride; book = Off }
 
--- the records that a read of the disk gives
+-- an unsure record that a read of the disk gives
 abbrev pub shown_records : Unsure → List Record
 shown_records Nothing = []
 shown_records (Shown r) = r ∷ []
 shown_records (Hidden r) = []
+shown_records (TurnShown other) = []
+shown_records (TurnHidden other) = []
 
--- a read of the disk
+-- the records logged since the formatting, as a read of the disk tells of them
 abbrev pub read_log : ShardNow → List Record
 read_log s = s.log ++ shown_records s.unsure
+
+-- an area with more records
+abbrev pub with_records : Area → List Record → Area
+with_records area more = record { begins = area.begins; slot = area.slot; records = area.records ++ more }
+
+-- the area that a read of the disk gives
+abbrev pub shown_area : Area → Unsure → Area
+shown_area area Nothing = area
+shown_area area (Shown r) = with_records area (r ∷ [])
+shown_area area (Hidden r) = area
+shown_area area (TurnShown other) = other
+shown_area area (TurnHidden other) = area
+
+-- a read of the disk
+abbrev pub read_area : ShardNow → Area
+read_area s = shown_area s.area s.unsure
+
+-- the offset of the closed gate behind it
+abbrev pub gate_of : Area → ℕ
+gate_of area = end_from area.begins area.records
+
+-- the area that a turnover makes behind that gate, of what all records say
+abbrev pub new_area : ShardNow → Area
+new_area s =
+    record { begins = gate_of (read_area s) + 1; slot = (read_area s).slot + 1; records = turned (facts_of (read_log s)) }
 
 -- the view of a running shard
 abbrev pub view_of : Facts → Memory → View
@@ -105,6 +145,7 @@ input_of bag (Doing.Settle t now) = Some (now, Input.Settle t)
 input_of bag (Doing.Advance at now) = Some (now, Input.Advance at)
 input_of bag (Doing.Nudge t now) = Some (now, Input.Nudge t)
 input_of bag (Doing.Forget at now) = Some (now, Input.Forget at)
+input_of bag Doing.Turn = None
 input_of bag Doing.Open = None
 
 -- the step of a running shard
@@ -112,9 +153,18 @@ abbrev pub step_with : Setup → Facts → Memory → Option (Interval × Input)
 step_with setup facts memory None = Refuses Stopped
 step_with setup facts memory (Some p) = step setup facts memory p.0 p.1
 
--- what a doing asks for: a step of a shard that runs, or an opening of one that does not
+-- a slot is left for an area, and the file may grow by it
+abbrev pub has_place : ℕ → Area → Bool
+has_place slot area = nat_lt slot SLOTS && nat_le (gate_of area + 1) (2 ^ 40)
+
+-- a turnover logs nothing and leaves memory as it is. It has to have a slot and room
+abbrev pub step_of_turnover : ShardNow → Memory → Stepped
+step_of_turnover s m = cond (has_place (read_area s).slot (new_area s)) (Does None m []) (Refuses TimeSpent)
+
+-- what a doing asks for: a step or a turnover of a shard that runs, or an opening of one that does not
 unfoldable pub wanted : Setup → List Envelope → ShardNow → Doing → Stepped
 wanted setup bag s Doing.Open = elim s.state [ Runs m ↦ Refuses Stopped | _ ↦ step_of_opening (facts_of (read_log s)) ]
+wanted setup bag s Doing.Turn = elim s.state [ Runs m ↦ step_of_turnover s m | _ ↦ Refuses Stopped ]
 wanted setup bag s doing =
     elim s.state [ Runs m ↦ step_with setup (facts_of s.log) m (input_of bag doing) | _ ↦ Refuses Stopped ]
 
@@ -130,7 +180,7 @@ where_room gate (Does (Some r) memory out) = cond (has_room gate r) (Does (Some 
 
 -- what a doing comes to: it is done where its record has room
 unfoldable pub effect : Setup → List Envelope → ShardNow → Doing → Stepped
-effect setup bag s doing = where_room (end_of (read_log s)) (wanted setup bag s doing)
+effect setup bag s doing = where_room (gate_of (read_area s)) (wanted setup bag s doing)
 
 -- a view is made by each opening and each accepted advance
 abbrev pub makes_view : Doing → Bool
@@ -142,45 +192,94 @@ makes_view _ = false
 abbrev pub new_view : Doing → List Record → Memory → List View
 new_view doing log memory = cond (makes_view doing) (view_of (facts_of log) memory ∷ []) []
 
--- a doing that is done: its record is on the disk. An opening keeps what a read gave it
+-- a log is turned over by it
+abbrev pub turns : Doing → Bool
+turns Doing.Turn = true
+turns _ = false
+
+-- the area behind a doing that is done: a new one behind a turnover, else that of before, with the record that was logged
+abbrev pub area_behind : ShardNow → Doing → Option Record → Area
+area_behind s doing logged = cond (turns doing) (new_area s) (with_records (read_area s) (option_to_list logged))
+
+-- a doing that is done: its record, or its area, is on the disk. An opening keeps what a read gave it
 unfoldable pub finished : ShardNow → Doing → Option Record → Memory → ShardNow
 finished s doing logged memory =
     let log : List Record = read_log s ++ option_to_list logged in
-    record { log = log; unsure = Nothing; state = Runs memory; views = s.views ++ new_view doing log memory }
+    record { log = log; area = area_behind s doing logged; unsure = Nothing; state = Runs memory; views = s.views ++ new_view doing log memory }
 
 -- a crash leaves an unsure record where its gate is left open
 abbrev pub left_of : Fate → Unsure → List Record
 left_of fate Nothing = []
 left_of fate (Shown r) = cond (opens_gate fate) (r ∷ []) []
 left_of fate (Hidden r) = cond (opens_gate fate) (r ∷ []) []
+left_of fate (TurnShown other) = []
+left_of fate (TurnHidden other) = []
 
--- a shard that crashed, with the records that are left
-abbrev pub crashed : ShardNow → List Record → ShardNow
-crashed s log = record { log = log; unsure = Nothing; state = IsDown; views = s.views }
+-- and an unsure area where its slot is left open
+abbrev pub left_area_of : Fate → Area → Unsure → Area
+left_area_of fate area Nothing = area
+left_area_of fate area (Shown r) = with_records area (left_of fate (Shown r))
+left_area_of fate area (Hidden r) = with_records area (left_of fate (Hidden r))
+left_area_of fate area (TurnShown other) = cond (opens_gate fate) other area
+left_area_of fate area (TurnHidden other) = cond (opens_gate fate) other area
+
+-- what a crash leaves of a shard's records since the formatting, and of its area
+abbrev pub left_log : Fate → ShardNow → List Record
+left_log fate s = s.log ++ left_of fate s.unsure
+
+abbrev pub left_area : Fate → ShardNow → Area
+left_area fate s = left_area_of fate s.area s.unsure
+
+-- a shard that crashed, with the records and the area that are left
+abbrev pub crashed : ShardNow → List Record → Area → ShardNow
+crashed s log area = record { log = log; area = area; unsure = Nothing; state = IsDown; views = s.views }
 
 -- what a refused doing leaves for a crash: an opening has synced what it read, other doings made no call
-abbrev pub left_by_refused : ShardNow → Fate → Doing → List Record
-left_by_refused s fate Doing.Open = read_log s
-left_by_refused s fate doing = s.log ++ left_of fate s.unsure
+abbrev pub left_by_refused : ShardNow → Fate → Doing → ShardNow
+left_by_refused s fate Doing.Open = crashed s (read_log s) (read_area s)
+left_by_refused s fate doing = crashed s (left_log fate s) (left_area fate s)
+
+-- a read gives the new area, where this call of a turnover fails
+abbrev pub is_read_turn : ℕ → Bool
+is_read_turn call = nat_le 4 call
+
+-- a crash leaves the new area, where this call fails and the oldest change that is not synced has this fate
+abbrev pub is_left_turn : ℕ → Fate → Bool
+is_left_turn call fate = if nat_le call 2 then false else (if nat_le call 4 then opens_gate fate else true)
+
+-- what a crash leaves of the area in a call of a doing that logs nothing: in that of a turnover the new one, where its slot is left open
+abbrev pub area_left_in : ℕ → Fate → Doing → ShardNow → Area
+area_left_in call fate doing s = cond (turns doing && is_left_turn call fate) (new_area s) (read_area s)
 
 -- a crash in a call of a doing
 unfoldable pub crashed_in : ShardNow → ℕ → Fate → Doing → Stepped → ShardNow
-crashed_in s call fate doing (Refuses f) = crashed s (left_by_refused s fate doing)
-crashed_in s call fate doing (Does None memory out) = crashed s (read_log s)
-crashed_in s call fate doing (Does (Some r) memory out) = crashed s (read_log s ++ cond (is_left call fate) (r ∷ []) [])
+crashed_in s call fate doing (Refuses f) = left_by_refused s fate doing
+crashed_in s call fate doing (Does None memory out) = crashed s (read_log s) (area_left_in call fate doing s)
+crashed_in s call fate doing (Does (Some r) memory out) =
+    let more : List Record = cond (is_left call fate) (r ∷ []) [] in crashed s (read_log s ++ more) (with_records (read_area s) more)
 
 -- what a failing call leaves of the record: it is hidden behind a gate that was not written, or shown and not synced
 abbrev pub left_unsure : ℕ → Record → Unsure
 left_unsure call r = cond (is_read call) (Shown r) (cond (is_left call Fate.New) (Hidden r) Nothing)
+
+-- and what one of a turnover leaves of its area
+abbrev pub turn_unsure : ℕ → Area → Unsure
+turn_unsure call other = cond (is_read_turn call) (TurnShown other) (cond (is_left_turn call Fate.New) (TurnHidden other) Nothing)
 
 -- a shard whose device failed is stopped with the memory that it had; an opening that fails leaves it down
 abbrev pub stopped : State → State
 stopped (Runs m) = IsStopped m
 stopped _ = IsDown
 
--- a shard whose call of that number failed
+-- a shard whose call of that number failed in the append of a record
 unfoldable pub failed_in : ShardNow → ℕ → Record → ShardNow
-failed_in s call r = record { log = read_log s; unsure = left_unsure call r; state = stopped s.state; views = s.views }
+failed_in s call r =
+    record { log = read_log s; area = read_area s; unsure = left_unsure call r; state = stopped s.state; views = s.views }
+
+-- or in a turnover
+unfoldable pub failed_turn : ShardNow → ℕ → ShardNow
+failed_turn s call =
+    record { log = read_log s; area = read_area s; unsure = turn_unsure call (new_area s); state = stopped s.state; views = s.views }
 
 -- a look at what a view shows: the key belongs here, and the time is not forgotten, and is served
 abbrev pub look_view : Setup → View → Bytes → ℕ → Reply
@@ -286,7 +385,8 @@ to_session w _ = refused w Stranger
 
 -- a refused doing leaves all as it was; but a refused opening leaves the shard down, and has synced what it read
 abbrev pub refused_doing : World → ℕ → ShardNow → Doing → Fault → After
-refused_doing w n s Doing.Open f = elim s.state [ Runs m ↦ refused w f | _ ↦ (set_shard n (crashed s (read_log s)) w, Reply.Refused f) ]
+refused_doing w n s Doing.Open f =
+    elim s.state [ Runs m ↦ refused w f | _ ↦ (set_shard n (crashed s (read_log s) (read_area s)) w, Reply.Refused f) ]
 refused_doing w n s doing f = refused w f
 
 -- a shard's doing is done
@@ -296,9 +396,11 @@ did w n s doing (Does logged memory out) = (put_out out (set_shard n (finished s
 
 -- a call of it fails; where it makes no such call it is done
 unfoldable pub did_with_failure : World → ℕ → ShardNow → ℕ → Doing → Stepped → After
+did_with_failure w n s call doing (Refuses f) = did w n s doing (Refuses f)
+did_with_failure w n s call doing (Does None memory out) =
+    cond (turns doing && nat_lt call 5) (set_shard n (failed_turn s call) w, Reply.Refused Device) (did w n s doing (Does None memory out))
 did_with_failure w n s call doing (Does (Some r) memory out) =
     cond (nat_lt call 4) (set_shard n (failed_in s call r) w, Reply.Refused Device) (did w n s doing (Does (Some r) memory out))
-did_with_failure w n s call doing stepped = did w n s doing stepped
 
 -- an event at a shard that exists
 abbrev pub at_shard : World → ℕ → (Setup → ShardNow → After) → After
@@ -338,7 +440,7 @@ acts w (Act.Deliver m now) = deliver_to w m now (slice_get w.bag m)
 acts w (Act.At n doing) = do_at w n doing
 acts w (Act.Look n k at) = at_shard w n (λ setup s. look_noted w k at (look_shard setup s k at))
 acts w (Act.View n v k at) = at_shard w n (λ setup s. look_noted w k at (look_at_view setup (slice_get s.views v) k at))
-acts w (Act.Crash n) = at_shard w n (λ setup s. (set_shard n (crashed s s.log) w, Reply.Crashed))
+acts w (Act.Crash n) = at_shard w n (λ setup s. (set_shard n (crashed s s.log s.area) w, Reply.Crashed))
 acts w (Act.CrashIn n call fate named doing) =
     at_shard w n (λ setup s. (set_shard n (crashed_in s call fate doing (effect setup w.bag s doing)) w, Reply.Crashed))
 acts w (Act.FailIn n call named doing) =
@@ -356,11 +458,15 @@ happens w e = let after : After = acts w e.act in (ticked after.0 e.time, after.
 abbrev pub fresh_log : List Record
 fresh_log = Record.Opened 1 ∷ []
 
+-- its area, the first of its file
+abbrev pub fresh_area : Area
+fresh_area = record { begins = first_gate; slot = 0; records = fresh_log }
+
 -- its shard, with its first view
 abbrev pub fresh_shard : ShardNow
 fresh_shard =
     let memory : Memory = rebuilt (facts_of fresh_log) in
-    record { log = fresh_log; unsure = Nothing; state = Runs memory; views = view_of (facts_of fresh_log) memory ∷ [] }
+    record { log = fresh_log; area = fresh_area; unsure = Nothing; state = Runs memory; views = view_of (facts_of fresh_log) memory ∷ [] }
 
 -- the world before the first event
 unfoldable pub start : Config → World
@@ -393,9 +499,13 @@ replies_from w (e ∷ es) = let after : After = happens w e in after.1 ∷ repli
 unfoldable pub replies_of_run : Config → List Event → List Reply
 replies_of_run config es = replies_from (start config) es
 
--- the logs as reads of the disks give them
+-- all records logged since the formatting, as reads of the disks tell of them
 unfoldable pub logs_of : World → List (List Record)
 logs_of w = map read_log w.shards
+
+-- the logs that reads of the disks give
+unfoldable pub areas_of : World → List (List Record)
+areas_of w = map (λ s. (read_area s).records) w.shards
 
 -- the lines of the report: an answered read counts where its transaction committed
 abbrev pub line_counts : List Txn → Line → Bool

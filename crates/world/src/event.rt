@@ -20,6 +20,8 @@ pub enum Doing {
     Nudge(TxnId, Reading),
     /// A horizon: no value below it is read any more.
     Forget(Stamp, Reading),
+    /// Its log is turned over in its file.
+    Turn,
     Open,
 }
 

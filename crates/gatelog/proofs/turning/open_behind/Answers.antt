@@ -1,4 +1,4 @@
-use Rattle.std.proofs.Common.{◌≡◌, ◌⊎◌, inl, inr, ◌+◌, ℕ, List, [], ◌∷◌, length, ◌∙◌, subst, ap, arith}
+use Rattle.std.proofs.Common.{◌⊎◌, inl, inr, ◌+◌, ℕ, List, [], ◌∷◌, length, ◌∙◌, subst, ap, arith}
 use Rattle.units.specs.declared.fault.Fault.{Fault}
 use Rattle.disk.specs.declared.plan.FailurePlan.{FailurePlan}
 use Rattle.disk.specs.Image.{Surface, MayLeave, tried_write, after_write, after_sync}

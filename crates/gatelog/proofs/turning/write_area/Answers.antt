@@ -7,7 +7,6 @@ use Rattle.disk.specs.File.{surface}
 use Rattle.disk.specs.Planned.{fails, at_write}
 use Rattle.disk.proofs.Runs.{one_call, weaker, and_then, tried_write_more}
 use Rattle.gatelog.specs.Crash.{IsOldOrNew}
-use Rattle.gatelog.specs.Areas.{area_bytes}
 use Rattle.gatelog.specs.Slots.{offset_bytes}
 use Rattle.gatelog.proofs.Armed.{planned_ok, planned_err, on_map}
 use Rattle.gatelog.proofs.Turned.{may-turn, within-file, while-first, mid-area, slot-inside, while-last, is-done, change-is, failed-first, went-on, armed-turn}
@@ -35,7 +34,7 @@ returns-in_err-write_at-clause-any_moment g c keeps =
     let P : List ℕ → Type 0 = MayLeave (tried_write at (length bytes) file) in
     let run = one_call g.D.Disk.file g.D.Disk.clock g.D.Disk.since g.D.Disk.failures old new P c.write_at.ensures.time
     (g.met.D.Disk.only_now old) (tried_write_more at (length bytes) file) (c.write_at.ensures.crash keeps) in
-    weaker g.D.Disk.clock g.D.Disk.since old new P (IsOldOrNew file.seen s.gate s.items) run
+    weaker g.D.Disk.clock g.D.Disk.since old new P (IsOldOrNew file.seen s.gate s.slot s.items) run
     (while-first file may.0 s.gate s.slot s.items may.1 at bytes (omega (arith, c.gate-gate.ensures.gate)) c.bytes.ensures.bytes)
 
 pub returns-in_err-write_at-clause-planned : goal.returns-in_err-write_at-clause-planned
@@ -98,7 +97,7 @@ returns-clause-any_moment g c keeps =
     let P : List ℕ → Type 0 = MayLeave (tried_write at (length bytes) file) in
     let run = one_call g.D.Disk.file g.D.Disk.clock g.D.Disk.since g.D.Disk.failures old mid P c.write_at.ensures.time
     (g.met.D.Disk.only_now old) (tried_write_more at (length bytes) file) (c.write_at.ensures.crash keeps) in
-    and_then g.D.Disk.clock g.D.Disk.since old mid c.open_behind.new.disk P _ (IsOldOrNew file.seen s.gate s.items) run (c.open_behind.ensures.any_moment keeps)
+    and_then g.D.Disk.clock g.D.Disk.since old mid c.open_behind.new.disk P _ (IsOldOrNew file.seen s.gate s.slot s.items) run (c.open_behind.ensures.any_moment keeps)
     (while-first file may.0 s.gate s.slot s.items may.1 at bytes at-is c.bytes.ensures.bytes)
     (while-last file may.0 s.gate s.slot s.items may.1 (surface (g.D.Disk.file mid)) (8 + 9 * c.slot-slot.result) c.write_u64.new.buf
     (mid-area file may.0 s.gate s.slot s.items may.1 at bytes at-is c.bytes.ensures.bytes (surface (g.D.Disk.file mid)) (c.in_ok-write_at.ensures.written keeps))

@@ -10,10 +10,11 @@ pub returns-in-Ok : goal.returns-in-Ok
 returns-in-Ok c =
     does_input (seen c.args.core.now) (seen c.arm-in-Ok.new.self) c.args.bag.now c.args.call c.args.doing.now _ _ c.on-result.result c.requires
     c.in-Ok.ensures.found
-    (takes_input (seen c.args.core.now) (seen c.arm.new.self) (seen c.on-result.new.self) (seen c.arm-in-Ok.new.self) c.args.call
+    (takes_input (seen c.args.core.now) (seen c.arm.new.self) (seen c.on-result.new.self) (seen c.arm-in-Ok.new.self) c.args.call c.args.doing.now c.requires
     (record {
       plan = c.arm.ensures.plan tt;
       gate = c.arm.ensures.log.0;
+      slot = c.arm.ensures.slot;
       stopped = c.arm.ensures.log.1;
       setup = c.arm.ensures.state.0;
       facts = c.arm.ensures.state.1;
@@ -23,6 +24,7 @@ returns-in-Ok c =
     (record {
       plan = c.arm-in-Ok.ensures.plan tt;
       gate = c.arm-in-Ok.ensures.log.0;
+      slot = c.arm-in-Ok.ensures.slot;
       stopped = c.arm-in-Ok.ensures.log.1;
       setup = c.arm-in-Ok.ensures.state.0;
       facts = c.arm-in-Ok.ensures.state.1;

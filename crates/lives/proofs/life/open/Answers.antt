@@ -1,9 +1,10 @@
-use Rattle.std.proofs.Common.{inl, sym, ap, subst, Ok, Err}
+use Rattle.std.proofs.Common.{[], inl, sym, ap, subst, Ok, Err}
 use Rattle.shard.specs.Core.{seen}
 use Rattle.lives.specs.Lives.{LivesAs}
-use Rattle.lives.specs.Carries.{Comes, OpensDisk, opened_by, opens_as}
+use Rattle.world.specs.declared.event.Doing.{Doing}
+use Rattle.lives.specs.Carries.{Comes, IsOpened, OpensDisk, opened_by, opens_as}
 use Rattle.lives.specs.declared.life.Life.TheVariants.{Up, Down}
-use Rattle.lives.proofs.Opening.{not_opened, opened}
+use Rattle.lives.proofs.Opening.{not_opened, opened, with_more}
 use Rattle.lives.proofs.life.open.Goals as goal
 
 pub returns-in-Err : goal.returns-in-Err
@@ -12,25 +13,29 @@ returns-in-Err c s h down taken = inl (ap (λ x. Err x) c.in-Err.ensures.memory)
 pub returns-in-Ok-open : goal.returns-in-Ok-open
 returns-in-Ok-open c =
     subst (λ t. OpensDisk c.args.disk t c.args.call (Up c.arm-in-Ok-open.new.self) (Ok c.none.result)) c.in-Ok.ensures.same
-    (λ s h down taken.
-    subst (λ o. Comes c.args.call (opens_as s) (Ok o) (LivesAs c.in-Ok.told (opened_by s c.args.call) (Up c.arm-in-Ok-open.new.self))) (sym c.none.ensures)
-    (opened c.args.disk c.arm.new.self c.args.call (c.arm.ensures.plan tt) c.arm.ensures.same c.in-Ok.told s h down taken (seen c.in-Ok-open.core)
+    (λ s h down order.
+    subst (λ o. Comes c.args.call Doing.Open (opens_as s) (Ok o)
+    (LivesAs c.in-Ok.told (opened_by s c.args.call) (Up c.arm-in-Ok-open.new.self) × IsOpened (Ok o) (Up c.arm-in-Ok-open.new.self))) (sym c.none.ensures)
+    (with_more c.args.call Doing.Open (opens_as s) (Ok []) tt
+    (opened c.args.disk c.arm.new.self c.args.call (c.arm.ensures.plan tt) c.arm.ensures.same c.in-Ok.told s h down order (seen c.in-Ok-open.core)
     (seen c.arm-in-Ok-open.new.self)
     (record {
       plan = c.arm-in-Ok-open.ensures.plan tt;
       gate = c.arm-in-Ok-open.ensures.log.0;
+      slot = c.arm-in-Ok-open.ensures.slot;
       stopped = c.arm-in-Ok-open.ensures.log.1;
       setup = c.arm-in-Ok-open.ensures.state.0;
       facts = c.arm-in-Ok-open.ensures.state.1;
       memory = c.arm-in-Ok-open.ensures.state.2;
       file = c.arm-in-Ok-open.ensures.file.0;
     })
-    c.in-Ok-open.ensures.opened))
+    c.in-Ok-open.ensures.opened)))
 
 pub returns-in-Err-open : goal.returns-in-Err-open
 returns-in-Err-open c =
     subst (λ t. OpensDisk c.args.disk t c.args.call (Down c.arm-in-Err-open.new.self) (Err c.in-Err-open.fault)) c.in-Ok.ensures.same
-    (λ s h down taken.
-    not_opened c.args.disk c.arm.new.self c.args.call
-    (c.arm.ensures.plan tt) c.arm.ensures.same c.in-Ok.told s h down taken c.in-Err-open.fault c.in-Err-open.back
-    c.arm-in-Err-open.new.self (c.arm-in-Err-open.ensures.plan tt) c.arm-in-Err-open.ensures.same c.in-Err-open.ensures.refused)
+    (λ s h down order.
+    with_more c.args.call Doing.Open (opens_as s) (Err c.in-Err-open.fault) tt
+    (not_opened c.args.disk c.arm.new.self c.args.call
+    (c.arm.ensures.plan tt) c.arm.ensures.same c.in-Ok.told s h down order c.in-Err-open.fault c.in-Err-open.back
+    c.arm-in-Err-open.new.self (c.arm-in-Err-open.ensures.plan tt) c.arm-in-Err-open.ensures.same c.in-Err-open.ensures.refused))

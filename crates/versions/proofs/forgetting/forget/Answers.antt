@@ -1,4 +1,4 @@
-use Rattle.std.proofs.Common.{◌≡◌, ◌∙◌, ◌≤◌, ◌<◌, ◌+◌, ◌++◌, ℕ, false, true, List, get_or, length, take, drop, set, sym, ap, subst, arith}
+use Rattle.std.proofs.Common.{◌≡◌, ◌∙◌, ◌<◌, ◌+◌, ◌++◌, ℕ, false, true, List, get_or, length, take, drop, set, sym, ap, subst, arith}
 use Rattle.std.proofs.lemmas.List.{length-set, length-take}
 use Rattle.units.specs.declared.writes.Install.{Install}
 use Rattle.versions.specs.Arranged.{arranged, no_install, AreWithin}

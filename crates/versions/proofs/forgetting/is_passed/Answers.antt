@@ -1,10 +1,6 @@
-use Rattle.std.proofs.Common.{◌≡◌, ◌∙◌, ◌&&◌, ◌+◌, ◌<◌, nat_le, nat_cmp, is_le, ℕ, Bool, false, get_or, length, drop, sym, ap, arith}
+use Rattle.std.proofs.Common.{◌≡◌, ◌∙◌, ◌&&◌, ◌+◌, ◌<◌, nat_le, nat_cmp, is_le, ℕ, get_or, length, sym, ap, arith}
 use Rattle.std.proofs.lemmas.Bool.Decides.{nat_tests}
-use Rattle.units.specs.Keys.{same_key}
-use Rattle.units.specs.declared.writes.Install.{Install}
 use Rattle.versions.specs.Arranged.{arranged, no_install}
-use Rattle.versions.specs.Ordered.{is_by}
-use Rattle.versions.specs.Pruned.{is_passed}
 use Rattle.versions.proofs.Arranged.{arranged_at, length_arranged}
 use Rattle.versions.proofs.Passed.{passed_by_next}
 use Rattle.versions.proofs.forgetting.is_passed.Goals as goal

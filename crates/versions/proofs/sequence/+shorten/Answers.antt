@@ -1,7 +1,7 @@
-use Rattle.std.proofs.Common.{◌≡◌, ◌∙◌, ◌∷◌, ◌++◌, ◌-◌, List, take, ap, sym, subst, arith}
+use Rattle.std.proofs.Common.{◌∙◌, ◌∷◌, ◌++◌, List, take, ap, sym, subst}
 use Rattle.versions.specs.declared.chunk.Spot.{Spot}
 use Rattle.versions.specs.Pieces.{joined, IsLaid}
-use Rattle.versions.proofs.Shorter.{shorter_joined, shorter_filled, take_nil}
+use Rattle.versions.proofs.Shorter.{shorter_joined}
 use Rattle.versions.proofs.sequence.+shorten.Goals as goal
 
 pub returns-clause-spots : goal.returns-clause-spots

@@ -1,4 +1,4 @@
-use Rattle.std.proofs.Common.{◌≡◌, ◌+◌, ◌-◌, ◌≤◌, ◌<◌, arith}
+use Rattle.std.proofs.Common.{◌+◌, ◌-◌, ◌≤◌, ◌<◌, arith}
 use Rattle.std.proofs.lemmas.Bool.{leb-true}
 use Rattle.gatelog.proofs.NewAreas.{over, frames-size}
 use Rattle.gatelog.proofs.area.Area.has_place.Goals as goal

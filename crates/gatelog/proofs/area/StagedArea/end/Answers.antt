@@ -1,6 +1,5 @@
-use Rattle.std.proofs.Common.{◌≡◌, ◌+◌, ◌<◌, ◌^◌, ◌∙◌, length, reverse, ap, arith}
+use Rattle.std.proofs.Common.{◌≡◌, ◌+◌, ◌∙◌, length, reverse, ap, arith}
 use Rattle.gatelog.specs.Frames.{end_from}
-use Rattle.gatelog.specs.Areas.{area_bytes}
 use Rattle.gatelog.specs.Turns.{NewArea}
 use Rattle.gatelog.proofs.Fresh.{area-size}
 use Rattle.gatelog.proofs.area.StagedArea.end.Goals as goal

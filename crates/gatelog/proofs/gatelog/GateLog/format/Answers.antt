@@ -8,10 +8,10 @@ use Rattle.gatelog.specs.Frames.{header}
 use Rattle.gatelog.specs.Areas.{without_header, fresh_with}
 use Rattle.gatelog.specs.Laid.{HoldsBehind, HasNoneOr}
 use Rattle.gatelog.specs.Log.{log, entries_of, ends_with, ends_at}
-use Rattle.gatelog.specs.Slots.{begins_in, begins_at}
+use Rattle.gatelog.specs.Slots.{begins_in}
 use Rattle.gatelog.specs.Turns.{IsNextOrNone}
-use Rattle.gatelog.proofs.Next.{fresh-next}
-use Rattle.gatelog.proofs.Fresh.{scan-fresh, area-fresh, none-or-log}
+use Rattle.gatelog.proofs.Next.{fresh-next, fresh-begins}
+use Rattle.gatelog.proofs.Fresh.{scan-fresh, none-or-log}
 use Rattle.gatelog.proofs.gatelog.GateLog.format.Goals as goal
 
 -- without its header, a file without records is 9,225 bytes of 00
@@ -48,7 +48,7 @@ pub returns-clause-begins : goal.returns-clause-begins
 returns-clause-begins g c keeps image may =
     let done = c.in_default.ensures.done keeps in
     let left = subst (λ d. MayLeave (surface (g.D.Disk.file d)) image) c.laid.ensures.disk may in
-    ap begins_in (left.unchanged done.1.synced ∙ (done.0 ∙ fresh-is)) ∙ ap begins_at (area-fresh [])
+    ap begins_in (left.unchanged done.1.synced ∙ (done.0 ∙ fresh-is)) ∙ fresh-begins []
 
 pub returns-clause-laid : goal.returns-clause-laid
 returns-clause-laid g c keeps =

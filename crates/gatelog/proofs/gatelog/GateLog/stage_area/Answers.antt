@@ -1,4 +1,4 @@
-use Rattle.std.proofs.Common.{◌≡◌, ◌+◌, [], ◌∷◌, length, flat_map, arith}
+use Rattle.std.proofs.Common.{◌+◌, [], ◌∷◌, length, flat_map, arith}
 use Rattle.std.proofs.lemmas.List.{length-append}
 use Rattle.gatelog.specs.Areas.{area_bytes, whole_frame}
 use Rattle.gatelog.proofs.Armed.{on_any}

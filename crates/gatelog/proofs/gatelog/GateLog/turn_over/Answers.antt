@@ -1,11 +1,10 @@
-use Rattle.std.proofs.Common.{◌≡◌, ◌+◌, ◌∙◌, ℕ, refl, sym, subst, ap, arith}
+use Rattle.std.proofs.Common.{◌+◌, ◌∙◌, ℕ, refl, sym, subst, ap, arith}
 use Rattle.std.specs.Prelude.{IsTrue, nat_lt}
 use Rattle.disk.specs.File.{surface}
 use Rattle.gatelog.specs.Log.{log, entries_of, ends_at}
 use Rattle.gatelog.specs.Slots.{begins_in}
 use Rattle.gatelog.specs.Turns.{IsNextOrNone}
 use Rattle.gatelog.proofs.Armed.{planned_err, as_err}
-use Rattle.gatelog.proofs.NewAreas.{begins-new}
 use Rattle.gatelog.proofs.gatelog.GateLog.turn_over.Goals as goal
 
 pub invariant_of-self : goal.invariant_of-self
@@ -21,16 +20,15 @@ invariant_of-self g c =
 pub returns-in-Ok-clause-durable : goal.returns-in-Ok-clause-durable
 returns-in-Ok-clause-durable g c keeps image left =
     let done = c.in-Ok.ensures.done keeps in
-    ap log (left.unchanged done.0.synced) ∙ ap entries_of done.3
+    ap log (left.unchanged done.0.synced) ∙ ap entries_of done.3.read
 
 pub returns-in-Ok-clause-read : goal.returns-in-Ok-clause-read
-returns-in-Ok-clause-read g c keeps = ap entries_of (c.in-Ok.ensures.done keeps).3
+returns-in-Ok-clause-read g c keeps = ap entries_of (c.in-Ok.ensures.done keeps).3.read
 
 pub returns-in-Ok-clause-begins : goal.returns-in-Ok-clause-begins
 returns-in-Ok-clause-begins g c keeps image left =
     let done = c.in-Ok.ensures.done keeps in
-    ap begins_in (left.unchanged done.0.synced)
-    ∙ begins-new (surface (g.D.Disk.file c.write_area.new.disk)).seen (c.args.staged.gate + 1) c.args.staged.items done.3
+    ap begins_in (left.unchanged done.0.synced) ∙ done.3.begins
 
 pub returns-in-Err-clause-read_either : goal.returns-in-Err-clause-read_either
 returns-in-Err-clause-read_either g c running keeps =

@@ -1,8 +1,9 @@
-use Rattle.std.proofs.Common.{◌≡◌, true, ℕ, List, length, max, sym, ap, subst, ◌∙◌}
+use Rattle.std.proofs.Common.{◌≡◌, true, List, [], length, max, sym, ap, subst, ◌∙◌}
 use Rattle.units.specs.declared.writes.Install.{Install}
 use Rattle.record.specs.Facts.{Facts}
 use Rattle.versions.specs.Orders.{Orders}
 use Rattle.record.specs.declared.record.Record.{Record}
+use Rattle.protocol.specs.Showable.{rises_by_key}
 use Rattle.facts.specs.Known.{Known}
 use Rattle.facts.specs.Stages.{follows_next, stage_after}
 use Rattle.facts.specs.declared.stage.Stage.{Stage}
@@ -33,4 +34,6 @@ invariant_of-self c =
           (subst (λ (g : Facts). head_ascends (stage_after c.self.inside.facts.stage (Record.Horizon c.args.at)) g.installs ≡ true)
           (sym c.learn_next.ensures.facts)
           (still_rising c.self.inside.facts.shard c.self.inside.facts.stage f (Record.Horizon c.args.at) c.self.invariant.1 may)),
+      subst (λ (t : List Install). rises_by_key [] t ≡ true)
+          (sym (ap (λ (g : Facts). g.installs) c.learn_next.ensures.facts ∙ forgotten_installs f c.args.at)) c.self.invariant.2,
     )

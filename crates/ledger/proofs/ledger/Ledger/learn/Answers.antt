@@ -1,12 +1,13 @@
-use Rattle.std.proofs.Common.{◌≡◌, ◌∙◌, ◌≤◌, ℕ, true, List, length, min, ◌/◌, sym, ap, subst, arith}
+use Rattle.std.proofs.Common.{◌≡◌, ◌∙◌, ◌≤◌, ℕ, true, List, [], length, min, ◌/◌, sym, ap, subst, arith}
 use Rattle.units.specs.declared.writes.Install.{Install}
 use Rattle.record.specs.Facts.{Facts, learn}
+use Rattle.protocol.specs.Showable.{rises_by_key}
 use Rattle.facts.specs.Known.{Known}
 use Rattle.versions.specs.Orders.{Orders, AreBehind}
 use Rattle.facts.specs.Stages.{follows_next, stage_after}
 use Rattle.facts.specs.declared.stage.Stage.{Stage}
 use Rattle.ledger.specs.Ledger.{writes_given, CanInstall, head_ascends}
-use Rattle.ledger.proofs.Learns.{Installs, installs, still_rising, still_orders, risen_orders, are_behind, as_many_more, is_up}
+use Rattle.ledger.proofs.Learns.{Installs, installs, still_rising, still_orders, risen_orders, are_behind, as_many_more, is_up, still_rise}
 use Rattle.ledger.proofs.ledger.Ledger.learn.Goals as goal
 
 pub follow-requires-clause-known : goal.follow-requires-clause-known
@@ -83,4 +84,6 @@ invariant_of-self c =
       subst (λ (s : Stage). head_ascends s c.learn_next.new.self.facts.installs ≡ true) (sym c.learn_next.ensures.stage)
           (subst (λ (g : Facts). head_ascends (stage_after c.self.inside.facts.stage c.args.item) g.installs ≡ true) (sym c.learn_next.ensures.facts)
           (still_rising c.self.inside.facts.shard c.self.inside.facts.stage f c.args.item c.self.invariant.1 may)),
+      subst (λ (g : Facts). rises_by_key [] g.installs ≡ true) (sym c.learn_next.ensures.facts)
+          (still_rise f c.args.item new c.self.invariant.2 (subst (λ (k : Known). is_up k.facts c.args.item ≡ true) (sym c.self.view_is) c.ascend.ensures.up)),
     )

@@ -6,21 +6,23 @@ use Rattle.disk.specs.File.{surface}
 use Rattle.gatelog.specs.Shown.{disk_of, gate_at}
 use Rattle.shard.specs.Armed.{FailsIn}
 use Rattle.shard.specs.Logs.{records_in}
-use Rattle.shard.proofs.Agrees.{agrees_kept}
-use Rattle.shard.proofs.Openings.{first-learnt, first-sound}
+use Rattle.shard.proofs.Agrees.{agrees_kept, known-logged}
+use Rattle.renewal.specs.Keeps.{IsLasting}
+use Rattle.shard.proofs.Openings.{first-lasting, first-learnt, first-sound}
 use Rattle.shard.proofs.Showable.{as-showable}
 use Rattle.shard.proofs.machine.Machine.begin.Goals as goal
 
 pub invariant_of-result : goal.invariant_of-result
 invariant_of-result g c = record {
   agrees = λ keeps.
-      ∣ agrees_kept _ _ _ c.in-Ok.state.facts c.in-Ok-append_record.ensures.running.1 (c.in-Ok-append_record.ensures.durable keeps) (
+      ∣ agrees_kept _ _ _ c.in-Ok.state.facts c.in-Ok-append_record.ensures.running.1 (c.in-Ok-append_record.ensures.durable keeps) (known-logged _ _ (
       ap (λ records. facts_logged (and_logged records (Some (Record.Opened c.first.result)))) (c.requires.empty keeps)
       ∙ ap (λ n. facts_logged (and_logged (Ok []) (Some (Record.Opened n)))) c.first.ensures
-      ∙ first-learnt ∙ ap (λ (f : Facts). Some f) (sym c.in-Ok.ensures.facts)) ∣₁;
+      ∙ first-learnt ∙ ap (λ (f : Facts). Some f) (sym c.in-Ok.ensures.facts))) ∣₁;
   sound = ∣ first-sound c.args.setup c.in-Ok.state.setup c.in-Ok.state.facts c.in-Ok.state.memory c.fresh_is_sound.ensures c.in-Ok.ensures.setup
       c.in-Ok.ensures.facts c.in-Ok.ensures.empty ∣₁;
   showable = as-showable c.in-Ok.state.facts _ c.in-Ok.state.memory _ c.in-Ok.ensures.facts c.in-Ok.ensures.empty c.fresh_is_showable.ensures;
+  lasting = ∣ subst IsLasting (sym c.in-Ok.ensures.facts) first-lasting ∣₁;
 }
 
 pub returns-in-Err-append_record-clause-refused : goal.returns-in-Err-append_record-clause-refused

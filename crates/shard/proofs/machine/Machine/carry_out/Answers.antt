@@ -1,5 +1,6 @@
 use Rattle.std.proofs.Common.{◌≡◌, ◌∙◌, Option, Some, None, refl, sym, ap, subst}
-use Rattle.record.specs.Facts.{Facts}
+use Rattle.std.proofs.Math.Logic.{∥∥₁_map}
+use Rattle.record.specs.Facts.{learn}
 use Rattle.record.specs.declared.record.Record.{Record}
 use Rattle.protocol.specs.Plan.{carried}
 use Rattle.protocol.specs.Step.{facts_after}
@@ -8,8 +9,9 @@ use Rattle.memory.specs.Plans.{plan_of}
 use Rattle.disk.specs.File.{surface}
 use Rattle.gatelog.specs.Shown.{disk_of}
 use Rattle.shard.specs.Core.{seen_machine}
-use Rattle.shard.proofs.Agrees.{agrees_kept, agrees_refused, agrees_still, facts-held, stopped-or-same}
-use Rattle.shard.proofs.Carried.{can_carry, memory_after, facts_then, sound_then, facts-logged}
+use Rattle.shard.specs.Logs.{and_logged, records_in}
+use Rattle.shard.proofs.Agrees.{IsKnown, agrees_kept, agrees_refused, agrees_still, known-held, known-more, stopped-or-same}
+use Rattle.shard.proofs.Carried.{can_carry, lasting_then, memory_after, facts_then, sound_then}
 use Rattle.shard.proofs.Showable.{as-showable}
 use Rattle.shard.proofs.Results.{served_as, logged_as}
 use Rattle.shard.proofs.machine.Machine.carry_out.Goals as goal
@@ -52,6 +54,7 @@ invariant_of-self-in_default g c =
           agrees_still _ _ _ _ k.facts c.carry.new.self.facts refl refl (facts ∙ ap (facts_after k.facts) none) (c.args.self.now.agrees keeps);
       sound = sound_then k ready s c.requires.due c.in-Ok.ensures.ready _ _ _ (c.carry.ensures.setup ∙ c.in-Ok.ensures.ready.setup) facts memory;
       showable = as-showable c.carry.new.self.facts _ c.carry.new.self.memory _ facts memory c.requires.due.showable;
+      lasting = lasting_then k ready s c.requires.due c.in-Ok.ensures.ready c.lasting_follows.ensures c.carry.new.self.facts facts c.args.self.now.lasting;
     }
 
 pub returns-in_default : goal.returns-in_default
@@ -88,12 +91,16 @@ invariant_of-self-in-Ok-append_record g c =
     record {
       agrees = λ keeps.
           let disk = disk_of c.args.self.now.gate_log in
-          let known = facts-held _ (surface (g.D.Disk.file disk)) k.facts c.requires.running (g.met.D.Disk.reads_now disk) (c.args.self.now.agrees keeps) in
-          ∣ agrees_kept _ _ _ done.new.self.facts c.in-Ok-append_record.ensures.running.1 (c.in-Ok-append_record.ensures.durable keeps) (
-          facts-logged _ k.facts c.in-Some.item known
-          ∙ ap (λ (l : Option Record). Some (facts_after k.facts l)) (sym c.in-Some.is) ∙ ap (λ (f : Facts). Some f) (sym facts)) ∣₁;
+          let before = records_in (surface (g.D.Disk.file disk)).seen in
+          let learnt : done.new.self.facts ≡ learn k.facts c.in-Some.item = facts ∙ ap (facts_after k.facts) c.in-Some.is in
+          ∥∥₁_map (known-held _ (surface (g.D.Disk.file disk)) k.facts c.requires.running (g.met.D.Disk.reads_now disk) (c.args.self.now.agrees keeps))
+          (λ known.
+          agrees_kept _ _ _ done.new.self.facts c.in-Ok-append_record.ensures.running.1 (c.in-Ok-append_record.ensures.durable keeps)
+          (subst (IsKnown (and_logged before (Some c.in-Some.item))) (sym learnt)
+          (known-more c.alike_stays.ensures before k.facts c.in-Some.item known)));
       sound = sound_then k ready s c.requires.due c.in-Ok.ensures.ready _ _ _ (done.ensures.setup ∙ c.in-Ok.ensures.ready.setup) facts memory;
       showable = as-showable done.new.self.facts _ done.new.self.memory _ facts memory c.requires.due.showable;
+      lasting = lasting_then k ready s c.requires.due c.in-Ok.ensures.ready c.lasting_follows.ensures done.new.self.facts facts c.args.self.now.lasting;
     }
 
 pub invariant_of-self-in-Err-append_record-clause-agrees : goal.invariant_of-self-in-Err-append_record-clause-agrees
@@ -123,5 +130,5 @@ returns-in-Ok-append_record g c =
     logged_as g.D.Disk.keeps_model g.D.Disk.obeys g.D.Disk.file g.D.Disk.clock g.D.Disk.since g.D.Disk.failures g.D.Disk.plan g.met.D.Disk.only_now
     (seen_machine c.args.self.now) c.requires.running c.requires.stands _ c.in-Some.item s.logged after s.plan.outbox _ c.in-Some.is
     done.ensures.outbox
-    (done.ensures.setup ∙ c.in-Ok.ensures.ready.setup) (facts ∙ ap (facts_after k.facts) c.in-Some.is) memory a.running.1 a.failures_stay
+    (done.ensures.setup ∙ c.in-Ok.ensures.ready.setup) (facts ∙ ap (facts_after k.facts) c.in-Some.is) memory a.slot a.running.1 a.failures_stay
     a.any_moment a.begins a.durable a.read a.gate a.place (λ obey never. (a.planned obey never).0) (λ call run obey keep is. (a.armed call run obey keep is).0)

@@ -8,8 +8,18 @@ use Rattle.gatelog.specs.Shown.{disk_of, gate_at}
 use Rattle.shard.specs.Armed.{FailsIn}
 use Rattle.shard.specs.Core.{seen_machine}
 use Rattle.shard.specs.Logs.{records_in}
+use Rattle.shard.proofs.Agrees.{agrees_kept, known-logged}
 use Rattle.shard.proofs.Openings.{appended_by, not_appended_at_once, opened_memory, opening_due}
 use Rattle.shard.proofs.machine.Machine.take_up.Goals as goal
+
+pub invariant_of-machine : goal.invariant_of-machine
+invariant_of-machine g c = record {
+  agrees = λ keeps.
+      ∣ agrees_kept _ _ _ c.args.state.facts c.requires.running (c.requires.stands keeps) (known-logged _ _ (c.requires.known keeps)) ∣₁;
+  sound = c.requires.sound;
+  showable = c.requires.showable;
+  lasting = c.requires.lasting;
+}
 
 pub carry_out-requires-clause-due : goal.carry_out-requires-clause-due
 carry_out-requires-clause-due g c =
@@ -66,6 +76,9 @@ returns-clause-appended g c =
     appended_by g.D.Disk.keeps_model g.D.Disk.obeys g.D.Disk.file g.D.Disk.clock g.D.Disk.since g.D.Disk.failures g.D.Disk.plan
     _ (seen_machine c.carry_out.new.self) (Record.Opened (k.facts.epoch + 1)) _ _ logged c.requires.running c.in-Ok-carry_out.ensures.done.1
     (omega (arith, c.in-Ok.ensures.1, c.epoch.ensures)) c.in-Ok-carry_out.ensures.written
+
+pub returns-clause-slot : goal.returns-clause-slot
+returns-clause-slot g c = c.in-Ok-carry_out.ensures.written.slot
 
 pub returns-clause-setup : goal.returns-clause-setup
 returns-clause-setup g c = c.in-Ok-carry_out.ensures.written.setup

@@ -11,7 +11,7 @@ use Rattle.shard.specs.Booked.{IsCrowded, stand_of}
 use Rattle.shard.specs.Core.{seen, seen_machine}
 use Rattle.shard.specs.Logs.{records_in}
 use Rattle.shard.specs.On.{step_of}
-use Rattle.shard.proofs.Agrees.{facts-held}
+use Rattle.shard.proofs.Agrees.{known-held}
 use Rattle.shard.proofs.Booked.{full-in, kept-book, room-in, went}
 use Rattle.shard.proofs.Results.{by_step, outbox_of}
 use Rattle.shard.proofs.Settling.{durably_settled}
@@ -51,7 +51,7 @@ returns-in-None-clause-settled g c =
     c.args.step.plan.outbox c.carry_out.result c.carry_out.ensures.done)
     c.carry_out.ensures.written.durable (λ keeps.
     let disk = disk_of c.args.self.now.machine.gate_log in
-    facts-held _ (surface (g.D.Disk.file disk)) _ c.requires.running (g.met.D.Disk.reads_now disk) (c.args.self.now.machine.agrees keeps))
+    known-held _ (surface (g.D.Disk.file disk)) _ c.requires.running (g.met.D.Disk.reads_now disk) (c.args.self.now.machine.agrees keeps))
 
 pub returns-in-Some-clause-stepped : goal.returns-in-Some-clause-stepped
 unfolding step_within
@@ -77,4 +77,4 @@ returns-in-Some-clause-settled g c =
     (records_in (surface (g.D.Disk.file (disk_of c.args.self.now.machine.gate_log))).seen) c.args.input.now c.write_page.result c.requires.planned
     c.write_page.ensures.out c.write_page.ensures.durable (λ keeps.
     let disk = disk_of c.args.self.now.machine.gate_log in
-    facts-held _ (surface (g.D.Disk.file disk)) _ c.requires.running (g.met.D.Disk.reads_now disk) (c.args.self.now.machine.agrees keeps))
+    known-held _ (surface (g.D.Disk.file disk)) _ c.requires.running (g.met.D.Disk.reads_now disk) (c.args.self.now.machine.agrees keeps))

@@ -6,7 +6,7 @@ use Rattle.record.specs.declared.record.Record.{Record}
 use Rattle.std.specs.Prelude.{List}
 use Rattle.gatelog.specs.Placed.{Placed}
 use Rattle.gatelog.specs.Frames.{IsFull}
-use Rattle.gatelog.specs.Shown.{disk_of, gate_at}
+use Rattle.gatelog.specs.Shown.{disk_of, gate_at, next_slot}
 use Rattle.protocol.specs.Rows.{rebuilt}
 use Rattle.recovery.specs.Recovered.{IsRebuilt, fault_in, items}
 use Rattle.units.specs.declared.fault.Fault.{Fault}
@@ -15,14 +15,14 @@ use Rattle.shard.specs.Core.{book_of, seen_machine}
 use Rattle.shard.specs.Taking.{entries_in, told_to}
 use Rattle.shard.specs.Logs.{facts_logged, items_of}
 use Rattle.shard.specs.Opened.{HasNotOpened, next_opening}
-use Rattle.shard.proofs.TakenUp.{Found, epoch_of_facts, facts_are, facts_then, first_is, first_memory, first_records, from_four, room_spent, no_log}
+use Rattle.shard.proofs.TakenUp.{Found, epoch_of_facts, facts_are, facts_then, first_is, first_memory, first_records, from_five, from_four, room_spent, no_log}
 use Rattle.shard.proofs.TakenUp.{not_opened, not_rebuilt, opened, records_are, same_records}
 use Rattle.book.specs.Books.{new_book}
 use Rattle.units.specs.declared.setup.Setup.{Setup}
 use Rattle.shard.specs.Booked.{stand_of}
 use Rattle.shard.specs.Opened.{HasOpened}
 use Rattle.shard.proofs.Booked.{begun, found-in, not-through, stands-at, through}
-use Rattle.shard.proofs.Showable.{taken-showable}
+use Rattle.shard.proofs.Showable.{taken-lasting, taken-showable}
 use Rattle.shard.proofs.shard_core.Core.open.Goals as goal
 
 pub returns-in-Err-scan-clause-refused : goal.returns-in-Err-scan-clause-refused
@@ -38,9 +38,10 @@ take_up-requires-clause-known g c = λ keep.
     let told : told_to c.scan.new.sink ≡ c.args.setup = c.in-Ok-scan.ensures.told ∙ c.in-Ok.ensures.setup in
     let accepted : taken c.args.setup (items ts) ≡ Accepted = subst (λ s. taken s (items ts) ≡ Accepted) told c.in-Ok-finish.ensures.accepted in
     let found : Found g.D.Disk.keeps_model g.D.Disk.obeys g.D.Disk.file g.D.Disk.clock g.D.Disk.since g.D.Disk.failures g.D.Disk.plan c.args.disk
-    (disk_of c.in-Ok-scan.gate_log) (gate_at c.in-Ok-scan.gate_log) ts = record {
+    (disk_of c.in-Ok-scan.gate_log) (gate_at c.in-Ok-scan.gate_log) (next_slot c.in-Ok-scan.gate_log) ts = record {
       entries_are = λ keep. c.in-Ok-scan.ensures.entries keep;
       ends = c.in-Ok-scan.ensures.end;
+      slots = c.in-Ok-scan.ensures.slot;
       clean = c.in-Ok-scan.ensures.synced;
       moment = c.in-Ok-scan.ensures.any_moment;
       failures_stay = c.in-Ok-scan.ensures.failures_stay;
@@ -48,8 +49,8 @@ take_up-requires-clause-known g c = λ keep.
     } in
     let rebuilt_as : IsRebuilt c.args.setup (items ts) (Some c.in-Some.state) = subst (λ s. IsRebuilt s (items ts) (Some c.in-Some.state)) told (subst (IsRebuilt (told_to c.scan.new.sink) (items ts)) c.in-Some.is c.in-Ok-finish.ensures.found) in
     ap facts_logged (same_records g.D.Disk.keeps_model g.D.Disk.obeys g.D.Disk.file g.D.Disk.clock g.D.Disk.since g.D.Disk.failures g.D.Disk.plan
-    c.args.disk _ _ ts found keep ∙ records_are g.D.Disk.keeps_model g.D.Disk.obeys g.D.Disk.file g.D.Disk.clock g.D.Disk.since
-    g.D.Disk.failures g.D.Disk.plan c.args.disk _ _ ts found keep)
+    c.args.disk _ _ _ ts found keep ∙ records_are g.D.Disk.keeps_model g.D.Disk.obeys g.D.Disk.file g.D.Disk.clock g.D.Disk.since
+    g.D.Disk.failures g.D.Disk.plan c.args.disk _ _ _ ts found keep)
     ∙ facts_are c.learnt_agrees.ensures c.accepted_follows.ensures c.args.setup (items ts) c.in-Some.state.facts
     accepted rebuilt_as.1
 
@@ -62,15 +63,24 @@ take_up-requires-clause-showable g c =
     taken-showable c.taken_is_showable.ensures c.args.setup ts c.in-Some.state accepted
     c.in-Ok-finish.ensures.ascends rebuilt_as.1 rebuilt_as.2
 
+pub take_up-requires-clause-lasting : goal.take_up-requires-clause-lasting
+take_up-requires-clause-lasting g c =
+    let ts : List Placed = entries_in c.scan.new.sink in
+    let told : told_to c.scan.new.sink ≡ c.args.setup = c.in-Ok-scan.ensures.told ∙ c.in-Ok.ensures.setup in
+    let accepted : taken c.args.setup (items ts) ≡ Accepted = subst (λ s. taken s (items ts) ≡ Accepted) told c.in-Ok-finish.ensures.accepted in
+    let rebuilt_as : IsRebuilt c.args.setup (items ts) (Some c.in-Some.state) = subst (λ s. IsRebuilt s (items ts) (Some c.in-Some.state)) told (subst (IsRebuilt (told_to c.scan.new.sink) (items ts)) c.in-Some.is c.in-Ok-finish.ensures.found) in
+    ∣ taken-lasting c.taken_lasts.ensures c.args.setup ts c.in-Some.state.facts accepted c.in-Ok-finish.ensures.ascends rebuilt_as.1 ∣₁
+
 pub returns-in-Some-clause-opened : goal.returns-in-Some-clause-opened
 returns-in-Some-clause-opened g c =
     let ts : List Placed = entries_in c.scan.new.sink in
     let told : told_to c.scan.new.sink ≡ c.args.setup = c.in-Ok-scan.ensures.told ∙ c.in-Ok.ensures.setup in
     let accepted : taken c.args.setup (items ts) ≡ Accepted = subst (λ s. taken s (items ts) ≡ Accepted) told c.in-Ok-finish.ensures.accepted in
     let found : Found g.D.Disk.keeps_model g.D.Disk.obeys g.D.Disk.file g.D.Disk.clock g.D.Disk.since g.D.Disk.failures g.D.Disk.plan c.args.disk
-    (disk_of c.in-Ok-scan.gate_log) (gate_at c.in-Ok-scan.gate_log) ts = record {
+    (disk_of c.in-Ok-scan.gate_log) (gate_at c.in-Ok-scan.gate_log) (next_slot c.in-Ok-scan.gate_log) ts = record {
       entries_are = λ keep. c.in-Ok-scan.ensures.entries keep;
       ends = c.in-Ok-scan.ensures.end;
+      slots = c.in-Ok-scan.ensures.slot;
       clean = c.in-Ok-scan.ensures.synced;
       moment = c.in-Ok-scan.ensures.any_moment;
       failures_stay = c.in-Ok-scan.ensures.failures_stay;
@@ -82,14 +92,14 @@ returns-in-Some-clause-opened g c =
     through c.take_up.result c.with_book.result (λ core. core.machine) (λ core. book_of core ≡ c.in-Ok-finish.book)
     (λ machine. HasOpened g.D.Disk.keeps_model g.D.Disk.obeys g.D.Disk.file g.D.Disk.clock g.D.Disk.since g.D.Disk.failures g.D.Disk.plan c.args.disk
     c.args.setup (seen_machine machine)) c.with_book.ensures.made
-    (from_four c.take_up.result _ _ _ _ _
-    (λ core setup facts memory appended.
+    (from_five c.take_up.result _ _ _ _ _ _
+    (λ core setup facts memory slot appended.
     opened g.D.Disk.keeps_model g.D.Disk.obeys g.D.Disk.file g.D.Disk.clock g.D.Disk.since g.D.Disk.failures g.D.Disk.plan c.args.disk
-    (disk_of c.in-Ok-scan.gate_log) (gate_at c.in-Ok-scan.gate_log) ts found
-    c.args.setup (Record.Opened (k.facts.epoch + 1)) (seen_machine core) (epoch_of_facts rs k.facts rebuilt_as.1) appended (setup ∙ rebuilt_as.0)
+    (disk_of c.in-Ok-scan.gate_log) (gate_at c.in-Ok-scan.gate_log) (next_slot c.in-Ok-scan.gate_log) ts found
+    g.met.D.Disk.counts_now c.args.setup (Record.Opened (k.facts.epoch + 1)) (seen_machine core) (epoch_of_facts rs k.facts rebuilt_as.1) appended slot (setup ∙ rebuilt_as.0)
     (memory ∙ ap rebuilt (sym facts)) accepted
     (facts ∙ facts_then c.learn_agrees.ensures c.accepted_follows.ensures c.args.setup rs k.facts accepted rebuilt_as.1))
-    c.take_up.ensures.setup c.take_up.ensures.facts c.take_up.ensures.memory c.take_up.ensures.appended)
+    c.take_up.ensures.setup c.take_up.ensures.facts c.take_up.ensures.memory c.take_up.ensures.slot c.take_up.ensures.appended)
 
 pub returns-in-Some-clause-refused : goal.returns-in-Some-clause-refused
 returns-in-Some-clause-refused g c =
@@ -97,9 +107,10 @@ returns-in-Some-clause-refused g c =
     let told : told_to c.scan.new.sink ≡ c.args.setup = c.in-Ok-scan.ensures.told ∙ c.in-Ok.ensures.setup in
     let accepted : taken c.args.setup (items ts) ≡ Accepted = subst (λ s. taken s (items ts) ≡ Accepted) told c.in-Ok-finish.ensures.accepted in
     let found : Found g.D.Disk.keeps_model g.D.Disk.obeys g.D.Disk.file g.D.Disk.clock g.D.Disk.since g.D.Disk.failures g.D.Disk.plan c.args.disk
-    (disk_of c.in-Ok-scan.gate_log) (gate_at c.in-Ok-scan.gate_log) ts = record {
+    (disk_of c.in-Ok-scan.gate_log) (gate_at c.in-Ok-scan.gate_log) (next_slot c.in-Ok-scan.gate_log) ts = record {
       entries_are = λ keep. c.in-Ok-scan.ensures.entries keep;
       ends = c.in-Ok-scan.ensures.end;
+      slots = c.in-Ok-scan.ensures.slot;
       clean = c.in-Ok-scan.ensures.synced;
       moment = c.in-Ok-scan.ensures.any_moment;
       failures_stay = c.in-Ok-scan.ensures.failures_stay;
@@ -114,8 +125,8 @@ returns-in-Some-clause-refused g c =
     (IfErr-weaker c.take_up.result _ _
     (λ refused h.
     not_opened g.D.Disk.keeps_model g.D.Disk.obeys g.D.Disk.file g.D.Disk.clock g.D.Disk.since g.D.Disk.failures g.D.Disk.plan c.args.disk
-    (disk_of c.in-Ok-scan.gate_log) (gate_at c.in-Ok-scan.gate_log) ts found
-    c.args.setup (Record.Opened (k.facts.epoch + 1)) _ refused.0 refused.1 (epoch_of_facts rs k.facts rebuilt_as.1) accepted
+    (disk_of c.in-Ok-scan.gate_log) (gate_at c.in-Ok-scan.gate_log) (next_slot c.in-Ok-scan.gate_log) ts found
+    g.met.D.Disk.counts_now c.args.setup (Record.Opened (k.facts.epoch + 1)) _ refused.0 refused.1 (epoch_of_facts rs k.facts rebuilt_as.1) accepted
     (room_spent rs k.facts (gate_at c.in-Ok-scan.gate_log) rebuilt_as.1) h)
     c.take_up.ensures.refused)
 
@@ -125,9 +136,10 @@ returns-in-None-clause-opened g c =
     let told : told_to c.scan.new.sink ≡ c.args.setup = c.in-Ok-scan.ensures.told ∙ c.in-Ok.ensures.setup in
     let accepted : taken c.args.setup (items ts) ≡ Accepted = subst (λ s. taken s (items ts) ≡ Accepted) told c.in-Ok-finish.ensures.accepted in
     let found : Found g.D.Disk.keeps_model g.D.Disk.obeys g.D.Disk.file g.D.Disk.clock g.D.Disk.since g.D.Disk.failures g.D.Disk.plan c.args.disk
-    (disk_of c.in-Ok-scan.gate_log) (gate_at c.in-Ok-scan.gate_log) ts = record {
+    (disk_of c.in-Ok-scan.gate_log) (gate_at c.in-Ok-scan.gate_log) (next_slot c.in-Ok-scan.gate_log) ts = record {
       entries_are = λ keep. c.in-Ok-scan.ensures.entries keep;
       ends = c.in-Ok-scan.ensures.end;
+      slots = c.in-Ok-scan.ensures.slot;
       clean = c.in-Ok-scan.ensures.synced;
       moment = c.in-Ok-scan.ensures.any_moment;
       failures_stay = c.in-Ok-scan.ensures.failures_stay;
@@ -138,14 +150,14 @@ returns-in-None-clause-opened g c =
     through c.begin.result c.with_book-in-None.result (λ core. core.machine) (λ core. book_of core ≡ c.in-Ok-finish.book)
     (λ machine. HasOpened g.D.Disk.keeps_model g.D.Disk.obeys g.D.Disk.file g.D.Disk.clock g.D.Disk.since g.D.Disk.failures g.D.Disk.plan c.args.disk
     c.args.setup (seen_machine machine)) c.with_book-in-None.ensures.made
-    (from_four c.begin.result _ _ _ _ _
-    (λ core setup facts memory appended.
+    (from_five c.begin.result _ _ _ _ _ _
+    (λ core setup facts memory slot appended.
     opened g.D.Disk.keeps_model g.D.Disk.obeys g.D.Disk.file g.D.Disk.clock g.D.Disk.since g.D.Disk.failures g.D.Disk.plan c.args.disk
-    (disk_of c.in-Ok-scan.gate_log) (gate_at c.in-Ok-scan.gate_log) ts found
-    c.args.setup (Record.Opened 1) (seen_machine core) first appended setup
+    (disk_of c.in-Ok-scan.gate_log) (gate_at c.in-Ok-scan.gate_log) (next_slot c.in-Ok-scan.gate_log) ts found
+    g.met.D.Disk.counts_now c.args.setup (Record.Opened 1) (seen_machine core) first appended slot setup
     (memory ∙ first_memory (seen_machine core).facts facts) accepted
     (facts ∙ ap facts_of (first_records (items ts) empty)))
-    c.begin.ensures.setup c.begin.ensures.facts c.begin.ensures.memory c.begin.ensures.appended)
+    c.begin.ensures.setup c.begin.ensures.facts c.begin.ensures.memory c.begin.ensures.slot c.begin.ensures.appended)
 
 pub returns-in-None-clause-refused : goal.returns-in-None-clause-refused
 returns-in-None-clause-refused g c =
@@ -153,9 +165,10 @@ returns-in-None-clause-refused g c =
     let told : told_to c.scan.new.sink ≡ c.args.setup = c.in-Ok-scan.ensures.told ∙ c.in-Ok.ensures.setup in
     let accepted : taken c.args.setup (items ts) ≡ Accepted = subst (λ s. taken s (items ts) ≡ Accepted) told c.in-Ok-finish.ensures.accepted in
     let found : Found g.D.Disk.keeps_model g.D.Disk.obeys g.D.Disk.file g.D.Disk.clock g.D.Disk.since g.D.Disk.failures g.D.Disk.plan c.args.disk
-    (disk_of c.in-Ok-scan.gate_log) (gate_at c.in-Ok-scan.gate_log) ts = record {
+    (disk_of c.in-Ok-scan.gate_log) (gate_at c.in-Ok-scan.gate_log) (next_slot c.in-Ok-scan.gate_log) ts = record {
       entries_are = λ keep. c.in-Ok-scan.ensures.entries keep;
       ends = c.in-Ok-scan.ensures.end;
+      slots = c.in-Ok-scan.ensures.slot;
       clean = c.in-Ok-scan.ensures.synced;
       moment = c.in-Ok-scan.ensures.any_moment;
       failures_stay = c.in-Ok-scan.ensures.failures_stay;
@@ -169,8 +182,8 @@ returns-in-None-clause-refused g c =
     (IfErr-weaker c.begin.result _ _
     (λ refused h.
     not_opened g.D.Disk.keeps_model g.D.Disk.obeys g.D.Disk.file g.D.Disk.clock g.D.Disk.since g.D.Disk.failures g.D.Disk.plan c.args.disk
-    (disk_of c.in-Ok-scan.gate_log) (gate_at c.in-Ok-scan.gate_log) ts found
-    c.args.setup (Record.Opened 1) _ refused.0 refused.1 first accepted
+    (disk_of c.in-Ok-scan.gate_log) (gate_at c.in-Ok-scan.gate_log) (next_slot c.in-Ok-scan.gate_log) ts found
+    g.met.D.Disk.counts_now c.args.setup (Record.Opened 1) _ refused.0 refused.1 first accepted
     (λ full. inr (subst (IsFull (gate_at c.in-Ok-scan.gate_log)) first full)) h)
     c.begin.ensures.refused)
 
@@ -179,9 +192,10 @@ returns-in-Err-finish-clause-refused g c =
     let ts : List Placed = entries_in c.scan.new.sink in
     let told : told_to c.scan.new.sink ≡ c.args.setup = c.in-Ok-scan.ensures.told ∙ c.in-Ok.ensures.setup in
     let found : Found g.D.Disk.keeps_model g.D.Disk.obeys g.D.Disk.file g.D.Disk.clock g.D.Disk.since g.D.Disk.failures g.D.Disk.plan c.args.disk
-    (disk_of c.in-Ok-scan.gate_log) (gate_at c.in-Ok-scan.gate_log) ts = record {
+    (disk_of c.in-Ok-scan.gate_log) (gate_at c.in-Ok-scan.gate_log) (next_slot c.in-Ok-scan.gate_log) ts = record {
       entries_are = λ keep. c.in-Ok-scan.ensures.entries keep;
       ends = c.in-Ok-scan.ensures.end;
+      slots = c.in-Ok-scan.ensures.slot;
       clean = c.in-Ok-scan.ensures.synced;
       moment = c.in-Ok-scan.ensures.any_moment;
       failures_stay = c.in-Ok-scan.ensures.failures_stay;
@@ -189,7 +203,7 @@ returns-in-Err-finish-clause-refused g c =
     } in
     not_rebuilt g.D.Disk.keeps_model g.D.Disk.obeys g.D.Disk.file g.D.Disk.clock g.D.Disk.since g.D.Disk.failures g.D.Disk.plan c.args.disk
     (disk_of c.in-Ok-scan.gate_log)
-    (gate_at c.in-Ok-scan.gate_log) ts found c.args.setup c.in-Err-finish.fault c.into_disk.result
+    (gate_at c.in-Ok-scan.gate_log) (next_slot c.in-Ok-scan.gate_log) ts found c.args.setup c.in-Err-finish.fault c.into_disk.result
     c.into_disk.ensures (subst (λ (s : Setup). (c.in-Err-finish.fault ≡ Fault.Memory) ⊎ (fault_in (taken s (items ts)) ts ≡ Some c.in-Err-finish.fault)) told
     c.in-Err-finish.ensures.refused)
 

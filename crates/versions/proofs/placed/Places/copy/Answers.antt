@@ -1,4 +1,4 @@
-use Rattle.std.proofs.Common.{map, set, get_or, ap, ◌∙◌}
+use Rattle.std.proofs.Common.{map, set, ap, ◌∙◌}
 use Rattle.std.proofs.lemmas.List.{map-set}
 use Rattle.versions.specs.declared.chunk.Spot.{Spot}
 use Rattle.versions.specs.Headed.{Headed}

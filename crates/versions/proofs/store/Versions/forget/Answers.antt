@@ -1,11 +1,9 @@
-use Rattle.std.proofs.Common.{◌≡◌, ◌∙◌, ◌+◌, ◌≤◌, ℕ, List, length, sym, ap, subst, arith}
+use Rattle.std.proofs.Common.{◌≡◌, ◌∙◌, ℕ, List, length, sym, subst, arith}
 use Rattle.units.specs.declared.writes.Install.{Install}
-use Rattle.versions.specs.Arranged.{arranged, AreWithin}
+use Rattle.versions.specs.Arranged.{arranged}
 use Rattle.versions.specs.Heads.{AreHeads}
 use Rattle.versions.specs.Ordered.{AscendsByVersion, IsInOrder}
 use Rattle.versions.specs.Pruned.{pruned}
-use Rattle.versions.specs.Store.{Store}
-use Rattle.versions.proofs.Arranged.{length_arranged}
 use Rattle.versions.proofs.Pruned.{kept-pruned}
 use Rattle.versions.proofs.store.Versions.forget.Goals as goal
 

@@ -1,0 +1,185 @@
+//! Desks that renew their logs, and what their viewers see.
+use crate::answers::Told;
+use crate::given::Given;
+use crate::logs::Line;
+use crate::turned_rows::{COMMIT, OLD, OLD_AGAIN, SAID, SECOND, SETTLE, SETTLE_SECOND, TURN};
+use crate::turning::{Ask, Row};
+use disk::Fate;
+use units::Fault;
+
+const KEPT: Row = Row {
+    name: "what a viewer sees stays, and it sees what comes then",
+    shard: 0,
+    fails: None,
+    asks: &[
+        COMMIT,
+        SETTLE,
+        (130, 140, Ask::Advance(130)),
+        (130, 140, Ask::View(b'a', 111, Ok(b'1'))),
+        TURN,
+        (130, 140, Ask::View(b'a', 111, Ok(b'1'))),
+        SECOND,
+        SETTLE_SECOND,
+        (230, 240, Ask::View(b'a', 211, Err(Fault::NotYet))),
+        (230, 240, Ask::Advance(220)),
+        (230, 240, Ask::View(b'a', 210, Ok(b'1'))),
+        (230, 240, Ask::View(b'a', 211, Ok(b'2'))),
+    ],
+    bytes: None,
+    size: None,
+    fate: Some(Fate::Old),
+    log: &[
+        Line::Base(1, 130, 0),
+        Line::Version(111, b'a', b'1'),
+        Line::Settled(1, 111),
+        Line::Decided(211),
+        Line::Committed(211),
+        Line::Ceiling(220),
+    ],
+    again: &[],
+    then: &[
+        Line::Base(1, 130, 0),
+        Line::Version(111, b'a', b'1'),
+        Line::Settled(1, 111),
+        Line::Decided(211),
+        Line::Committed(211),
+        Line::Ceiling(220),
+        Line::Opened(2),
+    ],
+};
+
+// A log of one opening ends at 9,238, a commit takes 42 bytes, its outcome 31, a ceiling 14. Of a renewed log a base takes 30, a version of one
+// letter 20, and what is settled 32; it begins behind the old gate.
+const GROWN: &[Line] = &[
+    Line::Base(1, 300, 0),
+    Line::Version(111, b'a', b'1'),
+    Line::Version(211, b'b', b'1'),
+    Line::Settled(1, 111),
+    Line::Settled(2, 211),
+];
+
+const FORGOTTEN: &[Line] = &[
+    Line::Base(1, 211, 211),
+    Line::Version(211, b'a', b'2'),
+    Line::Settled(1, 111),
+    Line::Settled(2, 211),
+];
+
+const NOT_TURNED: &[Line] = &[
+    Line::Opened(1),
+    Line::DecidedBy(1, 111),
+    Line::CommittedBy(1, 111),
+    Line::Decided(211),
+    Line::Committed(211),
+    Line::Horizon(211),
+];
+
+pub static RENEWED: [Row; 5] = [
+    KEPT,
+    Row {
+        name: "a log is turned over once it has grown by so much, and is twice as long",
+        asks: &[
+            (112, 121, Ask::Gate(9_238)),
+            (112, 121, Ask::Renew(1_000_000, 0, Ok(()))),
+            (112, 121, Ask::Gate(9_238)),
+            COMMIT,
+            SETTLE,
+            (112, 121, Ask::Gate(9_311)),
+            (112, 121, Ask::Renew(1_000_000, 74, Ok(()))),
+            (112, 121, Ask::Gate(9_311)),
+            (112, 121, Ask::Renew(1_000_000, 73, Ok(()))),
+            (112, 121, Ask::Gate(9_394)),
+            (112, 121, Ask::Renew(1_000_000, 0, Ok(()))),
+            (112, 121, Ask::Gate(9_394)),
+            (200, 210, Ask::Given(Given::Commit(2, 0, b"b", b"1"), SAID)),
+            SETTLE_SECOND,
+            (112, 121, Ask::Renew(1_000_000, 0, Ok(()))),
+            (112, 121, Ask::Gate(9_467)),
+            (300, 310, Ask::Advance(300)),
+            (112, 121, Ask::Gate(9_481)),
+            (112, 121, Ask::Renew(1_000_000, 88, Ok(()))),
+            (112, 121, Ask::Gate(9_481)),
+            (112, 121, Ask::Renew(1_000_000, 87, Ok(()))),
+            (112, 121, Ask::Gate(9_616)),
+        ],
+        size: Some(9_617),
+        log: GROWN,
+        then: &[
+            Line::Base(1, 300, 0),
+            Line::Version(111, b'a', b'1'),
+            Line::Version(211, b'b', b'1'),
+            Line::Settled(1, 111),
+            Line::Settled(2, 211),
+            Line::Opened(2),
+        ],
+        ..KEPT
+    },
+    // So far behind 400 is 211, where the second commit is.
+    Row {
+        name: "the horizon comes first",
+        asks: &[
+            COMMIT,
+            SETTLE,
+            SECOND,
+            SETTLE_SECOND,
+            (400, 410, Ask::Renew(189, 0, Ok(()))),
+            (400, 410, Ask::Look(b'a', 210, Err(Fault::TooOld))),
+            (400, 410, Ask::Look(b'a', 211, Ok(b'2'))),
+        ],
+        log: FORGOTTEN,
+        then: &[
+            Line::Base(1, 211, 211),
+            Line::Version(211, b'a', b'2'),
+            Line::Settled(1, 111),
+            Line::Settled(2, 211),
+            Line::Opened(2),
+        ],
+        ..KEPT
+    },
+    Row {
+        name: "where it has not grown the horizon is all",
+        asks: &[
+            COMMIT,
+            SETTLE,
+            SECOND,
+            SETTLE_SECOND,
+            (400, 410, Ask::Renew(189, 1_000, Ok(()))),
+            (400, 410, Ask::Look(b'a', 210, Err(Fault::TooOld))),
+        ],
+        log: NOT_TURNED,
+        then: &[
+            Line::Opened(1),
+            Line::DecidedBy(1, 111),
+            Line::CommittedBy(1, 111),
+            Line::Decided(211),
+            Line::Committed(211),
+            Line::Horizon(211),
+            Line::Opened(2),
+        ],
+        ..KEPT
+    },
+    // The device fails while the horizon is logged. A look is answered all the same.
+    Row {
+        name: "a refused horizon is all",
+        fails: Some(8),
+        asks: &[
+            COMMIT,
+            SETTLE,
+            (112, 121, Ask::Renew(0, 0, Err(Fault::Device))),
+            (112, 121, Ask::Renew(0, 0, Err(Fault::Stopped))),
+            (112, 121, Ask::Turn(Err(Fault::Stopped))),
+            (112, 121, Ask::Look(b'a', 111, Ok(b'1'))),
+        ],
+        log: OLD,
+        again: &[(
+            112,
+            121,
+            Ask::Given(
+                Given::Commit(1, 0, b"a", b"1"),
+                Told::Says(&[(b'd', 9, 1, 111)]),
+            ),
+        )],
+        then: OLD_AGAIN,
+        ..KEPT
+    },
+];

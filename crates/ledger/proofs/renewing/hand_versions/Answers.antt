@@ -1,0 +1,52 @@
+use Rattle.std.proofs.Common.{◌++◌, ◌∙◌, ◌+◌, ◌<◌, ◌≤◌, List, ◌∷◌, length, drop, map, ap, sym, arith}
+use Rattle.std.proofs.lemmas.List.{append-nil, drop_all}
+use Rattle.std.specs.Option.{option_copied}
+use Rattle.units.specs.declared.writes.Install.{Install}
+use Rattle.record.specs.declared.record.Record.TheVariants.{Version}
+use Rattle.versions.specs.Arranged.{arranged}
+use Rattle.versions.proofs.Arranged.{length_arranged}
+use Rattle.versions.proofs.Orders.{same_by}
+use Rattle.versions.proofs.Passed.{left_of, left-is-pruned, no_first, one_first}
+use Rattle.renewal.proofs.One.{held-in_order}
+use Rattle.ledger.proofs.Renewed.{handed_none, handed_one}
+use Rattle.ledger.proofs.renewing.hand_versions.Goals.{in-Some+in_ok-copy+in_ok-hand, in_default}
+use Rattle.ledger.proofs.renewing.hand_versions.Goals as goal
+
+pub loop-at-preserved : goal.loop-at-preserved
+loop-at-preserved g c =
+    let facts = c.args.facts.now.facts in
+    let h = facts.horizon in
+    let t = arranged facts.installs c.args.places.now.places in
+    let at = c.loop-at.at in
+    let taken = g.R.Recorder.records c.loop-at.recorder in
+    let new = g.R.Recorder.records c.match-held.recorder in
+    let before = g.R.Recorder.records c.args.recorder.now in
+    let lt : at < length t = omega (arith, c.loop-at-test.true, c.len-at-end.ensures, length_arranged facts.installs c.args.places.now.places) in
+    elim c.match-held.branch [
+      | in-Some+in_ok-copy+in_ok-hand w ↦
+          handed_one taken new (Version w.in_ok-copy.field-0) (map Version (left_of h (drop at t))) (map Version (left_of h (drop (at + 1) t)))
+          (before ++ map Version (left_of h t)) (ap g.R.Recorder.records w.recorder-is ∙ w.in_ok-hand.ensures.added)
+          (ap (λ (x : Install). Version x ∷ map Version (left_of h (drop (at + 1) t))) w.in_ok-copy.ensures.same
+          ∙ ap (map Version) (one_first h t at w.in-Some.install.now lt (sym w.in-Some.ensures)))
+          c.loop-at.invariant
+      | in_default w ↦
+          handed_none taken new (map Version (left_of h (drop at t))) (map Version (left_of h (drop (at + 1) t))) (before ++ map Version (left_of h t))
+          (ap g.R.Recorder.records w.recorder-is) (ap (map Version) (no_first h t at lt (sym c.held.ensures ∙ ap option_copied w.in_default.is)))
+          c.loop-at.invariant
+    ]
+
+pub returns-clause-added : goal.returns-clause-added
+returns-clause-added g c =
+    let facts = c.args.facts.now.facts in
+    let h = facts.horizon in
+    let places = c.args.places.now.places in
+    let t = arranged facts.installs places in
+    let before = g.R.Recorder.records c.args.recorder.now in
+    let after = g.R.Recorder.records c.loop-at.recorder in
+    let le : length t ≤ c.loop-at.at = omega (arith, c.loop-at-test.false, c.len-at-end.ensures, length_arranged facts.installs places) in
+    sym (append-nil after)
+    ∙ ap (λ (left : List Install). after ++ map Version (left_of h left)) (sym (drop_all c.loop-at.at t le))
+    ∙ c.loop-at.invariant
+    ∙ ap (λ (left : List Install). before ++ map Version left)
+    (left-is-pruned h t c.requires.orders.kept.order
+    ∙ held-in_order facts t c.requires.rising c.requires.orders.kept.order (same_by h facts.installs c.args.places.now c.requires.orders))

@@ -1,0 +1,205 @@
+//! The records of a renewed log, handed on one by one.
+ghost use Rattle.std.specs.Prelude.{◌≡◌, ◌<◌, ◌++◌, ◌∷◌, [], List, drop, length, map, IfErr, IfOk, IsTrue, OnOk};
+ghost use Rattle.std.specs.Option.{option_copied};
+ghost use Rattle.units.specs.ById.{IsById};
+ghost use Rattle.units.specs.Ids.{Id};
+ghost use Rattle.units.specs.Lists.{gather};
+ghost use Rattle.record.specs.declared.record.Record.{Record};
+ghost use Rattle.facts.specs.Shown.{meant};
+ghost use Rattle.versions.specs.Arranged.{arranged};
+ghost use Rattle.versions.specs.Orders.{Orders};
+ghost use Rattle.versions.specs.Pruned.{first_left};
+ghost use Rattle.protocol.specs.Showable.{rises_by_key};
+ghost use Rattle.renewal.specs.Turned.{ended_item, standing_item, turned, versions_held};
+
+use facts::{Facts, Status};
+use record::{Committed, Prepared, Record};
+use std::alloc::Global;
+use units::{Epoch, Fault, Install, TxnId};
+use versions::Places;
+
+/// What takes the records of a renewed log, one by one, the first first.
+pub trait Recorder {
+    /// The records that it took.
+    ghost records: { Self → List Record };
+
+    /// Takes the next record. It is refused for want of memory alone.
+    fn record(&mut self, alloc: Global, item: &Record) -> Result<(), Fault>
+        ensures added { OnOk result (records self.new ≡ records self.old ++ item.now ∷ []) }
+        ensures memory { IfErr result (λ fault. fault ≡ Fault.Memory) };
+}
+
+/// Hands on the records of the renewed log of some facts, whose versions are read in the order of their places. One record at a time
+/// is made, and let go.
+pub fn renew<R: Recorder>(
+    alloc: Global,
+    facts: &Facts,
+    places: &Places,
+    recorder: &mut R,
+) -> Result<(), Fault>
+    requires orders { Orders facts.now.facts.horizon facts.now.facts.installs
+        (length facts.now.facts.installs) places.now }
+    requires opened { 0 < facts.now.facts.epoch }
+    requires rising { IsTrue (rises_by_key [] facts.now.facts.installs) }
+    ensures all { OnOk result
+        (R.records recorder.new ≡ R.records recorder.old ++ turned facts.now.facts) }
+    ensures memory { IfErr result (λ fault. fault ≡ Fault.Memory) }
+{
+    let ids = facts.ids(alloc)?;
+    hand_base(alloc, facts, recorder)?;
+    hand_versions(alloc, facts, places, recorder)?;
+    hand_ended(alloc, facts, &ids, recorder)?;
+    hand_standing(alloc, facts, &ids, recorder)
+}
+
+// The epoch, the greatest timestamp and the horizon.
+fn hand_base<R: Recorder>(alloc: Global, facts: &Facts, recorder: &mut R) -> Result<(), Fault>
+    requires { 0 < facts.now.facts.epoch }
+    ensures added { OnOk result (R.records recorder.new ≡ R.records recorder.old
+        ++ Record.Base facts.now.facts.epoch facts.now.facts.floor facts.now.facts.horizon ∷ []) }
+    ensures memory { IfErr result (λ fault. fault ≡ Fault.Memory) }
+{
+    let epoch = match Epoch::new(facts.epoch()) {
+        Some(epoch) => epoch,
+        None => unreachable!(),
+    };
+    let base = Record::Base {
+        epoch,
+        floor: facts.floor(),
+        horizon: facts.horizon(),
+    };
+    hand(alloc, base, recorder)
+}
+
+// One record, which is let go.
+fn hand<R: Recorder>(alloc: Global, item: Record, recorder: &mut R) -> Result<(), Fault>
+    ensures added { OnOk result
+        (R.records recorder.new ≡ R.records recorder.old ++ item ∷ []) }
+    ensures memory { IfErr result (λ fault. fault ≡ Fault.Memory) }
+{
+    recorder.record(alloc, &item)
+}
+
+// The versions that the horizon leaves, in order.
+fn hand_versions<R: Recorder>(
+    alloc: Global,
+    facts: &Facts,
+    places: &Places,
+    recorder: &mut R,
+) -> Result<(), Fault>
+    requires orders { Orders facts.now.facts.horizon facts.now.facts.installs
+        (length facts.now.facts.installs) places.now }
+    requires rising { IsTrue (rises_by_key [] facts.now.facts.installs) }
+    ensures added { OnOk result (R.records recorder.new ≡ R.records recorder.old
+        ++ map Record.Version (versions_held facts.now.facts)) }
+    ensures memory { IfErr result (λ fault. fault ≡ Fault.Memory) }
+{
+    for at in 0..places.len() {
+        if let Some(install) = held(facts, places, at) {
+            hand(alloc, Record::Version(install.copy()?), recorder)?;
+        }
+    }
+    Ok(())
+}
+
+// The version at a place in order, where the horizon leaves it.
+fn held<'f>(facts: &'f Facts, places: &Places, at: usize) -> Option<&'f Install>
+    requires orders { Orders facts.now.facts.horizon facts.now.facts.installs
+        (length facts.now.facts.installs) places.now }
+    requires at { at < length places.now.places }
+    ensures { option_copied result ≡ first_left facts.now.facts.horizon
+        (drop at (arranged facts.now.facts.installs places.now.places)) }
+{
+    places.left(facts.installs(), at, facts.horizon())
+}
+
+// Those of these ids that ended.
+fn hand_ended<R: Recorder>(
+    alloc: Global,
+    facts: &Facts,
+    ids: &[TxnId],
+    recorder: &mut R,
+) -> Result<(), Fault>
+    requires ids { ids.now ≡ map (λ e. e.txn) facts.now.facts.entries }
+    requires order { IsById (λ id. id) ids.now }
+    ensures added { OnOk result (R.records recorder.new ≡ R.records recorder.old
+        ++ gather ended_item facts.now.facts.entries) }
+    ensures memory { IfErr result (λ fault. fault ≡ Fault.Memory) }
+{
+    for txn in ids {
+        if let Some(item) = ended(*txn, facts.status(*txn)) {
+            hand(alloc, item, recorder)?;
+        }
+    }
+    Ok(())
+}
+
+// Those of these ids that stand.
+fn hand_standing<R: Recorder>(
+    alloc: Global,
+    facts: &Facts,
+    ids: &[TxnId],
+    recorder: &mut R,
+) -> Result<(), Fault>
+    requires ids { ids.now ≡ map (λ e. e.txn) facts.now.facts.entries }
+    requires order { IsById (λ id. id) ids.now }
+    ensures added { OnOk result (R.records recorder.new ≡ R.records recorder.old
+        ++ gather standing_item facts.now.facts.entries) }
+    ensures memory { IfErr result (λ fault. fault ≡ Fault.Memory) }
+{
+    for txn in ids {
+        if let Some(item) = standing(alloc, facts.status(*txn))? {
+            hand(alloc, item, recorder)?;
+        }
+    }
+    Ok(())
+}
+
+// How a transaction is kept that ended.
+fn ended(txn: TxnId, status: Option<&Status>) -> Option<Record>
+    ensures { result ≡
+        ended_item (record { txn = txn; status = meant (option_copied status.entry) }) }
+{
+    match status? {
+        Status::Prepared(_) | Status::Decided(_) => None,
+        Status::Aborted => Some(Record::Abort { txn }),
+        Status::Settled { at, parts } => Some(Record::Settled {
+            txn,
+            at: *at,
+            parts: *parts,
+        }),
+        Status::Closed {
+            coordinator,
+            outcome,
+        } => Some(Record::Closed {
+            txn,
+            coordinator: *coordinator,
+            outcome: *outcome,
+        }),
+    }
+}
+
+// The record of one that stands, with memory of its own.
+fn standing(alloc: Global, status: Option<&Status>) -> Result<Option<Record>, Fault>
+    ensures item { IfOk result (λ item. (txn : Id) → item ≡
+        standing_item (record { txn = txn; status = meant (option_copied status.entry) })) }
+    ensures memory { IfErr result (λ fault. fault ≡ Fault.Memory) }
+{
+    match status {
+        Some(Status::Prepared(prepared)) => Ok(Some(Record::Prepare(Prepared {
+            txn: prepared.txn,
+            coordinator: prepared.coordinator,
+            at: prepared.at,
+            reads: prepared.reads.copy(alloc)?,
+            writes: prepared.writes.copy(alloc)?,
+        }))),
+        Some(Status::Decided(committed)) => Ok(Some(Record::Commit(Committed {
+            txn: committed.txn,
+            at: committed.at,
+            parts: committed.parts,
+            reads: committed.reads.copy(alloc)?,
+            writes: committed.writes.copy(alloc)?,
+        }))),
+        Some(Status::Aborted | Status::Settled { .. } | Status::Closed { .. }) | None => Ok(None),
+    }
+}
