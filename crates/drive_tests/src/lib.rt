@@ -14,6 +14,8 @@ mod gates;
 #[cfg(test)]
 mod kept;
 #[cfg(test)]
+mod renewing;
+#[cfg(test)]
 mod services;
 #[cfg(test)]
 mod stops;

@@ -1,0 +1,136 @@
+//! Stores that renew their logs: what the log of a shard begins with, and what is seen once it is opened again.
+use gatelog::GateLog;
+use record::Record;
+use simdisk::SimDisk;
+use std::alloc::Global;
+use std::process::Abort;
+use std::sync::Wait;
+use std::thread::Threads;
+use std::time::Duration;
+use std::{thread, time};
+use store::{Client, Halt, Options, Store, Transaction};
+use units::{Key, Splits, Value};
+
+// By how many bytes a log has to grow, and whether it was turned over behind a second of commits.
+struct Row {
+    name: &'static str,
+    renew: Option<u64>,
+    renewed: bool,
+}
+
+static ROWS: [Row; 3] = [
+    Row {
+        name: "no log is renewed",
+        renew: None,
+        renewed: false,
+    },
+    Row {
+        name: "a log that has grown by a thousand bytes",
+        renew: Some(1_000),
+        renewed: true,
+    },
+    Row {
+        name: "a log that has not grown by so much",
+        renew: Some(1_000_000),
+        renewed: false,
+    },
+];
+
+// A commit each ten milliseconds, of 73 bytes in the log.
+const COMMITS: u32 = 100;
+
+const PAUSE: u64 = 10;
+
+// A store of one shard and one client.
+fn open<'r, R: Threads + Wait + Sync + Abort>(
+    rt: &'r R,
+    alloc: Global,
+    disks: Vec<SimDisk>,
+    row: &Row,
+) -> Store<'r, R, SimDisk> {
+    let splits = Splits::new(alloc, &[]).ok().expect(rt, "splits");
+    let mut options = Options::new(splits, 1);
+    options.keep = Some(200_000);
+    options.renew = row.renew;
+    Store::open(rt, alloc, disks, options)
+        .ok()
+        .expect(rt, row.name)
+}
+
+// Whether all commits were made.
+fn write<R: Wait + time::Clock>(rt: &R, alloc: Global, clients: Vec<Client<'_, R>>) -> bool {
+    let mut clients = clients;
+    let Some(mut client) = clients.pop() else {
+        return false;
+    };
+    let mut wrote = true;
+    for _commit in 0..COMMITS {
+        let ended = client.transact(5, |tx: &mut Transaction<'_, R>| -> Result<(), Halt> {
+            tx.put(&Key::new(b"a")?, Value::new(alloc, b"1")?)?;
+            Ok(())
+        });
+        wrote = wrote && ended.is_ok();
+        thread::sleep(rt, Duration::from_millis(PAUSE));
+    }
+    drop(client);
+    drop(clients);
+    wrote
+}
+
+// Whether a view sees what was written.
+fn sees<R: Wait + time::Clock>(clients: Vec<Client<'_, R>>) -> bool {
+    let mut clients = clients;
+    let Some(mut client) = clients.pop() else {
+        return false;
+    };
+    let seen = match (client.view(), Key::new(b"a")) {
+        (Some(mut view), Ok(key)) => match view.get(&key) {
+            Ok(Some(found)) => {
+                let same = found.as_bytes() == b"1".as_slice();
+                drop(found);
+                same
+            }
+            _ => false,
+        },
+        _ => false,
+    };
+    drop(client);
+    drop(clients);
+    seen
+}
+
+// Whether the log of the disk begins with a base.
+fn is_renewed(rt: &impl Abort, alloc: Global, disks: Vec<SimDisk>) -> (bool, Vec<SimDisk>) {
+    let mut disks = disks;
+    let disk = disks.pop().expect(rt, "a disk");
+    let (log, entries) = GateLog::open(alloc, disk).ok().expect(rt, "a log");
+    let renewed = match entries.first() {
+        Some(entry) => matches!(entry.item(), Record::Base { .. }),
+        None => false,
+    };
+    drop(entries);
+    disks.push(log.into_disk()).ok().expect(rt, "memory");
+    (renewed, disks)
+}
+
+// It fails where a store renews no log, or each.
+#[test]
+fn logs_of_stores_are_renewed(rt: HostRuntime) {
+    let alloc = rt.alloc();
+    for row in &ROWS {
+        let log = GateLog::format(SimDisk::new(alloc)).ok();
+        let disk = log.expect(&rt, "a log").into_disk();
+        let disks = vec![in alloc; disk].ok().expect(&rt, "memory");
+        let store = open(&rt, alloc, disks, row);
+        let served = store.serve(|clients: Vec<Client<'_, HostRuntime>>| write(
+            &rt, alloc, clients,
+        ));
+        let (wrote, disks) = served.ok().expect(&rt, row.name);
+        let (renewed, disks) = is_renewed(&rt, alloc, disks);
+        let again = open(&rt, alloc, disks, row);
+        let served = again.serve(|clients: Vec<Client<'_, HostRuntime>>| sees(clients));
+        let (seen, disks) = served.ok().expect(&rt, row.name);
+        drop(disks);
+        assert!(rt; wrote && seen && renewed == row.renewed, "{}", row.name);
+    }
+}
