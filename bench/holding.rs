@@ -1,5 +1,5 @@
 //! What versions hold in memory: a core with so many of them, of 100 bytes each, and its desk with one viewer. Its log is a file, so that no
-//! image of it counts. In megabytes, by the sizes that were asked for.
+//! image of it counts. In megabytes, by the sizes that were asked for, and by what is resident.
 use desk::Desk;
 use disk::Disk;
 use gatelog::GateLog;
@@ -38,6 +38,13 @@ unsafe impl GlobalAlloc for Counted {
 
 fn megabytes() -> f64 {
     MEMORY.0.load(Relaxed) as f64 / 1e6
+}
+
+/// What of this program is resident, on Linux.
+fn resident() -> f64 {
+    let told = std::fs::read_to_string("/proc/self/statm").unwrap_or_default();
+    let pages: f64 = told.split(' ').nth(1).and_then(|word| word.parse().ok()).unwrap_or(0.0);
+    pages * 4096.0 / 1e6
 }
 
 /// A file that is never synced.
@@ -105,16 +112,18 @@ fn main() {
     };
     let Ok(log) = GateLog::format(Unsynced(file, 0)) else { panic!() };
     let Ok(mut core) = Core::open(Global, log.into_disk(), setup) else { panic!() };
-    let empty = megabytes();
+    let (empty, bare) = (megabytes(), resident());
     for number in 0..count {
         let now = 10 * number + 1;
         assert!(core.on(Global, &reading(now), &commit(number)).is_ok());
         assert!(core.on(Global, &reading(now + 2), &Input::Settle(TxnId::new(1, number).unwrap())).is_ok());
     }
-    let alone = megabytes() - empty;
+    let (alone, seen) = (megabytes() - empty, resident() - bare);
     let now = 10 * count;
     assert!(core.on(Global, &reading(now), &Input::Advance(Stamp::new(now).unwrap())).is_ok());
     let Ok((desk, viewers)) = Desk::new(Waiting, Global, core, 1) else { panic!() };
-    println!("{count} versions of 100 bytes: a core {alone:.1} MB, behind a desk with one viewer {:.1} MB", megabytes() - empty);
+    let (both, all_seen) = (megabytes() - empty, resident() - bare);
+    println!("{count} versions of 100 bytes: a core {alone:.1} MB, behind a desk with one viewer {both:.1} MB");
+    println!("resident: a core {seen:.1} MB, behind a desk with one viewer {all_seen:.1} MB");
     drop((desk, viewers));
 }

@@ -111,13 +111,33 @@ pub mod collections {
 }
 
 pub mod prelude {
-    pub use super::{CollectIn, ToVecIn, Vec};
+    pub use super::{Box, CollectIn, ToVecIn, Vec};
 }
 
 use alloc::{AllocError, Global};
 
 pub fn said(text: String) -> Result<String, AllocError> {
     Ok(text)
+}
+
+/// A value in memory of its own, which can be written over there.
+pub struct Box<T>(std::boxed::Box<T>);
+impl<T> Box<T> {
+    pub fn new(_: Global, x: T) -> Result<Self, AllocError> {
+        Ok(Box(std::boxed::Box::new(x)))
+    }
+    pub fn replace(one: &mut Self, x: T) -> T {
+        std::mem::replace(&mut one.0, x)
+    }
+    pub fn into_inner(one: Self) -> T {
+        *one.0
+    }
+}
+impl<T> std::ops::Deref for Box<T> {
+    type Target = T;
+    fn deref(&self) -> &T {
+        &self.0
+    }
 }
 
 #[derive(Debug)]
@@ -171,6 +191,9 @@ impl<T> Vec<T> {
     }
     pub fn reserve(&mut self, n: usize) -> Result<(), AllocError> {
         self.0.try_reserve(n).map_err(|_| AllocError)
+    }
+    pub fn reserve_exact(&mut self, n: usize) -> Result<(), AllocError> {
+        self.0.try_reserve_exact(n).map_err(|_| AllocError)
     }
     pub fn resize(&mut self, n: usize, x: T) -> Result<(), AllocError>
     where

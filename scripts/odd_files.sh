@@ -81,6 +81,14 @@ want 'fault: 2 Device' migrate old.log missing/new.log
 want 'fault: 12 NotALog' migrate new.log newer.log
 [ ! -e newer.log ] || fail "a refused migration has made a file"
 cmp -s old.log logs/shard-0.log || fail "a log of version 1 was written to"
+want 'fault: 12 NotALog' compact old.log newer.log
+want '' compact new.log short.log
+want '9225 opened 1
+closed at 9239' dump short.log
+want 'fault: 2 Device' compact new.log short.log
+want 'fault: 2 Device' compact new.log missing/new.log
+want 'fault: 2 Device' compact missing.log newer.log
+[ ! -e newer.log ] || fail "a refused compaction has made a file"
 mv kept logs/shard-0.log
 
 if (ulimit -v 20000) 2>/dev/null; then

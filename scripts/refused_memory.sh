@@ -1,6 +1,6 @@
 #!/bin/sh
 # Runs programs with the N-th growth of their memory refused, for N = 1, 2, .. until none is. `refusing` has to ask again, and to end as
-# without. The program has to end as without, or with `1 Memory` behind what it printed so far: `once`, `play`, `inspect`, `migrate`, and `drive`
+# without. The program has to end as without, or with `1 Memory` behind what it printed so far: `once`, `play`, `inspect`, `migrate`, `compact`, and `drive`
 # at some of its growths, whose number depends on its threads. It wants both programs built (as the gate does), and the kit's own clang;
 # where there is none, nothing is tried.
 set -eu
@@ -50,6 +50,17 @@ is_not_migrated() {
     is_memory && [ ! -s "$room/new.log" ] && cmp -s "$room/old.log" "$room/kept.log"
 }
 
+# The new log has the records of the old one, which is as it was.
+is_compacted() {
+    is_whole && [ "$(wc -c <"$room/new.log")" -eq 9240 ] && cmp -s "$room/long.log" "$room/kept.long"
+}
+
+# There is no new log, or the empty one, and the old one is as it was.
+is_not_compacted() {
+    is_memory && cmp -s "$room/long.log" "$room/kept.long" \
+        && { [ ! -s "$room/new.log" ] || [ "$(wc -c <"$room/new.log")" -eq 9225 ]; }
+}
+
 # The drive ended with the verdict yes, or with `1 Memory`, behind its four counts where its workers had reported.
 is_driven() {
     if [ "$status" -eq 0 ]; then
@@ -96,6 +107,10 @@ mkdir "$room/logs"
 printf 'SPNLOG01\245\000\000\000\011\001\000\000\000\000\000\000\000\001\000' >"$room/old.log"
 cp "$room/old.log" "$room/kept.log"
 
+# The same in version 2.
+"$program" migrate "$room/old.log" "$room/long.log"
+cp "$room/long.log" "$room/kept.long"
+
 from=$(date +%s)
 done=
 sweep refusing 1 is_whole is_whole "$root/crates/refusing/out/refusing"
@@ -104,5 +119,6 @@ sweep once 1 is_whole is_memory "$program" once a 1 100 110 112 121
 sweep play 1 is_whole is_memory "$program" play "$root/docs/example.schedule"
 sweep inspect 1 is_whole is_memory "$program" inspect "$room/no.lines" "$room/logs/shard-0.log" "$room/logs/shard-1.log"
 sweep migrate 1 is_migrated is_not_migrated "$program" migrate "$room/old.log" "$room/new.log"
+sweep compact 1 is_compacted is_not_compacted "$program" compact "$room/long.log" "$room/new.log"
 sweep drive 13 is_driven is_driven "$program" drive "$room/settings"
 echo "refused_memory: $done growths refused in $(($(date +%s) - from)) seconds, each as it should be"

@@ -237,7 +237,8 @@ takes_mark : (installs : List Install) (list log log' : List BoardEntry) (e : Bo
 takes_mark installs list log log' e none grown front same = (
   subst (IsPrefix list) (sym grown) (prefix_trans list log (log ++ e ∷ []) front (e ∷ [], refl)),
   subst (λ (es : List BoardEntry). SameFrom (horizon_on list) installs (versions_on es)) (sym grown)
-      (subst (SameFrom (horizon_on list) installs) (sym (versions_on-more log (e ∷ []) ∙ (ap (λ is. versions_on log ++ is) none ∙ append-nil (versions_on log)))) same),
+      (subst (SameFrom (horizon_on list) installs) (sym (versions_on-more log (e ∷ [])
+      ∙ (ap (λ is. versions_on log ++ is) none ∙ append-nil (versions_on log)))) same),
 )
 
 -- a safe timestamp is prepared

@@ -5,7 +5,8 @@ use Rattle.units.specs.declared.fault.Fault.{Fault}
 use Rattle.units.specs.declared.fault.Fault.TheVariants.{Memory}
 use Rattle.output.specs.declared.failure.Failure.{Failure}
 use Rattle.output.specs.declared.failure.Failure.TheVariants.{Refused, Unwritten}
-use Rattle.command_line.specs.Commands.{Asked, help, once_asked, format_asked, play_asked, inspect_asked, drive_asked, dump_asked, history_asked, get_asked, put_asked, stats_asked, migrate_asked}
+use Rattle.command_line.specs.Commands.{Asked, help, once_asked, format_asked, play_asked, inspect_asked, drive_asked, dump_asked, history_asked}
+use Rattle.command_line.specs.Commands.{get_asked, put_asked, stats_asked, migrate_asked, compact_asked}
 use Rattle.system.specs.declared.asked.Driven.{Driven}
 use Rattle.drive.specs.declared.shards.NoVerdict.{NoVerdict}
 use Rattle.cli.specs.Faults.{FailsAs, IsNotDriven, IsRefusedBy, MayRefuse, MayRefuseTo}
@@ -37,6 +38,7 @@ module _ (drives puts : Fault → Type 0) where
   of_asked drives' puts' (put_asked dir key value) fault more some (inr why) = inr (some why)
   of_asked drives' puts' (stats_asked logs) fault more some is = is
   of_asked drives' puts' (migrate_asked old new) fault more some is = is
+  of_asked drives' puts' (compact_asked old new) fault more some is = is
 
   pub of_command : (drives' puts' : Fault → Type 0) (asked : Result Asked Fault) (fault : Fault) → (drives fault → drives' fault) → (puts fault → puts' fault)
       → MayRefuseTo drives puts asked fault → MayRefuseTo drives' puts' asked fault
@@ -62,6 +64,7 @@ module _ (drives puts : Fault → Type 0) where
   any_asked (put_asked dir key value) = inl (inl refl)
   any_asked (stats_asked logs) = inl refl
   any_asked (migrate_asked old new) = inl refl
+  any_asked (compact_asked old new) = inl refl
 
   any : (asked : Result Asked Fault) → MayRefuseTo drives puts asked Memory
   any (Ok asked) = any_asked asked
@@ -86,7 +89,7 @@ told_asked : (puts : Said) (asked : Asked) (status : ℕ) (text : List ℕ) → 
 told_asked puts help status text is = tt
 told_asked puts (once_asked key value first second) status text is = tt
 told_asked puts (format_asked file) status text is = is
-told_asked puts (play_asked file) status text is = tt
+told_asked puts (play_asked file) status text is = is
 told_asked puts (inspect_asked lines logs) status text is = is
 told_asked puts (drive_asked file) status text is = tt
 told_asked puts (dump_asked file) status text is = is
@@ -95,6 +98,7 @@ told_asked puts (get_asked dir key at) status text is = is
 told_asked puts (put_asked dir key value) status text is = (is.0, tt, is.2, is.3)
 told_asked puts (stats_asked logs) status text is = is
 told_asked puts (migrate_asked old new) status text is = is
+told_asked puts (compact_asked old new) status text is = is
 
 pub told_to : (puts : Said) (asked : Result Asked Fault) (status : ℕ) (text : List ℕ) → TellsTo puts asked status text → TellsTo AnyEnd asked status text
 told_to puts (Ok asked) status text is = told_asked puts asked status text is

@@ -2,7 +2,8 @@
 use Rattle.std.specs.Prelude.{ℕ, Result, Ok, Err}
 use Rattle.units.specs.declared.fault.Fault.{Fault}
 use Rattle.simdisk.specs.declared.simdisk.SimDisk.{SimDisk}
-use Rattle.command_line.specs.Commands.{Asked, help, once_asked, format_asked, play_asked, inspect_asked, drive_asked, dump_asked, history_asked, get_asked, put_asked, stats_asked, migrate_asked}
+use Rattle.command_line.specs.Commands.{Asked, help, once_asked, format_asked, play_asked, inspect_asked, drive_asked, dump_asked, history_asked}
+use Rattle.command_line.specs.Commands.{get_asked, put_asked, stats_asked, migrate_asked, compact_asked}
 use Rattle.once.specs.Shards.{IsLogged}
 
 -- a disk behind a command
@@ -19,6 +20,7 @@ LogsCommand (get_asked dir key at) status disk = Unit {0}
 LogsCommand (put_asked dir key value) status disk = Unit {0}
 LogsCommand (stats_asked logs) status disk = Unit {0}
 LogsCommand (migrate_asked old new) status disk = Unit {0}
+LogsCommand (compact_asked old new) status disk = Unit {0}
 
 -- a disk behind the command that some words ask for
 abbrev pub LogsTo : Result Asked Fault → ℕ → SimDisk → Type 0

@@ -3,9 +3,11 @@ use Rattle.std.specs.Prelude.{◌≡◌, ◌⊎◌, ℕ, Result, Ok, Err}
 use Rattle.units.specs.declared.fault.Fault.{Fault}
 use Rattle.units.specs.declared.fault.Fault.TheVariants.{BadRequest, Device, Memory}
 use Rattle.units.specs.declared.fault.Reason.TheVariants.{Settings, Unlawful}
-use Rattle.command_line.specs.Commands.{Asked, help, once_asked, format_asked, play_asked, inspect_asked, drive_asked, dump_asked, history_asked, get_asked, put_asked, stats_asked, migrate_asked}
+use Rattle.command_line.specs.Commands.{Asked, help, once_asked, format_asked, play_asked, inspect_asked, drive_asked, dump_asked, history_asked}
+use Rattle.command_line.specs.Commands.{get_asked, put_asked, stats_asked, migrate_asked, compact_asked}
 use Rattle.client.specs.declared.ended.Ended.{Ended}
 use Rattle.cli.specs.declared.engine.Put.{Put}
+use Rattle.compaction.specs.Compacted.{IsNotCompacted}
 use Rattle.drive.specs.declared.shards.NoVerdict.{NoVerdict}
 use Rattle.inspection.specs.Files.{IsNotJudged}
 use Rattle.output.specs.declared.failure.Failure.{Failure}
@@ -66,6 +68,7 @@ MayRefuse drives puts (get_asked dir key at) fault = IsNotTold fault
 MayRefuse drives puts (put_asked dir key value) fault = IsNotPut puts fault
 MayRefuse drives puts (stats_asked logs) fault = IsNotShown fault
 MayRefuse drives puts (migrate_asked old new) fault = IsNotMigrated fault
+MayRefuse drives puts (compact_asked old new) fault = IsNotCompacted fault
 
 abbrev pub MayRefuseTo : (Fault → Type 0) → (Fault → Type 0) → Result Asked Fault → Fault → Type 0
 MayRefuseTo drives puts (Ok asked) fault = MayRefuse drives puts asked fault

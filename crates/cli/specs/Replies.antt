@@ -2,7 +2,8 @@
 use Rattle.std.specs.Prelude.{◌≡◌, ◌++◌, ℕ, List, [], Some, None, Result, Ok, Err, codes}
 use Rattle.units.specs.declared.fault.Fault.{Fault}
 use Rattle.units.specs.declared.line.Verdict.{Verdict}
-use Rattle.command_line.specs.Commands.{Asked, command_of, help, once_asked, format_asked, play_asked, inspect_asked, drive_asked, dump_asked, history_asked, get_asked, put_asked, stats_asked, migrate_asked}
+use Rattle.command_line.specs.Commands.{Asked, command_of, help, once_asked, format_asked, play_asked, inspect_asked, drive_asked, dump_asked}
+use Rattle.command_line.specs.Commands.{history_asked, get_asked, put_asked, stats_asked, migrate_asked, compact_asked}
 use Rattle.command_line.specs.Lines.{Word}
 use Rattle.command_line.specs.declared.usage.TheConstants.{USAGE}
 use Rattle.client.specs.declared.ended.Ended.{Ended}
@@ -28,6 +29,7 @@ reply_of (get_asked dir key at) = None
 reply_of (put_asked dir key value) = None
 reply_of (stats_asked logs) = None
 reply_of (migrate_asked old new) = None
+reply_of (compact_asked old new) = None
 
 -- and what is no command is refused
 abbrev pub reply_or_refusal : Result Asked Fault → Expected
@@ -44,7 +46,7 @@ abbrev pub Tells : Said → Asked → ℕ → List ℕ → Type 0
 Tells puts help status text = Unit {0}
 Tells puts (once_asked key value first second) status text = Unit {0}
 Tells puts (format_asked file) status text = (status ≡ 0) × (text ≡ [])
-Tells puts (play_asked file) status text = Unit {0}
+Tells puts (play_asked file) status text = status ≡ 0
 Tells puts (inspect_asked lines logs) status text =
     (verdict : Verdict) × (status ≡ exit_status verdict) × (text ≡ text_of verdict ++ codes "\n")
 Tells puts (drive_asked file) status text = Unit {0}
@@ -55,6 +57,7 @@ Tells puts (put_asked dir key value) status text =
     (ended : Ended) × puts dir key value ended × (status ≡ put_status ended) × (text ≡ put_text ended)
 Tells puts (stats_asked logs) status text = (status ≡ 0) × AreStats logs text
 Tells puts (migrate_asked old new) status text = (status ≡ 0) × (text ≡ [])
+Tells puts (compact_asked old new) status text = (status ≡ 0) × (text ≡ [])
 
 -- what the command that some words ask for has printed
 abbrev pub TellsTo : Said → Result Asked Fault → ℕ → List ℕ → Type 0

@@ -19,6 +19,7 @@ ghost use Rattle.cli.specs.Puts.{IsPutBy};
 ghost use Rattle.cli.specs.Replies.{Tells, TellsTo, reply_of, reply_to};
 ghost use Rattle.output.specs.Streams.{failures_of, fault_line, writer_of};
 
+use crate::compact::compact;
 use crate::drive_command::run_drive;
 use crate::dump::dump;
 use crate::engine::{Engine, Put};
@@ -77,7 +78,7 @@ pub fn answer<
     ensures helped { asks_help (map (λ w. w.now) words.entry.now) ≡ true → result.0 ≢ 2
         → (result.0 ≡ 0)
         × Appends (O.contents (writer_of out.old)) (O.contents (writer_of out.new)) USAGE.now }
-    // What files tell: a format and a migration print nothing, an inspection a verdict, which its status goes with, and a dump lines of records.
+    // What files tell: a format, a migration and a compaction print nothing, an inspection a verdict, which its status goes with, and a dump lines of records.
     ensures tells { are_plain (map (λ w. w.now) words.entry.now) ≡ true → result.0 ≢ 2
         → (text : List ℕ) × TellsTo (IsPutBy (P.post system.now.drive.put alloc))
         (command_of (map (λ w. w.now) words.entry.now)) result.0 text
@@ -229,5 +230,6 @@ fn run<
         Command::Put { dir, key, value } => (put(alloc, dir, &key, &value, system, out), disk),
         Command::Stats { logs } => (stats(alloc, &logs, &system.files, out), disk),
         Command::Migrate { old, new } => (migrate(alloc, old, new, &system.files), disk),
+        Command::Compact { old, new } => (compact(alloc, old, new, &system.files), disk),
     }
 }

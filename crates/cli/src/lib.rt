@@ -2,6 +2,7 @@
 #![tactic(auto)]
 
 mod answers;
+mod compact;
 mod drive_command;
 mod dump;
 mod engine;

@@ -47,7 +47,9 @@ fn place_for<F: Files>(
         }
         Command::Put { dir, .. } => in_store(alloc, files, dir),
         Command::Stats { logs } => in_logs(alloc, files, logs, fault),
-        Command::Migrate { old, new } => in_migrated(alloc, files, old, new, fault),
+        Command::Migrate { old, new } | Command::Compact { old, new } => {
+            in_copied(alloc, files, old, new, fault)
+        }
     }
 }
 
@@ -112,7 +114,7 @@ fn in_logs<F: Files>(alloc: Global, files: &F, logs: &[&str], fault: Fault) -> O
 }
 
 // In the old file, but where the system refuses something and it can be read.
-fn in_migrated<F: Files>(
+fn in_copied<F: Files>(
     alloc: Global,
     files: &F,
     old: &str,

@@ -1,5 +1,6 @@
 -- What a session puts out as it closes, and what it hears.
-use Rattle.std.proofs.Common.{◌≡◌, ◌⊎◌, inl, inr, ℕ, zero, suc, ◌+◌, Bool, true, false, true≢false, cond, not, ◌&&◌, List, [], ◌∷◌, ◌++◌, map, Option, None, Some}
+use Rattle.std.proofs.Common.{◌≡◌, ◌⊎◌, inl, inr, ℕ, zero, suc, ◌+◌, Bool, true, false, true≢false, cond, not, ◌&&◌, List, [], ◌∷◌, ◌++◌, map, Option}
+use Rattle.std.proofs.Common.{None, Some}
 use Rattle.std.proofs.Common.{refl, ap, sym, ◌∙◌, subst, append_assoc, append-nil, arith}
 use Rattle.std.specs.List.{list_all}
 use Rattle.units.specs.Ids.{Id}
@@ -11,7 +12,8 @@ use Rattle.units.specs.declared.fault.Reason.TheVariants.{Nothing, Awaited, Doom
 use Rattle.units.proofs.IdLaws.{same_id-refl}
 use Rattle.message.specs.Ends.{End}
 use Rattle.message.specs.declared.message.Envelope.{Envelope}
-use Rattle.session.specs.Sessions.{Client, Stage, IsClosing, IsOver, Moved, Denies, Goes, unless, asked_keys, is_none, is_doomed, closes, closing_messages, gives_up, shards_told}
+use Rattle.session.specs.Sessions.{Client, Stage, IsClosing, IsOver, Moved, Denies, Goes, unless, asked_keys, is_none, is_doomed, closes}
+use Rattle.session.specs.Sessions.{closing_messages, gives_up, shards_told}
 use Rattle.session.specs.Shown.{IsDenied, farewells, finished_as, give_up_to, is_made}
 use Rattle.client.specs.declared.ended.Ended.{Ended}
 use Rattle.client.specs.declared.ended.Ended.TheVariants as ended

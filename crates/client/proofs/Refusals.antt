@@ -1,5 +1,6 @@
 -- What a session refuses ends the code of its transaction.
-use Rattle.std.proofs.Common.{◌≡◌, inl, inr, Bool, true, false, true≢false, cond, not, ◌&&◌, nat_le, List, [], ◌∷◌, ◌++◌, length, Result, Ok, Err, IfErr, refl, ap, sym, subst}
+use Rattle.std.proofs.Common.{◌≡◌, inl, inr, Bool, true, false, true≢false, cond, not, ◌&&◌, nat_le, List, [], ◌∷◌, ◌++◌, length, Result, Ok, Err}
+use Rattle.std.proofs.Common.{IfErr, refl, ap, sym, subst}
 use Rattle.std.specs.Prelude.{IsTrue, MatchResult}
 use Rattle.units.specs.Keys.{Bytes, has_key, shard_of, writes_key}
 use Rattle.units.specs.declared.fault.Fault.{Fault}
@@ -10,7 +11,8 @@ use Rattle.units.specs.declared.writes.Write.{Write}
 use Rattle.message.specs.declared.message.Address.TheVariants.{Shard}
 use Rattle.message.specs.declared.message.Envelope.{Envelope}
 use Rattle.message.specs.declared.message.Message.{Message}
-use Rattle.session.specs.Sessions.{Client, IsClosing, Moved, Denies, Goes, unless, asked_keys, was_answered, is_doomed, is_none, with_write, reads, buffers, closes, closing_messages}
+use Rattle.session.specs.Sessions.{Client, IsClosing, Moved, Denies, Goes, unless, asked_keys, was_answered, is_doomed, is_none, with_write, reads}
+use Rattle.session.specs.Sessions.{buffers, closes, closing_messages}
 use Rattle.session.specs.Shown.{IsDenied, is_made}
 use Rattle.client.specs.Ends.{IsRefused, halt_for}
 use Rattle.client.specs.declared.ended.Ended.{Ended}

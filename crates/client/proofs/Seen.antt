@@ -1,9 +1,11 @@
 -- What a transaction sees stays while it reads.
-use Rattle.std.proofs.Common.{◌≡◌, ℕ, Bool, true, false, cond, not, ◌&&◌, nat_le, List, [], ◌∷◌, ◌++◌, length, Option, Some, None}
+use Rattle.std.proofs.Common.{◌≡◌, ℕ, Bool, true, false, cond, not, ◌&&◌, nat_le, List, [], ◌∷◌, ◌++◌, length, Option, Some, None, IfNone, IfSome}
 use Rattle.std.proofs.Common.{refl, ap, sym, ◌∙◌, append_assoc, append-nil}
+use Rattle.std.specs.List.{find}
 use Rattle.std.specs.Prelude.{filter, option_map}
 use Rattle.units.specs.Keys.{Bytes, has_key, same_key, shard_of}
-use Rattle.units.specs.Lists.{head}
+use Rattle.units.specs.Lists.{first, head}
+use Rattle.units.proofs.ListLaws.{find-is}
 use Rattle.units.specs.declared.writes.Write.{Write}
 use Rattle.units.specs.declared.fault.Reason.TheVariants.{Many, Again, Awaited, Doomed}
 use Rattle.message.specs.declared.message.Answer.{Answer}
@@ -97,3 +99,13 @@ seen_on c d k v grows e =
 
 pub seen_stays : SeenStays
 seen_stays splits c d k v read e = seen_on c d k v (steps_grow splits read.0 c d read.1) e
+
+-- what a look for the first that passes says of what it finds, and of nothing
+pub found_none : {A B : Type 0} (p : B → Bool) (xs : List B) (v : A → B) (r : Option A) → option_map v r ≡ find p xs → IfNone r (first p xs ≡ None)
+found_none p xs v None e = sym (e ∙ find-is p xs)
+found_none p xs v (Some x) e = tt
+
+pub found_some : {A B : Type 0} (p : B → Bool) (xs : List B) (v : A → B) (r : Option A) → option_map v r ≡ find p xs →
+    IfSome r (λ x. first p xs ≡ Some (v x))
+found_some p xs v None e = tt
+found_some p xs v (Some x) e = sym (e ∙ find-is p xs)

@@ -131,7 +131,7 @@ impl<'s, R: Wait + time::Clock> Wire<'_, 's, R> {
         for _heard in self.rt.forever() {
             match self.hear() {
                 Hearing::End(done) => {
-                    if tx.txn().is(done.txn()) {
+                    if tx.txn() == done.txn() {
                         return Some(done);
                     }
                 }
@@ -151,7 +151,7 @@ impl<'s, R: Wait + time::Clock> Wire<'_, 's, R> {
     // Whether it is in vain to wait on, since a shard has refused a letter of the transaction. Once it was asked for behind giving up, only
     // where that is the shard which decides, and it has stopped: what another one refuses does not keep that one from telling the end.
     fn is_in_vain<S: Closed>(&self, tx: &Tx<'s, S>, refused: &Refused) -> bool {
-        if !tx.txn().is(refused.txn) {
+        if tx.txn() != refused.txn {
             return false;
         }
         S::is_closing() || refused.fault == Fault::Stopped && self.decides(tx, refused.shard)

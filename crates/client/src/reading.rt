@@ -194,7 +194,7 @@ pub fn seen_stays()
 fn unserved(tx: &Tx<'_, Open>, refused: &Refused) -> Result<(), Halt>
     ensures { result ≡ unserved tx.now.client.txn refused.now }
 {
-    if tx.txn().is(refused.txn) {
+    if tx.txn() == refused.txn {
         Err(Halt::Unserved {
             shard: refused.shard,
             fault: refused.fault,
@@ -243,12 +243,7 @@ fn is_known(tx: &Tx<'_, Open>, key: &Key) -> bool {
 
 // The key is in the list.
 fn is_among(keys: &[Key], key: &Key) -> bool {
-    for other in keys {
-        if other.is(key) {
-            return true;
-        }
-    }
-    false
+    keys.contains(key)
 }
 
 // The write of a key.
@@ -256,16 +251,7 @@ fn write_of<'a>(writes: &'a [Write], key: &Key) -> Option<&'a Write>
     ensures none { IfNone result (first (λ w. same_key w.key key.now) writes.now ≡ None) }
     ensures some { IfSome result (λ w. first (λ v. same_key v.key key.now) writes.now ≡ Some w.now) }
 {
-    match writes.split_first() {
-        None => None,
-        Some((write, rest)) => {
-            if write.key.is(key) {
-                Some(write)
-            } else {
-                write_of(rest, key)
-            }
-        }
-    }
+    writes.iter().find(|write| write.key == *key)
 }
 
 // The answer for a key.
@@ -273,16 +259,7 @@ fn answer_for<'a>(taken: &'a [Answered], key: &Key) -> Option<&'a Answered>
     ensures none { IfNone result (first (λ a. same_key a.key key.now) taken.now ≡ None) }
     ensures some { IfSome result (λ a. first (λ b. same_key b.key key.now) taken.now ≡ Some a.now) }
 {
-    match taken.split_first() {
-        None => None,
-        Some((answered, rest)) => {
-            if answered.key.is(key) {
-                Some(answered)
-            } else {
-                answer_for(rest, key)
-            }
-        }
-    }
+    taken.iter().find(|answered| answered.key == *key)
 }
 
 // The value of a key that was written or answered. One that was not is `awaited`.

@@ -13,7 +13,7 @@ use Rattle.clap.specs.declared.parser.matches.SubCommand.{SubCommand}
 use Rattle.units.specs.declared.fault.Fault.{Fault}
 use Rattle.units.specs.declared.fault.Fault.TheVariants.{BadRequest, Memory}
 use Rattle.units.specs.declared.fault.Reason.TheVariants.{Command as command_reason}
-use Rattle.command_line.specs.Lines.{CommandLine, Word, once, format, play, inspect, drive, dump, history, get, put, stats, migrate}
+use Rattle.command_line.specs.Lines.{CommandLine, Word, once, format, play, inspect, drive, dump, history, get, put, stats, migrate, compact}
 use Rattle.command_line.specs.Parser.{entry_of, row}
 use Rattle.command_line.specs.Views.{line_view}
 use Rattle.command_line.specs.declared.parsing.Line.{Line}
@@ -72,6 +72,7 @@ once_found (get d k (Some at)) inner key value e1 l1 e2 l2 name rows rk rv ra rb
 once_found (put d k w) inner key value e1 l1 e2 l2 name rows rk rv ra rb rc rd = absurd (differ _ _ refl refl name)
 once_found (stats fs) inner key value e1 l1 e2 l2 name rows rk rv ra rb rc rd = absurd (differ _ _ refl refl name)
 once_found (migrate o n) inner key value e1 l1 e2 l2 name rows rk rv ra rb rc rd = absurd (differ _ _ refl refl name)
+once_found (compact o n) inner key value e1 l1 e2 l2 name rows rk rv ra rb rc rd = absurd (differ _ _ refl refl name)
 
 -- the words are those that the argument was given
 abbrev pub ReadsAll : Found → Word → List Word → Type 0
@@ -95,6 +96,7 @@ inspect_found (get d k (Some at)) inner lines logs name rows rl rs = absurd (dif
 inspect_found (put d k v) inner lines logs name rows rl rs = absurd (differ _ _ refl refl name)
 inspect_found (stats fs) inner lines logs name rows rl rs = absurd (differ _ _ refl refl name)
 inspect_found (migrate o n) inner lines logs name rows rl rs = absurd (differ _ _ refl refl name)
+inspect_found (compact o n) inner lines logs name rows rl rs = absurd (differ _ _ refl refl name)
 
 pub history_found : (line : CommandLine) (inner : Found) (dir key : Word)
     → (entry_of line).0 ≡ codes "history" → rows_of inner ≡ (entry_of line).1
@@ -114,6 +116,7 @@ history_found (get d w (Some at)) inner dir key name rows rd rk = absurd (differ
 history_found (put d w v) inner dir key name rows rd rk = absurd (differ _ _ refl refl name)
 history_found (stats fs) inner dir key name rows rd rk = absurd (differ _ _ refl refl name)
 history_found (migrate o n) inner dir key name rows rd rk = absurd (differ _ _ refl refl name)
+history_found (compact o n) inner dir key name rows rd rk = absurd (differ _ _ refl refl name)
 
 -- what the argument was given, or nothing
 abbrev pub MayRead : Found → Word → Option Word → Type 0
@@ -146,6 +149,7 @@ get_found (get d w (Some t)) inner dir key at name rows rd rk ra =
 get_found (put d w v) inner dir key at name rows rd rk ra = absurd (differ _ _ refl refl name)
 get_found (stats fs) inner dir key at name rows rd rk ra = absurd (differ _ _ refl refl name)
 get_found (migrate o n) inner dir key at name rows rd rk ra = absurd (differ _ _ refl refl name)
+get_found (compact o n) inner dir key at name rows rd rk ra = absurd (differ _ _ refl refl name)
 
 pub put_found : (line : CommandLine) (inner : Found) (dir key value : Word)
     → (entry_of line).0 ≡ codes "put" → rows_of inner ≡ (entry_of line).1
@@ -166,6 +170,7 @@ put_found (put d w t) inner dir key value name rows rd rk rv =
     λ i. put (ed i) (ek i) (ev i)
 put_found (stats fs) inner dir key value name rows rd rk rv = absurd (differ _ _ refl refl name)
 put_found (migrate o n) inner dir key value name rows rd rk rv = absurd (differ _ _ refl refl name)
+put_found (compact o n) inner dir key value name rows rd rk rv = absurd (differ _ _ refl refl name)
 
 pub stats_found : (line : CommandLine) (inner : Found) (logs : List Word)
     → (entry_of line).0 ≡ codes "stats" → rows_of inner ≡ (entry_of line).1 → ReadsAll inner (codes "logs") logs → stats logs ≡ line
@@ -183,6 +188,7 @@ stats_found (stats fs) inner logs name rows rs =
     let es = rs fs (ap (all_of (codes "logs")) rows) in
     λ i. stats (es i)
 stats_found (migrate o n) inner logs name rows rs = absurd (differ _ _ refl refl name)
+stats_found (compact o n) inner logs name rows rs = absurd (differ _ _ refl refl name)
 
 pub migrate_found : (line : CommandLine) (inner : Found) (old new : Word)
     → (entry_of line).0 ≡ codes "migrate" → rows_of inner ≡ (entry_of line).1
@@ -202,6 +208,27 @@ migrate_found (migrate o n) inner old new name rows ro rn =
     let eo = reads_row inner _ (codes "old") old o rows ro refl in
     let en = reads_row inner _ (codes "new") new n rows rn refl in
     λ i. migrate (eo i) (en i)
+migrate_found (compact o n) inner old new name rows ro rn = absurd (differ _ _ refl refl name)
+
+pub compact_found : (line : CommandLine) (inner : Found) (old new : Word)
+    → (entry_of line).0 ≡ codes "compact" → rows_of inner ≡ (entry_of line).1
+    → Reads inner (codes "old") old → Reads inner (codes "new") new → compact old new ≡ line
+compact_found (once k v a b c d) inner old new name rows ro rn = absurd (differ _ _ refl refl name)
+compact_found (format f) inner old new name rows ro rn = absurd (differ _ _ refl refl name)
+compact_found (play f) inner old new name rows ro rn = absurd (differ _ _ refl refl name)
+compact_found (inspect ls fs) inner old new name rows ro rn = absurd (differ _ _ refl refl name)
+compact_found (drive f) inner old new name rows ro rn = absurd (differ _ _ refl refl name)
+compact_found (dump f) inner old new name rows ro rn = absurd (differ _ _ refl refl name)
+compact_found (history d k) inner old new name rows ro rn = absurd (differ _ _ refl refl name)
+compact_found (get d k None) inner old new name rows ro rn = absurd (differ _ _ refl refl name)
+compact_found (get d k (Some at)) inner old new name rows ro rn = absurd (differ _ _ refl refl name)
+compact_found (put d k v) inner old new name rows ro rn = absurd (differ _ _ refl refl name)
+compact_found (stats fs) inner old new name rows ro rn = absurd (differ _ _ refl refl name)
+compact_found (migrate o n) inner old new name rows ro rn = absurd (differ _ _ refl refl name)
+compact_found (compact o n) inner old new name rows ro rn =
+    let eo = reads_row inner _ (codes "old") old o rows ro refl in
+    let en = reads_row inner _ (codes "new") new n rows rn refl in
+    λ i. compact (eo i) (en i)
 
 -- a line with this name has one file
 abbrev pub HasFile : (Word → CommandLine) → CommandLine → Type 0
@@ -220,6 +247,7 @@ format_has (get d k (Some a)) e = absurd (differ _ _ refl refl e)
 format_has (put d k v) e = absurd (differ _ _ refl refl e)
 format_has (stats fs) e = absurd (differ _ _ refl refl e)
 format_has (migrate o n) e = absurd (differ _ _ refl refl e)
+format_has (compact o n) e = absurd (differ _ _ refl refl e)
 
 play_has : (line : CommandLine) → (entry_of line).0 ≡ codes "play" → HasFile play line
 play_has (once k v a b c d) e = absurd (differ _ _ refl refl e)
@@ -234,6 +262,7 @@ play_has (get d k (Some a)) e = absurd (differ _ _ refl refl e)
 play_has (put d k v) e = absurd (differ _ _ refl refl e)
 play_has (stats fs) e = absurd (differ _ _ refl refl e)
 play_has (migrate o n) e = absurd (differ _ _ refl refl e)
+play_has (compact o n) e = absurd (differ _ _ refl refl e)
 
 drive_has : (line : CommandLine) → (entry_of line).0 ≡ codes "drive" → HasFile drive line
 drive_has (once k v a b c d) e = absurd (differ _ _ refl refl e)
@@ -248,6 +277,7 @@ drive_has (get d k (Some a)) e = absurd (differ _ _ refl refl e)
 drive_has (put d k v) e = absurd (differ _ _ refl refl e)
 drive_has (stats fs) e = absurd (differ _ _ refl refl e)
 drive_has (migrate o n) e = absurd (differ _ _ refl refl e)
+drive_has (compact o n) e = absurd (differ _ _ refl refl e)
 
 dump_has : (line : CommandLine) → (entry_of line).0 ≡ codes "dump" → HasFile dump line
 dump_has (once k v a b c d) e = absurd (differ _ _ refl refl e)
@@ -262,6 +292,7 @@ dump_has (get d k (Some a)) e = absurd (differ _ _ refl refl e)
 dump_has (put d k v) e = absurd (differ _ _ refl refl e)
 dump_has (stats fs) e = absurd (differ _ _ refl refl e)
 dump_has (migrate o n) e = absurd (differ _ _ refl refl e)
+dump_has (compact o n) e = absurd (differ _ _ refl refl e)
 
 file_found : (m : ArgMatches) (make : Word → CommandLine) (name : Word) (line : CommandLine) (inner : Found) (file : Word)
     → ((l : CommandLine) → (entry_of l).0 ≡ name → HasFile make l)
@@ -304,8 +335,8 @@ pub no_name : (m : ArgMatches) (line : CommandLine) → subcommand_rows_of m ≡
     → (subcommand_name_of m ≡ Some (codes "drive") → ⊥) → (subcommand_name_of m ≡ Some (codes "dump") → ⊥)
     → (subcommand_name_of m ≡ Some (codes "history") → ⊥) → (subcommand_name_of m ≡ Some (codes "get") → ⊥)
     → (subcommand_name_of m ≡ Some (codes "put") → ⊥) → (subcommand_name_of m ≡ Some (codes "stats") → ⊥)
-    → (subcommand_name_of m ≡ Some (codes "migrate") → ⊥) → ⊥
-no_name m line e a b c d f h p q r s t =
+    → (subcommand_name_of m ≡ Some (codes "migrate") → ⊥) → (subcommand_name_of m ≡ Some (codes "compact") → ⊥) → ⊥
+no_name m line e a b c d f h p q r s t u =
     let named : subcommand_name_of m ≡ Some (entry_of line).0 =
     sym (names_same (out-ArgMatches m).subcommand) ∙ ap (option_map (λ (p : Text × List Row). p.0)) e in
     go line named
@@ -323,6 +354,7 @@ no_name m line e a b c d f h p q r s t =
     go (put _ _ _) n = r n
     go (stats _) n = s n
     go (migrate _ _) n = t n
+    go (compact _ _) n = u n
 
 -- a line that was read is the line
 pub line_read : (r : Result Line Fault) (line : CommandLine) (expected : Option CommandLine) → expected ≡ Some line

@@ -15,13 +15,14 @@ use Rattle.clap.specs.Walk.{walked}
 use Rattle.clap.specs.Simple.{entered, label_of, rows_at, names_of}
 use Rattle.clap.specs.Faults.{entered_fault, turn_fault, check_fault, defaults_fault}
 use Rattle.clap.specs.Faults.{level_fault, settle_fault, step_fault, walk_fault}
-use Rattle.command_line.specs.Lines.{CommandLine, Word, are_plain, one_file, is_plain, line_of, once_of, inspect_of, history_of, get_of, put_of, stats_of, migrate_of, format, play, drive, dump}
+use Rattle.command_line.specs.Lines.{CommandLine, Word, are_plain, one_file, is_plain, line_of, once_of, inspect_of, history_of, get_of, put_of}
+use Rattle.command_line.specs.Lines.{stats_of, two_files, format, play, drive, dump, migrate, compact}
 use Rattle.command_line.specs.Parser.{entry_of, shards_app}
 use Rattle.command_line.proofs.LineLemmas.{Agrees, agrees_as, file_agrees, file_leaf, once_agrees, once_leaf, refused_first, stopped_walk}
 use Rattle.command_line.proofs.LineLemmas.{word_is_fine, word_is_value}
 use Rattle.command_line.proofs.KeyLemmas.{get_agrees, get_leaf, history_agrees, history_leaf, put_agrees, put_leaf}
 use Rattle.command_line.proofs.ManyLemmas.{inspect_agrees, inspect_leaf, stats_agrees, stats_leaf}
-use Rattle.command_line.proofs.PairLemmas.{migrate_agrees, migrate_leaf}
+use Rattle.command_line.proofs.PairLemmas.{pair_agrees, pair_leaf}
 
 -- ---- the level above
 
@@ -77,31 +78,33 @@ enters_with name s rest starts found =
 
 -- ---- a first word that names no command
 
-abbrev pub chosen : Bool → Bool → Bool → Bool → Bool → Bool → Bool → Bool → Bool → Bool → Bool → List Word → Option CommandLine
-chosen a b c d f h p q r s t rest =
+abbrev pub chosen : Bool → Bool → Bool → Bool → Bool → Bool → Bool → Bool → Bool → Bool → Bool → Bool → List Word → Option CommandLine
+chosen a b c d f h p q r s t u rest =
     if a then once_of rest else (if b then one_file format rest else (if c then one_file play rest
     else (if d then inspect_of rest else (if f then one_file drive rest
     else (if h then one_file dump rest else (if p then history_of rest else (if q then get_of rest
-    else (if r then put_of rest else (if s then stats_of rest else (if t then migrate_of rest else None))))))))))
+    else (if r then put_of rest else (if s then stats_of rest else (if t then two_files migrate rest
+    else (if u then two_files compact rest else None)))))))))))
 
-abbrev pub met : Bool → Bool → Bool → Bool → Bool → Bool → Bool → Bool → Bool → Bool → Bool → Option Text
-met a b c d f h p q r s t = option_map (λ (x : Text × List Text). x.0) (cond (a || false) (Some (codes "once", [])) (cond (b || false) (Some (codes "format", []))
+abbrev pub met : Bool → Bool → Bool → Bool → Bool → Bool → Bool → Bool → Bool → Bool → Bool → Bool → Option Text
+met a b c d f h p q r s t u = option_map (λ (x : Text × List Text). x.0)
+    (cond (a || false) (Some (codes "once", [])) (cond (b || false) (Some (codes "format", []))
     (cond (c || false) (Some (codes "play", [])) (cond (d || false) (Some (codes "inspect", []))
     (cond (f || false) (Some (codes "drive", [])) (cond (h || false) (Some (codes "dump", []))
     (cond (p || false) (Some (codes "history", [])) (cond (q || false) (Some (codes "get", []))
     (cond (r || false) (Some (codes "put", [])) (cond (s || false) (Some (codes "stats", []))
-    (cond (t || false) (Some (codes "migrate", [])) None)))))))))))
+    (cond (t || false) (Some (codes "migrate", [])) (cond (u || false) (Some (codes "compact", [])) None))))))))))))
 
 other_agrees : (name : Word) (rest : List Word) → is_plain name ≡ true
     → bytes_eq (codes "once") name ≡ false → bytes_eq (codes "format") name ≡ false → bytes_eq (codes "play") name ≡ false
     → bytes_eq (codes "inspect") name ≡ false → bytes_eq (codes "drive") name ≡ false → bytes_eq (codes "dump") name ≡ false
     → bytes_eq (codes "history") name ≡ false → bytes_eq (codes "get") name ≡ false → bytes_eq (codes "put") name ≡ false
-    → bytes_eq (codes "stats") name ≡ false → bytes_eq (codes "migrate") name ≡ false
+    → bytes_eq (codes "stats") name ≡ false → bytes_eq (codes "migrate") name ≡ false → bytes_eq (codes "compact") name ≡ false
     → Agrees (line_of (name ∷ rest)) (fault_of shards_app (name ∷ rest)) (subcommand_of shards_app (name ∷ rest))
 unfolding walk_fault walked
-other_agrees name rest e a b c d f h p q r s t =
-    let not_a_line : line_of (name ∷ rest) ≡ None = λ i. chosen (a i) (b i) (c i) (d i) (f i) (h i) (p i) (q i) (r i) (s i) (t i) rest in
-    let no_command : subcommand_met program_names idle name ≡ None = λ i. met (a i) (b i) (c i) (d i) (f i) (h i) (p i) (q i) (r i) (s i) (t i) in
+other_agrees name rest e a b c d f h p q r s t u =
+    let not_a_line : line_of (name ∷ rest) ≡ None = λ i. chosen (a i) (b i) (c i) (d i) (f i) (h i) (p i) (q i) (r i) (s i) (t i) (u i) rest in
+    let no_command : subcommand_met program_names idle name ≡ None = λ i. met (a i) (b i) (c i) (d i) (f i) (h i) (p i) (q i) (r i) (s i) (t i) (u i) in
     let turns : turn_fault program.top program_names (walk_from nothing_held) name ≡ or_else [] (step_fault program.top 1 nothing_held value) =
     ap₂ (λ (k : Kinds) (m : Held × Step). or_else k (step_fault program.top 1 m.0 m.1))
     (word_is_fine program.top program_names name nothing_held e no_command)
@@ -172,8 +175,13 @@ stats_line rest e = agrees_as (stats_of rest) _ _ _ _ (enters (codes "stats") st
 
 migrate_line : (rest : List Word) → are_plain rest ≡ true → AgreesAt (codes "migrate" ∷ rest)
 unfolding walked
-migrate_line rest e = agrees_as (migrate_of rest) _ _ _ _ (enters (codes "migrate") migrate_leaf rest refl refl refl)
-    (enters_with (codes "migrate") migrate_leaf rest refl refl) (migrate_agrees rest e)
+migrate_line rest e = agrees_as (two_files migrate rest) _ _ _ _ (enters (codes "migrate") (pair_leaf (codes "migrate")) rest refl refl refl)
+    (enters_with (codes "migrate") (pair_leaf (codes "migrate")) rest refl refl) (pair_agrees (codes "migrate") migrate (λ _ _. refl) rest e)
+
+compact_line : (rest : List Word) → are_plain rest ≡ true → AgreesAt (codes "compact" ∷ rest)
+unfolding walked
+compact_line rest e = agrees_as (two_files compact rest) _ _ _ _ (enters (codes "compact") (pair_leaf (codes "compact")) rest refl refl refl)
+    (enters_with (codes "compact") (pair_leaf (codes "compact")) rest refl refl) (pair_agrees (codes "compact") compact (λ _ _. refl) rest e)
 
 -- where the first word is this command's name
 named : (name known : Word) (rest : List Word) → bytes_eq known name ≡ true → AgreesAt (known ∷ rest) → AgreesAt (name ∷ rest)
@@ -206,7 +214,10 @@ words_agree (name ∷ rest) e =
                         | inl s ↦ named name (codes "stats") rest s (stats_line rest plain.1)
                         | inr s ↦ elim (bool_cases (bytes_eq (codes "migrate") name)) [
                           | inl t ↦ named name (codes "migrate") rest t (migrate_line rest plain.1)
-                          | inr t ↦ other_agrees name rest plain.0 a b c d f h p q r s t
+                          | inr t ↦ elim (bool_cases (bytes_eq (codes "compact") name)) [
+                            | inl u ↦ named name (codes "compact") rest u (compact_line rest plain.1)
+                            | inr u ↦ other_agrees name rest plain.0 a b c d f h p q r s t u
+                          ]
                         ]
                       ]
                     ]

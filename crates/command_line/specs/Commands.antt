@@ -4,13 +4,15 @@ use Rattle.units.specs.declared.fault.Fault.{Fault}
 use Rattle.units.specs.declared.fault.Fault.TheVariants.{BadRequest}
 use Rattle.units.specs.declared.fault.Reason.TheVariants as reason
 use Rattle.truetime.specs.Interval.{Interval}
-use Rattle.command_line.specs.Lines.{CommandLine, Word, asks_help, line_of, once, format, play, inspect, drive, dump, history, get, put, stats, migrate}
+use Rattle.command_line.specs.Lines.{CommandLine, Word, asks_help, line_of, once, format, play, inspect, drive, dump, history, get, put, stats}
+use Rattle.command_line.specs.Lines.{migrate, compact}
 use Rattle.texts.specs.Numbers.{and_then, interval_of, stamp_of}
 
 -- what words may ask for: the usage; a write of a value to a key at the readings of its commit and of its settling; a new log
 -- file; the report of a schedule in a file; the verdict on a file of lines and some logs; a drive by settings in a file; what a
 -- log in a file holds; what the log of a store in a folder says of a key; the value of a key there, at a timestamp or the latest;
--- a write of a value to a key there; what some logs hold in figures; a new file with the log of a file of version 1
+-- a write of a value to a key there; what some logs hold in figures; a new file with the log of a file of version 1;
+-- a new file with the records of a log alone
 pub data Asked : Type 0 where
   help : Asked
   once_asked : Word → Word → Interval → Interval → Asked
@@ -24,6 +26,7 @@ pub data Asked : Type 0 where
   put_asked : Word → Word → Word → Asked
   stats_asked : List Word → Asked
   migrate_asked : Word → Word → Asked
+  compact_asked : Word → Word → Asked
 
 -- a key is the bytes of its word
 abbrev pub key_of : Word → Result Word Fault
@@ -69,6 +72,7 @@ command_of_line (get dir key at) = get_of_words dir key at
 command_of_line (put dir key value) = put_of_words dir key value
 command_of_line (stats logs) = Ok (stats_asked logs)
 command_of_line (migrate old new) = Ok (migrate_asked old new)
+command_of_line (compact old new) = Ok (compact_asked old new)
 
 -- and what is no line is refused
 abbrev pub command_or_refusal : Option CommandLine → Result Asked Fault

@@ -21,6 +21,7 @@ pub data CommandLine : Type 0 where
   put : Word → Word → Word → CommandLine
   stats : List Word → CommandLine
   migrate : Word → Word → CommandLine
+  compact : Word → Word → CommandLine
 
 -- the word does not begin with `-` (45)
 abbrev pub is_plain : Word → Bool
@@ -84,9 +85,9 @@ stats_of (log ∷ logs) = if nat_lt 16 (length (log ∷ logs)) then None else So
 stats_of [] = None
 
 -- OLD NEW
-abbrev pub migrate_of : List Word → Option CommandLine
-migrate_of (old ∷ new ∷ []) = Some (migrate old new)
-migrate_of _ = None
+abbrev pub two_files : (Word → Word → CommandLine) → List Word → Option CommandLine
+two_files command (old ∷ new ∷ []) = Some (command old new)
+two_files command _ = None
 
 -- the command line that the words are
 abbrev pub line_of : List Word → Option CommandLine
@@ -102,5 +103,6 @@ line_of (name ∷ rest) =
     else (if bytes_eq (codes "get") name then get_of rest
     else (if bytes_eq (codes "put") name then put_of rest
     else (if bytes_eq (codes "stats") name then stats_of rest
-    else (if bytes_eq (codes "migrate") name then migrate_of rest
-    else None))))))))))
+    else (if bytes_eq (codes "migrate") name then two_files migrate rest
+    else (if bytes_eq (codes "compact") name then two_files compact rest
+    else None)))))))))))

@@ -3,7 +3,7 @@ use Rattle.std.specs.Prelude.{ℕ, List, [], ◌∷◌, Some, None, true, codes,
 use Rattle.clap.specs.Words.{App, Row, Rule, Shape, Text, new_app, new_rule, with_rule, with_subcommand}
 use Rattle.clap.specs.declared.parser.matches.ValueSource.TheVariants.{CommandLine as given}
 use Rattle.clap.specs.declared.builder.value_parser.Reading.TheVariants.{AsWritten}
-use Rattle.command_line.specs.Lines.{CommandLine, Word, once, format, play, inspect, drive, dump, history, get, put, stats, migrate}
+use Rattle.command_line.specs.Lines.{CommandLine, Word, once, format, play, inspect, drive, dump, history, get, put, stats, migrate, compact}
 
 -- an argument of which 1 to `most` words have to be given, or one that may be left out where that is 0
 abbrev pub needed : Text × ℕ → Rule
@@ -46,13 +46,14 @@ abbrev pub stats_app : App
 stats_app = command_app (codes "stats") ((codes "logs", 16) ∷ [])
 
 -- OLD NEW
-abbrev pub migrate_app : App
-migrate_app = command_app (codes "migrate") ((codes "old", 1) ∷ (codes "new", 1) ∷ [])
+abbrev pub pair_app : Text → App
+pair_app name = command_app name ((codes "old", 1) ∷ (codes "new", 1) ∷ [])
 
 -- the commands
 abbrev pub shapes : List Shape
 shapes = once_app.top ∷ (file_app (codes "format")).top ∷ (file_app (codes "play")).top ∷ inspect_app.top ∷ (file_app (codes "drive")).top
-    ∷ (file_app (codes "dump")).top ∷ history_app.top ∷ get_app.top ∷ put_app.top ∷ stats_app.top ∷ migrate_app.top ∷ []
+    ∷ (file_app (codes "dump")).top ∷ history_app.top ∷ get_app.top ∷ put_app.top ∷ stats_app.top
+    ∷ (pair_app (codes "migrate")).top ∷ (pair_app (codes "compact")).top ∷ []
 
 -- the program: one command is wanted
 abbrev pub bare_app : App
@@ -100,3 +101,4 @@ entry_of (get dir key (Some at)) = (codes "get", row (codes "dir") dir ∷ row (
 entry_of (put dir key value) = (codes "put", row (codes "dir") dir ∷ row (codes "key") key ∷ row (codes "value") value ∷ [])
 entry_of (stats logs) = (codes "stats", row_with (codes "logs") logs ∷ [])
 entry_of (migrate old new) = (codes "migrate", row (codes "old") old ∷ row (codes "new") new ∷ [])
+entry_of (compact old new) = (codes "compact", row (codes "old") old ∷ row (codes "new") new ∷ [])

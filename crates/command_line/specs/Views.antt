@@ -2,8 +2,9 @@
 use Rattle.std.specs.Prelude.{ℕ, List, map, option_map}
 use denote.Ref.{Bor}
 use Rattle.clap.specs.Words.{Shape, Text}
-use Rattle.command_line.specs.Commands.{Asked, help, once_asked, format_asked, play_asked, inspect_asked, drive_asked, dump_asked, history_asked, get_asked, put_asked, stats_asked, migrate_asked}
-use Rattle.command_line.specs.Lines.{CommandLine, Word, once, format, play, inspect, drive, dump, history, get, put, stats, migrate}
+use Rattle.command_line.specs.Commands.{Asked, help, once_asked, format_asked, play_asked, inspect_asked, drive_asked, dump_asked, history_asked}
+use Rattle.command_line.specs.Commands.{get_asked, put_asked, stats_asked, migrate_asked, compact_asked}
+use Rattle.command_line.specs.Lines.{CommandLine, Word, once, format, play, inspect, drive, dump, history, get, put, stats, migrate, compact}
 use Rattle.command_line.specs.Parser.{command_app}
 use Rattle.command_line.specs.declared.commands.Command.{Command}
 use Rattle.command_line.specs.declared.commands.Command.TheVariants as command
@@ -31,6 +32,7 @@ line_view (code.Get dir key at) = get dir.now key.now (option_map (λ w. w.now) 
 line_view (code.Put dir key value) = put dir.now key.now value.now
 line_view (code.Stats logs) = stats (map (λ w. w.now) logs.items)
 line_view (code.Migrate old new) = migrate old.now new.now
+line_view (code.Compact old new) = compact old.now new.now
 
 -- what it asks for
 abbrev pub asked_for : Command → Asked
@@ -46,3 +48,4 @@ asked_for (command.Get dir key at) = get_asked dir.now key at
 asked_for (command.Put dir key value) = put_asked dir.now key value
 asked_for (command.Stats logs) = stats_asked (map (λ w. w.now) logs.items)
 asked_for (command.Migrate old new) = migrate_asked old.now new.now
+asked_for (command.Compact old new) = compact_asked old.now new.now

@@ -23,6 +23,11 @@ pub enum Command<'a> {
         old: &'a str,
         new: &'a str,
     },
+    /// The records of the log in a file are written into a new file.
+    Compact {
+        old: &'a str,
+        new: &'a str,
+    },
     /// The schedule of a file is played, and the report printed.
     Play {
         file: &'a str,

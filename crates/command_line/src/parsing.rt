@@ -17,7 +17,7 @@ use units::{Fault, Reason};
 type Form<'a> = (&'a str, &'a [(&'a str, usize)]);
 
 /// The program's commands.
-static COMMANDS: [Form<'static>; 11] = [
+static COMMANDS: [Form<'static>; 12] = [
     (
         "once",
         &[
@@ -39,6 +39,7 @@ static COMMANDS: [Form<'static>; 11] = [
     ("put", &[("dir", 1), ("key", 1), ("value", 1)]),
     ("stats", &[("logs", 16)]),
     ("migrate", &[("old", 1), ("new", 1)]),
+    ("compact", &[("old", 1), ("new", 1)]),
 ];
 
 /// A command, with its words.
@@ -86,6 +87,10 @@ pub enum Line<'a> {
         logs: Vec<&'a str>,
     },
     Migrate {
+        old: &'a str,
+        new: &'a str,
+    },
+    Compact {
         old: &'a str,
         new: &'a str,
     },
@@ -150,6 +155,9 @@ fn found_line<'a>(alloc: Global, matches: &ArgMatches<'a>) -> Result<Line<'a>, F
     if let Some(given) = matches.subcommand_matches("migrate") {
         return Ok(migrate_line(given));
     }
+    if let Some(given) = matches.subcommand_matches("compact") {
+        return Ok(compact_line(given));
+    }
     Err(Fault::BadRequest(Reason::Command))
 }
 
@@ -209,6 +217,17 @@ fn migrate_line<'a>(given: &ArgMatches<'a>) -> Line<'a>
         → rows_of (found_of given.now) ≡ (entry_of line).1 → line_view result ≡ line }
 {
     Line::Migrate {
+        old: word(given, "old"),
+        new: word(given, "new"),
+    }
+}
+
+// The words of `compact`.
+fn compact_line<'a>(given: &ArgMatches<'a>) -> Line<'a>
+    ensures { (line : CommandLine) → (entry_of line).0 ≡ codes "compact"
+        → rows_of (found_of given.now) ≡ (entry_of line).1 → line_view result ≡ line }
+{
+    Line::Compact {
         old: word(given, "old"),
         new: word(given, "new"),
     }

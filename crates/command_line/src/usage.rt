@@ -34,6 +34,10 @@ migrate OLD NEW
     Makes NEW, which must not exist, as a log file of version 2 with the records
     of OLD, a log file of version 1, which stays as it is. Prints nothing.
 
+compact OLD NEW
+    Makes NEW, which must not exist, as a log file with the records of OLD's log,
+    and without what was renewed; OLD stays as it is. Prints nothing.
+
 inspect LINES LOG..
     Judges the logs of shards 0, 1 and so on, 1 to 16 files, and the lines in
     LINES, as 'play' prints them; an empty file has none. Prints the verdict:

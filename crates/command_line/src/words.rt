@@ -3,7 +3,8 @@ ghost use Rattle.std.specs.Prelude.{◌≡◌, ◌⊎◌, Ok, Err, MatchResult, 
 ghost use Rattle.units.specs.declared.fault.Fault.TheVariants.{Memory};
 ghost use Rattle.command_line.specs.Lines.{are_covered, are_plain, asks_help, line_of};
 ghost use Rattle.command_line.specs.declared.commands.Command.TheVariants.{Help};
-ghost use Rattle.command_line.specs.Commands.{at_of, command_of, command_or_refusal, get_of_words, history_of_words, key_of, once_of_words, put_of_words, value_of};
+ghost use Rattle.command_line.specs.Commands.{at_of, command_of, command_or_refusal, get_of_words, history_of_words, key_of, once_of_words};
+ghost use Rattle.command_line.specs.Commands.{put_of_words, value_of};
 ghost use Rattle.command_line.specs.Views.{asked_for};
 
 use crate::Command;
@@ -59,6 +60,7 @@ fn read_command<'a>(alloc: Global, words: &'a [&'a str]) -> Result<Command<'a>, 
         Line::Put { dir, key, value } => read_put(alloc, dir, key, value),
         Line::Stats { logs } => Ok(Command::Stats { logs }),
         Line::Migrate { old, new } => Ok(Command::Migrate { old, new }),
+        Line::Compact { old, new } => Ok(Command::Compact { old, new }),
     }
 }
 

@@ -3,8 +3,8 @@ use crate::answers::{Shape, Told, are_shaped, is_told};
 use crate::cores::{Setting, opened, plain};
 use crate::given::Given;
 use crate::stories::{Exchange, Origin, Part, Shows, disk_of, play};
-use crate::verdict::told;
 use book::Page;
+use made::WrongRows;
 use shard::Core;
 use simdisk::SimDisk;
 use std::alloc::Global;
@@ -114,47 +114,55 @@ fn is_page(page: &Page, kept: &Kept) -> bool {
 // Compares the book of a core, and gives its pages to one that came to be in the same way and keeps none: that puts out and
 // shows the same.
 fn replay(
-    rt: &impl Abort,
+    wrong: &mut WrongRows,
     alloc: Global,
     core: &Core<SimDisk>,
     again: &mut Core<SimDisk>,
     row: &Row,
 ) {
-    let book = core.book().expect(rt, row.name);
+    let Some(book) = core.book() else {
+        return wrong.unless(false, row.name);
+    };
     let mut held = book.found().len() == row.found && book.pages().len() == row.pages.len();
     for (page, kept) in book.pages().iter().zip(row.pages) {
         let answer = again.on(alloc, &page.reading(), page.input());
         let answered = is_told(answer, Told::Says(kept.2));
         held = held && answered && is_page(page, kept);
     }
-    told(rt, held && again.book().is_none(), row.name, 0);
+    wrong.unless_at(held && again.book().is_none(), row.name, 0);
 }
 
-fn keep(rt: &impl Abort, alloc: Global, row: &Row) {
+fn keep(wrong: &mut WrongRows, rt: &impl Abort, alloc: Global, row: &Row) {
     let unbooked = plain(0, 0);
     let setting = Setting {
         capacity: row.capacity,
         ..unbooked
     };
-    let disk = disk_of(rt, alloc, row.name, setting, row.origin);
-    let mut core = opened(rt, alloc, disk, setting).ok().expect(rt, row.name);
+    let disk = disk_of(wrong, rt, alloc, row.name, setting, row.origin);
+    let Some(mut core) = opened(rt, alloc, disk, setting).ok() else {
+        return wrong.unless(false, row.name);
+    };
     let mut part = Part {
         name: row.name,
         exchanges: row.exchanges,
         shows: row.shows,
     };
-    play(rt, alloc, &mut core, &part);
-    let disk = disk_of(rt, alloc, row.name, unbooked, row.origin);
-    let mut again = opened(rt, alloc, disk, unbooked).ok().expect(rt, row.name);
-    replay(rt, alloc, &core, &mut again, row);
-    part.exchanges = &[];
-    play(rt, alloc, &mut again, &part);
-    drop(again.stop());
+    play(wrong, rt, alloc, &mut core, &part);
+    let disk = disk_of(wrong, rt, alloc, row.name, unbooked, row.origin);
+    match opened(rt, alloc, disk, unbooked).ok() {
+        Some(mut again) => {
+            replay(wrong, alloc, &core, &mut again, row);
+            part.exchanges = &[];
+            play(wrong, rt, alloc, &mut again, &part);
+            drop(again.stop());
+        }
+        None => wrong.unless(false, row.name),
+    }
     drop(core.stop());
 }
 
-pub fn keep_books(rt: &impl Abort, alloc: Global) {
+pub fn keep_books(wrong: &mut WrongRows, rt: &impl Abort, alloc: Global) {
     for row in &ROWS {
-        keep(rt, alloc, row);
+        keep(wrong, rt, alloc, row);
     }
 }

@@ -1,11 +1,11 @@
 //! How cores of tests are opened.
 use gatelog::GateLog;
-use made::{key, shard};
+use made::key;
 use shard::Core;
 use simdisk::SimDisk;
 use std::alloc::Global;
 use std::process::Abort;
-use units::{Book, Capacity, Fault, Setup, Splits, Stride};
+use units::{Book, Capacity, Fault, Setup, ShardNo, Splits, Stride};
 
 // What a core is told when it is opened.
 #[derive(Clone, Copy)]
@@ -30,6 +30,7 @@ pub fn plain(shard: u8, stride: u64) -> Setting {
 
 /// What a shard of two, which are split at `m`, is told.
 pub fn setup(rt: &impl Abort, alloc: Global, setting: Setting) -> Setup {
+    let shard = ShardNo::new(setting.shard).expect(rt, "a shard");
     let stride = Stride::new(setting.stride).expect(rt, "a stride");
     let book = match Capacity::new(setting.capacity) {
         Some(capacity) => Book::On(capacity),
@@ -37,7 +38,7 @@ pub fn setup(rt: &impl Abort, alloc: Global, setting: Setting) -> Setup {
     };
     let splits = Splits::new(alloc, &[key(b'm')]).expect(rt, "splits");
     Setup {
-        shard: shard(setting.shard),
+        shard,
         splits,
         stride,
         book,

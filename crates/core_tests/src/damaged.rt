@@ -2,10 +2,9 @@
 //! of such a file of version 1.
 use crate::cores::{opened, plain};
 use crate::logs::{Line, compare_log};
-use crate::verdict::told;
 use disk::Disk;
 use gatelog::migrate;
-use made::{FIRST_GATE, OLD_FIRST_GATE, ONE_COMMIT, SLOTS, in_version_1, with_slots};
+use made::{FIRST_GATE, OLD_FIRST_GATE, ONE_COMMIT, SLOTS, WrongRows, in_version_1, with_slots};
 use simdisk::SimDisk;
 use std::alloc::Global;
 use std::process::Abort;
@@ -282,13 +281,13 @@ fn is_tried(len: usize) -> bool {
 }
 
 /// The file is cut to each length but for most of its slots, and the same in version 1 to each.
-pub fn cut_to_each_length(rt: &impl Abort, alloc: Global) {
+pub fn cut_to_each_length(wrong: &mut WrongRows, rt: &impl Abort, alloc: Global) {
     let whole = whole(rt, alloc);
     for len in 0..whole.len() + 1 {
         if is_tried(len) {
             let said = answer(rt, alloc, &whole[..len]);
             let right = said.err() == fault_of(len as u64, FIRST_GATE);
-            told(rt, right, "a file that is cut", len as u64);
+            wrong.unless_at(right, "a file that is cut", len as u64);
         }
     }
     drop(whole);
@@ -296,45 +295,40 @@ pub fn cut_to_each_length(rt: &impl Abort, alloc: Global) {
     for len in 0..97 {
         let (said, _) = answers(rt, alloc, &old[..len]);
         let right = said.err() == fault_of(len as u64, OLD_FIRST_GATE);
-        told(rt, right, "an old file that is cut", len as u64);
+        wrong.unless_at(right, "an old file that is cut", len as u64);
     }
 }
 
 // One byte is another: how such a file is opened, how the same in version 1 is migrated, and how what it is migrated to is opened.
-fn compare(rt: &impl Abort, alloc: Global, row: &Altered) {
+fn compare(wrong: &mut WrongRows, rt: &impl Abort, alloc: Global, row: &Altered) {
     let bytes = with_byte(rt, alloc, FIRST_GATE.saturating_add(row.byte), row.value);
     let said = answer(rt, alloc, &bytes);
     drop(bytes);
-    told(
-        rt,
-        said == of_gate(row.opened, FIRST_GATE),
-        row.name,
-        row.byte,
-    );
+    wrong.unless_at(said == of_gate(row.opened, FIRST_GATE), row.name, row.byte);
     let old = old_with_byte(OLD_FIRST_GATE.saturating_add(row.byte), row.value);
     let (moved, then) = answers(rt, alloc, &old);
     let right = moved == of_gate(row.migrated, OLD_FIRST_GATE)
         && (moved.is_err() || then == of_gate(row.opened, FIRST_GATE));
-    told(rt, right, row.name, row.byte);
+    wrong.unless_at(right, row.name, row.byte);
 }
 
 /// One byte is another, of which it is known what comes.
-pub fn with_one_byte_altered(rt: &impl Abort, alloc: Global) {
+pub fn with_one_byte_altered(wrong: &mut WrongRows, rt: &impl Abort, alloc: Global) {
     for row in &ALTERED {
-        compare(rt, alloc, row);
+        compare(wrong, rt, alloc, row);
     }
     let old = answer(rt, alloc, &in_version_1(ONE_COMMIT));
-    told(rt, old == Err(Fault::NotALog), "a log of version 1", 7);
+    wrong.unless_at(old == Err(Fault::NotALog), "a log of version 1", 7);
     let whole = whole(rt, alloc);
     let (new, _) = answers(rt, alloc, &whole);
     drop(whole);
-    told(rt, new == Err(Fault::NotALog), "a log that is migrated", 7);
+    wrong.unless_at(new == Err(Fault::NotALog), "a log that is migrated", 7);
     let bytes = with_byte(rt, alloc, FIRST_GATE + COMMIT, 0);
     let closed = disk_of(rt, alloc, &bytes);
     drop(bytes);
     let records = [Line::Opened(1)];
     compare_log(
-        rt,
+        wrong,
         alloc,
         closed,
         "the records before a closed gate",
@@ -343,7 +337,7 @@ pub fn with_one_byte_altered(rt: &impl Abort, alloc: Global) {
 }
 
 /// Some slots are others.
-pub fn with_slots_altered(rt: &impl Abort, alloc: Global) {
+pub fn with_slots_altered(wrong: &mut WrongRows, rt: &impl Abort, alloc: Global) {
     for row in &SLOTTED {
         let mut bytes = whole(rt, alloc);
         let mut place = row.at;
@@ -354,7 +348,7 @@ pub fn with_slots_altered(rt: &impl Abort, alloc: Global) {
         let said = answer(rt, alloc, &bytes);
         drop(bytes);
         let fault = row.damaged.map(|offset| Fault::Damaged { offset });
-        told(rt, said.err() == fault, row.name, row.at);
+        wrong.unless_at(said.err() == fault, row.name, row.at);
     }
 }
 
@@ -371,17 +365,17 @@ fn is_named(said: Result<(), Fault>, first: u64) -> bool {
 }
 
 /// One byte is any other, in 10,000 files of version 1: each is migrated, and opened then, or refused by name.
-pub fn ten_thousand(rt: &impl Abort, alloc: Global) {
+pub fn ten_thousand(wrong: &mut WrongRows, rt: &impl Abort, alloc: Global) {
     for number in 0..10_000 {
         let (byte, value) = (number % 96, (number / 96 % 256) as u8);
         let (moved, then) = answers(rt, alloc, &old_with_byte(byte, value));
         let right = is_named(moved, OLD_FIRST_GATE) && is_named(then, FIRST_GATE);
-        told(rt, right, "another byte of an old file", number);
+        wrong.unless_at(right, "another byte of an old file", number);
     }
 }
 
 /// The same in files of version 2, of which some are tried: each is opened, or refused by name.
-pub fn another_byte(rt: &impl Abort, alloc: Global) {
+pub fn another_byte(wrong: &mut WrongRows, rt: &impl Abort, alloc: Global) {
     for number in 0..2_000 {
         let (byte, value) = (number % 96, (number / 96 * 13 % 256) as u8);
         let place = if byte < OLD_FIRST_GATE {
@@ -392,6 +386,6 @@ pub fn another_byte(rt: &impl Abort, alloc: Global) {
         let bytes = with_byte(rt, alloc, place, value);
         let said = answer(rt, alloc, &bytes);
         drop(bytes);
-        told(rt, is_named(said, FIRST_GATE), "another byte", number);
+        wrong.unless_at(is_named(said, FIRST_GATE), "another byte", number);
     }
 }

@@ -1,10 +1,10 @@
 //! Desks that forget, with a viewer: what the core and the viewer see at a time, and the horizons of the log.
 use crate::cores::{formatted, opened, plain};
 use crate::given::{Given, input_of, reading};
-use crate::verdict::told;
+use crate::verdict::end;
 use board::Viewer;
 use gatelog::GateLog;
-use made::{key, stamp};
+use made::{WrongRows, key, stamp};
 use message::Input;
 use node::Desk;
 use record::Record;
@@ -22,14 +22,14 @@ const NOTHING: Sees = Ok(0);
 #[derive(Clone, Copy)]
 enum Step {
     Given(Given),
-    Forget(u64, Result<(), Fault>),
+    Forget(u32, Result<(), Fault>),
     KeepFor(u64, Result<(), Fault>),
     // The time that is served then.
-    Advance(u64, u64),
+    Advance(u32, u64),
     Horizon(u64),
     // What is seen at a time by the core, and by the viewer.
-    Core(u64, Sees),
-    Viewer(u64, Sees),
+    Core(u32, Sees),
+    Viewer(u32, Sees),
 }
 
 // The two ends of a reading, and what is done at it.
@@ -252,8 +252,10 @@ fn is_done<R: Wait + Abort>(
 }
 
 // Compares how many records a log has, and its horizons.
-fn compare(rt: &impl Abort, alloc: Global, disk: SimDisk, row: &Row) {
-    let (log, entries) = GateLog::open(alloc, disk).ok().expect(rt, row.name);
+fn compare(wrong: &mut WrongRows, rt: &impl Abort, alloc: Global, disk: SimDisk, row: &Row) {
+    let Some((log, entries)) = GateLog::open(alloc, disk).ok() else {
+        return wrong.unless(false, row.name);
+    };
     drop(log.into_disk());
     let mut horizons = row.horizons;
     let mut held = entries.len() == row.records;
@@ -264,16 +266,12 @@ fn compare(rt: &impl Abort, alloc: Global, disk: SimDisk, row: &Row) {
         }
     }
     drop(entries);
-    told(
-        rt,
-        held && horizons.is_empty(),
-        row.name,
-        row.records as u64,
-    );
+    wrong.unless_at(held && horizons.is_empty(), row.name, row.records as u64);
 }
 
 // Takes the steps, one after another.
 fn follow<R: Wait + Abort>(
+    wrong: &mut WrongRows,
     rt: &R,
     alloc: Global,
     served: &mut Served<'_, R>,
@@ -282,12 +280,13 @@ fn follow<R: Wait + Abort>(
 ) {
     for timed in steps {
         let held = is_done(rt, alloc, served, timed);
-        told(rt, held, name, timed.0);
+        wrong.unless_at(held, name, timed.0);
     }
 }
 
 // Serves the shard of a disk while it takes the steps, first these and then those, and gives the disk back.
 fn walk<R: Wait + Abort>(
+    wrong: &mut WrongRows,
     rt: &R,
     alloc: Global,
     disk: SimDisk,
@@ -296,24 +295,26 @@ fn walk<R: Wait + Abort>(
     then: &[Timed],
 ) -> SimDisk {
     let mut now = serve(rt, alloc, disk);
-    follow(rt, alloc, &mut now, name, first);
-    follow(rt, alloc, &mut now, name, then);
+    follow(wrong, rt, alloc, &mut now, name, first);
+    follow(wrong, rt, alloc, &mut now, name, then);
     let Served { desk, viewers } = now;
     drop(viewers);
     desk.close()
 }
 
 // The row goes as it is told.
-fn go<R: Wait + Abort>(rt: &R, alloc: Global, row: &Row) {
+fn go<R: Wait + Abort>(wrong: &mut WrongRows, rt: &R, alloc: Global, row: &Row) {
     let disk = formatted(rt, alloc);
-    let disk = walk(rt, alloc, disk, row.name, &SETTLED, row.steps);
-    let disk = walk(rt, alloc, disk, row.name, row.again, &[]);
-    compare(rt, alloc, disk, row);
+    let disk = walk(wrong, rt, alloc, disk, row.name, &SETTLED, row.steps);
+    let disk = walk(wrong, rt, alloc, disk, row.name, row.again, &[]);
+    compare(wrong, rt, alloc, disk, row);
 }
 
 #[test]
 fn what_is_below_the_horizon_is_too_old(rt: HostRuntime) {
+    let mut wrong = WrongRows::none(rt.alloc());
     for row in &ROWS {
-        go(&rt, rt.alloc(), row);
+        go(&mut wrong, &rt, rt.alloc(), row);
     }
+    end(&rt, wrong);
 }

@@ -4,7 +4,7 @@ use message::{Ask, Commit, GiveUp, Input, Message, Outcome, Prepare, Read, Reads
 use std::alloc::Global;
 use std::process::Abort;
 use truetime::Reading;
-use units::{Epoch, Key, Keys, Parts, Value, Write, Writes};
+use units::{Epoch, Key, Keys, Parts, ShardNo, Stamp, Value, Write, Writes};
 
 // The greatest timestamp.
 pub const LAST: u64 = 4_611_686_018_427_387_903;
@@ -23,21 +23,25 @@ pub enum Given {
     // The same, of who has read the key and writes nothing.
     PrepareOfRead(u16, &'static [u8]),
     // Shard 1 votes yes at a timestamp.
-    Vote(u16, u64),
+    Vote(u16, u32),
     // Shard 0 tells that it committed at a timestamp.
-    Outcome(u16, u64),
+    Outcome(u16, u32),
     GiveUp(u16),
     // Shard 1 asks how it ended.
     Ask(u16),
     Settle(u16),
     Nudge(u16),
     Advance(u64),
-    Forget(u64),
+    Forget(u32),
     Resume,
 }
 
+fn time(rt: &impl Abort, micros: u64) -> Stamp {
+    Stamp::new(micros).expect(rt, "a timestamp")
+}
+
 pub fn reading(rt: &impl Abort, earliest: u64, latest: u64) -> Reading {
-    Reading::new(stamp(earliest), stamp(latest)).expect(rt, "a reading")
+    Reading::new(time(rt, earliest), time(rt, latest)).expect(rt, "a reading")
 }
 
 fn one_write(rt: &impl Abort, alloc: Global, key: &[u8], value: &[u8]) -> Writes {
@@ -81,7 +85,7 @@ pub fn message_of(rt: &impl Abort, alloc: Global, given: Given) -> Message {
         Given::Commit(number, part, key, value) => commit(
             alloc,
             number,
-            Parts::only(shard(part)),
+            Parts::only(ShardNo::new(part).expect(rt, "a shard")),
             one_write(rt, alloc, key, value),
         ),
         Given::CommitOfBoth(number, key, value) => commit(
@@ -137,7 +141,7 @@ pub fn input_of(rt: &impl Abort, alloc: Global, given: Given) -> Input {
     match given {
         Given::Settle(number) => Input::Settle(id(number)),
         Given::Nudge(number) => Input::Nudge(id(number)),
-        Given::Advance(to) => Input::Advance(stamp(to)),
+        Given::Advance(to) => Input::Advance(time(rt, to)),
         Given::Forget(at) => Input::Forget(stamp(at)),
         Given::Resume => Input::Resume,
         _ => Input::Deliver(message_of(rt, alloc, given)),

@@ -2,7 +2,6 @@
 use crate::cores::plain;
 use crate::given::{Given, message_of, reading};
 use crate::nodes::fresh_node;
-use crate::verdict::told;
 use crossbeam_channel::{Receiver, unbounded};
 use letters::{Letter, Post};
 use made::id;
@@ -57,7 +56,7 @@ struct Answers<'a> {
 // Whether it goes to the session of 1.number.
 fn is_to(to: Address, number: u16) -> bool {
     match to {
-        Address::Session(txn) => txn.is(id(number)),
+        Address::Session(txn) => txn == id(number),
         Address::Shard(_) => false,
     }
 }
@@ -65,7 +64,7 @@ fn is_to(to: Address, number: u16) -> bool {
 // Whether it tells of 1.number that the shard holds no such key, in its first epoch.
 fn is_answer(message: &Message, from: u8, key: &[u8], number: u16) -> bool {
     match message {
-        Message::ReadAnswer(told) => told.txn.is(id(number))
+        Message::ReadAnswer(told) => told.txn == id(number)
             && told.from.number() == from
             && told.key.as_bytes() == key
             && told.epoch.number() == 1
@@ -192,7 +191,7 @@ fn serve<'r, R: Threads + Wait + time::Clock + Sync + Abort>(
                 now: reading(rt, 100, 110),
             },
         });
-        told(rt, pushed.is_ok(), row.name, 0);
+        assert!(rt; pushed.is_ok(), "memory");
     }
     start(rt, served, gate).expect(rt, row.name);
 }
@@ -216,7 +215,8 @@ fn meet<R: Threads + Wait + time::Clock + Sync + Abort>(rt: &R, alloc: Global, r
     let right = gate.right.load(Ordering::SeqCst);
     drop(gate);
     let answered = posted == row.answers && right == row.answers;
-    told(rt, answered && missed == 0, row.name, right);
+    let held = answered && missed == 0;
+    assert!(rt; held, "{} ({right})", row.name);
 }
 
 static LETTERS: Row = Row {

@@ -10,6 +10,10 @@ mod booked;
 #[cfg(test)]
 mod chores;
 #[cfg(test)]
+mod compacted;
+#[cfg(test)]
+mod compacted_rows;
+#[cfg(test)]
 mod coordinating;
 #[cfg(test)]
 mod cores;

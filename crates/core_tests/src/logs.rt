@@ -1,10 +1,9 @@
 //! The records of a log.
-use crate::verdict::told;
 use gatelog::GateLog;
+use made::WrongRows;
 use record::Record;
 use simdisk::SimDisk;
 use std::alloc::Global;
-use std::process::Abort;
 use units::Install;
 
 /// A record: an opening with its epoch, a ceiling, a horizon, or a promise, a decision or a commit of 1.2 with its timestamp; the same
@@ -106,24 +105,36 @@ fn is_line(record: &Record, line: Line) -> bool {
 }
 
 /// Compares the log that a disk holds with these records.
-pub fn compare_log(rt: &impl Abort, alloc: Global, disk: SimDisk, name: &str, lines: &[Line]) {
-    drop(with_log(rt, alloc, disk, name, lines));
+pub fn compare_log(
+    wrong: &mut WrongRows,
+    alloc: Global,
+    disk: SimDisk,
+    name: &str,
+    lines: &[Line],
+) {
+    drop(with_log(wrong, alloc, disk, name, lines));
 }
 
 /// The disk, whose log has these records.
 pub fn with_log(
-    rt: &impl Abort,
+    wrong: &mut WrongRows,
     alloc: Global,
     disk: SimDisk,
     name: &str,
     lines: &[Line],
 ) -> SimDisk {
-    let (log, entries) = GateLog::open(alloc, disk).ok().expect(rt, name);
+    let (log, entries) = match GateLog::open(alloc, disk) {
+        Ok(opened) => opened,
+        Err((_, disk)) => {
+            wrong.unless(false, name);
+            return disk;
+        }
+    };
     let mut held = entries.len() == lines.len();
     for (entry, line) in entries.iter().zip(lines) {
         held = held && is_line(entry.item(), *line);
     }
     drop(entries);
-    told(rt, held, name, lines.len() as u64);
+    wrong.unless_at(held, name, lines.len() as u64);
     log.into_disk()
 }

@@ -3,9 +3,9 @@ use crate::answers::{Told, is_told};
 use crate::cores::{Setting, formatted, opened, plain};
 use crate::given::{Given, input_of, reading};
 use crate::logs::{Line, compare_log};
-use crate::verdict::told;
+use crate::verdict::end;
 use board::Viewer;
-use made::{key, stamp};
+use made::{WrongRows, key, stamp};
 use node::Node;
 use simdisk::SimDisk;
 use std::alloc::Global;
@@ -16,7 +16,7 @@ use std::thread::Threads;
 use units::{Fault, Seen};
 
 /// A look at `z` at a timestamp, and what it sees.
-pub type Look = (u64, Result<Seen, Fault>);
+pub type Look = (u32, Result<Seen, Fault>);
 
 // What is asked of the node, or of the viewer of its last opening, and the answer: the served time of an advance, how many
 // viewers there are, what a look sees, also on another thread.
@@ -24,7 +24,7 @@ pub type Look = (u64, Result<Seen, Fault>);
 pub enum Ask {
     Deliver(Given, Told),
     Advance {
-        to: u64,
+        to: u32,
         tells: Result<u64, Fault>,
     },
     Turn(Result<(), Fault>),
@@ -139,7 +139,13 @@ fn is_answered<'a, R: Threads + Wait + Sync + Abort>(
 }
 
 // The story goes as it is told, up to the moment. The viewer is refused once the node is closed.
-fn go<R: Threads + Wait + Sync + Abort>(rt: &R, alloc: Global, story: &Story, moment: &Moment) {
+fn go<R: Threads + Wait + Sync + Abort>(
+    wrong: &mut WrongRows,
+    rt: &R,
+    alloc: Global,
+    story: &Story,
+    moment: &Moment,
+) {
     let setting = Setting {
         fails: story.fails,
         capacity: story.room,
@@ -148,18 +154,20 @@ fn go<R: Threads + Wait + Sync + Abort>(rt: &R, alloc: Global, story: &Story, mo
     let (node, mut viewers) = fresh_node(rt, rt, alloc, setting);
     for asked in story.asks.get(..moment.after).expect(rt, moment.name) {
         let answered = is_answered(rt, alloc, &node, &mut viewers, asked);
-        told(rt, answered, moment.name, asked.0);
+        wrong.unless_at(answered, moment.name, asked.0);
     }
-    compare_log(rt, alloc, node.close(), moment.name, moment.log);
+    compare_log(wrong, alloc, node.close(), moment.name, moment.log);
     let stopped = is_seen(&mut viewers, (0, Err(Fault::Stopped)));
     drop(viewers);
-    told(rt, stopped, moment.name, 0);
+    wrong.unless_at(stopped, moment.name, 0);
 }
 
 pub fn tell<R: Threads + Wait + Sync + Abort>(rt: &R, alloc: Global, stories: &[Story]) {
+    let mut wrong = WrongRows::none(alloc);
     for story in stories {
         for moment in story.moments {
-            go(rt, alloc, story, moment);
+            go(&mut wrong, rt, alloc, story, moment);
         }
     }
+    end(rt, wrong);
 }

@@ -2,9 +2,9 @@
 use crate::cores::formatted;
 use crate::given::reading;
 use crate::narrow::Narrow;
-use crate::verdict::told;
+use crate::verdict::end;
 use disk::Disk;
-use made::{id, key, shard};
+use made::{WrongRows, id, key, shard};
 use message::{Commit, Input, Message, Reads};
 use shard::Core;
 use simdisk::SimDisk;
@@ -131,25 +131,24 @@ fn decided<D: Disk>(core: &Core<D>) -> usize {
 }
 
 // Opens the log of the row, which was written over another disk, and counts.
-fn open_in_pieces(rt: &impl Abort, alloc: Global, disk: SimDisk, row: &Row) {
-    told(rt, disk.len() == row.size, row.name, disk.len());
+fn open_in_pieces(wrong: &mut WrongRows, rt: &impl Abort, alloc: Global, disk: SimDisk, row: &Row) {
+    wrong.unless_at(disk.len() == row.size, row.name, disk.len());
     let narrow = Narrow { disk, reads: 0 };
     let core = match Core::open(alloc, narrow, alone(rt, alloc)) {
         Ok(core) => core,
         Err((_, narrow)) => {
             drop(narrow);
-            return told(rt, false, row.name, 0);
+            return wrong.unless_at(false, row.name, 0);
         }
     };
     let found = decided(&core);
     let narrow = core.stop();
-    told(
-        rt,
+    wrong.unless_at(
         found == usize::from(row.full) + row.lengths.len(),
         row.name,
         found as u64,
     );
-    told(rt, narrow.reads == row.reads, row.name, narrow.reads);
+    wrong.unless_at(narrow.reads == row.reads, row.name, narrow.reads);
 }
 
 // The disk with the log of the row.
@@ -179,11 +178,13 @@ fn opened(rt: &impl Abort, alloc: Global) -> Core<SimDisk> {
 
 #[test]
 fn read_in_pieces(rt: HostRuntime) {
+    let mut wrong = WrongRows::none(rt.alloc());
     let alloc = rt.alloc();
     for row in &ROWS {
         let disk = written(&rt, alloc, row);
-        open_in_pieces(&rt, alloc, disk, row);
+        open_in_pieces(&mut wrong, &rt, alloc, disk, row);
     }
+    end(&rt, wrong);
 }
 
 static LONG: Row = Row {
@@ -197,6 +198,7 @@ static LONG: Row = Row {
 // A commit of 128 values, each of 4,096 bytes: its frame of 524,964 bytes is gathered from nine reads.
 #[test]
 fn a_long_body_is_gathered(rt: HostRuntime) {
+    let mut wrong = WrongRows::none(rt.alloc());
     let alloc = rt.alloc();
     let mut writes = Vec::new(alloc);
     for number in 0..128u8 {
@@ -208,5 +210,6 @@ fn a_long_body_is_gathered(rt: HostRuntime) {
     }
     let mut core = opened(&rt, alloc);
     give(&rt, alloc, &mut core, &commit(&rt, alloc, 1, writes));
-    open_in_pieces(&rt, alloc, core.stop(), &LONG);
+    open_in_pieces(&mut wrong, &rt, alloc, core.stop(), &LONG);
+    end(&rt, wrong);
 }

@@ -1,8 +1,8 @@
 //! Files that are refused: which of two faults counts, and that a long body is no record.
 use crate::cores::{opened, plain};
-use crate::verdict::told;
+use crate::verdict::end;
 use disk::Disk;
-use made::{FIRST_GATE, with_slots};
+use made::{FIRST_GATE, WrongRows, with_slots};
 use simdisk::SimDisk;
 use std::alloc::Global;
 use std::process::Abort;
@@ -126,18 +126,20 @@ fn written(rt: &impl Abort, alloc: Global, row: &Row) -> SimDisk {
 
 #[test]
 fn the_first_fault_counts(rt: HostRuntime) {
+    let mut wrong = WrongRows::none(rt.alloc());
     let alloc = rt.alloc();
     for row in &ROWS {
         let disk = written(&rt, alloc, row);
         match opened(&rt, alloc, disk, plain(0, 0)) {
             Ok(core) => {
                 drop(core.stop());
-                told(&rt, false, row.name, 0);
+                wrong.unless_at(false, row.name, 0);
             }
             Err((fault, disk)) => {
-                told(&rt, fault == row.fault, row.name, disk.len());
+                wrong.unless_at(fault == row.fault, row.name, disk.len());
                 drop(disk);
             }
         }
     }
+    end(&rt, wrong);
 }

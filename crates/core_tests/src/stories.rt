@@ -2,9 +2,8 @@
 use crate::answers::{Told, is_told};
 use crate::cores::{Setting, formatted, opened, plain};
 use crate::given::{Given, input_of, reading};
-use crate::verdict::told;
 use disk::Disk;
-use made::{stamp, with_slots};
+use made::{WrongRows, stamp, with_slots};
 use shard::Core;
 use simdisk::{Choice, SimDisk};
 use std::alloc::Global;
@@ -48,7 +47,7 @@ pub enum Shows {
     Installs(usize),
     // What a look at a key, at a timestamp, into so many bytes sees, and what stands in those and the next, four in all. They
     // were 9 before.
-    Look(&'static [u8], u64, usize, Result<Seen, Fault>, [u8; 4]),
+    Look(&'static [u8], u32, usize, Result<Seen, Fault>, [u8; 4]),
     // The length of its log's file, bytes of it from an offset on, and all of them, told without the slots.
     Size(u64),
     Log(u64, &'static [u8]),
@@ -118,18 +117,23 @@ fn is_shown(rt: &impl Abort, core: &Core<SimDisk>, fact: &Shows) -> bool {
 }
 
 // Gives the core what the part says, and compares what it answers and shows.
-pub fn play(rt: &impl Abort, alloc: Global, core: &mut Core<SimDisk>, part: &Part) {
+pub fn play(
+    wrong: &mut WrongRows,
+    rt: &impl Abort,
+    alloc: Global,
+    core: &mut Core<SimDisk>,
+    part: &Part,
+) {
     for exchange in part.exchanges {
         let (earliest, latest, given, wanted) = *exchange;
         let now = reading(rt, earliest, latest);
         let input = input_of(rt, alloc, given);
         let answer = core.on(alloc, &now, &input);
         drop(input);
-        told(rt, is_told(answer, wanted), part.name, earliest);
+        wrong.unless_at(is_told(answer, wanted), part.name, earliest);
     }
     for fact in part.shows {
-        told(
-            rt,
+        wrong.unless_at(
             is_shown(rt, core, fact),
             part.name,
             part.exchanges.len() as u64,
@@ -162,14 +166,19 @@ fn is_in(alloc: Global, bytes: &[u8], fact: &Shows) -> bool {
 }
 
 // Compares the bytes of the file with what the part says of them.
-fn compare_file(rt: &impl Abort, alloc: Global, disk: &mut SimDisk, part: &Part) {
+fn compare_file(
+    wrong: &mut WrongRows,
+    rt: &impl Abort,
+    alloc: Global,
+    disk: &mut SimDisk,
+    part: &Part,
+) {
     let mut bytes = vec![in alloc; 0u8; disk.len() as usize]
         .ok()
         .expect(rt, "memory");
     disk.read_at(0, &mut bytes).expect(rt, "a read");
     for fact in part.shows {
-        told(
-            rt,
+        wrong.unless_at(
             is_in(alloc, bytes.as_slice(), fact),
             part.name,
             part.exchanges.len() as u64,
@@ -179,12 +188,19 @@ fn compare_file(rt: &impl Abort, alloc: Global, disk: &mut SimDisk, part: &Part)
 }
 
 // The disk that a core leaves behind which begins on this one and plays the part, or is refused as that says.
-fn left(rt: &impl Abort, alloc: Global, disk: SimDisk, setting: Setting, part: &Part) -> SimDisk {
+fn left(
+    wrong: &mut WrongRows,
+    rt: &impl Abort,
+    alloc: Global,
+    disk: SimDisk,
+    setting: Setting,
+    part: &Part,
+) -> SimDisk {
     match opened(rt, alloc, disk, setting) {
         Ok(mut core) => {
-            play(rt, alloc, &mut core, part);
+            play(wrong, rt, alloc, &mut core, part);
             let mut disk = core.stop();
-            compare_file(rt, alloc, &mut disk, part);
+            compare_file(wrong, rt, alloc, &mut disk, part);
             disk
         }
         Err((fault, disk)) => {
@@ -192,7 +208,7 @@ fn left(rt: &impl Abort, alloc: Global, disk: SimDisk, setting: Setting, part: &
                 Some(Shows::Refused(wanted)) => *wanted == fault,
                 _ => false,
             };
-            told(rt, refused, part.name, 0);
+            wrong.unless_at(refused, part.name, 0);
             disk
         }
     }
@@ -200,6 +216,7 @@ fn left(rt: &impl Abort, alloc: Global, disk: SimDisk, setting: Setting, part: &
 
 // The disk on which a core of such an origin begins.
 pub fn disk_of(
+    wrong: &mut WrongRows,
     rt: &impl Abort,
     alloc: Global,
     name: &'static str,
@@ -226,7 +243,7 @@ pub fn disk_of(
             part.exchanges = exchanges;
         }
     }
-    let disk = left(rt, alloc, formatted(rt, alloc), before, &part);
+    let disk = left(wrong, rt, alloc, formatted(rt, alloc), before, &part);
     match origin {
         Origin::Crashed(_) => disk.crash(&Choice::none(alloc)),
         _ => disk,
@@ -234,7 +251,7 @@ pub fn disk_of(
 }
 
 // The story goes as it is told, up to the moment.
-fn go(rt: &impl Abort, alloc: Global, story: &Story, moment: &Moment) {
+fn go(wrong: &mut WrongRows, rt: &impl Abort, alloc: Global, story: &Story, moment: &Moment) {
     let mut setting = plain(story.shard, story.stride);
     if let Origin::Failing(call) = story.origin {
         setting.fails = Some(call);
@@ -244,14 +261,14 @@ fn go(rt: &impl Abort, alloc: Global, story: &Story, moment: &Moment) {
         exchanges: story.exchanges.get(..moment.after).expect(rt, story.name),
         shows: moment.shows,
     };
-    let disk = disk_of(rt, alloc, story.name, setting, story.origin);
-    drop(left(rt, alloc, disk, setting, &part));
+    let disk = disk_of(wrong, rt, alloc, story.name, setting, story.origin);
+    drop(left(wrong, rt, alloc, disk, setting, &part));
 }
 
-pub fn tell(rt: &impl Abort, alloc: Global, stories: &[Story]) {
+pub fn tell(wrong: &mut WrongRows, rt: &impl Abort, alloc: Global, stories: &[Story]) {
     for story in stories {
         for moment in story.moments {
-            go(rt, alloc, story, moment);
+            go(wrong, rt, alloc, story, moment);
         }
     }
 }

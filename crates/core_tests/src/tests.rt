@@ -7,38 +7,48 @@ use crate::reopening::{ARMED, REFUSED, REOPENED};
 use crate::restarts::{NODES, ONCE};
 use crate::served::SERVING;
 use crate::turned_nodes::TURNING;
+use crate::verdict::end;
 use crate::viewed::VIEWED;
 use crate::{damaged, nodes, stories, together};
+use made::WrongRows;
 
 // It fails where a call always answers that there is no memory.
 #[test]
 fn always_memory(rt: HostRuntime) {
-    stories::tell(&rt, rt.alloc(), &COMMITS);
+    let mut wrong = WrongRows::none(rt.alloc());
+    stories::tell(&mut wrong, &rt, rt.alloc(), &COMMITS);
+    end(&rt, wrong);
 }
 
 #[test]
 fn cores(rt: HostRuntime) {
-    stories::tell(&rt, rt.alloc(), &FAILING);
-    stories::tell(&rt, rt.alloc(), &COORDINATING);
-    stories::tell(&rt, rt.alloc(), &PROMISING);
-    stories::tell(&rt, rt.alloc(), &SERVING);
-    stories::tell(&rt, rt.alloc(), &REOPENED);
-    stories::tell(&rt, rt.alloc(), &ARMED);
-    stories::tell(&rt, rt.alloc(), &REFUSED);
-    keep_books(&rt, rt.alloc());
+    let mut wrong = WrongRows::none(rt.alloc());
+    stories::tell(&mut wrong, &rt, rt.alloc(), &FAILING);
+    stories::tell(&mut wrong, &rt, rt.alloc(), &COORDINATING);
+    stories::tell(&mut wrong, &rt, rt.alloc(), &PROMISING);
+    stories::tell(&mut wrong, &rt, rt.alloc(), &SERVING);
+    stories::tell(&mut wrong, &rt, rt.alloc(), &REOPENED);
+    stories::tell(&mut wrong, &rt, rt.alloc(), &ARMED);
+    stories::tell(&mut wrong, &rt, rt.alloc(), &REFUSED);
+    keep_books(&mut wrong, &rt, rt.alloc());
+    end(&rt, wrong);
 }
 
 #[test]
 fn damaged_files(rt: HostRuntime) {
-    damaged::cut_to_each_length(&rt, rt.alloc());
-    damaged::with_one_byte_altered(&rt, rt.alloc());
-    damaged::with_slots_altered(&rt, rt.alloc());
-    damaged::another_byte(&rt, rt.alloc());
+    let mut wrong = WrongRows::none(rt.alloc());
+    damaged::cut_to_each_length(&mut wrong, &rt, rt.alloc());
+    damaged::with_one_byte_altered(&mut wrong, &rt, rt.alloc());
+    damaged::with_slots_altered(&mut wrong, &rt, rt.alloc());
+    damaged::another_byte(&mut wrong, &rt, rt.alloc());
+    end(&rt, wrong);
 }
 
 #[test]
 fn damaged_files_of_version_1(rt: HostRuntime) {
-    damaged::ten_thousand(&rt, rt.alloc());
+    let mut wrong = WrongRows::none(rt.alloc());
+    damaged::ten_thousand(&mut wrong, &rt, rt.alloc());
+    end(&rt, wrong);
 }
 
 // It fails where disks are opened one after another.

@@ -1,9 +1,9 @@
 //! Shards that are opened side by side.
 use crate::awaiting::Awaiting;
 use crate::cores::{formatted, opened, plain, setup};
-use crate::verdict::told;
+use crate::verdict::end;
 use disk::Disk;
-use made::FIRST_GATE;
+use made::{FIRST_GATE, WrongRows};
 use node::open_all;
 use shard::Core;
 use simdisk::SimDisk;
@@ -126,7 +126,12 @@ fn disk_of(rt: &impl Abort, alloc: Global, given: &Given) -> SimDisk {
 }
 
 // Opens the disks of the row, and compares what that gives.
-fn open<R: Threads + time::Clock + Sync + Abort>(rt: &R, alloc: Global, row: &Row) {
+fn open<R: Threads + time::Clock + Sync + Abort>(
+    wrong: &mut WrongRows,
+    rt: &R,
+    alloc: Global,
+    row: &Row,
+) {
     let first = AtomicBool::new(false);
     let second = AtomicBool::new(false);
     let mut disks = Vec::new(alloc);
@@ -143,7 +148,7 @@ fn open<R: Threads + time::Clock + Sync + Abort>(rt: &R, alloc: Global, row: &Ro
         let told = (disk, setup(rt, alloc, plain(given.shard, 0)));
         disks.push(told).ok().expect(rt, "memory");
     }
-    compare(rt, row, opened_all(rt, alloc, disks));
+    compare(wrong, rt, row, opened_all(rt, alloc, disks));
 }
 
 fn opened_all<'a, R: Threads + time::Clock + Sync + Abort>(
@@ -161,17 +166,18 @@ fn opened_all<'a, R: Threads + time::Clock + Sync + Abort>(
 }
 
 fn compare<R: time::Clock + Abort>(
+    wrong: &mut WrongRows,
     rt: &R,
     row: &Row,
     opened: Vec<Result<Core<Awaiting<R>>, (Fault, Awaiting<R>)>>,
 ) {
     let mut opened = opened;
-    told(rt, opened.len() == row.disks.len(), row.name, 0);
+    wrong.unless_at(opened.len() == row.disks.len(), row.name, 0);
     for _ in 0..opened.len() {
         match opened.pop() {
             Some(result) => {
                 let given = row.disks.get(opened.len()).expect(rt, row.name);
-                told(rt, is_given(result, given), row.name, opened.len() as u64);
+                wrong.unless_at(is_given(result, given), row.name, opened.len() as u64);
             }
             None => {}
         }
@@ -203,7 +209,9 @@ fn is_given<R: time::Clock>(
 
 /// The shards of each row are opened side by side.
 pub fn open_rows<R: Threads + time::Clock + Sync + Abort>(rt: &R, alloc: Global) {
+    let mut wrong = WrongRows::none(alloc);
     for row in &ROWS {
-        open(rt, alloc, row);
+        open(&mut wrong, rt, alloc, row);
     }
+    end(rt, wrong);
 }

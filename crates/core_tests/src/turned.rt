@@ -8,10 +8,10 @@ use crate::turned_rows::{
     A, COMMIT, DONE, LOOKED, NEW, NEW_AGAIN, OLD, OLD_AGAIN, SAID, SETTLE, SETTLED, STANDING,
 };
 use crate::turning::{Ask, Asked, Kind, Row, crashed, go_on, left};
-use crate::verdict::told;
+use crate::verdict::end;
 use disk::{Disk, Fate};
 use gatelog::HEADER;
-use made::FIRST_GATE;
+use made::{FIRST_GATE, WrongRows};
 use simdisk::SimDisk;
 use std::alloc::Global;
 use std::process::Abort;
@@ -74,7 +74,7 @@ const TAKEN: [Asked; 3] = [COMMIT, SETTLE, (112, 121, Ask::Turn(Ok(())))];
 // The same commit again is done, whichever log is found.
 const AGAIN: [Asked; 1] = [(112, 121, Ask::Given(A, DONE))];
 
-fn fail<R: Wait + Abort>(rt: &R, alloc: Global, kind: Kind, row: &Failing) {
+fn fail<R: Wait + Abort>(wrong: &mut WrongRows, rt: &R, alloc: Global, kind: Kind, row: &Failing) {
     let name = "a call of a turnover fails";
     let (call, fate, new) = *row;
     let setting = Setting {
@@ -82,7 +82,16 @@ fn fail<R: Wait + Abort>(rt: &R, alloc: Global, kind: Kind, row: &Failing) {
         ..plain(0, 0)
     };
     let asks: &[Asked] = if call < 5 { &REFUSED } else { &TAKEN };
-    let mut disk = left(rt, alloc, kind, formatted(rt, alloc), setting, name, asks);
+    let mut disk = left(
+        wrong,
+        rt,
+        alloc,
+        kind,
+        formatted(rt, alloc),
+        setting,
+        name,
+        asks,
+    );
     disk.arm(None);
     if let Some(fate) = fate {
         disk = crashed(rt, alloc, disk, fate);
@@ -92,9 +101,9 @@ fn fail<R: Wait + Abort>(rt: &R, alloc: Global, kind: Kind, row: &Failing) {
     } else {
         (OLD, OLD_AGAIN)
     };
-    let disk = with_log(rt, alloc, disk, name, log);
-    let disk = left(rt, alloc, kind, disk, plain(0, 0), name, &AGAIN);
-    drop(with_log(rt, alloc, disk, name, then));
+    let disk = with_log(wrong, alloc, disk, name, log);
+    let disk = left(wrong, rt, alloc, kind, disk, plain(0, 0), name, &AGAIN);
+    drop(with_log(wrong, alloc, disk, name, then));
 }
 
 // Writes a file whose slots are all open, each of which names an area of no record. The last begins at 10,248.
@@ -141,53 +150,76 @@ const SPENT_LOG: &[Line] = &[
     Line::Decided(122),
 ];
 
-fn spend<R: Wait + Abort>(rt: &R, alloc: Global, kind: Kind, asks: &[Asked]) {
+fn spend<R: Wait + Abort>(
+    wrong: &mut WrongRows,
+    rt: &R,
+    alloc: Global,
+    kind: Kind,
+    asks: &[Asked],
+) {
     let name = "no slot is left";
     let mut disk = SimDisk::new(alloc);
     let whole = open_all(&mut disk);
-    told(rt, whole, name, 0);
-    let disk = left(rt, alloc, kind, disk, plain(0, 0), name, asks);
-    told(rt, disk.len() == 10_378, name, disk.len());
-    drop(with_log(rt, alloc, disk, name, SPENT_LOG));
+    wrong.unless_at(whole, name, 0);
+    let disk = left(wrong, rt, alloc, kind, disk, plain(0, 0), name, asks);
+    wrong.unless_at(disk.len() == 10_378, name, disk.len());
+    drop(with_log(wrong, alloc, disk, name, SPENT_LOG));
 }
 
-fn go<R: Wait + Abort>(rt: &R, alloc: Global, rows: &[Row]) {
+fn go<R: Wait + Abort>(wrong: &mut WrongRows, rt: &R, alloc: Global, rows: &[Row]) {
     for row in rows {
-        go_on(rt, alloc, Kind::Core, formatted(rt, alloc), row);
-        go_on(rt, alloc, Kind::Desk, formatted(rt, alloc), row);
+        go_on(wrong, rt, alloc, Kind::Core, formatted(rt, alloc), row);
+        go_on(wrong, rt, alloc, Kind::Desk, formatted(rt, alloc), row);
     }
 }
 
 #[test]
 fn logs_are_turned_over(rt: HostRuntime) {
-    go(&rt, rt.alloc(), &SETTLED);
+    let mut wrong = WrongRows::none(rt.alloc());
+    go(&mut wrong, &rt, rt.alloc(), &SETTLED);
+    end(&rt, wrong);
 }
 
 #[test]
 fn what_stands_is_there_behind_a_turnover(rt: HostRuntime) {
-    go(&rt, rt.alloc(), &LOOKED);
-    go(&rt, rt.alloc(), &STANDING);
+    let mut wrong = WrongRows::none(rt.alloc());
+    go(&mut wrong, &rt, rt.alloc(), &LOOKED);
+    go(&mut wrong, &rt, rt.alloc(), &STANDING);
+    end(&rt, wrong);
 }
 
 #[test]
 fn turnovers_that_fail(rt: HostRuntime) {
+    let mut wrong = WrongRows::none(rt.alloc());
     for row in &FAILING {
-        fail(&rt, rt.alloc(), Kind::Core, row);
-        fail(&rt, rt.alloc(), Kind::Desk, row);
+        fail(&mut wrong, &rt, rt.alloc(), Kind::Core, row);
+        fail(&mut wrong, &rt, rt.alloc(), Kind::Desk, row);
     }
+    end(&rt, wrong);
 }
 
 #[test]
 fn turnovers_without_a_slot(rt: HostRuntime) {
-    spend(&rt, rt.alloc(), Kind::Core, &SPENT);
-    spend(&rt, rt.alloc(), Kind::Desk, &SPENT);
-    spend(&rt, rt.alloc(), Kind::Desk, &SPENT_DESK);
+    let mut wrong = WrongRows::none(rt.alloc());
+    spend(&mut wrong, &rt, rt.alloc(), Kind::Core, &SPENT);
+    spend(&mut wrong, &rt, rt.alloc(), Kind::Desk, &SPENT);
+    spend(&mut wrong, &rt, rt.alloc(), Kind::Desk, &SPENT_DESK);
+    end(&rt, wrong);
 }
 
 // It fails where a desk forgets its board, turns over before the horizon is raised, or never.
 #[test]
 fn desks_renew_their_logs(rt: HostRuntime) {
+    let mut wrong = WrongRows::none(rt.alloc());
     for row in &RENEWED {
-        go_on(&rt, rt.alloc(), Kind::Desk, formatted(&rt, rt.alloc()), row);
+        go_on(
+            &mut wrong,
+            &rt,
+            rt.alloc(),
+            Kind::Desk,
+            formatted(&rt, rt.alloc()),
+            row,
+        );
     }
+    end(&rt, wrong);
 }

@@ -3,10 +3,9 @@ use crate::answers::{Told, is_told};
 use crate::cores::{Setting, opened};
 use crate::given::{Given, input_of, reading};
 use crate::logs::{Line, with_log};
-use crate::verdict::told;
 use board::Viewer;
 use disk::{Disk, Fate};
-use made::{key, stamp, with_slots};
+use made::{WrongRows, key, stamp, with_slots};
 use message::{Input, Outbox};
 use node::Desk;
 use shard::Core;
@@ -26,12 +25,12 @@ pub enum Ask {
     Given(Given, Told),
     Turn(Result<(), Fault>),
     // Of a key of one letter, at a time.
-    Look(u8, u64, Sees),
+    Look(u8, u32, Sees),
     // The rest is asked of desks alone. To keep so many microseconds, and to turn over what has grown by so many bytes.
     Renew(u64, u64, Result<(), Fault>),
-    Advance(u64),
+    Advance(u32),
     // What the viewer sees.
-    View(u8, u64, Sees),
+    View(u8, u32, Sees),
     // How far the log reaches.
     Gate(u64),
 }
@@ -154,7 +153,7 @@ fn is_served<R: Wait>(watched: &mut Watched<'_, R>, now: &Reading, ask: Ask) -> 
     match ask {
         Ask::Renew(micros, least, wanted) => watched.desk.renew(now, micros, least) == wanted,
         Ask::Advance(to) => match watched.desk.advance(now, stamp(to)) {
-            Ok(told) => told.safe().micros() == to,
+            Ok(told) => told.safe() == stamp(to),
             Err(_) => false,
         },
         Ask::View(letter, at, wanted) => match watched.viewers.first_mut() {
@@ -200,6 +199,7 @@ fn is_answered<R: Wait + Abort>(
 
 // The disk that a shard leaves behind which was asked all that.
 pub fn left<R: Wait + Abort>(
+    wrong: &mut WrongRows,
     rt: &R,
     alloc: Global,
     kind: Kind,
@@ -211,7 +211,7 @@ pub fn left<R: Wait + Abort>(
     let mut shard = shard_of(rt, alloc, kind, disk, setting);
     for (place, asked) in asks.iter().enumerate() {
         let held = is_answered(rt, alloc, &mut shard, asked);
-        told(rt, held, name, place as u64);
+        wrong.unless_at(held, name, place as u64);
     }
     shard.close()
 }
@@ -227,6 +227,7 @@ fn bytes_of(rt: &impl Abort, alloc: Global, told: &Bytes) -> Vec<u8> {
 
 // The disk holds this file.
 pub fn compare_bytes(
+    wrong: &mut WrongRows,
     rt: &impl Abort,
     alloc: Global,
     disk: &mut SimDisk,
@@ -241,7 +242,7 @@ pub fn compare_bytes(
     let same = bytes.as_slice() == told_bytes.as_slice();
     drop(told_bytes);
     drop(bytes);
-    told(rt, same, name, disk.len());
+    wrong.unless_at(same, name, disk.len());
 }
 
 // What a crash leaves by this fate of the oldest change that is not synced.
@@ -254,26 +255,33 @@ pub fn crashed(rt: &impl Abort, alloc: Global, disk: SimDisk, fate: Fate) -> Sim
 }
 
 // The shard of a disk is asked what the row says, opened again, and asked once more.
-pub fn go_on<R: Wait + Abort>(rt: &R, alloc: Global, kind: Kind, disk: SimDisk, row: &Row) {
+pub fn go_on<R: Wait + Abort>(
+    wrong: &mut WrongRows,
+    rt: &R,
+    alloc: Global,
+    kind: Kind,
+    disk: SimDisk,
+    row: &Row,
+) {
     let setting = Setting {
         fails: row.fails,
         ..crate::cores::plain(row.shard, 0)
     };
-    let mut disk = left(rt, alloc, kind, disk, setting, row.name, row.asks);
+    let mut disk = left(wrong, rt, alloc, kind, disk, setting, row.name, row.asks);
     if let Some(wanted) = row.bytes {
-        compare_bytes(rt, alloc, &mut disk, row.name, wanted);
+        compare_bytes(wrong, rt, alloc, &mut disk, row.name, wanted);
     }
     if let Some(size) = row.size {
-        told(rt, disk.len() == size, row.name, disk.len());
+        wrong.unless_at(disk.len() == size, row.name, disk.len());
     }
     if let Some(fate) = row.fate {
         disk = crashed(rt, alloc, disk, fate);
     }
-    let disk = with_log(rt, alloc, disk, row.name, row.log);
+    let disk = with_log(wrong, alloc, disk, row.name, row.log);
     let plain = Setting {
         fails: None,
         ..setting
     };
-    let disk = left(rt, alloc, kind, disk, plain, row.name, row.again);
-    drop(with_log(rt, alloc, disk, row.name, row.then));
+    let disk = left(wrong, rt, alloc, kind, disk, plain, row.name, row.again);
+    drop(with_log(wrong, alloc, disk, row.name, row.then));
 }

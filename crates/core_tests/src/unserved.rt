@@ -4,11 +4,11 @@ ghost use Rattle.std.specs.Prelude.{◌≡◌};
 use crate::cores::{Setting, plain};
 use crate::given::{Given, message_of, reading};
 use crate::nodes::fresh_node;
-use crate::verdict::told;
+use crate::verdict::end;
 use client::{Ended, Halt, Stop, Wire};
 use crossbeam_channel::Receiver;
 use letters::{Inboxes, Letter, Mail, Network, Refused, Reply};
-use made::{key, shard, stamp};
+use made::{WrongRows, key, shard, stamp};
 use message::{Address, Envelope};
 use node::{Gate, Node};
 use session::{Open, Tx};
@@ -161,12 +161,12 @@ impl<'s, R: Wait + time::Clock + Abort> Caller<'s, R> {
         let mut tx = self.begin();
         let value = Value::new(self.alloc, b"1").ok().expect(self.rt, "a value");
         let buffered = tx.buffer(key(b'z'), Some(value));
-        told(self.rt, buffered.is_ok(), "a write", 0);
+        assert!(self.rt; buffered.is_ok(), "a write");
         ends_of(self.wire.finish(tx, Ok(())))
     }
 
-    // A transaction of which a refused letter is heard only later.
-    fn be_late(&mut self, network: &Network) {
+    // A transaction of which a refused letter is heard only later is aborted.
+    fn be_late(&mut self, network: &Network) -> bool {
         let tx = self.begin();
         network.refuse(
             self.rt,
@@ -176,8 +176,7 @@ impl<'s, R: Wait + time::Clock + Abort> Caller<'s, R> {
                 fault: Fault::Stopped,
             },
         );
-        let ends = ends_of(self.wire.finish(tx, Err(Halt::Abandon)));
-        told(self.rt, ends == Ends::Aborted, "a late refusal", 0);
+        ends_of(self.wire.finish(tx, Err(Halt::Abandon))) == Ends::Aborted
     }
 
     // Once a read has ended, the row's rows are taken.
@@ -188,33 +187,36 @@ impl<'s, R: Wait + time::Clock + Abort> Caller<'s, R> {
     }
 
     // A late refusal, where the row has one.
-    fn hear_late(&mut self, network: &Network, row: &Row) {
-        if row.late {
-            self.be_late(network);
-        }
+    fn hears_late(&mut self, network: &Network, row: &Row) -> bool {
+        !row.late || self.be_late(network)
     }
 
     // A transaction that reads ends as the row says.
-    fn read_as(&mut self, row: &Row) {
+    fn reads_as(&mut self, row: &Row) -> bool {
         let start = Instant::now(self.rt).ok().expect(self.rt, "a clock");
         let ends = self.read();
-        let soon = ends_soon(self.rt, start, ends, row.reads);
-        told(self.rt, soon, row.name, 2);
+        ends_soon(self.rt, start, ends, row.reads)
     }
 
     // So does one that writes, where one does.
-    fn write_as(&mut self, row: &Row) {
-        if let Some(wanted) = row.writes {
-            let start = Instant::now(self.rt).ok().expect(self.rt, "a clock");
-            let ends = self.write();
-            let soon = ends_soon(self.rt, start, ends, wanted);
-            told(self.rt, soon, row.name, 3);
-        }
+    fn writes_as(&mut self, row: &Row) -> bool {
+        let Some(wanted) = row.writes else {
+            return true;
+        };
+        let start = Instant::now(self.rt).ok().expect(self.rt, "a clock");
+        let ends = self.write();
+        ends_soon(self.rt, start, ends, wanted)
     }
 }
 
 // What the row says became of the node.
-fn failed<'r, R: Wait + Abort>(rt: &'r R, alloc: Global, node: &Node<SimDisk, &'r R>, row: &Row) {
+fn failed<'r, R: Wait + Abort>(
+    wrong: &mut WrongRows,
+    rt: &'r R,
+    alloc: Global,
+    node: &Node<SimDisk, &'r R>,
+    row: &Row,
+) {
     if row.stops {
         let failed = if row.turns {
             node.turn_over(rt).is_err()
@@ -224,11 +226,11 @@ fn failed<'r, R: Wait + Abort>(rt: &'r R, alloc: Global, node: &Node<SimDisk, &'
             drop(advanced);
             is_refused
         };
-        told(rt, failed, row.name, 0);
+        wrong.unless_at(failed, row.name, 0);
     }
     if row.rests {
         let refused = node.restart(rt, rt, alloc, 0);
-        told(rt, refused.is_err(), row.name, 1);
+        wrong.unless_at(refused.is_err(), row.name, 1);
         drop(refused);
     }
 }
@@ -263,14 +265,14 @@ fn ends_soon<R: time::Clock + Abort>(rt: &R, since: Instant, ends: Ends, wanted:
     ends == wanted && took < Duration::from_secs(1)
 }
 
-// The client's transactions end as the row says, and then the network closes.
+// Whether each of the client's transactions ends as the row says: what is late, what reads, and what writes. Then the network closes.
 fn call<R: Wait + time::Clock + Abort>(
     rt: &R,
     alloc: Global,
     network: &Network,
     inbox: Receiver<Reply>,
     row: &Row,
-) {
+) -> [bool; 3] {
     for number in 0..row.rows {
         let message = message_of(rt, alloc, Given::Read(number.saturating_add(1), b"z"));
         network.send(
@@ -297,26 +299,32 @@ fn call<R: Wait + time::Clock + Abort>(
         run: Run::new(2).expect(rt, "a run"),
     };
     caller.wait_for_rows(row);
-    caller.hear_late(network, row);
-    caller.read_as(row);
-    caller.write_as(row);
+    let late = caller.hears_late(network, row);
+    let reads = caller.reads_as(row);
+    let writes = caller.writes_as(row);
     drop(caller);
     drop(drawers);
     drop(ids);
     drop(stop);
     drop(splits);
     network.close(rt);
+    [late, reads, writes]
 }
 
 // A client beside a node on a thread, as the row says.
-fn go<R: Threads + Wait + time::Clock + Sync + Abort>(rt: &R, alloc: Global, row: &Row) {
+fn go<R: Threads + Wait + time::Clock + Sync + Abort>(
+    wrong: &mut WrongRows,
+    rt: &R,
+    alloc: Global,
+    row: &Row,
+) {
     let setting = Setting {
         fails: if row.stops { Some(3) } else { None },
         ..plain(1, 0)
     };
     let (node, viewers) = fresh_node(rt, rt, alloc, setting);
     drop(viewers);
-    failed(rt, alloc, &node, row);
+    failed(wrong, rt, alloc, &node, row);
     let (network, inboxes) = Network::new(alloc, 2, 1).ok().expect(rt, "a network");
     let Inboxes {
         nodes: mut to_nodes,
@@ -326,7 +334,7 @@ fn go<R: Threads + Wait + time::Clock + Sync + Abort>(rt: &R, alloc: Global, row
     let to_caller = to_callers.pop().expect(rt, "an inbox");
     drop(to_nodes);
     drop(to_callers);
-    thread::join(
+    let (_, [late, reads, writes]) = thread::join(
         rt,
         || serve(rt, &node, &to_node, &network),
         || call(rt, alloc, &network, to_caller, row),
@@ -334,12 +342,17 @@ fn go<R: Threads + Wait + time::Clock + Sync + Abort>(rt: &R, alloc: Global, row
     drop(to_node);
     drop(network);
     drop(node.close());
+    wrong.unless_at(late, row.name, 2);
+    wrong.unless_at(reads, row.name, 3);
+    wrong.unless_at(writes, row.name, 4);
 }
 
 // It fails where a letter that a shard refuses is silence to its client.
 #[test]
 fn refused_letters_are_heard(rt: HostRuntime) {
+    let mut wrong = WrongRows::none(rt.alloc());
     for row in &ROWS {
-        go(&rt, rt.alloc(), row);
+        go(&mut wrong, &rt, rt.alloc(), row);
     }
+    end(&rt, wrong);
 }

@@ -1,7 +1,9 @@
-//! What becomes of a row of a table.
+//! What a test ends with.
+use made::WrongRows;
 use std::process::Abort;
 
-/// Ends the test where a row does not hold, with its name and a place in it.
-pub fn told(rt: &impl Abort, held: bool, name: &str, place: u64) {
-    assert!(rt; held, "{} ({})", name, place);
+/// Ends the test where rows are wrong, with all of them.
+pub fn end(rt: &impl Abort, wrong: WrongRows) {
+    assert!(rt; wrong.is_none(), "{}", wrong.text());
+    drop(wrong);
 }

@@ -55,7 +55,8 @@ module _ (installs : List Install) (served handed horizon : ℕ) (es : List Boar
   one_lawful = front_is_board (es ++ Installed i ∷ []) (as_entries (drop (handed + 1) installs)) (ap is_board (sym rest_split) ∙ step.lawful)
 
 -- where all versions are handed over, the horizon and the served time may follow
-module _ (installs : List Install) (served handed horizon : ℕ) (es : List BoardEntry) (step : InStep installs served handed horizon es) (all : handed ≡ length installs) where
+module _ (installs : List Install) (served handed horizon : ℕ) (es : List BoardEntry) (step : InStep installs served handed horizon es)
+    (all : handed ≡ length installs) where
   all_gone : drop handed installs ≡ []
   all_gone = drop_of_length-le installs (omega (arith, all))
 

@@ -5,6 +5,8 @@ use crate::replying::are_due;
 use crate::steps::{Step, config, play_steps};
 use crate::telling::{Told, put_report};
 use crate::totals::Totals;
+use crate::verdict::end;
+use made::WrongRows;
 use playing::Report;
 use std::alloc::Global;
 use std::process::Abort;
@@ -64,18 +66,17 @@ fn draw_one(alloc: Global, seed: u64, shards: u64, totals: &mut Totals) -> &'sta
     wrong
 }
 
-fn check(rt: &impl Abort, seed: u64, wrong: &str) {
-    assert!(rt; wrong.is_empty(), "from seed {seed} on: {wrong}");
-}
-
 // Draws 50 lists from a seed on, over 1 to 3 shards in turn.
 fn draw_all(rt: &impl Abort, alloc: Global, first: u64) {
     let mut totals = Totals::none();
+    let mut wrong = WrongRows::none(alloc);
     for number in 0..50 {
         let seed = first.saturating_add(number);
-        check(rt, seed, draw_one(alloc, seed, number % 3 + 1, &mut totals));
+        let found = draw_one(alloc, seed, number % 3 + 1, &mut totals);
+        wrong.unless_at(found.is_empty(), found, seed);
     }
-    check(rt, first, totals.scarce());
+    totals.go_over(&mut wrong);
+    end(rt, wrong);
 }
 
 #[test]

@@ -21,3 +21,5 @@ mod telling;
 mod totals;
 #[cfg(test)]
 mod turned;
+#[cfg(test)]
+mod verdict;

@@ -3,7 +3,9 @@
 ghost use Rattle.std.specs.Prelude.{◌<◌, ◌^◌};
 
 use crate::steps::{Does, FIRST, Step, Stop, config, play_steps};
+use crate::verdict::end;
 use disk::Fate;
+use made::WrongRows;
 use playing::Report;
 use record::Record;
 use std::alloc::Global;
@@ -163,24 +165,17 @@ fn counts_of(logs: &[Vec<Record>]) -> (u32, u32) {
     (openings, outcomes)
 }
 
-// What is first wrong with the report. Each of the two shards of a transaction has its outcome, and each stop made one opening
-// more.
-fn wrong_of(report: &Report) -> &'static str {
-    if !are_wanted(&report.replies) {
-        return "the replies";
-    }
-    if !are_acknowledgements(&report.lines) {
-        return "the lines";
-    }
-    if counts_of(&report.logs) != (51, 2_000) {
-        return "the logs";
-    }
-    ""
+// Goes over the report. Each of the two shards of a transaction has its outcome, and each stop made one opening more.
+fn go_over(wrong: &mut WrongRows, report: &Report) {
+    wrong.unless(are_wanted(&report.replies), "the replies");
+    wrong.unless(are_acknowledgements(&report.lines), "the lines");
+    let counted = counts_of(&report.logs) == (51, 2_000);
+    wrong.unless(counted, "the logs");
 }
 
-fn wrong_behind(alloc: Global, steps: &mut Vec<Step>) -> &'static str {
+fn play_all(wrong: &mut WrongRows, alloc: Global, steps: &mut Vec<Step>) {
     let Ok(config) = config(alloc, 4) else {
-        return "no shards";
+        return wrong.unless(false, "no shards");
     };
     let report = if push_all(steps) {
         play_steps(alloc, &config, steps)
@@ -189,17 +184,17 @@ fn wrong_behind(alloc: Global, steps: &mut Vec<Step>) -> &'static str {
     };
     drop(config);
     let Ok(report) = report else {
-        return "no report";
+        return wrong.unless(false, "no report");
     };
-    let wrong = wrong_of(&report);
+    go_over(wrong, &report);
     drop(report);
-    wrong
 }
 
 #[test]
 fn ten_thousand_events(rt: HostRuntime) {
     let mut steps = Vec::new(rt.alloc());
-    let wrong = wrong_behind(rt.alloc(), &mut steps);
+    let mut wrong = WrongRows::none(rt.alloc());
+    play_all(&mut wrong, rt.alloc(), &mut steps);
     drop(steps);
-    assert!(rt; wrong.is_empty(), "{wrong}");
+    end(&rt, wrong);
 }

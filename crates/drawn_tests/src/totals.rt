@@ -1,5 +1,6 @@
 //! What drawn lists and their reports have, counted, so that they are not empty.
 use crate::telling::{Kind, Told};
+use made::WrongRows;
 
 /// Lines of some kinds, values in those of reads and looks, horizons, what was asked for and refused as too early of these, looks that were
 /// too old, and stops of shards: crashes, failures of calls, and accepted openings.
@@ -51,8 +52,8 @@ impl Totals {
         }
     }
 
-    /// What there is too little of, to judge.
-    pub fn scarce(&self) -> &'static str {
+    /// Goes over what there has to be enough of, to judge.
+    pub fn go_over(&self, wrong: &mut WrongRows) {
         for (count, least, name) in [
             (self.acknowledged, 100, "acknowledgements"),
             (self.read, 10, "reads"),
@@ -65,10 +66,7 @@ impl Totals {
             (self.failed, 30, "failing calls"),
             (self.opened, 100, "openings"),
         ] {
-            if count < least {
-                return name;
-            }
+            wrong.unless(count >= least, name);
         }
-        ""
     }
 }

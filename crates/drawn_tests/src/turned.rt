@@ -6,10 +6,11 @@ use crate::replying::are_due;
 use crate::steps::{Does, Step, config, play_steps, unturned};
 use crate::telling::{put_said, value_of};
 use crate::totals::Totals;
+use crate::verdict::end;
+use made::WrongRows;
 use playing::Report;
 use record::Record;
 use std::alloc::Global;
-use std::process::Abort;
 use units::Fault;
 use world::{Config, Reply};
 
@@ -164,10 +165,6 @@ fn turn_one(alloc: Global, seed: u64, shards: u64, turns: &mut Turns) -> &'stati
     wrong
 }
 
-fn check(rt: &impl Abort, seed: u64, wrong: &str) {
-    assert!(rt; wrong.is_empty(), "from seed {seed} on: {wrong}");
-}
-
 // Draws 30 lists from a seed on, over 1 to 3 shards in turn.
 #[test]
 fn turned_runs(rt: HostRuntime) {
@@ -176,11 +173,14 @@ fn turned_runs(rt: HostRuntime) {
         crashed: 0,
         renewed: 0,
     };
+    let mut wrong = WrongRows::none(rt.alloc());
     for number in 0..30 {
         let seed = 1_001 + number;
-        let wrong = turn_one(rt.alloc(), seed, number % 3 + 1, &mut turns);
-        check(&rt, seed, wrong);
+        let found = turn_one(rt.alloc(), seed, number % 3 + 1, &mut turns);
+        wrong.unless_at(found.is_empty(), found, seed);
     }
-    let few = turns.done < 200 || turns.crashed < 30 || turns.renewed < 40;
-    assert!(rt; !few, "too few turnovers");
+    wrong.unless(turns.done >= 200, "turnovers");
+    wrong.unless(turns.crashed >= 30, "crashes in turnovers");
+    wrong.unless(turns.renewed >= 40, "renewals");
+    end(&rt, wrong);
 }

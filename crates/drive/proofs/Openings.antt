@@ -1,5 +1,6 @@
 -- The openings of some disks, one behind the other.
-use Rattle.std.proofs.Common.{◌≡◌, ◌⊎◌, ⊎_elim, inl, inr, ℕ, suc, ◌+◌, ◌<◌, ◌≤◌, max, List, [], ◌∷◌, ◌++◌, length, map, Option, Some, Result, Ok, Err, refl, sym, ap, subst, ◌∙◌, append-nil, length-append, slice_index_or, arith}
+use Rattle.std.proofs.Common.{◌≡◌, ◌⊎◌, ⊎_elim, inl, inr, ℕ, suc, ◌+◌, ◌<◌, ◌≤◌, max, List, [], ◌∷◌, ◌++◌, length, map, Option, Some, Result, Ok, Err}
+use Rattle.std.proofs.Common.{refl, sym, ap, subst, ◌∙◌, append-nil, length-append, slice_index_or, arith}
 use Rattle.std.specs.Prelude.{IsOk, IfSome, IfNone}
 use Rattle.std.specs.List.{AllZip, remove}
 use Rattle.std.proofs.lemmas.Bool.{false≢true}
@@ -176,7 +177,8 @@ record Found {D : Type 0} (keeps : Type 0) (file : D → File) (splits : List By
   opened : HoldLogs keeps file (map (λ (t : D × Setup). t.0) before)
   cause : Cause keeps file splits stride (n + k) one.0 fault
 
-refused_first : {D : Type 0} (keeps : Type 0) (file : D → File) (splits : List Bytes) (stride : ℕ) (told : List (D × Setup)) (disks : List D) (k : ℕ) (fault : Fault)
+refused_first : {D : Type 0} (keeps : Type 0) (file : D → File) (splits : List Bytes) (stride : ℕ) (told : List (D × Setup)) (disks : List D) (k : ℕ)
+    (fault : Fault)
     → map (λ (one : D × Setup). one.0) told ≡ disks → Found keeps file splits stride 0 k told fault → IsRefusedFirst keeps file splits stride disks k fault
 unfolding Cause
 refused_first {D = D} keeps file splits stride told disks k fault same is = record {

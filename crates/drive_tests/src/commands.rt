@@ -1,9 +1,10 @@
 //! Commands, one after the other in one folder.
 use crate::folder::Folder;
+use crate::verdict::end;
 use cli::{Driven, Ended, Engine, Hints, NoVerdict, Put, Stream, System, answer, put_in_store};
 use drive::drive_shards;
 use host_files::HostFiles;
-use made::{ONE_COMMIT, in_version_1, with_slots};
+use made::{ONE_COMMIT, WrongRows, in_version_1, with_slots};
 use settings::Settings;
 use simdisk::SimDisk;
 use std::alloc::Global;
@@ -13,7 +14,7 @@ use units::Fault;
 // What is printed: of a drive its counts, whose first three are of so many transactions together, and the verdict yes; of a write that it is
 // committed; of a key its value, or lines of which the last ends so.
 #[derive(Clone, Copy)]
-enum Output {
+pub enum Output {
     Nothing,
     Yes,
     Driven(u64),
@@ -24,13 +25,13 @@ enum Output {
 
 // A command with the names of its files in the folder and the words behind them, what is printed, the fault, and the status.
 #[derive(Clone, Copy)]
-struct Step {
-    command: &'static str,
-    names: &'static [&'static str],
-    more: &'static [&'static str],
-    output: Output,
-    fault: &'static str,
-    status: u8,
+pub struct Step {
+    pub command: &'static str,
+    pub names: &'static [&'static str],
+    pub more: &'static [&'static str],
+    pub output: Output,
+    pub fault: &'static str,
+    pub status: u8,
 }
 
 static STEPS: [Step; 23] = [
@@ -397,7 +398,7 @@ const IN_MEMORY: &str =
     "shards = 2\nsplits = [\"k0005\"]\nstride = 1000\nepsilon = 100\nworkers = 4\ntransactions = 50\nkeys = 10\n";
 
 // A folder with what the commands name.
-fn furnished(rt: &HostRuntime, test: &impl Abort) -> Folder {
+pub fn furnished(rt: &HostRuntime, test: &impl Abort) -> Folder {
     let folder = Folder::new(rt, test);
     let dir = folder.path(rt, test, ".");
     let text = format!(in rt.alloc(); "{IN_MEMORY}dir = \"{dir}\"\n");
@@ -526,27 +527,28 @@ fn is_answered<
     right
 }
 
-// The first of some commands that is not answered as it should be: it and the names of its files.
-fn first_wrong<
+// Goes over some commands, one after another. Each is named by its word and its place among them.
+pub fn go_over<
     F: Hints,
     D: Fn(Global, &Settings) -> Result<Driven, NoVerdict>,
     P: Fn(Global, Put<'_>) -> Result<Ended, Fault>,
 >(
+    wrong: &mut WrongRows,
     rt: &HostRuntime,
     test: &impl Abort,
     system: &System<F, Engine<D, P>>,
     folder: &Folder,
     steps: &[Step],
-) -> Option<(&'static str, &'static [&'static str])>
+)
     requires drives { D.IsAlwaysCallable system.now.drive.run }
     requires puts { P.IsAlwaysCallable system.now.drive.put }
 {
+    let mut place = 0u64;
     for step in steps {
-        if !is_answered(rt, test, system, folder, step) {
-            return Some((step.command, step.names));
-        }
+        let right = is_answered(rt, test, system, folder, step);
+        wrong.unless_at(right, step.command, place);
+        place = place.saturating_add(1);
     }
-    None
 }
 
 #[test]
@@ -564,13 +566,14 @@ fn commands_over_files(rt: HostRuntime) {
             put: |alloc: Global, write: Put<'_>| put_in_store(&rt, alloc, write),
         },
     };
-    let mut wrong = first_wrong(&rt, &rt, &system, &folder, &STEPS);
+    let mut wrong = WrongRows::none(rt.alloc());
+    go_over(&mut wrong, &rt, &rt, &system, &folder, &STEPS);
     folder.put(&rt, &rt, "closed", Some(""));
-    if wrong.is_none() && folder.close(&rt, &rt, "closed") {
-        wrong = first_wrong(&rt, &rt, &system, &folder, &CLOSED);
+    if folder.close(&rt, &rt, "closed") {
+        go_over(wrong.of("closed"), &rt, &rt, &system, &folder, &CLOSED);
     }
-    let removed = folder.remove(&rt);
-    assert!(rt; removed && wrong.is_none(), "{wrong:?}");
+    wrong.unless(folder.remove(&rt), "the folder");
+    end(&rt, wrong);
 }
 
 // A file of version 1 without its closed gate.
@@ -597,14 +600,15 @@ fn migrated_logs(rt: HostRuntime) {
             put: |alloc: Global, write: Put<'_>| put_in_store(&rt, alloc, write),
         },
     };
-    let wrong = first_wrong(&rt, &rt, &system, &folder, &MIGRATIONS);
+    let mut wrong = WrongRows::none(rt.alloc());
+    go_over(&mut wrong, &rt, &rt, &system, &folder, &MIGRATIONS);
     let stays = folder.has(&rt, &rt, "old.log", &old);
     let whole = with_slots(rt.alloc(), &ONE_COMMIT)
         .ok()
         .expect(&rt, "memory");
     let made = folder.has(&rt, &rt, "new.log", &whole);
     drop(whole);
-    let removed = folder.remove(&rt);
-    assert!(rt; removed && wrong.is_none(), "{wrong:?}");
-    assert!(rt; stays && made, "the files");
+    wrong.unless(stays && made, "the files");
+    wrong.unless(folder.remove(&rt), "the folder");
+    end(&rt, wrong);
 }

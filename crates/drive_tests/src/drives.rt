@@ -1,9 +1,11 @@
 //! Drives of two shards, which part at `k0005`, with a stride of 1,000 and a clock that is within 100.
 use crate::gates::Meeting;
 use crate::kept::Kept;
+use crate::verdict::end;
 use cli::run;
 use drive::{Driven, drive, drive_by};
 use gatelog::GateLog;
+use made::WrongRows;
 use progress::{Ended, NoWatch, Turn, Watch};
 use settings::Settings;
 use simdisk::SimDisk;
@@ -18,7 +20,8 @@ use units::{Fault, Key, Line, Reason, Splits, Stride, Verdict};
 use workers::Summary;
 
 // Why a drive is refused; or how many transactions are tried, how many commits and answered looks there are at least, and of
-// which run the ids are.
+// which run the ids are. That each transaction is counted once is proved of drives; that the verdict is yes is not. Where no look
+// need be answered that is by chance.
 #[derive(Clone, Copy)]
 enum Comes {
     Refused(Fault),
@@ -54,11 +57,12 @@ static ROWS: [Row; 10] = [
         blank: false,
         comes: Comes::Driven {
             tried: 200,
-            committed: 0,
+            committed: 1,
             looks: 0,
             run: 1,
         },
     },
+    // For the verdict alone: how many of these commit, and see anything, is by chance.
     Row {
         name: "many workers",
         workers: 16,
@@ -158,7 +162,7 @@ static AGAIN: [Row; 2] = [
         blank: false,
         comes: Comes::Driven {
             tried: 5,
-            committed: 0,
+            committed: 1,
             looks: 0,
             run: 1,
         },
@@ -194,19 +198,11 @@ const ONE_WORKER: Row = Row {
     },
 };
 
+// Its settings alone: what is printed of it is compared, and that both nodes have met.
 const MEETING: Row = Row {
     name: "six workers",
     workers: 6,
-    transactions: 50,
-    keys: 10,
-    logs: 2,
-    blank: false,
-    comes: Comes::Driven {
-        tried: 300,
-        committed: 0,
-        looks: 0,
-        run: 1,
-    },
+    ..ONE_WORKER
 };
 
 fn settings_of(rt: &impl Abort, alloc: Global, row: &Row) -> Settings {
@@ -292,6 +288,7 @@ fn is_driven(summary: &Summary, lines: &[Line], comes: Comes) -> bool {
 
 // Drives the disks as the row says, and compares what that comes to. The disks behind it, where it is not refused.
 fn go<R: Threads + Wait + time::Clock + Sync + Abort>(
+    wrong: &mut WrongRows,
     rt: &R,
     alloc: Global,
     row: &Row,
@@ -321,21 +318,24 @@ fn go<R: Threads + Wait + time::Clock + Sync + Abort>(
             (held, Vec::new(alloc))
         }
     };
-    assert!(rt; held, "{}", row.name);
+    wrong.unless(held, row.name);
     disks
 }
 
 #[test]
 fn drives(rt: HostRuntime) {
     let gate = Meeting::new(&rt, false);
+    let mut wrong = WrongRows::none(rt.alloc());
     for row in &ROWS {
-        drop(go(&rt, rt.alloc(), row, disks_of(&rt, rt.alloc(), row), &gate));
+        let disks = disks_of(&rt, rt.alloc(), row);
+        drop(go(&mut wrong, &rt, rt.alloc(), row, disks, &gate));
     }
     let mut left = disks_of(&rt, rt.alloc(), &AGAIN[0]);
     for row in &AGAIN {
-        left = go(&rt, rt.alloc(), row, left, &gate);
+        left = go(&mut wrong, &rt, rt.alloc(), row, left, &gate);
     }
     drop(left);
+    end(&rt, wrong);
 }
 
 // A drive over keys of shard 0 alone.
@@ -373,15 +373,17 @@ static LOW_KEYS_AGAIN: Row = Row {
 #[test]
 fn greatest_epoch(rt: HostRuntime) {
     let gate = Meeting::new(&rt, false);
+    let mut wrong = WrongRows::none(rt.alloc());
     let fresh = disks_of(&rt, rt.alloc(), &LOW_KEYS);
-    let mut left = go(&rt, rt.alloc(), &LOW_KEYS, fresh, &gate);
+    let mut left = go(&mut wrong, &rt, rt.alloc(), &LOW_KEYS, fresh, &gate);
     drop(left.pop());
     let mut others = disks_of(&rt, rt.alloc(), &LOW_KEYS);
     left.push(others.pop().expect(&rt, "a disk"))
         .ok()
         .expect(&rt, "memory");
     drop(others);
-    drop(go(&rt, rt.alloc(), &LOW_KEYS_AGAIN, left, &gate));
+    drop(go(&mut wrong, &rt, rt.alloc(), &LOW_KEYS_AGAIN, left, &gate));
+    end(&rt, wrong);
 }
 
 // Is told how long the shortest transaction took that committed, and how many looks were answered.
@@ -439,7 +441,7 @@ fn as_settings_say(rt: HostRuntime) {
         lines,
         disks,
     } = driven.expect(&rt, "a drive");
-    assert!(rt; is_sound(&summary, 6) && are_told(&summary, 6, &lines));
+    let told = is_sound(&summary, 6) && are_told(&summary, 6, &lines);
     let last = last_look(&lines);
     drop(lines);
     let kept = Kept::of(&rt, rt.alloc(), disks);
@@ -452,9 +454,13 @@ fn as_settings_say(rt: HostRuntime) {
         && kept.least_ceiling > last.saturating_add(5_000_000);
     let counted = kept.writes > 0 && kept.sum() == kept.writes;
     drop(kept);
-    assert!(rt; waited && looks_told);
-    assert!(rt; ahead);
-    assert!(rt; counted);
+    let mut wrong = WrongRows::none(rt.alloc());
+    wrong.unless(told, "what is told of transactions");
+    wrong.unless(waited, "commit wait");
+    wrong.unless(looks_told, "looks");
+    wrong.unless(ahead, "ceilings");
+    wrong.unless(counted, "numbers");
+    end(&rt, wrong);
 }
 
 // It fails where nodes are served one after the other, or one letter at a time over both.
@@ -514,12 +520,15 @@ fn loses<R: Threads + Wait + time::Clock + Sync + Abort>(rt: &R, alloc: Global) 
 #[test]
 fn lose_every_letter(rt: HostRuntime) {
     let gate = Meeting::new(&rt, false);
+    let mut wrong = WrongRows::none(rt.alloc());
     drop(go(
+        &mut wrong,
         &rt,
         rt.alloc(),
         &ONE_WORKER,
         disks_of(&rt, rt.alloc(), &ONE_WORKER),
         &gate,
     ));
-    assert!(rt; loses(&rt, rt.alloc()));
+    wrong.unless(loses(&rt, rt.alloc()), "a clock without a reading");
+    end(&rt, wrong);
 }

@@ -64,6 +64,15 @@ impl Folder {
         }
     }
 
+    /// Gives a file in it another name, in the place of what has that.
+    pub fn rename(&self, rt: &HostRuntime, test: &impl Abort, from: &str, to: &str) {
+        let (old, new) = (self.path(rt, test, from), self.path(rt, test, to));
+        let renamed = fs::rename(rt, old.as_str(), new.as_str());
+        drop(old);
+        drop(new);
+        renamed.ok().expect(test, from);
+    }
+
     /// Takes all rights of a file. Whether it may not be read then: a process of root reads it nevertheless.
     pub fn close(&self, rt: &HostRuntime, test: &impl Abort, name: &str) -> bool {
         let path = self.path(rt, test, name);

@@ -4,6 +4,8 @@
 #[cfg(test)]
 mod commands;
 #[cfg(test)]
+mod compacting;
+#[cfg(test)]
 mod drives;
 #[cfg(test)]
 mod folder;
@@ -21,3 +23,5 @@ mod services;
 mod stops;
 #[cfg(test)]
 mod stores;
+#[cfg(test)]
+mod verdict;

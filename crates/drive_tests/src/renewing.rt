@@ -1,5 +1,7 @@
 //! Stores that renew their logs: what the log of a shard begins with, and what is seen once it is opened again.
+use crate::verdict::end;
 use gatelog::GateLog;
+use made::WrongRows;
 use record::Record;
 use simdisk::SimDisk;
 use std::alloc::Global;
@@ -113,24 +115,33 @@ fn is_renewed(rt: &impl Abort, alloc: Global, disks: Vec<SimDisk>) -> (bool, Vec
     (renewed, disks)
 }
 
+// Whether a store's log is renewed as the row says, and what was written is seen over it.
+fn goes<R: Threads + Wait + time::Clock + Sync + Abort>(rt: &R, alloc: Global, row: &Row) -> bool {
+    let log = GateLog::format(SimDisk::new(alloc)).ok();
+    let disk = log.expect(rt, "a log").into_disk();
+    let disks = vec![in alloc; disk].ok().expect(rt, "memory");
+    let store = open(rt, alloc, disks, row);
+    let served = store.serve(|clients: Vec<Client<'_, R>>| write(rt, alloc, clients));
+    let Ok((wrote, disks)) = served else {
+        return false;
+    };
+    let (renewed, disks) = is_renewed(rt, alloc, disks);
+    let again = open(rt, alloc, disks, row);
+    match again.serve(|clients: Vec<Client<'_, R>>| sees(clients)) {
+        Ok((seen, disks)) => {
+            drop(disks);
+            wrote && seen && renewed == row.renewed
+        }
+        Err(_) => false,
+    }
+}
+
 // It fails where a store renews no log, or each.
 #[test]
 fn logs_of_stores_are_renewed(rt: HostRuntime) {
-    let alloc = rt.alloc();
+    let mut wrong = WrongRows::none(rt.alloc());
     for row in &ROWS {
-        let log = GateLog::format(SimDisk::new(alloc)).ok();
-        let disk = log.expect(&rt, "a log").into_disk();
-        let disks = vec![in alloc; disk].ok().expect(&rt, "memory");
-        let store = open(&rt, alloc, disks, row);
-        let served = store.serve(|clients: Vec<Client<'_, HostRuntime>>| write(
-            &rt, alloc, clients,
-        ));
-        let (wrote, disks) = served.ok().expect(&rt, row.name);
-        let (renewed, disks) = is_renewed(&rt, alloc, disks);
-        let again = open(&rt, alloc, disks, row);
-        let served = again.serve(|clients: Vec<Client<'_, HostRuntime>>| sees(clients));
-        let (seen, disks) = served.ok().expect(&rt, row.name);
-        drop(disks);
-        assert!(rt; wrote && seen && renewed == row.renewed, "{}", row.name);
+        wrong.unless(goes(&rt, rt.alloc(), row), row.name);
     }
+    end(&rt, wrong);
 }

@@ -1,5 +1,7 @@
 //! Services over disks in memory: what a client is told where a shard's device fails, and what a store goes on from that is opened again.
+use crate::verdict::end;
 use gatelog::GateLog;
+use made::WrongRows;
 use simdisk::SimDisk;
 use std::alloc::Global;
 use std::process::Abort;
@@ -161,10 +163,11 @@ fn goes_on<R: Wait + time::Clock>(
 }
 
 // Whether that is so of a store over the disks of the row.
-fn go<R: Threads + Wait + time::Clock + Sync + Abort>(rt: &R, alloc: Global, row: &Row) -> bool {
+fn goes<R: Threads + Wait + time::Clock + Sync + Abort>(rt: &R, alloc: Global, row: &Row) -> bool {
     let disks = disks_of(rt, alloc, row);
-    let store = Store::open(rt, alloc, disks, options_of(rt, alloc, 100_000));
-    let store = store.ok().expect(rt, row.name);
+    let Ok(store) = Store::open(rt, alloc, disks, options_of(rt, alloc, 100_000)) else {
+        return false;
+    };
     let served = store.serve(|clients: Vec<Client<'_, R>>| goes_on(rt, alloc, clients, row));
     match served {
         Ok((went, disks)) => {
@@ -178,10 +181,11 @@ fn go<R: Threads + Wait + time::Clock + Sync + Abort>(rt: &R, alloc: Global, row
 // It fails where a letter that a shard refuses is silence to its client.
 #[test]
 fn services_hear_of_stopped_shards(rt: HostRuntime) {
+    let mut wrong = WrongRows::none(rt.alloc());
     for row in &ROWS {
-        let went = go(&rt, rt.alloc(), row);
-        assert!(rt; went, "{}", row.name);
+        wrong.unless(goes(&rt, rt.alloc(), row), row.name);
     }
+    end(&rt, wrong);
 }
 
 // The run of a transaction's id, and the timestamp of a view that was answered.
@@ -233,8 +237,11 @@ fn stores_go_on_from_their_logs(rt: HostRuntime) {
     let ((first, at), disks) = opened(&rt, rt.alloc(), disks);
     let ((second, later), disks) = opened(&rt, rt.alloc(), disks);
     drop(disks);
-    assert!(rt; (first, second) == (1, 2));
-    assert!(rt; at > 0 && later >= at.saturating_add(9_000_000));
+    let mut wrong = WrongRows::none(rt.alloc());
+    wrong.unless((first, second) == (1, 2), "the runs of ids");
+    let ahead = at > 0 && later >= at.saturating_add(9_000_000);
+    wrong.unless(ahead, "the clock");
+    end(&rt, wrong);
 }
 
 // It fails where the shard is not named that is refused.
@@ -256,9 +263,11 @@ fn refused_shards_are_named(rt: HostRuntime) {
         shard: ShardNo::new(1),
         fault: Fault::NotALog,
     };
-    assert!(rt; unopened == named);
+    let mut wrong = WrongRows::none(alloc);
+    wrong.unless(unopened == named, "what is refused");
     let text = format!(in alloc; "{unopened}").ok().expect(&rt, "memory");
     let same = text.as_str() == "shard 1: 12 NotALog";
     drop(text);
-    assert!(rt; same);
+    wrong.unless(same, "its text");
+    end(&rt, wrong);
 }

@@ -1,8 +1,9 @@
 //! Folders of a store of two shards, which part at `m`: what is taken, what is refused, and what is left under which name.
 use crate::folder::Folder;
+use crate::verdict::end;
 use drive::drive_shards;
 use host_files::logs_in;
-use made::{FIRST_GATE, with_slots};
+use made::{FIRST_GATE, WrongRows, with_slots};
 use settings::Settings;
 use std::alloc::Global;
 use std::fs::{self, File, Metadata, OpenOptions};
@@ -444,10 +445,11 @@ fn goes(rt: &HostRuntime, test: &impl Abort, scene: &Scene) -> bool {
 
 #[test]
 fn folders(rt: HostRuntime) {
+    let mut wrong = WrongRows::none(rt.alloc());
     for scene in &SCENES {
-        let went = goes(&rt, &rt, scene);
-        assert!(rt; went, "{}", scene.what);
+        wrong.unless(goes(&rt, &rt, scene), scene.what);
     }
+    end(&rt, wrong);
 }
 
 // One worker, two transactions, over a folder.

@@ -69,6 +69,10 @@ lookup_by_id es t =
     same_value (Some v) None e = let clash : ◌≡◌ {A = Option (Id × Status)} (Some (t, v)) None = e in cc
     same_value (Some v) (Some w) e = ap (option_map (λ (p : Id × Status). p.1)) e
 
+-- what is found is the status
+pub found_is : (es : List (Id × Status)) (t : Id) (o : Option Status) → o ≡ lookup (same_id t) es → meant o ≡ status_in (shown_entries (by_id es)) t
+found_is es t o found = ap meant (found ∙ sym (lookup_by_id es t)) ∙ looked_up (by_id es) t
+
 -- an entry put in at the end, or in the place of the one of its id, is given anew
 pub shown_put : (es new : List (Id × Status)) (t : Id) (s : Status)
     → ((q : Id) → lookup (same_id q) new ≡ cond (same_id t q) (Some s) (lookup (same_id q) es))

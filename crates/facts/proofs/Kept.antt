@@ -21,7 +21,8 @@ use Rattle.record.specs.declared.record.Committed.{Committed}
 use Rattle.record.specs.declared.record.Prepared.{Prepared}
 use Rattle.record.specs.declared.record.Record.{Record}
 use Rattle.record.specs.declared.record.Record.TheVariants.{Opened, Ceiling, Prepare, Commit, Abort, Outcome, Horizon, Base, Version, Settled, Closed}
-use Rattle.record.proofs.Sound.{Sound, sound_empty, sound_more, made, new_facts, prepare_new, commit_new, settled_new, closed_new, outcome_follows, opened_follows}
+use Rattle.record.proofs.Sound.{Sound, sound_empty, sound_more, made, new_facts, prepare_new, commit_new, settled_new, closed_new, outcome_follows}
+use Rattle.record.proofs.Sound.{opened_follows}
 use Rattle.record.proofs.Sound.{prepared_more, committed_more, ended_more, single, next_last, base_first, version_next}
 use Rattle.record.proofs.LearnAgrees.{learns, version_installs}
 use Rattle.facts.specs.Stages.{stage_of, stage_from, stage_after, past_head, is_head, is_open, comes_behind}
@@ -379,7 +380,14 @@ kept_more shard log r k b h = record {
 
 pub kept_empty : Kept []
 unfolding installs_of
-kept_empty = record { sound = sound_empty; one = λ t. refl; settles = λ t. tt; begun = refl; at = record { early = refl; next = λ v. refl; rising = λ h. refl } }
+kept_empty = record {
+  sound = sound_empty;
+  one = λ t. refl;
+  settles = λ t. tt;
+  begun = refl;
+  at = record
+      { early = refl; next = λ v. refl; rising = λ h. refl };
+}
 
 pub append_one : {A : Type 0} (xs : List A) (x : A) (ys : List A) → (xs ++ x ∷ []) ++ ys ≡ xs ++ x ∷ ys
 append_one [] x ys = refl

@@ -1,7 +1,8 @@
 -- What the facts alone tell of a log.
 use Rattle.std.proofs.Common.{refl, sym, ◌∙◌, ap, arith}
 use Rattle.std.proofs.lemmas.Bool.Decides.{nat_tests}
-use Rattle.std.specs.Prelude.{ℕ, ◌+◌, ◌≡◌, Bool, true, false, not, cond, ◌&&◌, ◌||◌, nat_eq, nat_le, nat_lt, List, [], ◌∷◌, ◌++◌, Option, Some, None, option_map}
+use Rattle.std.specs.Prelude.{ℕ, ◌+◌, ◌≡◌, Bool, true, false, not, cond, ◌&&◌, ◌||◌, nat_eq, nat_le, nat_lt, List, [], ◌∷◌, ◌++◌, Option, Some, None}
+use Rattle.std.specs.Prelude.{option_map}
 use Rattle.std.proofs.lemmas.Bool.{and_parts, true≢false}
 use Rattle.std.specs.List.{list_all}
 use Rattle.std.proofs.lemmas.List.{append-nil}
@@ -28,7 +29,8 @@ use Rattle.facts.specs.Stages.{stage_of, stage_after, follows_head, follows_next
 use Rattle.facts.specs.Readers.{standing_promise, standing_decision, has_abort, outcome_in}
 use Rattle.facts.specs.Rules.{is_unrecorded, allows, follows_facts}
 use Rattle.facts.proofs.Heads.{behind_above}
-use Rattle.facts.proofs.Kept.{Kept, is_begun, stage_more, begins_none, Settles, kept_empty, kept_more, kept_followed, append_one, begins_ceiling, begins_horizon, begins_prepare, begins_commit}
+use Rattle.facts.proofs.Kept.{Kept, is_begun, stage_more, begins_none, Settles, kept_empty, kept_more, kept_followed, append_one, begins_ceiling}
+use Rattle.facts.proofs.Kept.{begins_horizon, begins_prepare, begins_commit}
 use Rattle.facts.proofs.Kept.{begins_abort, begins_outcome}
 
 -- ---- the rules of one id

@@ -11,8 +11,8 @@ use Rattle.facts.specs.declared.entry.Status.TheVariants as status
 
 -- the status that is meant
 abbrev pub meaning : Status → records.Status
-meaning (status.Prepared p) = StandsPrepared p
-meaning (status.Decided c) = StandsDecided c
+meaning (status.Prepared p) = StandsPrepared p.value
+meaning (status.Decided c) = StandsDecided c.value
 meaning status.Aborted = HasAborted
 meaning (status.Settled at parts) = HasSettled at parts
 meaning (status.Closed coordinator outcome) = HasClosed coordinator outcome

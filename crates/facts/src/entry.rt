@@ -6,11 +6,11 @@ use record::{Committed, Prepared};
 use units::{Parts, ShardNo, Stamp};
 
 /// How a transaction that has a record stands in a log: a promise or a decision without an outcome, an abort decision, or
-/// how it ended. Of one that ended the log's facts keep no reads and no writes.
+/// how it ended. Of one that ended the log's facts keep no reads and no writes, and it takes little room.
 #[derive(Drop)]
 pub enum Status {
-    Prepared(Prepared),
-    Decided(Committed),
+    Prepared(Box<Prepared>),
+    Decided(Box<Committed>),
     Aborted,
     /// The decision was made here, and the transaction committed.
     Settled {

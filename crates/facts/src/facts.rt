@@ -4,13 +4,14 @@ ghost use Rattle.std.specs.Option.{option_copied};
 ghost use Rattle.units.specs.ById.{IsById};
 ghost use Rattle.units.specs.declared.fault.Fault.TheVariants.{Memory, Damaged};
 ghost use Rattle.record.specs.Accepted.{is_timed};
-ghost use Rattle.record.specs.Facts.{facts_of, learn, recorded, after_outcome};
+ghost use Rattle.record.specs.Facts.{facts_of, learn, recorded};
 ghost use Rattle.facts.specs.Readers.{standing_promise, standing_decision, has_abort, outcome_in};
 ghost use Rattle.facts.specs.Rules.{follows_facts, is_unrecorded, allows};
 ghost use Rattle.facts.specs.Shown.{meaning, meant};
 ghost use Rattle.facts.specs.Stages.{comes_behind, follows_head, follows_next, is_open, stage_after, stage_of};
 
-use crate::table::{ids, install, put, set};
+use crate::blocks::Blocks;
+use crate::table::{close, ids, install, make_room, set};
 use crate::{Stage, Status};
 use indexmap::IndexMap;
 use record::{Committed, Prepared, Record};
@@ -26,6 +27,8 @@ pub struct Facts {
     floor: Stamp,
     // In the order in which the transactions came.
     statuses: IndexMap<TxnId, Status>,
+    // A promise or a decision that stands is behind a box, so that the entry of one that ended is small.
+    blocks: Blocks,
     installs: Vec<Install>,
     horizon: Stamp,
     stage: Stage,
@@ -38,6 +41,7 @@ impl Drop for Facts {
             epoch: _,
             floor: _,
             statuses: _,
+            blocks: _,
             installs: _,
             horizon: _,
             stage: _,
@@ -46,7 +50,7 @@ impl Drop for Facts {
 }
 
 impl Model for Facts {
-    ghost use Rattle.std.specs.Prelude.{◌<◌, ◌^◌, ◌-◌, vec_len, vec_capacity};
+    ghost use Rattle.std.specs.Prelude.{◌<◌, ◌^◌, ◌-◌, min, vec_len, vec_capacity};
     ghost use Rattle.indexmap.specs.IndexMap.{spare};
     ghost use Rattle.facts.specs.Known.{Known, room_for};
     ghost use Rattle.facts.specs.Shown.{shown_entries, by_id};
@@ -59,7 +63,8 @@ impl Model for Facts {
       facts = facts_with f.epoch f.floor
           (shown_entries (by_id f.statuses.entries)) f.installs.items f.horizon;
       stage = f.stage;
-      room = room_for (spare f.statuses) (vec_capacity f.installs - vec_len f.installs);
+      room = min f.blocks
+          (room_for (spare f.statuses) (vec_capacity f.installs - vec_len f.installs));
     } };
 
     ghost invariant = { λ f. f.epoch < 2 ^ 62 };
@@ -77,6 +82,7 @@ impl Facts {
             epoch: 0,
             floor: Stamp::zero(),
             statuses: IndexMap::new(alloc),
+            blocks: Blocks::none(),
             installs: Vec::new(alloc),
             horizon: Stamp::zero(),
             stage: Stage::Head,
@@ -93,8 +99,8 @@ impl Facts {
         ensures memory { IfErr result (λ fault. fault ≡ Memory) }
     {
         self.statuses.reserve(1)?;
-        self.installs.reserve(128)?;
-        Ok(())
+        self.blocks.reserve(*self.installs.allocator(), self.shard)?;
+        make_room(&mut self.installs)
     }
 
     /// The shard whose log it is.
@@ -340,14 +346,8 @@ impl Facts {
         match item {
             Record::Opened { epoch } => self.epoch = epoch.number(),
             Record::Ceiling { at } => self.floor = self.floor.later(at),
-            Record::Prepare(p) => {
-                self.floor = self.floor.later(p.at);
-                set(&mut self.statuses, p.txn, Status::Prepared(p));
-            }
-            Record::Commit(c) => {
-                self.floor = self.floor.later(c.at);
-                set(&mut self.statuses, c.txn, Status::Decided(c));
-            }
+            Record::Prepare(prepared) => self.promise(prepared),
+            Record::Commit(committed) => self.decide(committed),
             Record::Abort { txn } => set(&mut self.statuses, txn, Status::Aborted),
             Record::Outcome { txn, outcome } => self.end(txn, outcome),
             Record::Horizon { at } => self.horizon = self.horizon.later(at),
@@ -385,15 +385,30 @@ impl Facts {
         }
     }
 
-    // How a transaction stands after an outcome that may come next.
-    fn ended(&self, txn: TxnId, outcome: Option<Stamp>) -> Status
-        requires { IsTrue (allows (recorded self.now.facts txn) outcome) }
-        ensures { meaning result ≡ after_outcome (recorded self.now.facts txn) outcome }
+    // Notes a promise.
+    #[tactic(auto, unfolding(record::specs::Facts::learn))]
+    fn promise(&mut self, prepared: Prepared)
+        requires { 1 ≤ self.old.room }
+        ensures facts { self.new.facts ≡ learn self.old.facts (Record.Prepare prepared) }
+        ensures shard { self.new.shard ≡ self.old.shard }
     {
-        match self.status(txn) {
-            Some(status) => status.after(outcome),
-            None => unreachable!(),
-        }
+        self.floor = self.floor.later(prepared.at);
+        let txn = prepared.txn;
+        let promise = self.blocks.promise(prepared);
+        set(&mut self.statuses, txn, Status::Prepared(promise));
+    }
+
+    // Notes a commit decision.
+    #[tactic(auto, unfolding(record::specs::Facts::learn))]
+    fn decide(&mut self, committed: Committed)
+        requires { 1 ≤ self.old.room }
+        ensures facts { self.new.facts ≡ learn self.old.facts (Record.Commit committed) }
+        ensures shard { self.new.shard ≡ self.old.shard }
+    {
+        self.floor = self.floor.later(committed.at);
+        let txn = committed.txn;
+        let decision = self.blocks.decision(committed);
+        set(&mut self.statuses, txn, Status::Decided(decision));
     }
 
     // Notes an outcome.
@@ -405,8 +420,7 @@ impl Facts {
         ensures facts { self.new.facts ≡ learn self.old.facts (Record.Outcome txn outcome) }
         ensures shard { self.new.shard ≡ self.old.shard }
     {
-        let status = self.ended(txn, outcome);
-        let former = put(&mut self.statuses, txn, status);
+        let former = close(&mut self.statuses, txn, outcome);
         if let Some(at) = &outcome {
             self.floor = self.floor.later(*at);
             install(&mut self.installs, former, *at);

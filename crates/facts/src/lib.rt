@@ -2,6 +2,7 @@
 //! the versions.
 #![tactic(auto)]
 
+mod blocks;
 mod entry;
 mod facts;
 mod laws;

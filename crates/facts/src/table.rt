@@ -1,18 +1,23 @@
 //! The transactions that have a record, in the order in which they came, and the versions.
-ghost use Rattle.std.specs.Prelude.{◌≡◌, ◌+◌, ◌<◌, ◌≤◌, ◌++◌, IfErr, IfOk, Some, map, vec_len, vec_capacity};
+ghost use Rattle.std.specs.Prelude.{◌≡◌, ◌+◌, ◌<◌, ◌≤◌, ◌++◌, IfErr, IfOk, IsOk, IsTrue, OnOk, Some, map, vec_len, vec_capacity};
 ghost use Rattle.std.specs.List.{IsDistinct};
 ghost use Rattle.indexmap.specs.IndexMap.{spare};
 ghost use Rattle.units.specs.ById.{IsById};
 ghost use Rattle.units.specs.Ids.{same_id};
 ghost use Rattle.units.specs.Versions.{versions};
 ghost use Rattle.units.specs.declared.fault.Fault.TheVariants.{Memory};
-ghost use Rattle.record.specs.Facts.{with_status, installs_at};
-ghost use Rattle.facts.specs.Shown.{meaning, meant, shown_entries, by_id, status_in};
+ghost use Rattle.record.specs.Facts.{after_outcome, with_status, installs_at};
+ghost use Rattle.facts.specs.Rules.{allows};
+ghost use Rattle.facts.specs.Shown.{meaning, shown_entries, by_id, status_in};
 
 use crate::Status;
 use indexmap::IndexMap;
 use std::alloc::Global;
+use std::mem::replace;
 use units::{Fault, Install, Stamp, TxnId, Write, Writes};
+
+// How many versions a record installs at most.
+const MOST_INSTALLS: usize = 128;
 
 /// The ids of the transactions, ascending.
 pub fn ids(alloc: Global, statuses: &IndexMap<TxnId, Status>) -> Result<Vec<TxnId>, Fault>
@@ -39,36 +44,64 @@ fn ids_as_they_came(alloc: Global, statuses: &IndexMap<TxnId, Status>) -> Result
     Ok(ids)
 }
 
-/// Sets how a transaction stands, and hands back how it stood. It takes no memory.
-pub fn put(statuses: &mut IndexMap<TxnId, Status>, txn: TxnId, status: Status) -> Option<Status>
-    requires { 1 ≤ spare statuses.old }
-    ensures entries { shown_entries (by_id statuses.new.entries) ≡
-        with_status (shown_entries (by_id statuses.old.entries)) txn (meaning status) }
-    ensures former { meant result ≡ status_in (shown_entries (by_id statuses.old.entries)) txn }
-{
-    match statuses.insert(txn, status) {
-        Ok(former) => former,
-        Err(_) => unreachable!(),
-    }
-}
-
 /// Sets how a transaction stands. It takes no memory.
 pub fn set(statuses: &mut IndexMap<TxnId, Status>, txn: TxnId, status: Status)
     requires { 1 ≤ spare statuses.old }
     ensures { shown_entries (by_id statuses.new.entries) ≡
         with_status (shown_entries (by_id statuses.old.entries)) txn (meaning status) }
 {
-    put(statuses, txn, status);
+    match statuses.insert(txn, status) {
+        Ok(_) => {}
+        Err(_) => unreachable!(),
+    }
+}
+
+/// Ends a transaction by an outcome that may come next, and hands back how it stood. It takes no memory.
+pub fn close(statuses: &mut IndexMap<TxnId, Status>, txn: TxnId, outcome: Option<Stamp>) -> Status
+    requires { IsTrue (allows (status_in (shown_entries (by_id statuses.old.entries)) txn)
+        outcome) }
+    ensures entries { shown_entries (by_id statuses.new.entries) ≡
+        with_status (shown_entries (by_id statuses.old.entries)) txn
+        (after_outcome (status_in (shown_entries (by_id statuses.old.entries)) txn) outcome) }
+    ensures former { meaning result ≡ status_in (shown_entries (by_id statuses.old.entries)) txn }
+{
+    match statuses.get_mut(&txn) {
+        Some(status) => {
+            let ended = status.after(outcome);
+            replace(status, ended)
+        }
+        None => unreachable!(),
+    }
+}
+
+/// Makes room for the versions of one record. A longer list gets an eighth more, so that little of it stands empty.
+pub fn make_room(installs: &mut Vec<Install>) -> Result<(), Fault>
+    ensures items { installs.new.items ≡ installs.old.items }
+    ensures len { vec_len installs.new ≡ vec_len installs.old }
+    ensures room { OnOk result (vec_len installs.new + 128 ≤ vec_capacity installs.new) }
+    ensures keeps { vec_capacity installs.old ≤ vec_capacity installs.new }
+    ensures succeeds { vec_len installs.old + 128 ≤ vec_capacity installs.old → IsOk result }
+    ensures memory { IfErr result (λ fault. fault ≡ Memory) }
+{
+    let len = installs.len();
+    if installs.capacity() - len < MOST_INSTALLS {
+        installs.reserve_exact(MOST_INSTALLS + MOST_INSTALLS.max(len / 8))?;
+    }
+    Ok(())
 }
 
 /// Installs what was promised or decided at a timestamp. It takes no memory.
-pub fn install(installs: &mut Vec<Install>, former: Option<Status>, at: Stamp)
+pub fn install(installs: &mut Vec<Install>, former: Status, at: Stamp)
     requires { vec_len installs.old + 128 ≤ vec_capacity installs.old }
-    ensures { installs.new.items ≡ installs.old.items ++ installs_at (meant former) (Some at) }
+    ensures { installs.new.items ≡ installs.old.items ++ installs_at (meaning former) (Some at) }
 {
     match former {
-        Some(Status::Prepared(prepared)) => install_writes(installs, prepared.into_writes(), at),
-        Some(Status::Decided(committed)) => install_writes(installs, committed.into_writes(), at),
+        Status::Prepared(prepared) => {
+            install_writes(installs, Box::into_inner(prepared).into_writes(), at)
+        }
+        Status::Decided(committed) => {
+            install_writes(installs, Box::into_inner(committed).into_writes(), at)
+        }
         _ => {}
     }
 }

@@ -30,7 +30,8 @@ pub ahead_there : (image : List ℕ) (a : Ahead) → IsAhead image a → length 
 ahead_there image a ahead = omega (arith, ahead.size, length-drop (read_to a) image)
 
 -- so many bytes are passed
-pub passed : (image : List ℕ) (a : Ahead) (count : ℕ) (b : Ahead) → IsAhead image a → count ≤ length a.bytes → b.at ≡ a.at + count → b.bytes ≡ drop count a.bytes
+pub passed : (image : List ℕ) (a : Ahead) (count : ℕ) (b : Ahead) → IsAhead image a → count ≤ length a.bytes → b.at ≡ a.at + count
+    → b.bytes ≡ drop count a.bytes
     → b.left ≡ a.left → IsAhead image b
 passed image a count b ahead le at bytes left =
     let size : length b.bytes + count ≡ length a.bytes = omega (arith, ap length bytes, length-drop count a.bytes, le) in

@@ -13,7 +13,8 @@ elapses_on file clock since failures old mid new first second same = record {
   failures_stay = omega (arith, first.failures_stay, second.failures_stay);
 }
   where
-    by_first : (moment : ℕ) (image : List ℕ) → since old moment image ⊎ MayLeave (surface (file mid)) image → since old moment image ⊎ MayLeave (surface (file new)) image
+    by_first : (moment : ℕ) (image : List ℕ) → since old moment image ⊎ MayLeave (surface (file mid)) image → since old moment image
+        ⊎ MayLeave (surface (file new)) image
     by_first moment image (inl was) = inl was
     by_first moment image (inr may) = inr (subst (λ f. MayLeave (surface f) image) (sym same) may)
 

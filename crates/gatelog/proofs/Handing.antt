@@ -20,7 +20,8 @@ pub in_any : (a : Ahead) (front : Front) → IsAtFront a.bytes a.left front → 
 in_any a front h = h (replicate a.left 0) (length-replicate a.left 0)
 
 -- in the file
-pub in_file : (image : List ℕ) (a : Ahead) (front : Front) → IsAhead image a → IsAtFront a.bytes a.left front → IsFront (drop a.at image) (length a.bytes) a.left front
+pub in_file : (image : List ℕ) (a : Ahead) (front : Front) → IsAhead image a → IsAtFront a.bytes a.left front
+    → IsFront (drop a.at image) (length a.bytes) a.left front
 in_file image a front ahead h =
     subst (λ l. IsFront l (length a.bytes) a.left front) ahead.bytes (h (drop (read_to a) image) (ahead_there image a ahead))
 

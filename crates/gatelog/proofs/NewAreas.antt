@@ -21,7 +21,8 @@ pub newest-last : (r : Record) (rs now : List Record) → now ≡ r ∷ rs → r
 newest-last r rs now is = ap reverse is ∙ reverse-append (r ∷ []) rs
 
 pub frame-more : (rs : List Record) (r : Record) → flat_map whole_frame (rs ++ r ∷ []) ≡ flat_map whole_frame rs ++ whole_frame r
-frame-more rs r = flat_map-append whole_frame rs (r ∷ []) ∙ ap (λ (l : List ℕ). flat_map whole_frame rs ++ l) (Rattle.std.proofs.lemmas.List.append-nil (whole_frame r))
+frame-more rs r = flat_map-append whole_frame rs (r ∷ []) ∙ ap (λ (l : List ℕ). flat_map whole_frame rs ++ l)
+    (Rattle.std.proofs.lemmas.List.append-nil (whole_frame r))
 
 pub fit-more : (rs : List Record) (r : Record) → AllByRecursion IsRecord rs → IsRecord r → AllByRecursion IsRecord (rs ++ r ∷ [])
 fit-more [] r all fits = (fits, tt)

@@ -1,5 +1,6 @@
 -- The calls of a turnover, one behind the other.
-use Rattle.std.proofs.Common.{◌≡◌, ◌⊎◌, inl, inr, ℕ, suc, ◌+◌, ◌<◌, ◌≤◌, ◌^◌, List, [], ◌∷◌, length, Result, Ok, Bool, true, false, if◌then◌else◌, refl, sym, ap, subst, ◌∙◌, arith}
+use Rattle.std.proofs.Common.{◌≡◌, ◌⊎◌, inl, inr, ℕ, suc, ◌+◌, ◌<◌, ◌≤◌, ◌^◌, List, [], ◌∷◌, length, Result, Ok, Bool, true, false, if◌then◌else◌}
+use Rattle.std.proofs.Common.{refl, sym, ap, subst, ◌∙◌, arith}
 use Rattle.std.specs.Prelude.{IsTrue, IsErr, nat_lt}
 use Rattle.std.specs.List.{AllByRecursion}
 use Rattle.units.specs.declared.fault.Fault.{Fault}
@@ -85,7 +86,8 @@ module _ (old : Surface) (es : List Placed) (gate slot : ℕ) (items : List Reco
 
     pub while-last : (image : List ℕ) → While at offset mid image → IsOldOrNew old.seen gate slot items image
     while-last image left =
-        old-or-new old.seen image es gate slot items may.found (by_call (subst (λ (n : ℕ). While n (offset_bytes (gate + 1)) (with_area gate items old) image) at-is
+        old-or-new old.seen image es gate slot items may.found
+        (by_call (subst (λ (n : ℕ). While n (offset_bytes (gate + 1)) (with_area gate items old) image) at-is
         (subst (λ (l : List ℕ). While at l (with_area gate items old) image) offset-is (subst (λ (f : Surface). While at offset f image) mid-is left))))
       where
         by_call : While (slot_at slot) (offset_bytes (gate + 1)) (with_area gate items old) image

@@ -169,7 +169,8 @@ module _ (file : Surface) (es : List Placed) (gate slot : ℕ) (items : List Rec
             ∙ ap (λ (l : List ℕ). with_entries es (entries_at gate 0 l)) (drop_more image gate 0 (omega (arith, long, gate_at)))
             ∙ ap (with_entries es) (closed_step gate (get_or image gate 0) (drop (gate + 1) image) closed)
             ∙ ap (λ (l : List Placed). Ok (l, gate)) (append-nil es);
-        begins = same-beginning _ _ _ _ (ap begins_at area ∙ sym (ap begins_at has.named_there)) (counted image slot next ∙ sym (counted file.seen slot next-old));
+        begins = same-beginning _ _ _ _ (ap begins_at area ∙ sym (ap begins_at has.named_there))
+            (counted image slot next ∙ sym (counted file.seen slot next-old));
       }
     where
       next-old : IsNextOrNone file.seen slot

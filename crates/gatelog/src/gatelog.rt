@@ -101,7 +101,8 @@ impl<D: Disk> GateLog<D> {
 
     /// Takes up the log of a file, and hands its entries to a sink, one by one in order. It syncs before it reads, in pieces of
     /// 65,536 bytes at most. `NotALog` where the file does not begin with the header; `Damaged` at a slot that is not whole or names
-    /// no area behind the former one's, and at the gate where a frame is due and none is whole. Of what a sink was handed by a scan that is refused nothing is said.
+    /// no area behind the former one's, and at the gate where a frame is due and none is whole. Of what a sink was handed by a scan that
+    /// is refused nothing is said.
     pub fn scan<S: Sink>(alloc: Global, disk: D, sink: &mut S) -> Result<GateLog<D>, (Fault, D)>
         requires fresh { S.taken sink.old ≡ [] }
         ensures told { S.told sink.new ≡ S.told sink.old }

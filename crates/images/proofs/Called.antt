@@ -36,7 +36,7 @@ use Rattle.world.specs.declared.event.Doing.{Doing}
 use Rattle.world.proofs.Openings.{opening_follows}
 use Rattle.world.proofs.Rooms.{full_is}
 use Rattle.lives.specs.Carries.{left_by_refusal, opens_as}
-use Rattle.lives.specs.Lives.{HoldsArea, beginning_of}
+use Rattle.lives.specs.Held.{HoldsArea, beginning_of}
 use Rattle.lives.proofs.Alikes.{alike_after}
 use Rattle.lives.proofs.Opening.{does, epoch_is, finds_same, no_fault, ok_same, refuses, still_alike}
 use Rattle.lives.proofs.Stepping.{end_with, facts_with, room_for, with_logged}

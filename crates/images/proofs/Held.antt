@@ -17,7 +17,7 @@ use Rattle.shard.specs.On.{CoreView}
 use Rattle.world.specs.Areas.{IsBeside, MayLeaveArea}
 use Rattle.world.specs.World.{Area, ShardNow, State, Runs, IsStopped, IsDown, Nothing, Shown, Hidden, failed_in}
 use Rattle.world.specs.World.{failed_turn, gate_of, left_unsure, new_area, read_area, read_log, shown_area, shown_records, turn_unsure, with_records}
-use Rattle.lives.specs.Lives.{HoldsArea, beginning_of}
+use Rattle.lives.specs.Held.{HoldsArea, beginning_of}
 use Rattle.lives.proofs.Stepping.{with_logged}
 use Rattle.images.specs.Images.{HoldsSurely, Life, Up, Down, disk_of}
 

@@ -32,7 +32,7 @@ use Rattle.world.specs.declared.event.Doing.{Doing}
 use Rattle.world.proofs.Rooms.{done_wanted}
 use Rattle.lives.specs.Carries.{asked_in, left_by_refusal, opens_as, turns_in}
 use Rattle.lives.specs.Inputs.{goes_on, has_input}
-use Rattle.lives.specs.Lives.{HoldsArea}
+use Rattle.lives.specs.Held.{HoldsArea}
 use Rattle.lives.proofs.Living.{asks, asks_the_resting, not_up_opens, turns_as}
 use Rattle.lives.proofs.Opening.{epoch_is, not_up}
 use Rattle.law.proofs.Areas.{logs_no_turn}

@@ -31,7 +31,7 @@ use Rattle.world.specs.declared.event.Event.{Event}
 use Rattle.world.proofs.EveryRun.{is_steady}
 use Rattle.world.proofs.Untouched.{run_settings}
 use Rattle.lives.specs.Inputs.{goes_on}
-use Rattle.lives.specs.Lives.{HoldsArea}
+use Rattle.lives.specs.Held.{HoldsArea}
 use Rattle.lives.proofs.Living.{asks_the_resting}
 use Rattle.law.proofs.Areas.{logs_no_turn, no_more}
 use Rattle.law.proofs.HasAreas.{always_has_areas}

@@ -34,7 +34,7 @@ use Rattle.world.proofs.Places.{replicated}
 use Rattle.world.proofs.Rooms.{done_wanted}
 use Rattle.world.proofs.Untouched.{run_settings}
 use Rattle.lives.specs.Carries.{opens_as}
-use Rattle.lives.specs.Lives.{HoldsArea}
+use Rattle.lives.specs.Held.{HoldsArea}
 use Rattle.lives.specs.Unopened.{unopened_shard}
 use Rattle.lives.proofs.Formatting.{fresh_is, none_taken, opens_first}
 use Rattle.lives.proofs.Living.{asks_the_resting, not_up_opens}

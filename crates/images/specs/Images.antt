@@ -32,7 +32,7 @@ use Rattle.world.specs.declared.event.Act.{Act}
 use Rattle.world.specs.declared.event.Config.{Config}
 use Rattle.world.specs.declared.event.Doing.{Doing}
 use Rattle.world.specs.declared.event.Event.{Event}
-use Rattle.lives.specs.Lives.{HoldsArea}
+use Rattle.lives.specs.Held.{HoldsArea}
 use Rattle.lives.specs.Unopened.{unopened_area}
 
 -- what there is of a shard: its core, or the disk of one that is down

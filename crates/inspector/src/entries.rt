@@ -85,8 +85,8 @@ pub fn run_of<'e, 'l>(entries: &'e [Entry<'l>], txn: TxnId) -> &'e [Entry<'l>]
     requires { AscendsByTxn entries.now }
     ensures { result.now ≡ of_txn txn entries.now }
 {
-    let first = entries.partition_point(|entry| entry.txn.is_older_than(txn));
+    let first = entries.partition_point(|entry| entry.txn < txn);
     let rest = &entries[first..];
-    let count = rest.partition_point(|entry| !txn.is_older_than(entry.txn));
+    let count = rest.partition_point(|entry| entry.txn <= txn);
     &rest[..count]
 }

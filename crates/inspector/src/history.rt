@@ -40,7 +40,7 @@ impl Transaction {
         ensures { result ≡ serial_before self.now other.now }
     {
         self.at.micros() < other.at.micros()
-            || (self.at.micros() == other.at.micros() && self.txn.is_older_than(other.txn))
+            || (self.at.micros() == other.at.micros() && self.txn < other.txn)
     }
 }
 
@@ -162,9 +162,9 @@ fn run_of(found: &[Transaction], txn: TxnId) -> &[Transaction]
     requires { AscendsById found.now }
     ensures { result.now ≡ of_id txn found.now }
 {
-    let first = found.partition_point(|transaction| transaction.txn.is_older_than(txn));
+    let first = found.partition_point(|transaction| transaction.txn < txn);
     let rest = &found[first..];
-    let count = rest.partition_point(|transaction| !txn.is_older_than(transaction.txn));
+    let count = rest.partition_point(|transaction| transaction.txn <= txn);
     &rest[..count]
 }
 

@@ -36,7 +36,7 @@ pub fn versions_by_key<'t>(
     ensures memory { IfErr result (λ fault. fault ≡ Fault.Memory) }
 {
     let mut found = versions_of(alloc, ordered)?;
-    found.sort_by(|version, other| version.write.key.compare(&other.write.key))?;
+    found.sort_by(|version, other| version.write.key.cmp(&other.write.key))?;
     Ok(found)
 }
 
@@ -71,9 +71,9 @@ fn run_of<'v, 't>(versions: &'v [Version<'t>], key: &Key) -> &'v [Version<'t>]
     requires { AscendsByKey versions.now }
     ensures { result.now ≡ placed_for key.now versions.now }
 {
-    let first = versions.partition_point(|version| version.write.key.is_before(key));
+    let first = versions.partition_point(|version| version.write.key < *key);
     let rest = &versions[first..];
-    let count = rest.partition_point(|version| !key.is_before(&version.write.key));
+    let count = rest.partition_point(|version| *key >= version.write.key);
     &rest[..count]
 }
 

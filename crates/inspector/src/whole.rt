@@ -80,7 +80,7 @@ fn tally_log(
     for entry in entries {
         if number == entry.shard {
             if let Some(decision) = decision_of(entry.item) {
-                if txn.is(decision.txn) {
+                if txn == decision.txn {
                     tally = match tally {
                         Tally::Never => {
                             Tally::Once(fits(alloc, count, entries, txn, number, &decision)?)
@@ -215,11 +215,11 @@ fn stand_of(item: &Record, txn: TxnId, shard: usize, commit: &Decision<'_>) -> S
                 commit,
             )
         }
-        Record::Abort { txn: aborted } => turned_down(txn.is(*aborted)),
+        Record::Abort { txn: aborted } => turned_down(txn == *aborted),
         Record::Outcome {
             txn: ended,
             outcome: None,
-        } => turned_down(ended.is(txn)),
+        } => turned_down(*ended == txn),
         Record::Outcome {
             txn: ended,
             outcome: Some(at),
@@ -233,7 +233,7 @@ fn stand_of(item: &Record, txn: TxnId, shard: usize, commit: &Decision<'_>) -> S
             txn: ended,
             coordinator: _,
             outcome: None,
-        } => turned_down(ended.is(txn)),
+        } => turned_down(*ended == txn),
         Record::Closed {
             txn: ended,
             coordinator,
@@ -262,7 +262,7 @@ fn turned_down(is_otherwise: bool) -> Stand
 fn ends_otherwise(ended: TxnId, at: Stamp, txn: TxnId, commit: &Decision<'_>) -> bool
     ensures { result ≡ (same_id txn ended && not (nat_eq commit.now.at at)) }
 {
-    txn.is(ended) && commit.at.micros() != at.micros()
+    txn == ended && commit.at.micros() != at.micros()
 }
 
 // How a promise stands to the decision. One that fits names the coordinator, and is not above the commit's timestamp.
@@ -277,7 +277,7 @@ fn promised_as(
     ensures { result ≡ promised_as txn (record { shard = shard; commit = commit.now })
         promised coordinator at }
 {
-    if promised.is(txn) {
+    if promised == txn {
         Stand::Promised(coordinator.number() as usize == shard && at.micros() <= commit.at.micros())
     } else {
         Stand::Nothing
@@ -304,7 +304,7 @@ fn ends(number: usize, entries: &[Entry<'_>], txn: TxnId) -> bool
     for entry in entries {
         if number == entry.shard {
             if let Some(ended) = ended_at_a_time(entry.item) {
-                if txn.is(ended) {
+                if txn == ended {
                     return true;
                 }
             }

@@ -272,8 +272,10 @@ once_by : (log : List Record) (t : Id) → AllWriteOnce log → WritesOnce (writ
 once_by log t once = by_parts (committed_of log t) refl (prepared_of log t) refl
   where
     by_parts : (c : Option Committed) → committed_of log t ≡ c → (p : Option Prepared) → prepared_of log t ≡ p → WritesOnce (writes_by c p)
-    by_parts (Some c) hc p hp = once.decisions c (decision_among log once.logged c (among_first (λ (x : Committed). same_id x.txn t) (gather as_committed log) c hc))
-    by_parts None hc (Some p) hp = once.promises p (promise_among log once.logged p (among_first (λ (x : Prepared). same_id x.txn t) (gather as_prepared log) p hp))
+    by_parts (Some c) hc p hp = once.decisions c (decision_among log once.logged c
+        (among_first (λ (x : Committed). same_id x.txn t) (gather as_committed log) c hc))
+    by_parts None hc (Some p) hp = once.promises p (promise_among log once.logged p
+        (among_first (λ (x : Prepared). same_id x.txn t) (gather as_prepared log) p hp))
     by_parts None hc None hp = λ v w h k e. absurd h
 
 -- a timestamp above the versions of what is written is above each of them
@@ -292,7 +294,8 @@ outcome_above : (log : List Record) (t : Id) (s : ℕ) → fits_beside log (Outc
 unfolding fits_beside
 outcome_above log t s e = e
 
-one_more : (shard : ℕ) (log : List Record) (r : Record) → is_logged r ≡ true → followed shard (log ++ r ∷ []) ≡ true → fits_beside log r ≡ true → AllWriteOnce log →
+one_more : (shard : ℕ) (log : List Record) (r : Record) → is_logged r ≡ true → followed shard (log ++ r ∷ []) ≡ true → fits_beside log r ≡ true
+    → AllWriteOnce log →
     OneValue (installs_of log) → OneValue (installs_of (log ++ r ∷ []))
 one_more shard log r logged h fits once one =
     subst OneValue (sym (installs_more shard log r h)) (λ i j hi hj key at.

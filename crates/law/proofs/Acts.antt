@@ -21,8 +21,10 @@ use Rattle.protocol.specs.Step.{Stepped, Refuses, Does}
 use Rattle.session.specs.Sessions.{Client, Stage, IsOpen, IsClosing, IsOver, Moved, reads, buffers, closes, gives_up, finishes}
 use Rattle.world.specs.Lawful.{may_act, has_begun}
 use Rattle.gatelog.specs.Gates.{is_left}
-use Rattle.world.specs.World.{World, After, ShardNow, State, Runs, IsStopped, IsDown, Area, read_area, read_log, setup_of, effect, finished, crashed, crashed_in}
-use Rattle.world.specs.World.{area_left_in, left_area, left_by_refused, left_log, turns, with_records, failed_in, failed_turn, set_shard, client_of, put_out, moved, refused, if_open, if_not_over, if_closing}
+use Rattle.world.specs.World.{World, After, ShardNow, State, Runs, IsStopped, IsDown, Area, read_area, read_log, setup_of, effect, finished, crashed}
+use Rattle.world.specs.World.{crashed_in}
+use Rattle.world.specs.World.{area_left_in, left_area, left_by_refused, left_log, turns, with_records, failed_in, failed_turn, set_shard, client_of}
+use Rattle.world.specs.World.{put_out, moved, refused, if_open, if_not_over, if_closing}
 use Rattle.world.specs.World.{if_hearing, answered, to_session, refused_doing, did, did_with_failure, at_shard, do_at, deliver_to, look_noted}
 use Rattle.world.specs.World.{look_shard, look_at_view, begin, acts}
 use Rattle.world.specs.declared.event.Act.{Act}
@@ -124,7 +126,8 @@ module _ (w : World) (C : World → Type 0) (same : C w)
     refused_goes : (doing : Doing) (f : Fault) → C (refused_doing w n s doing f).0
     refused_goes Doing.Open f = by_state s.state
       where
-        by_state : (st : State) → C ((elim st as (λ x. After) [ Runs m ↦ refused w f | _ ↦ (set_shard n (crashed s (read_log s) (read_area s)) w, Reply.Refused f) ]).0)
+        by_state : (st : State) → C ((elim st as (λ x. After)
+            [ Runs m ↦ refused w f | _ ↦ (set_shard n (crashed s (read_log s) (read_area s)) w, Reply.Refused f) ]).0)
         by_state (Runs m) = same
         by_state (IsStopped m) = crashes n s is (read_log s) (read_area s) (inl (read_may_leave s))
         by_state IsDown = crashes n s is (read_log s) (read_area s) (inl (read_may_leave s))

@@ -42,7 +42,8 @@ when_head xs n e = ap (when (nat_eq n)) e ∙ same_number n
 
 module _ (sc : Scene) (h : Holds sc) (logs : List (List Record)) (left : AreLeft sc logs) (t : Id) where
   -- each outcome at a timestamp passes a test
-  ends : (log : List Record) → AreLogged log → (fits : ℕ → Bool) → ((s : ℕ) → IsAmong log (Record.Outcome t (Some s)) → fits s ≡ true) → outcomes_fit log t fits ≡ true
+  ends : (log : List Record) → AreLogged log → (fits : ℕ → Bool) → ((s : ℕ) → IsAmong log (Record.Outcome t (Some s)) → fits s ≡ true)
+      → outcomes_fit log t fits ≡ true
   ends log logged fits each_one = each_of _ (gather as_ended log) (λ e k. by_outcome e.txn (same_id t e.txn) refl e.outcome (outcome_among log logged e k))
     where
       by_outcome : (u : Id) (b : Bool) → same_id t u ≡ b → (o : Option ℕ) → IsAmong log (Record.Outcome u o) →
@@ -119,7 +120,8 @@ module _ (sc : Scene) (h : Holds sc) (logs : List (List Record)) (left : AreLeft
         by_parts false e false k = refl
 
     ends_here : (m : ℕ) → outcomes_fit (log_in logs m) t (nat_eq d.commit.at) ≡ true
-    ends_here m = ends (log_in logs m) (log_logged sc h logs left m) (nat_eq d.commit.at) (λ s k. same_stamp s (outcome_stamp sc h logs left d.shard m d.commit s stands
+    ends_here m = ends (log_in logs m) (log_logged sc h logs left m) (nat_eq d.commit.at)
+        (λ s k. same_stamp s (outcome_stamp sc h logs left d.shard m d.commit s stands
         (of_this m (Some s) k)))
       where
         same_stamp : (s : ℕ) → d.commit.at ≡ s → nat_eq d.commit.at s ≡ true
@@ -146,7 +148,8 @@ module _ (sc : Scene) (h : Holds sc) (logs : List (List Record)) (left : AreLeft
       where
         no_part : (p : Prepared) → IsAmong (promises_of (log_in logs m) t) p → ⊥
         no_part p k =
-            let there = promise_among (log_in logs m) (log_logged sc h logs left m) p (among_keep (λ (x : Prepared). same_id x.txn t) (gather as_prepared (log_in logs m)) p k) in
+            let there = promise_among (log_in logs m) (log_logged sc h logs left m) p
+            (among_keep (λ (x : Prepared). same_id x.txn t) (gather as_prepared (log_in logs m)) p k) in
             let mine = same_id-is p.txn t (kept_passes (λ (x : Prepared). same_id x.txn t) (gather as_prepared (log_in logs m)) p k) in
             let part = promise_of_part sc h logs left d.shard m d.commit p stands there (mine ∙ sym named) in
             cc

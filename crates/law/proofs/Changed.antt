@@ -37,7 +37,8 @@ use Rattle.law.specs.Among.{IsAmong}
 use Rattle.law.specs.Passes.{ShowsView, view_in}
 use Rattle.world.specs.Lawful.{may_act}
 use Rattle.world.specs.World.{World, ShardNow, View, State, Runs, IsStopped, IsDown, Area, Unsure, shown_records, read_log, view_of, setup_of, finished}
-use Rattle.world.specs.World.{new_view, makes_view, crashed, failed_in, failed_turn, set_shard, set_client, put_out, acks_of, ack_of, commit_told, moved, answered}
+use Rattle.world.specs.World.{new_view, makes_view, crashed, failed_in, failed_turn, set_shard, set_client, put_out, acks_of, ack_of, commit_told}
+use Rattle.world.specs.World.{moved, answered}
 use Rattle.world.specs.World.{read_lines, look_noted, look_view, look_shard, look_at_view, begin, acts}
 use Rattle.world.specs.declared.event.Act.{Act}
 use Rattle.world.specs.declared.event.Doing.{Doing}

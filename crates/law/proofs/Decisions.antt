@@ -132,7 +132,8 @@ pub decision_stands : (logs : List (List Record)) → ((n : ℕ) (log : List Rec
 decision_stands logs logged t d h =
     let j = among_join (decided_in t) (by_shard logs) d h in
     let m = among_map (λ c. record { shard = j.from.0; commit = c }) (filter (λ c. same_id t c.txn) (gather as_committed j.from.1)) d j.within in
-    let here : IsAmong j.from.1 (Commit m.from) = decision_among j.from.1 (logged j.from.0 j.from.1 (log_of_number logs j.from j.among)) m.from (among_keep (λ c. same_id t c.txn)
+    let here : IsAmong j.from.1 (Commit m.from) = decision_among j.from.1 (logged j.from.0 j.from.1 (log_of_number logs j.from j.among)) m.from
+    (among_keep (λ c. same_id t c.txn)
     (gather as_committed j.from.1) m.from m.among) in
     let named : t ≡ m.from.txn = same_id-is t m.from.txn (kept_passes (λ c. same_id t c.txn) (gather as_committed j.from.1) m.from m.among) in
     let stands : Decided logs t (record { shard = j.from.0; commit = m.from }) = record {

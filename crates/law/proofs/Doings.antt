@@ -24,7 +24,8 @@ use Rattle.protocol.specs.Rows.{Memory, Row, rebuilt, without_row, without_rows}
 use Rattle.protocol.specs.Plan.{time_limit, start_of_step, Plan, Planned, Change, Keeps, Ends, Drops, Puts, carried, after_change}
 use Rattle.protocol.specs.Step.{step_within, Stepped, Refuses, Does, plan_input, stepped}
 use Rattle.protocol.proofs.RowTable.{with_row-is}
-use Rattle.world.specs.World.{ShardNow, Runs, Unsure, Nothing, Shown, Hidden, TurnShown, TurnHidden, read_log, shown_records, setup_of, step_of_opening, input_of, step_with}
+use Rattle.world.specs.World.{ShardNow, Runs, Unsure, Nothing, Shown, Hidden, TurnShown, TurnHidden, read_log, shown_records, setup_of}
+use Rattle.world.specs.World.{step_of_opening, input_of, step_with}
 use Rattle.world.specs.Lawful.{goes_to, may_do}
 use Rattle.world.specs.declared.event.Doing.{Doing}
 use Rattle.law.specs.Among.{IsAmong}

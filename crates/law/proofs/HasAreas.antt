@@ -1,7 +1,8 @@
 -- The area of each shard keeps what all records say that were logged since its disk was formatted.
 use Rattle.std.specs.List.{list_all}
 use Rattle.std.specs.Prelude.{IsTrue}
-use Rattle.std.proofs.Common.{◌≡◌, ◌<◌, ◌⊎◌, inl, inr, ℕ, suc, ◌+◌, Bool, true, false, cond, not, max, ◌&&◌, nat_le, List, [], ◌∷◌, ◌++◌, length, Option, Some, None, slice_get, refl, sym, ap}
+use Rattle.std.proofs.Common.{◌≡◌, ◌<◌, ◌⊎◌, inl, inr, ℕ, suc, ◌+◌, Bool, true, false, cond, not, max, ◌&&◌, nat_le, List, [], ◌∷◌, ◌++◌, length}
+use Rattle.std.proofs.Common.{Option, Some, None, slice_get, refl, sym, ap}
 use Rattle.std.proofs.Common.{subst, ◌∙◌, arith, option_to_list}
 use Rattle.std.proofs.lemmas.Bool.{and_parts, cases_eq, false≢true}
 use Rattle.std.proofs.lemmas.List.{append-nil}
@@ -44,7 +45,8 @@ use Rattle.world.specs.declared.event.Config.{Config}
 use Rattle.world.specs.declared.event.Doing.{Doing}
 use Rattle.world.specs.declared.event.Event.{Event}
 use Rattle.world.specs.declared.event.Reply.{Reply}
-use Rattle.world.proofs.EveryRun.{InLimit, IsTaken, IsWell, WellShard, WellWorld, always_well, doing_logs, fresh_taken, good, is_steady, keeps, logs, opening_keeps}
+use Rattle.world.proofs.EveryRun.{InLimit, IsTaken, IsWell, WellShard, WellWorld, always_well, doing_logs, fresh_taken, good, is_steady, keeps, logs}
+use Rattle.world.proofs.EveryRun.{opening_keeps}
 use Rattle.world.proofs.EveryRun.{opens, taken_follows}
 use Rattle.world.proofs.Openings.{taken_more}
 use Rattle.world.proofs.Places.{get-replaced_other, get-replaced_same, replicated}
@@ -185,7 +187,8 @@ module _ (w : World) (base : Base w) (kept : AreKept w) where
 
   set_kept : (n : ℕ) (old new : ShardNow) → slice_get w.shards n ≡ Some old →
       ((log : List Record) (area : Area) → MayLeaveArea new log area → KeepsLog (setup_of w.config n) log area) → AreKept (set_shard n new w)
-  set_kept n old new there new_kept m s e = elim (cases_eq n m) [ inl same ↦ by_place same | inr ne ↦ kept m s (sym (get-replaced_other w.shards n m new ne) ∙ e) ]
+  set_kept n old new there new_kept m s e = elim (cases_eq n m)
+      [ inl same ↦ by_place same | inr ne ↦ kept m s (sym (get-replaced_other w.shards n m new ne) ∙ e) ]
     where
       some_same : (a b : ShardNow) → Some a ≡ Some b → a ≡ b
       some_same a b k = cc
@@ -203,7 +206,8 @@ module _ (w : World) (base : Base w) (kept : AreKept w) where
       where
         by_left : (l : List Record) (a : Area) → MayLeaveArea (crashed s log area) l a → KeepsLog (setup_of w.config n) l a
         by_left l a (inl same) =
-            subst (λ x. KeepsLog (setup_of w.config n) x a) (sym same.0) (subst (KeepsLog (setup_of w.config n) log) (sym same.1) (left_kept n s there log area left))
+            subst (λ x. KeepsLog (setup_of w.config n) x a) (sym same.0)
+            (subst (KeepsLog (setup_of w.config n) log) (sym same.1) (left_kept n s there log area left))
         by_left l a (inr none) = absurd none
 
     finish_kept : (doing : Doing) (logged : Option Record) (memory : Memory) (out : List Envelope) →
@@ -351,6 +355,7 @@ areas_keep config es n log area fair left =
     w = run config es
 
     by_place : (s : ShardNow) → slice_get w.shards n ≡ Some s → (MayLeaveArea s log area ⊎ ((e : Event) × (doing : Doing)
-        × IsTrue (lawful config (es ++ e ∷ [])) × (doing_of w e.act ≡ Some (n, doing)) × MayHaveDone w s n doing log area)) → KeepsLog (setup_of w.config n) log area
+        × IsTrue (lawful config (es ++ e ∷ [])) × (doing_of w e.act ≡ Some (n, doing)) × MayHaveDone w s n doing log area))
+        → KeepsLog (setup_of w.config n) log area
     by_place s there (inl plain) = left_kept w (based config es fair) (always_kept config es fair) n s there log area (inl plain)
     by_place s there (inr within) = done_kept w (based config es fair) (always_kept config es fair) n s there within.1 log area within.4

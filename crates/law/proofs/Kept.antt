@@ -55,7 +55,8 @@ quiet_lower log at low q h = record {
   decisions = λ c k e. q.decisions c k (omega (arith, h, e));
 }
 
-shown_stays : (shard : ℕ) (log : List Record) (r : Record) (v : View) → AreLogged log → followed shard (log ++ r ∷ []) ≡ true → IsAbove v.safe r → IsShown log v →
+shown_stays : (shard : ℕ) (log : List Record) (r : Record) (v : View) → AreLogged log → followed shard (log ++ r ∷ []) ≡ true → IsAbove v.safe r
+    → IsShown log v →
     IsShown (log ++ r ∷ []) v
 shown_stays shard log r v logged h above s = record {
   quiet = quiet_stays log r v.safe s.quiet above;

@@ -58,7 +58,11 @@ module _ (sc : Scene) (time : sc.world.time ≡ sc.now) where
   said : (to : Address) (m : Message) → SaidBySome sc to m → HasItsRecord sc.world m
   said to (Message.Vote v) e = by_vote v.vote e.told
     where
-      by_vote : (o : Option ℕ) → (elim o as (λ x. Type 0) [ None ↦ Unit {0} | Some at ↦ (v.from ≡ e.shard) × VoteEvidence (log_at sc.world e.shard) v.txn at ]) →
+      by_vote : (o : Option ℕ) → (elim o as (λ x. Type 0) [
+        | None ↦ Unit {0}
+        | Some at ↦ (v.from ≡ e.shard)
+            × VoteEvidence (log_at sc.world e.shard) v.txn at
+      ]) →
           elim o as (λ x. Type 0) [ None ↦ Unit {0} | Some at ↦ VoteEvidence (log_at sc.world v.from) v.txn at ]
       by_vote None k = tt
       by_vote (Some at) k = subst (λ n. VoteEvidence (log_at sc.world n) v.txn at) (sym k.0) k.1
@@ -194,7 +198,8 @@ module _ (config : Config) (es : List Event) (ls : List (List Record)) (fair : l
           found_there : find_row z.rows a.txn ≡ Some row
           found_there = ap (λ (y : Memory). find_row y.rows a.txn) (memory_is z q is) ∙ found
 
-          by_held : ((facts_of log).epoch ≡ a.epoch → HeldIs a.txn a.key a.epoch x (facts_of log) z) → IsHeld (shard_with log area unsure (Runs z) views) row a.key x
+          by_held : ((facts_of log).epoch ≡ a.epoch → HeldIs a.txn a.key a.epoch x (facts_of log) z)
+              → IsHeld (shard_with log area unsure (Runs z) views) row a.key x
           by_held told = by_case (told now)
             where
               by_case : HeldIs a.txn a.key a.epoch x (facts_of log) z → IsHeld (shard_with log area unsure (Runs z) views) row a.key x

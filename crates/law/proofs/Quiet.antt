@@ -150,7 +150,8 @@ same_answer is more k at none =
     ∙ append-nil (filter (λ (i : Install). nat_le i.at at) is))
 
 -- the answer of a log at a time, after one more record that follows
-pub answer_stays : (shard : ℕ) (log : List Record) (r : Record) (k : Bytes) (at : ℕ) → AreLogged log → is_logged r ≡ true → followed shard (log ++ r ∷ []) ≡ true → IsQuiet log at →
+pub answer_stays : (shard : ℕ) (log : List Record) (r : Record) (k : Bytes) (at : ℕ) → AreLogged log → is_logged r ≡ true
+    → followed shard (log ++ r ∷ []) ≡ true → IsQuiet log at →
     at_time (installs_of (log ++ r ∷ [])) k at ≡ at_time (installs_of log) k at
 unfolding facts_of learn follows
 answer_stays shard log r k at logged of_step h q =
@@ -168,7 +169,8 @@ answer_stays shard log r k at logged of_step h q =
     by_kind (Prepare p) l e = refl
     by_kind (Commit c) l e = refl
     by_kind (Abort t) l e = refl
-    by_kind (Outcome t None) l e = same_answer (installs_of log) (installs_at (recorded (facts_of log) t) None) k at (none_installed (recorded (facts_of log) t))
+    by_kind (Outcome t None) l e = same_answer (installs_of log) (installs_at (recorded (facts_of log) t) None) k at
+        (none_installed (recorded (facts_of log) t))
       where
         none_installed : (st : Status) → filter (λ (i : Install). nat_le i.at at) (installs_at st None) ≡ []
         none_installed (StandsPrepared p) = refl
@@ -180,6 +182,7 @@ answer_stays shard log r k at logged of_step h q =
     by_kind (Outcome t (Some s)) l e =
         same_answer (installs_of log) (installs_at (recorded (facts_of log) t) (Some s)) k at
         (installed_unseen (recorded (facts_of log) t) at s
-        (outcome_above log logged at t s q (and_parts (not (when (λ x. true) (ended_of log t))) (outcome_fits (prepared_of log t) (committed_of log t) (Some s)) e).0
+        (outcome_above log logged at t s q (and_parts (not (when (λ x. true) (ended_of log t)))
+        (outcome_fits (prepared_of log t) (committed_of log t) (Some s)) e).0
         (prepared_of log t) refl (committed_of log t) refl (and_parts (not (when (λ x. true) (ended_of log t)))
         (outcome_fits (prepared_of log t) (committed_of log t) (Some s)) e).1))

@@ -453,7 +453,8 @@ module _ (sc : Scene) (h : Holds sc) (logs : List (List Record)) (left : AreLeft
           let split : log_in logs n ≡ (front ++ r ∷ mid) ++ q ∷ p.back = p.same ∙ ap (λ l. l ++ q ∷ p.back) is in
           let o : end.ended.outcome ≡ Some u.at = outcome_is end.ended.outcome (subst (λ l. IsAmong l (Outcome u.txn end.ended.outcome)) (sym split)
           (among_left (front ++ r ∷ mid) (q ∷ p.back) (Outcome u.txn end.ended.outcome) end.among)) in
-          let stamp = stamp_of_end (front ++ r ∷ mid) (front_orderly (setup_of config n) (log_in logs n) accepted (log_logged sc h logs left n) (front ++ r ∷ mid)
+          let stamp = stamp_of_end (front ++ r ∷ mid) (front_orderly (setup_of config n) (log_in logs n) accepted (log_logged sc h logs left n)
+          (front ++ r ∷ mid)
           (q ∷ p.back) split) r u.txn at ks ws u.at (among_right front (r ∷ mid) r (inl refl)) claims end o own_commit in
           let above = (stamped (front ++ r ∷ mid) q p.back v.txn c.0 c.1 c.2 split c.3).ends u.txn u.at stamp in
           let below = c.4 in
@@ -464,7 +465,8 @@ module _ (sc : Scene) (h : Holds sc) (logs : List (List Record)) (left : AreLeft
       by_order (IsEarlier mid e) = (
         subst (λ l. IsAmong l q) (sym e) (among_right p.front (q ∷ mid) q (inl refl)),
         subst (λ l. HasEnd l v.txn) (sym e) (has_end (p.front ++ q ∷ mid) v.txn (ended_between (setup_of config n)
-            (log_in logs n) accepted (log_logged sc h logs left n) p.front mid back q r v.txn u.txn c.0 at c.1 ks c.2 ws (same ∙ ap (λ l. l ++ r ∷ back) e) c.3 claims
+            (log_in logs n) accepted (log_logged sc h logs left n) p.front mid back q r v.txn u.txn c.0 at c.1 ks c.2 ws
+            (same ∙ ap (λ l. l ++ r ∷ back) e) c.3 claims
             (read_clashes ks c.1 ws c.2 k w reads c.5 key))),
       )
       by_order (IsLater mid e) = absurd (later_end mid e

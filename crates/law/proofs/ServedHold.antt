@@ -42,7 +42,8 @@ use Rattle.law.proofs.Rising.{LoggedAbove}
 use Rattle.law.proofs.WholeLaw.{lawful_on, run_on}
 
 -- a record that follows comes above a time up to which the log is quiet
-comes_above : (shard : ℕ) (log : List Record) (r : Record) (at : ℕ) → AreLogged log → followed shard (log ++ r ∷ []) ≡ true → IsQuiet log at → IsAbove at r → ComesAbove at r
+comes_above : (shard : ℕ) (log : List Record) (r : Record) (at : ℕ) → AreLogged log → followed shard (log ++ r ∷ []) ≡ true → IsQuiet log at
+    → IsAbove at r → ComesAbove at r
 unfolding follows
 comes_above shard log r at logged h q above = by_kind r (and_parts _ _ (and_parts _ _ (sym (followed_more shard log r) ∙ h)).1).1 above
   where
@@ -162,7 +163,13 @@ some_shard a b e = cc
 module _ (w : World) (n : ℕ) (v : View) (well : WellWorld w) (p : IsPresent w n v) where
   grown_now : (k : ℕ) (s : ShardNow) → slice_get w.shards k ≡ Some s → (l : List Record) → MayLeaveLog s l → k ≡ n → IsAboveServed p.shard.log l v.safe
   grown_now k s there l may here = elim may [
-    | inl same ↦ record { more = []; grown = same ∙ ap (λ (z : ShardNow). z.log) mine ∙ sym (append-nil p.shard.log); above = λ r h. absurd h; floor = floor same }
+    | inl same ↦ record {
+      more = [];
+      grown = same ∙ ap (λ (z : ShardNow). z.log) mine
+          ∙ sym (append-nil p.shard.log);
+      above = λ r h. absurd h;
+      floor = floor same;
+    }
     | inr more ↦ absurd (subst (λ u. IsUnsure u more.0) own.surely more.1)
   ]
     where

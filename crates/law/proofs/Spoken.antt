@@ -85,7 +85,8 @@ parts_of_does : (l1 l2 : Option Record) (m1 m2 : Memory) (o1 o2 : List Envelope)
 parts_of_does l1 l2 m1 m2 o1 o2 e = (cc, cc, cc)
 
 -- what a running shard tells it holds after the step
-step_holds : (setup : Setup) (log : List Record) (area : Area) (unsure : Unsure) (st : State) (views : List View) (o : Option (Interval × Input)) (doing : Doing)
+step_holds : (setup : Setup) (log : List Record) (area : Area) (unsure : Unsure) (st : State) (views : List View) (o : Option (Interval × Input))
+    (doing : Doing)
     (logged : Option Record) (memory : Memory) (out : List Envelope) (to : Address) (a : ReadAnswer) (x : Option Bytes) →
     WellShard setup (shard_with log area unsure st views) → (elim st as (λ z. Stepped) [
       | Runs m ↦ step_with setup (facts_of log) m o
@@ -154,9 +155,11 @@ wanted_holds setup bag s (Doing.Resume now) logged memory out to a x well e ther
 wanted_holds setup bag s (Doing.Settle t now) logged memory out to a x well e there holds =
     step_holds setup s.log s.area s.unsure s.state s.views (input_of bag (Doing.Settle t now)) (Doing.Settle t now) logged memory out to a x well e there holds
 wanted_holds setup bag s (Doing.Advance at now) logged memory out to a x well e there holds =
-    step_holds setup s.log s.area s.unsure s.state s.views (input_of bag (Doing.Advance at now)) (Doing.Advance at now) logged memory out to a x well e there holds
+    step_holds setup s.log s.area s.unsure s.state s.views (input_of bag (Doing.Advance at now)) (Doing.Advance at now) logged memory out to a x well e
+    there holds
 wanted_holds setup bag s (Doing.Forget at now) logged memory out to a x well e there holds =
-    step_holds setup s.log s.area s.unsure s.state s.views (input_of bag (Doing.Forget at now)) (Doing.Forget at now) logged memory out to a x well e there holds
+    step_holds setup s.log s.area s.unsure s.state s.views (input_of bag (Doing.Forget at now)) (Doing.Forget at now) logged memory out to a x well e
+    there holds
 wanted_holds setup bag s (Doing.Nudge t now) logged memory out to a x well e there holds =
     step_holds setup s.log s.area s.unsure s.state s.views (input_of bag (Doing.Nudge t now)) (Doing.Nudge t now) logged memory out to a x well e there holds
 wanted_holds setup bag s Doing.Turn logged memory out to a x well e there holds = absurd (by_state s.state e)

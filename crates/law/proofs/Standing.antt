@@ -109,7 +109,8 @@ module _ (sc : Scene) (h : Holds sc) (logs : List (List Record)) (left : AreLeft
       (gather as_prepared m.from.1) p m.within) in
       let there : IsAmong (log_in logs m.from.0) (Prepare p) = subst (λ l. IsAmong l (Prepare p))
       (sym (log_in-is logs m.from.0 m.from.1 (log_of_number logs m.from m.among)))
-      (promise_among m.from.1 (left_logged sc h logs left m.from.0 m.from.1 (log_of_number logs m.from m.among)) p (among_keep (λ q. same_id q.txn c.txn && not (nat_eq m.from.0 n)) (gather as_prepared m.from.1) p m.within)) in
+      (promise_among m.from.1 (left_logged sc h logs left m.from.0 m.from.1 (log_of_number logs m.from m.among)) p
+      (among_keep (λ q. same_id q.txn c.txn && not (nat_eq m.from.0 n)) (gather as_prepared m.from.1) p m.within)) in
       let named : p.txn ≡ c.txn = same_id-is p.txn c.txn passes.0 in
       let part = promise_of_part sc h logs left n m.from.0 c p k there named in
       let below = promised sc h logs left n m.from.0 c k part (λ same. apart m.from.0 n passes.1 same) in

@@ -80,7 +80,7 @@ fn place_of(ids: &[TxnId], txn: TxnId) -> usize
     ensures place { result ≡ front (λ id. older id txn) ids.now }
     ensures limit { result ≤ length ids.now }
 {
-    ids.partition_point(|id| id.is_older_than(txn))
+    ids.partition_point(|id| *id < txn)
 }
 
 // The id is among some that ascend.
@@ -89,7 +89,7 @@ fn is_among(ids: &[TxnId], txn: TxnId) -> bool
     ensures { result ≡ has_id ids.now txn }
 {
     let place = place_of(ids, txn);
-    place < ids.len() && ids[place].is(txn)
+    place < ids.len() && ids[place] == txn
 }
 
 // Puts an id in its place, where it is not there. There is room.

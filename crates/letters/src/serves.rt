@@ -63,9 +63,9 @@ const LETTERS_IN_A_ROW: u64 = 64;
 const READS_AT_MOST: usize = 1_024;
 
 /// Serves the letters of the inbox until one says to close, or the inbox is closed. Whenever none is there the node does its
-/// chores, and then waits for a letter until more are due. Where it refuses the letter of a session, the post is told. No stream of letters keeps it from them for more than 64
-/// letters or, but for one letter, a millisecond. Behind its chores the gate is told where the node has stopped. Reads are taken behind the
-/// letters that came beside them, 64 at most.
+/// chores, and then waits for a letter until more are due. Where it refuses the letter of a session, the post is told. No stream of
+/// letters keeps it from them for more than 64 letters or, but for one letter, a millisecond. Behind its chores the gate is told where the
+/// node has stopped. Reads are taken behind the letters that came beside them, 64 at most.
 pub fn serve<N: Serves, W: Wait + time::Clock, P: Post, C: Clock, G: Gate>(
     node: &N,
     rt: &W,

@@ -21,7 +21,8 @@ use Rattle.world.specs.World.{Area, ShardNow, State, Runs, IsStopped, IsDown, Un
 use Rattle.world.specs.World.{failed_in, failed_turn, left_area, left_area_of, left_by_refused, left_of, new_area, read_area, read_log, shown_area}
 use Rattle.world.specs.World.{shown_records, turns, with_records}
 use Rattle.world.specs.declared.event.Doing.{Doing}
-use Rattle.lives.specs.Lives.{HoldsArea, HoldsLog, crash_by}
+use Rattle.lives.specs.Held.{HoldsArea}
+use Rattle.lives.specs.Lives.{HoldsLog, crash_by}
 use Rattle.lives.specs.Carries.{left_by, left_by_refusal, stepped_shard, unopened}
 use Rattle.lives.proofs.Holding.{area_left, none_more, turn_leaves, turn_left, unsure_left}
 
@@ -112,14 +113,16 @@ module _ (s : ShardNow) (fate : Fate) (sure : IsSure s) where
           ∙ sym (ap (λ x. crashed s (read_log s) (cond x (new_area s) (read_area s))) (late_turn call fate is))
 
   -- a crash in a call of a doing is the doing with that call armed, and then a crash
-  pub crash_is : (call : ℕ) (doing : Doing) (st : Stepped) → LogsNone doing st → crash_by fate (left_by s (Some call) doing st) ≡ crashed_in s call fate doing st
+  pub crash_is : (call : ℕ) (doing : Doing) (st : Stepped) → LogsNone doing st
+      → crash_by fate (left_by s (Some call) doing st) ≡ crashed_in s call fate doing st
   unfolding crashed_in failed_in
   crash_is call doing (Refuses fault) none = refused_is doing
   crash_is call doing (Does None memory out) none = idle_crash call memory (turns doing)
   crash_is call doing (Does (Some r) memory out) none = by_turn (turns doing) refl
     where
       by_test : turns doing ≡ false → (b : Bool) → nat_lt call 4 ≡ b
-          → crash_by fate (cond b (failed_in s call r) (stepped_shard s doing (Some r) memory)) ≡ crashed s (read_log s ++ cond (is_left call fate) (r ∷ []) []) (with_records (read_area s) (cond (is_left call fate) (r ∷ []) []))
+          → crash_by fate (cond b (failed_in s call r) (stepped_shard s doing (Some r) memory)) ≡ crashed s
+          (read_log s ++ cond (is_left call fate) (r ∷ []) []) (with_records (read_area s) (cond (is_left call fate) (r ∷ []) []))
       by_test plain true is = λ i. crashed s (read_log s ++ unsure_left call fate r is i) (area_left call fate r (read_area s) is i)
       by_test plain false is =
           (λ i. crashed s (append-nil (read_log s ++ r ∷ []) i) (cond (plain i) (new_area s) (with_records (read_area s) (r ∷ []))))

@@ -51,7 +51,8 @@ holds_none disk never stands read begins = record {
 }
 
 pub formatted_stands : (setup : Setup) (disk : SimDisk) (shard : RunShard) → disk_plan disk ≡ FailurePlan.Never → Stands (surface (disk_file disk)) (Ok [])
-    → log (surface (disk_file disk)).seen ≡ Ok [] → Begins (surface (disk_file disk)) first_beginning → shard.setup ≡ setup → shard.life ≡ Down disk → shard.installs.items ≡ [] → shard.views.items ≡ []
+    → log (surface (disk_file disk)).seen ≡ Ok [] → Begins (surface (disk_file disk)) first_beginning → shard.setup ≡ setup → shard.life ≡ Down disk
+    → shard.installs.items ≡ [] → shard.views.items ≡ []
     → StandsFor setup shard unopened_shard
 formatted_stands setup disk shard never stands read begins told life installs views = record {
   setup_is = told;
@@ -105,7 +106,8 @@ fresh_is = refl
 
 pub fresh_stands : (setup : Setup) → setup.book ≡ Off → (new : RunShard) (out : List Envelope) → Acts setup [] unopened_shard None Doing.Open new (Ok out)
     → StandsFor setup new fresh_shard
-fresh_stands setup off new out acts = by_answer (subst (λ st. Comes None Doing.Open st (Ok out) (StandsFor setup new (done_by unopened_shard None Doing.Open st)))
+fresh_stands setup off new out acts = by_answer (subst (λ st. Comes None Doing.Open st (Ok out)
+    (StandsFor setup new (done_by unopened_shard None Doing.Open st)))
     (opens_first setup) (acts (orderly_first setup off)))
   where
     by_answer : Comes None Doing.Open (Does (Some (Record.Opened 1)) (rebuilt (facts_of [])) []) (Ok out)
@@ -116,7 +118,8 @@ fresh_stands setup off new out acts = by_answer (subst (λ st. Comes None Doing.
 -- refused only for memory
 pub fresh_refused : (setup : Setup) → setup.book ≡ Off → (new : RunShard) (fault : Fault) → Acts setup [] unopened_shard None Doing.Open new (Err fault)
     → fault ≡ Memory
-fresh_refused setup off new fault acts = by_answer (subst (λ st. Comes None Doing.Open st (Err fault) (StandsFor setup new (done_by unopened_shard None Doing.Open st)))
+fresh_refused setup off new fault acts = by_answer (subst (λ st. Comes None Doing.Open st (Err fault)
+    (StandsFor setup new (done_by unopened_shard None Doing.Open st)))
     (opens_first setup) (acts (orderly_first setup off)))
   where
     by_answer : Comes None Doing.Open (Does (Some (Record.Opened 1)) (rebuilt (facts_of [])) []) (Err fault)

@@ -1,5 +1,6 @@
 -- What a disk holds behind a call of a core.
-use Rattle.std.proofs.Common.{◌≡◌, inl, inr, subst, ℕ, zero, suc, Bool, true, false, nat_lt, cond, List, [], ◌∷◌, ◌++◌, get_or, Result, Ok, refl, sym, ap, ◌∙◌, arith}
+use Rattle.std.proofs.Common.{◌≡◌, inl, inr, subst, ℕ, zero, suc, Bool, true, false, nat_lt, cond, List, [], ◌∷◌, ◌++◌, get_or, Result, Ok, refl, sym}
+use Rattle.std.proofs.Common.{ap, ◌∙◌, arith}
 use Rattle.std.proofs.lemmas.Bool.Decides.{nat_tests}
 use Rattle.std.proofs.lemmas.List.{append-nil}
 use Rattle.disk.specs.File.{surface, crash_leaves}
@@ -21,7 +22,8 @@ use Rattle.simdisk.specs.declared.simdisk.SimDisk.{SimDisk}
 use Rattle.units.specs.declared.fault.Fault.{Fault}
 use Rattle.world.specs.World.{Area, ShardNow, Unsure, Nothing, Shown, Hidden, failed_in, failed_turn, left_area, left_area_of, left_of, left_unsure, new_area}
 use Rattle.world.specs.World.{read_area, shown_area, shown_records, turn_unsure, with_records}
-use Rattle.lives.specs.Lives.{HoldsArea, HoldsLog, beginning_of, disk_log}
+use Rattle.lives.specs.Held.{HoldsArea, beginning_of}
+use Rattle.lives.specs.Lives.{HoldsLog, disk_log}
 
 -- with a record where a test holds
 with_is : (b : Bool) (log : List Record) (r : Record) → records_with_if b (Ok log) r ≡ Ok (log ++ cond b (r ∷ []) [])
@@ -125,7 +127,8 @@ holds_failed s call r disk never is armed begins = record {
 }
 
 -- by a test, the new area or the one that was read
-turned_area : (b : Bool) (disk : Surface) (area other : Area) (image : List ℕ) (gate slot : ℕ) → HoldsArea area disk.seen → beginning_of other ≡ turned_to gate slot
+turned_area : (b : Bool) (disk : Surface) (area other : Area) (image : List ℕ) (gate slot : ℕ) → HoldsArea area disk.seen
+    → beginning_of other ≡ turned_to gate slot
     → IsTurnedIf b disk gate slot other.records image → HoldsArea (cond b other area) image
 turned_area true disk area other image gate slot was begins h = (h.0, h.1 ∙ sym begins)
 turned_area false disk area other image gate slot was begins h = (h.0 ∙ was.0, h.1 ∙ was.1)

@@ -253,7 +253,8 @@ module _ (setup : Setup) (bag : List Envelope) (s : ShardNow) where
       by_state IsDown is u = absurd (false≢true u)
 
   -- any other is
-  pub not_up_opens : is_up s.state ≡ false → (effect setup bag s Doing.Open ≡ opens_as s) × (left_by_refusal s Doing.Open ≡ crashed s (read_log s) (read_area s))
+  pub not_up_opens : is_up s.state ≡ false → (effect setup bag s Doing.Open ≡ opens_as s)
+      × (left_by_refusal s Doing.Open ≡ crashed s (read_log s) (read_area s))
   not_up_opens down = by_state s.state refl down
     where
       by_state : (st : State) → s.state ≡ st → is_up st ≡ false
@@ -281,7 +282,8 @@ module _ (setup : Setup) (bag : List Envelope) (s : ShardNow) (call : Option ℕ
   pub up_carries : (life : Life) → is_up s.state ≡ true → LivesAs setup s life → Carries setup bag s call doing life life (Err Stopped)
   up_carries life up h = subst (λ d. Carries setup bag s call d life life (Err Stopped)) (sym open_is) (λ order.
       let p = up_refuses setup bag s up in
-      subst (λ x. Comes call Doing.Open x (Err Stopped) (LivesAs setup (left_by s call Doing.Open x) life × ShowsOn Doing.Open life life (Err Stopped))) (sym p.0)
+      subst (λ x. Comes call Doing.Open x (Err Stopped) (LivesAs setup (left_by s call Doing.Open x) life × ShowsOn Doing.Open life life (Err Stopped)))
+      (sym p.0)
       (inr (refl, (subst (λ t. LivesAs setup t life) (sym p.1) h, same_shown life Stopped))))
 
   pub open_carries : (disk : SimDisk) (old life : Life) (r : Result (List Envelope) Fault) → is_up s.state ≡ false → HoldsLog s disk
@@ -290,7 +292,8 @@ module _ (setup : Setup) (bag : List Envelope) (s : ShardNow) (call : Option ℕ
   open_carries disk old life r down h opens = subst (λ d. Carries setup bag s call d old life r) (sym open_is) (λ order.
       let p = not_up_opens setup bag s down in
       subst (λ x. Comes call Doing.Open x r (LivesAs setup (left_by s call Doing.Open x) life × ShowsOn Doing.Open old life r)) (sym p.0)
-      (subst (λ t. Comes call Doing.Open (opens_as s) r (LivesAs setup (comes_to s t call Doing.Open (opens_as s)) life × ShowsOn Doing.Open old life r)) (sym p.1)
+      (subst (λ t. Comes call Doing.Open (opens_as s) r (LivesAs setup (comes_to s t call Doing.Open (opens_as s)) life × ShowsOn Doing.Open old life r))
+      (sym p.1)
       (by_answer (opens s h down (subst (IsOrderly setup s) p.0 order)))))
     where
       -- a core that was opened may show others; there is none where the opening is refused

@@ -40,7 +40,8 @@ use Rattle.world.specs.Lawful.{is_up}
 use Rattle.world.proofs.Openings.{opening_follows}
 use Rattle.world.proofs.Rooms.{full_is, room_is}
 use Rattle.world.specs.declared.event.Doing.{Doing}
-use Rattle.lives.specs.Lives.{HoldsLog, IsCoreIn, IsDiskIn, IsRunningAs, beginning_of, disk_log}
+use Rattle.lives.specs.Held.{beginning_of}
+use Rattle.lives.specs.Lives.{HoldsLog, IsCoreIn, IsDiskIn, IsRunningAs, disk_log}
 use Rattle.lives.specs.Carries.{Comes, IsOrderly, answer_of, comes_to, opened_by, opens_as, stepped_shard}
 use Rattle.lives.proofs.Alikes.{alike_back, same_rebuilt}
 use Rattle.lives.proofs.Holding.{holds_failed, holds_kept}

@@ -149,7 +149,11 @@ module _ (w : World) (old new : Run) (h : IsRun old w) where
   refused_is n s Doing.Turn fault there = same_there n s fault there
   refused_is n s Doing.Open fault there = by_state s.state
     where
-      by_state : (st : State) → elim st as (λ x. After) [ Runs m ↦ refused w fault | _ ↦ (set_shard n (crashed s (read_log s) (read_area s)) w, Reply.Refused fault) ]
+      by_state : (st : State) → elim st as (λ x. After) [
+        | Runs m ↦ refused w fault
+        | _
+            ↦ (set_shard n (crashed s (read_log s) (read_area s)) w, Reply.Refused fault)
+      ]
           ≡ (record w { shards = replaced w.shards n (unopened s st) }, Reply.Refused fault)
       by_state (Runs m) = same_there n s fault there
       by_state (IsStopped m) = refl

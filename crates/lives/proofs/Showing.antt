@@ -70,7 +70,8 @@ still_view is more v w h k = record {
     front = ap (take v.count) (drop-append-le v.from is more (omega (arith, counted is v h)))
         ∙ take-append-le v.count (drop v.from is) more (omega (arith, counted is v h, length-drop v.from is))
 
-still_views : (is more : List Install) (vs : List CodeView) (ws : List View) → list_all (is_within is) vs ≡ true → AreViews is vs ws → AreViews (is ++ more) vs ws
+still_views : (is more : List Install) (vs : List CodeView) (ws : List View) → list_all (is_within is) vs ≡ true → AreViews is vs ws
+    → AreViews (is ++ more) vs ws
 still_views is more [] [] h k = tt
 still_views is more [] (w ∷ ws) h k = absurd k
 still_views is more (v ∷ vs) [] h k = absurd k
@@ -403,7 +404,8 @@ module _ (setup : Setup) (bag : List Envelope) (s : ShardNow) (call : Option ℕ
       done_stands shows = record {
         setup_is = n.setup ∙ told;
         lives = subst (λ x. LivesAs setup (finished s doing logged memory) x) (sym n.life)
-            (lives_with setup (stepped_shard s doing logged memory) (s.views ++ cond (makes_view doing) (view_of (facts_of log_now) memory ∷ []) []) mid.life l);
+            (lives_with setup (stepped_shard s doing logged memory) (s.views ++ cond (makes_view doing) (view_of (facts_of log_now) memory ∷ []) [])
+            mid.life l);
         views = views_are;
         within = within_is;
         apart = apart_is;

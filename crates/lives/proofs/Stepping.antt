@@ -39,7 +39,8 @@ use Rattle.world.specs.World.{new_area, stopped as stopped_state, turns, where_r
 use Rattle.world.proofs.Rooms.{full_is, room_is}
 use Rattle.world.specs.declared.event.Doing.{Doing}
 use Rattle.lives.specs.Inputs.{has_input}
-use Rattle.lives.specs.Lives.{IsCoreIn, IsCoreOf, IsRunningAs, IsStoppedAs, beginning_of, disk_log}
+use Rattle.lives.specs.Held.{beginning_of}
+use Rattle.lives.specs.Lives.{IsCoreIn, IsCoreOf, IsRunningAs, IsStoppedAs, disk_log}
 use Rattle.lives.specs.Carries.{Comes, CoreComes, IsOrderly, ShowsMore, TakesInput, answer_of, asked_if_room, asked_in, by_call, calls_of, comes_to}
 use Rattle.lives.specs.Carries.{failed_by, stepped_shard}
 use Rattle.lives.proofs.Alikes.{alike_after, still_first}
@@ -134,7 +135,8 @@ plain_shard s logged memory = record {
   views = s.views;
 }
 
-area_is : (s : ShardNow) (doing : Doing) (logged : Option Record) → turns doing ≡ false → area_behind s doing logged ≡ with_records (read_area s) (option_to_list logged)
+area_is : (s : ShardNow) (doing : Doing) (logged : Option Record) → turns doing ≡ false
+    → area_behind s doing logged ≡ with_records (read_area s) (option_to_list logged)
 area_is s doing logged g = ap (λ b. cond b (new_area s) (with_records (read_area s) (option_to_list logged))) g
 
 pub stepped_is : (s : ShardNow) (doing : Doing) (logged : Option Record) (memory : Memory) → turns doing ≡ false
@@ -256,7 +258,8 @@ module _ (old before after new : CoreView SimDisk) (call : Option ℕ) (doing : 
         let records : and_logged (records_in (surface (disk_file before.disk)).seen) logged ≡ Ok log = ap (λ x. and_logged x logged) reads
         ∙ with_logged (disk_log s) logged in
         let kept : KeepsRecords (surface (disk_file new.disk)) (Ok log) =
-        subst (λ f. KeepsRecords (surface f) (Ok log)) (sym disarms.file) (subst (KeepsRecords (surface (disk_file after.disk))) records (k.written.durable tt)) in
+        subst (λ f. KeepsRecords (surface f) (Ok log)) (sym disarms.file)
+        (subst (KeepsRecords (surface (disk_file after.disk))) records (k.written.durable tt)) in
         let begins : Begins (surface (disk_file new.disk)) (beginning_of (read_area s)) = begins_so disarms.file (k.written.begins running tt) in
         record {
           core_of = record {
@@ -333,7 +336,8 @@ module _ (old before after new : CoreView SimDisk) (call : Option ℕ) (doing : 
         by_cause None k f (inr (inl full)) = absurd full.1
         by_cause (Some r) k f (inr (inl full)) =
             subst (λ x. Left x (Err fault)) (sym (full_is before.gate r memory out full.1))
-            (refuses fault TimeSpent full.0 (stays fault s.state k.written.kept k.written.setup k.written.slot (not_device fault TimeSpent full.0 spent_no_device) here))
+            (refuses fault TimeSpent full.0 (stays fault s.state k.written.kept k.written.setup k.written.slot
+            (not_device fault TimeSpent full.0 spent_no_device) here))
         by_cause None k f (inr (inr device)) =
             absurd (no_device call before.gate (records_in (surface (disk_file before.disk)).seen) after.disk fault f device.0)
         by_cause (Some r) k f (inr (inr device)) = by_armed call f refl

@@ -29,7 +29,8 @@ use Rattle.simdisk.specs.declared.simdisk.SimDisk.{SimDisk}
 use Rattle.world.specs.World.{ShardNow, State, Runs, IsStopped, IsDown, failed_turn, gate_of, has_place, new_area, read_area, read_log, shown_records}
 use Rattle.world.specs.World.{step_of_turnover, stopped as stopped_state}
 use Rattle.world.specs.declared.event.Doing.{Doing}
-use Rattle.lives.specs.Lives.{HoldsArea, IsCoreIn, IsRunningAs, IsStoppedAs, beginning_of}
+use Rattle.lives.specs.Held.{HoldsArea, beginning_of}
+use Rattle.lives.specs.Lives.{IsCoreIn, IsRunningAs, IsStoppedAs}
 use Rattle.lives.specs.Carries.{CoreComes, TurnsOver, stepped_shard, turns_in}
 use Rattle.lives.proofs.Alikes.{first_of_same}
 use Rattle.lives.proofs.Holding.{holds_kept, holds_turned}

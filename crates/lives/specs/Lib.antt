@@ -1,5 +1,6 @@
 pub mod Carries
 pub mod Fleet
+pub mod Held
 pub mod Inputs
 pub mod Lives
 pub mod Looks

@@ -1,5 +1,5 @@
 -- How a core, or the disk of one that is down, stands for a shard of the definitions.
-use Rattle.std.specs.Prelude.{◌≡◌, ℕ, true, false, List, get_or, Ok}
+use Rattle.std.specs.Prelude.{◌≡◌, ℕ, true, false, List, get_or}
 use Rattle.units.specs.declared.setup.Setup.{Setup}
 use Rattle.disk.specs.File.{surface, crash_leaves}
 use Rattle.disk.specs.declared.plan.FailurePlan.{FailurePlan}
@@ -7,29 +7,20 @@ use Rattle.disk.specs.declared.plan.Fate.{Fate}
 use Rattle.record.specs.Facts.{facts_of}
 use Rattle.record.specs.declared.record.Record.{Record}
 use Rattle.gatelog.specs.Crash.{Begins}
-use Rattle.gatelog.specs.Slots.{Beginning, begins_in}
 use Rattle.protocol.specs.Rows.{Memory}
 use Rattle.renewal.specs.Keeps.{Alike}
 use Rattle.shard.specs.Core.{seen}
-use Rattle.shard.specs.Logs.{records_in}
 use Rattle.shard.specs.On.{CoreView}
 use Rattle.simdisk.specs.State.{disk_file, disk_plan}
 use Rattle.simdisk.specs.declared.simdisk.SimDisk.{SimDisk}
-use Rattle.world.specs.World.{Area, ShardNow, State, Runs, IsStopped, IsDown, Nothing, crashed, gate_of, left_area, left_log, read_area}
+use Rattle.world.specs.World.{ShardNow, State, Runs, IsStopped, IsDown, Nothing, crashed, gate_of, left_area, left_log, read_area}
+use Rattle.lives.specs.Held.{HoldsArea, beginning_of}
 use Rattle.lives.specs.declared.life.Life.{Life}
 use Rattle.lives.specs.declared.life.Life.TheVariants.{Up, Down}
 
 -- the records that a read of a shard's disk gives
 abbrev pub disk_log : ShardNow → List Record
 disk_log s = (read_area s).records
-
--- where the log of an area begins in its file, and how many slots are open
-abbrev pub beginning_of : Area → Beginning
-beginning_of area = record { at = area.begins; slots = area.slot }
-
--- an image of a disk has this area
-abbrev pub HoldsArea : Area → List ℕ → Type 0
-HoldsArea area image = (records_in image ≡ Ok area.records) × (begins_in image ≡ beginning_of area)
 
 -- a crash by a fate
 abbrev pub crash_by : Fate → ShardNow → ShardNow

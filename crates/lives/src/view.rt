@@ -106,7 +106,7 @@ pub fn are_above(installs: &[Install], time: Stamp) -> bool
 fn is_same(one: &Install, other: &Install) -> bool
     ensures { result ≡ true → one.now ≡ other.now }
 {
-    if one.at.micros() != other.at.micros() || !one.key.is(&other.key) {
+    if one.at.micros() != other.at.micros() || one.key != other.key {
         return false;
     }
     is_same_value(&one.value, &other.value)
@@ -145,7 +145,7 @@ fn newer<'a>(
 ) -> Option<&'a Install>
     ensures { option_copied result ≡ newer one.now key.now at (option_copied best.entry) }
 {
-    if one.at.micros() > at.micros() || !one.key.is(key) {
+    if one.at.micros() > at.micros() || one.key != *key {
         return best;
     }
     match best {

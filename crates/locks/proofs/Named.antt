@@ -92,7 +92,8 @@ pub alone_ends : (counts : Numbers) (table : List Claim) (t : Id) (n : Lock) →
     → ids_in_way t (n ∷ []) table ≡ []
 alone_ends counts table t n right seems =
     ends_nobody counts table t n right
-    (parts (is_own (tallied counts (held_against n)) (own_in (held_against n) table t)) (is_own (tallied counts (asked_against n)) (own_in (asked_against n) table t)) seems).0
+    (parts (is_own (tallied counts (held_against n)) (own_in (held_against n) table t))
+    (is_own (tallied counts (asked_against n)) (own_in (asked_against n) table t)) seems).0
 
 pub ends_one : (table : List Claim) (t o : Id) (n : Lock) (y : Claim) (count mine theirs : ℕ) → same_id o t ≡ false
     → find_member (λ c. c.txn) table o ≡ Some y → (count < 4294967295 → count ≡ sum_by (claim_in (held_against n)) table)
@@ -140,7 +141,8 @@ ids_or_one f g o (c ∷ cs) up one = by_test (f c) one (ids_or_one f g o cs up.1
     first : c.txn ≡ o → (b : Bool) → map (λ (d : Claim). d.txn) (filter (λ d. f d || g d) cs) ≡ map (λ (d : Claim). d.txn) (filter g cs)
         → c.txn ∷ map (λ (d : Claim). d.txn) (filter (λ d. f d || g d) cs)
         ≡ with_member (λ (i : Id). i) (map (λ (d : Claim). d.txn) (cond b (c ∷ filter g cs) (filter g cs))) o
-    first is true same = rw (ap (λ u. same_id u o) is ∙ same_id-refl o) (ap (λ u. u ∷ map (λ (d : Claim). d.txn) (filter (λ d. f d || g d) cs)) is ∙ ap (λ l. o ∷ l) same)
+    first is true same = rw (ap (λ u. same_id u o) is ∙ same_id-refl o)
+        (ap (λ u. u ∷ map (λ (d : Claim). d.txn) (filter (λ d. f d || g d) cs)) is ∙ ap (λ l. o ∷ l) same)
     first is false same =
         ap (λ u. u ∷ map (λ (d : Claim). d.txn) (filter (λ d. f d || g d) cs)) is ∙ ap (λ l. o ∷ l) same
         ∙ sym (with-before (λ (i : Id). i) (map (λ (d : Claim). d.txn) (filter g cs)) o
@@ -229,8 +231,10 @@ kept_by_none counts table t o n y right apart found lets seems =
     asked : Count
     asked = asked_against n
 
-    two : (is_own (tallied counts held) (own_in held table t + claim_in held y) ≡ true) × (is_own (tallied counts asked) (own_in asked table t + claim_in asked y) ≡ true)
-    two = parts (is_own (tallied counts held) (own_in held table t + claim_in held y)) (is_own (tallied counts asked) (own_in asked table t + claim_in asked y)) seems
+    two : (is_own (tallied counts held) (own_in held table t + claim_in held y) ≡ true)
+        × (is_own (tallied counts asked) (own_in asked table t + claim_in asked y) ≡ true)
+    two = parts (is_own (tallied counts held) (own_in held table t + claim_in held y))
+        (is_own (tallied counts asked) (own_in asked table t + claim_in asked y)) seems
 
     few : sum_by (λ c. claim_in held c + claim_in asked c) table
         ≤ weighed (λ c. claim_in held c + claim_in asked c) (find_member (λ c. c.txn) table t)

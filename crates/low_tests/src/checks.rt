@@ -1,14 +1,15 @@
 //! What the tests end with, and what more than one asks.
+use made::WrongRows;
 use message::Envelope;
 use std::alloc::{AllocError, Global};
 use std::fmt::Display;
 use std::process::Abort;
 use texts::Text;
 
-/// Ends the test with the row that is wrong, if there is one: each area names the first of its rows that does not hold, and
-/// else gives an empty text.
-pub fn check(rt: &impl Abort, area: &str, wrong: &str) {
-    assert!(rt; wrong.is_empty(), "{area}: {wrong}");
+/// Ends the test where rows are wrong, with all of them.
+pub fn end(rt: &impl Abort, wrong: WrongRows) {
+    assert!(rt; wrong.is_none(), "{}", wrong.text());
+    drop(wrong);
 }
 
 /// A row of a table.
@@ -22,11 +23,16 @@ pub struct Named<R> {
     pub row: R,
 }
 
-/// Ends the test with the first row that does not hold, if there is one.
-pub fn check_rows<R: Row>(rt: &HostRuntime, test: &impl Abort, area: &str, rows: &[Named<R>]) {
+/// Goes over the rows of an area.
+pub fn go_over<R: Row>(
+    wrong: &mut WrongRows,
+    rt: &HostRuntime,
+    area: &'static str,
+    rows: &[Named<R>],
+) {
+    let wrong = wrong.of(area);
     for Named { what, row } in rows {
-        let holds = row.holds(rt);
-        assert!(test; holds, "{area}: {what}");
+        wrong.unless(row.holds(rt), what);
     }
 }
 

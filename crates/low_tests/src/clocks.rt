@@ -1,6 +1,6 @@
 //! Readings of the clock, commit wait, the safe time, and ceilings.
 use ceiling::needed;
-use made::stamp;
+use made::{WrongRows, stamp};
 use record::Record;
 use safetime::SafeTime;
 use std::alloc::Global;
@@ -11,10 +11,10 @@ use waiting::pass;
 // A reading, and how a timestamp stands beside it. Commit wait for the timestamp passes once all of the reading is after it.
 struct Beside {
     name: &'static str,
-    earliest: u64,
-    latest: u64,
+    earliest: u32,
+    latest: u32,
     read: bool,
-    at: u64,
+    at: u32,
     after: bool,
     before: bool,
     passed: bool,
@@ -152,7 +152,7 @@ fn is_beside(row: &Beside) -> bool {
 
 struct Ahead {
     name: &'static str,
-    floor: u64,
+    floor: u32,
     to: u64,
     stride: u64,
     ceiling: Option<u64>,
@@ -201,7 +201,10 @@ fn is_needed(row: &Ahead) -> bool {
     let Some(stride) = Stride::new(row.stride) else {
         return false;
     };
-    let needed = needed(stamp(row.floor), stamp(row.to), stride);
+    let Ok(to) = Stamp::new(row.to) else {
+        return false;
+    };
+    let needed = needed(stamp(row.floor), to, stride);
     let right = match &needed {
         Some(Record::Ceiling { at }) => row.ceiling == Some(at.micros()),
         Some(_) => false,
@@ -252,24 +255,14 @@ fn are_lifted(alloc: Global) -> bool {
     two && one && none && still
 }
 
-/// The first row that is wrong.
-pub fn wrong(alloc: Global) -> &'static str {
+/// Goes over all rows.
+pub fn go_over(wrong: &mut WrongRows, alloc: Global) {
     for row in &BESIDE {
-        if !is_beside(row) {
-            return row.name;
-        }
+        wrong.unless(is_beside(row), row.name);
     }
     for row in &AHEAD {
-        if !is_needed(row) {
-            return row.name;
-        }
+        wrong.unless(is_needed(row), row.name);
     }
-    if !is_held_below(alloc) {
-        return "below a promise until it is settled";
-    }
-    if are_lifted(alloc) {
-        ""
-    } else {
-        "one hold is lifted at a time"
-    }
+    wrong.unless(is_held_below(alloc), "below a promise until it is settled");
+    wrong.unless(are_lifted(alloc), "one hold is lifted at a time");
 }

@@ -1,7 +1,7 @@
 //! The lock table with a crowd in it: a thousand waiters behind one holder, and behind a thousand.
 use crate::tokens::{enters, goes_on, leaves, release_all, requests};
 use locks::{Held, Table};
-use made::id;
+use made::{WrongRows, id};
 use std::alloc::Global;
 use units::{Asked, Key, Lock, Mode};
 
@@ -178,15 +178,12 @@ fn is_told(alloc: Global, which: usize) -> bool {
     told && empty
 }
 
-/// The first that is wrong.
-pub fn wrong(alloc: Global) -> &'static str {
+/// Goes over the three.
+pub fn go_over(wrong: &mut WrongRows, alloc: Global) {
     for (which, what) in ["write in turn", "read at once", "go on apart"]
         .into_iter()
         .enumerate()
     {
-        if !is_told(alloc, which) {
-            return what;
-        }
+        wrong.unless(is_told(alloc, which), what);
     }
-    ""
 }

@@ -1,4 +1,5 @@
 //! Documents with settings.
+use made::WrongRows;
 use settings::Settings;
 use std::alloc::Global;
 use units::{Fault, Key, Reason};
@@ -256,42 +257,28 @@ fn refusal(alloc: Global, at: usize, text: &str) -> Option<Fault> {
     refusal
 }
 
-// The first text for a line that is not refused so, or not taken.
-fn wrong_in(
+// Goes over texts for a line, which are refused so, or taken.
+fn go_over_texts(
+    wrong: &mut WrongRows,
     alloc: Global,
     line: usize,
-    texts: &'static [&'static str],
+    texts: &[&str],
     refused: Option<Fault>,
-) -> &'static str {
+) {
     for text in texts {
-        if refusal(alloc, line, *text) != refused {
-            return if text.is_empty() {
-                "a line left out"
-            } else {
-                *text
-            };
-        }
+        let right = refusal(alloc, line, *text) == refused;
+        wrong.unless_at(right, *text, line as u64);
     }
-    ""
 }
 
-/// The first row that is wrong.
-pub fn wrong(alloc: Global) -> &'static str {
+/// Goes over all rows.
+pub fn go_over(wrong: &mut WrongRows, alloc: Global) {
     for row in &TAKEN {
-        if !is_taken(alloc, row) {
-            return row.what;
-        }
+        wrong.unless(is_taken(alloc, row), row.what);
     }
+    let refused = Some(Fault::BadRequest(Reason::Settings));
     for row in &CHANGED {
-        let wrong = wrong_in(alloc, row.line, row.taken, None);
-        if !wrong.is_empty() {
-            return wrong;
-        }
-        let refused = Some(Fault::BadRequest(Reason::Settings));
-        let wrong = wrong_in(alloc, row.line, row.refused, refused);
-        if !wrong.is_empty() {
-            return wrong;
-        }
+        go_over_texts(wrong, alloc, row.line, row.taken, None);
+        go_over_texts(wrong, alloc, row.line, row.refused, refused);
     }
-    ""
 }

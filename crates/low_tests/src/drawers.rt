@@ -1,6 +1,7 @@
 //! Numbers that threads draw.
 ghost use Rattle.std.specs.Prelude.{◌≡◌, All};
 
+use made::WrongRows;
 use std::alloc::Global;
 use std::thread;
 use std::thread::Threads;
@@ -95,12 +96,9 @@ fn is_so<R: Threads + Sync>(rt: &R, alloc: Global, row: &Row) -> bool {
     }
 }
 
-/// The first row that is wrong.
-pub fn wrong<R: Threads + Sync>(rt: &R, alloc: Global) -> &'static str {
+/// Goes over all rows.
+pub fn go_over<R: Threads + Sync>(wrong: &mut WrongRows, rt: &R, alloc: Global) {
     for row in &ROWS {
-        if !is_so(rt, alloc, row) {
-            return row.name;
-        }
+        wrong.unless(is_so(rt, alloc, row), row.name);
     }
-    ""
 }

@@ -1,5 +1,6 @@
 //! Lines of a drive, and its table.
 use crate::checks::is_text;
+use made::WrongRows;
 use progress::{Ended, Progress, Turn};
 use std::alloc::Global;
 
@@ -223,12 +224,9 @@ fn has_its_lines(alloc: Global, row: &Row) -> bool {
     is_text(progress.table(alloc), row.table) && has_line && is_narrow(row.table)
 }
 
-/// The first row that is wrong.
-pub fn wrong(alloc: Global) -> &'static str {
+/// Goes over all rows.
+pub fn go_over(wrong: &mut WrongRows, alloc: Global) {
     for row in &ROWS {
-        if !has_its_lines(alloc, row) {
-            return row.name;
-        }
+        wrong.unless(has_its_lines(alloc, row), row.name);
     }
-    ""
 }

@@ -1,4 +1,5 @@
 //! Rates and percentiles.
+use made::WrongRows;
 use progress::{per_second, percentile};
 
 // So many in some microseconds, and how many a second that is.
@@ -109,17 +110,13 @@ fn ranked(row: &Rank) -> Option<u64> {
     percentile(row.sorted, row.percent)
 }
 
-/// The first row that is wrong.
-pub fn wrong() -> &'static str {
+/// Goes over all rows.
+pub fn go_over(wrong: &mut WrongRows) {
     for row in &RATES {
-        if per_second(row.count, row.micros) != row.want {
-            return row.what;
-        }
+        let right = per_second(row.count, row.micros) == row.want;
+        wrong.unless(right, row.what);
     }
     for row in &RANKS {
-        if ranked(row) != row.want {
-            return row.what;
-        }
+        wrong.unless(ranked(row) == row.want, row.what);
     }
-    ""
 }

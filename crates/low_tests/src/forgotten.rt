@@ -1,7 +1,7 @@
 //! Versions below a horizon, which are forgotten.
 use crate::checks::{Named, Row};
 use crate::versioned::{Lookup, Version, all_found, install_rows};
-use made::stamp;
+use units::Stamp;
 use versions::Versions;
 
 // One key, written twice.
@@ -648,10 +648,14 @@ pub static FORGOTTEN: [Named<Forgotten>; 13] = [
     },
 ];
 
-fn forget_all(versions: &mut Versions, horizons: &[u64]) {
+fn forget_all(versions: &mut Versions, horizons: &[u64]) -> bool {
     for horizon in horizons {
-        versions.forget(stamp(*horizon));
+        let Ok(horizon) = Stamp::new(*horizon) else {
+            return false;
+        };
+        versions.forget(horizon);
     }
+    true
 }
 
 impl Row for Forgotten {
@@ -659,9 +663,9 @@ impl Row for Forgotten {
         let alloc = rt.alloc();
         let mut versions = Versions::none(alloc);
         let installed = install_rows(alloc, &mut versions, self.versions.versions());
-        forget_all(&mut versions, self.horizons);
+        let forgotten = forget_all(&mut versions, self.horizons);
         let more = install_rows(alloc, &mut versions, self.behind.versions());
-        let shown = installed && more && all_found(&versions, self.lookups);
+        let shown = installed && forgotten && more && all_found(&versions, self.lookups);
         drop(versions);
         shown
     }

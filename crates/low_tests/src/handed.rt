@@ -5,11 +5,10 @@ ghost use Rattle.ledger.specs.Ledger.{CanInstall};
 use crate::checks::{Named, Row};
 use crate::lines::{Line, is_spelled, record_of};
 use ledger::{Ledger, Recorder};
-use made::shard;
 use record::Record;
 use spelling::encode;
 use std::alloc::Global;
-use units::Fault;
+use units::{Fault, ShardNo};
 
 // The records that were handed on.
 struct Handed {
@@ -287,7 +286,10 @@ fn hands_on(alloc: Global, ledger: &Ledger, lines: &[Line]) -> bool {
 impl Row for Renewal {
     fn holds(&self, rt: &HostRuntime) -> bool {
         let alloc = rt.alloc();
-        let mut ledger = Ledger::new(alloc, shard(self.shard));
+        let Some(shard) = ShardNo::new(self.shard) else {
+            return false;
+        };
+        let mut ledger = Ledger::new(alloc, shard);
         let holds = all_come(alloc, &mut ledger, self.lines)
             && hands_on(alloc, &ledger, self.handed);
         drop(ledger);

@@ -6,17 +6,17 @@ use counts::Count;
 use made::{key, stamp};
 use std::alloc::Global;
 use std::ops::Range;
-use units::{Key, Stamp};
+use units::Key;
 use versions::Versions;
 
 /// So many versions, one at each timestamp from 1 on, of so many keys in turn that begin alike; a horizon, how many it leaves, and
 /// how many come behind it.
 pub struct Many {
-    versions: u64,
-    keys: u64,
-    horizon: u64,
+    versions: u32,
+    keys: u32,
+    horizon: u32,
     left: usize,
-    behind: u64,
+    behind: u32,
 }
 
 pub static MANY: [Named<Many>; 4] = [
@@ -66,12 +66,12 @@ pub static MANY: [Named<Many>; 4] = [
 ];
 
 // The value that is written at a turn.
-fn value_in(turn: u64) -> Option<u8> {
+fn value_in(turn: u32) -> Option<u8> {
     Some((turn % 251) as u8)
 }
 
 // The key whose turn it is, and what it is given then.
-fn in_turn(turn: u64, keys: u64) -> Plain {
+fn in_turn(turn: u32, keys: u32) -> Plain {
     let last = (turn % keys.clamp(1, 200)) as u8;
     let bytes = [b'a', b'c', b'c', b'o', b'u', b'n', b't', b' ', last];
     match Key::new(&bytes) {
@@ -84,7 +84,7 @@ fn in_turn(turn: u64, keys: u64) -> Plain {
     }
 }
 
-fn install_turns(alloc: Global, versions: &mut Versions, keys: u64, turns: Range<u64>) -> bool {
+fn install_turns(alloc: Global, versions: &mut Versions, keys: u32, turns: Range<u32>) -> bool {
     for turn in turns {
         let Some(true) = install(alloc, versions, &in_turn(turn, keys)) else {
             return false;
@@ -94,7 +94,7 @@ fn install_turns(alloc: Global, versions: &mut Versions, keys: u64, turns: Range
 }
 
 // At each of these timestamps the key whose turn it is has what it is given then, and the next one what it was given last.
-fn show_turns(versions: &Versions, keys: u64, turns: Range<u64>) -> bool {
+fn show_turns(versions: &Versions, keys: u32, turns: Range<u32>) -> bool {
     for turn in turns {
         let at = stamp(turn);
         let next = turn.saturating_add(1);
@@ -110,7 +110,7 @@ fn show_turns(versions: &Versions, keys: u64, turns: Range<u64>) -> bool {
 // How many versions there are.
 fn count_all(versions: &Versions) -> usize {
     versions
-        .find(&key(255), stamp(Stamp::MAX), &mut Count::none())
+        .find(&key(255), stamp(u32::MAX), &mut Count::none())
         .0
 }
 
@@ -169,9 +169,9 @@ pub static DRAWN: [Named<Drawn>; 2] = [
 ];
 
 // A later version of the key is not above the horizon.
-fn has_later(all: &[Plain], one: &Plain, horizon: u64) -> bool {
+fn has_later(all: &[Plain], one: &Plain, horizon: u32) -> bool {
     for other in all {
-        if other.key.is(&one.key) && one.at < other.at && other.at <= horizon {
+        if other.key == one.key && one.at < other.at && other.at <= horizon {
             return true;
         }
     }
@@ -179,7 +179,7 @@ fn has_later(all: &[Plain], one: &Plain, horizon: u64) -> bool {
 }
 
 // The plain list without what goes.
-fn without(alloc: Global, all: &[Plain], horizon: u64) -> Option<Vec<Plain>> {
+fn without(alloc: Global, all: &[Plain], horizon: u32) -> Option<Vec<Plain>> {
     let mut kept = Vec::new(alloc);
     for one in all {
         if !has_later(all, one, horizon) && kept.push(*one).is_err() {
@@ -190,7 +190,7 @@ fn without(alloc: Global, all: &[Plain], horizon: u64) -> Option<Vec<Plain>> {
 }
 
 // Versions and the plain list forget what is below the horizon, and say the same of each version that there was.
-fn forget_both(alloc: Global, versions: &mut Versions, all: &mut Vec<Plain>, horizon: u64) -> bool {
+fn forget_both(alloc: Global, versions: &mut Versions, all: &mut Vec<Plain>, horizon: u32) -> bool {
     let Some(kept) = without(alloc, all, horizon) else {
         return false;
     };
@@ -208,7 +208,7 @@ fn agree(alloc: Global, versions: &mut Versions, all: &mut Vec<Plain>, row: &Dra
     let mut state = u64::from(row.turns);
     for turn in 0..row.turns {
         let new = draw_version(&mut state, &row.letters, turn);
-        let horizon = u64::from(turn) + draw(&mut state, 60);
+        let horizon = turn.saturating_add(draw(&mut state, 60) as u32);
         let agreed = take(alloc, versions, all, &new)
             && (turn % row.apart.max(1) != 0 || forget_both(alloc, versions, all, horizon));
         if !agreed {

@@ -2,10 +2,10 @@
 use crate::checks::{Named, Row};
 use crate::lines::{Line, record_of};
 use facts::{Facts, Status};
-use made::{id, key, shard};
+use made::{id, key};
 use record::{Committed, Prepared};
 use std::alloc::Global;
-use units::{Fault, Install, Stamp};
+use units::{Fault, Install, ShardNo, Stamp};
 
 // Learns a record, where it may come next; where not, it is refused as damage, handed back, and does not follow. Whether it is as
 // wanted.
@@ -585,7 +585,7 @@ fn are_known(facts: &Facts, rows: &[Known]) -> bool {
 fn are_installs(installs: &[Install], rows: &[(u64, u8)]) -> bool {
     for (number, install) in installs.iter().enumerate() {
         match rows.get(number) {
-            Some((at, letter)) if install.at.micros() == *at && install.key.is(&key(*letter)) => {}
+            Some((at, letter)) if install.at.micros() == *at && install.key == key(*letter) => {}
             _ => return false,
         }
     }
@@ -603,14 +603,17 @@ fn is_determined(facts: &Facts, row: &Determined) -> bool {
 impl Row for Case {
     fn holds(&self, rt: &HostRuntime) -> bool {
         let alloc = rt.alloc();
-        let mut facts = Facts::new(alloc, shard(self.shard));
+        let Some(shard) = ShardNo::new(self.shard) else {
+            return false;
+        };
+        let mut facts = Facts::new(alloc, shard);
         let come = all_come(alloc, &mut facts, self.lines, true)
             && all_come(alloc, &mut facts, self.refused, false);
         let determined = match &self.determined {
             Some(determined) => is_determined(&facts, determined),
             None => true,
         };
-        let same = facts.shard().number() == self.shard;
+        let same = facts.shard() == shard;
         drop(facts);
         come && determined && same
     }

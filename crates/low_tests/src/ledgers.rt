@@ -1,12 +1,12 @@
-//! The ledger of a shard, and the ids that ended there.
+//! The ledger of a shard, of which one promise is settled.
 ghost use Rattle.ledger.specs.Ledger.{CanInstall};
 
 use crate::lines::{byte, promise};
-use ledger::{Ended, Ledger};
+use ledger::Ledger;
 use made::{id, key, shard, stamp};
 use record::Record;
 use std::alloc::Global;
-use units::{Epoch, TxnId};
+use units::Epoch;
 
 // Learns a record, where it may come next.
 fn learn(ledger: &mut Ledger, item: Record) -> bool
@@ -77,48 +77,4 @@ pub fn is_installed(alloc: Global) -> bool {
     let installed = prepare(alloc, &mut ledger) && settle(&mut ledger) && is_settled(&ledger);
     drop(ledger);
     installed
-}
-
-// An id by its run and its number: whether it is added, and there then.
-static IDS: [(u64, u64, bool); 13] = [
-    (1, 1, false),
-    (1, 5, true),
-    (1, 2, true),
-    (1, 9, true),
-    (1, 2, true),
-    (1, 7, true),
-    (1, 5, true),
-    (1, 1, true),
-    (1, 0, false),
-    (1, 3, false),
-    (1, 8, false),
-    (1, 10, false),
-    (2, 5, false),
-];
-
-fn are_there(ended: &mut Ended) -> bool {
-    for (run, number, added) in &IDS {
-        let Some(txn) = TxnId::new(*run, *number) else {
-            return false;
-        };
-        if *added {
-            let Ok(()) = ended.reserve(1) else {
-                return false;
-            };
-            ended.add(txn);
-        }
-        if ended.has(txn) != *added {
-            return false;
-        }
-    }
-    true
-}
-
-/// Whether each id stands once among those that were added.
-pub fn are_added_once(alloc: Global) -> bool {
-    let mut ended = Ended::none(alloc);
-    let kept = [id(1), id(2), id(5), id(7), id(9)];
-    let there = are_there(&mut ended) && ended.as_slice() == kept.as_slice();
-    drop(ended);
-    there
 }

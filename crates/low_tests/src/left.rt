@@ -3,24 +3,24 @@ use crate::checks::{Named, Row};
 use crate::files::{put, put_lines};
 use crate::lines::{Line, promise};
 use gatelog::{Entry, GateLog};
-use made::{FIRST_GATE, key, shard};
+use made::{FIRST_GATE, key};
 use memory::State;
 use record::Record;
 use recovery::rebuild;
 use simdisk::SimDisk;
 use std::alloc::Global;
-use units::{Book, Fault, Key, Setup, Splits, Stamp, Stride, TxnId};
+use units::{Book, Fault, Key, Setup, ShardNo, Splits, Stamp, Stride, TxnId};
 
 // A shard of two, which are split at `m`.
 fn setup(alloc: Global, number: u8) -> Option<Setup> {
-    let Some(stride) = Stride::new(0) else {
+    let (Some(shard), Some(stride)) = (ShardNo::new(number), Stride::new(0)) else {
         return None;
     };
     let Ok(splits) = Splits::new(alloc, &[key(b'm')]) else {
         return None;
     };
     Some(Setup {
-        shard: shard(number),
+        shard,
         splits,
         stride,
         book: Book::Off,

@@ -1,6 +1,7 @@
 //! The small types: their limits and orders, and the texts of faults.
 use crate::checks::is_printed;
 use crate::text_logs::{key_of, keys_of, txn_of};
+use made::WrongRows;
 use std::alloc::Global;
 use texts::{Text, number};
 use units::{Epoch, Fault, Key, Reason, Run, ShardNo, Splits, Stamp, Value};
@@ -162,11 +163,10 @@ fn all_are(alloc: Global, made: &Made, numbers: &[u64], answer: Answer) -> bool 
 fn are_ordered(alloc: Global) -> bool {
     let old = txn_of("1.10");
     let young = txn_of("2.9");
-    old.is(old)
-        && !old.is(young)
+    old == txn_of("1.10")
+        && old != young
         && old < young
-        && old.is_older_than(young)
-        && !young.is_older_than(old)
+        && young > old
         && is_printed(alloc, &old, "1.10")
 }
 
@@ -198,9 +198,9 @@ fn go_by_bytes(alloc: Global) -> bool {
     let a = key_of("a");
     let ab = key_of("ab");
     let b = key_of("b");
-    a.is_before(&ab)
-        && ab.is_before(&b)
-        && !b.is_before(&ab)
+    a < ab
+        && ab < b
+        && b > ab
         && shards(alloc, ab, b) == Some([0, 1, 2])
         && shards(alloc, b, ab).is_none()
         && are_listed(alloc, "a,b", "a,b")
@@ -216,26 +216,17 @@ fn is_numbered(row: &Printed) -> bool {
     number(word) == Ok(u64::from(row.fault.number()))
 }
 
-/// The first row that is wrong.
-pub fn wrong(alloc: Global) -> &'static str {
+/// Goes over all rows.
+pub fn go_over(wrong: &mut WrongRows, alloc: Global) {
     for row in &PRINTED {
-        if !is_printed(alloc, &row.fault, row.text) || !is_numbered(row) {
-            return row.text;
-        }
+        let printed = is_printed(alloc, &row.fault, row.text);
+        wrong.unless(printed && is_numbered(row), row.text);
     }
     for row in &LIMITS {
-        if !all_are(alloc, &row.made, row.taken, Answer::Taken)
-            || !all_are(alloc, &row.made, row.refused, row.answer)
-        {
-            return row.what;
-        }
+        let kept = all_are(alloc, &row.made, row.taken, Answer::Taken)
+            && all_are(alloc, &row.made, row.refused, row.answer);
+        wrong.unless(kept, row.what);
     }
-    if !are_ordered(alloc) {
-        return "1.10 and 2.9";
-    }
-    if go_by_bytes(alloc) {
-        ""
-    } else {
-        "a, ab and b"
-    }
+    wrong.unless(are_ordered(alloc), "1.10 and 2.9");
+    wrong.unless(go_by_bytes(alloc), "a, ab and b");
 }

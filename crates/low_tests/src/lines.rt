@@ -1,34 +1,34 @@
 //! Records as plain values.
-use made::{id, key, shard, stamp};
+use made::{id, key, stamp};
 use record::{Committed, Prepared, Record};
 use spelling::encode;
 use std::alloc::Global;
-use units::{Epoch, Install, Key, Keys, Parts, Stamp, Value, Write, Writes};
+use units::{Epoch, Install, Key, Keys, Parts, ShardNo, Stamp, Value, Write, Writes};
 
 /// A record, those of transactions by their numbers in run 1. A promise or a decision reads nothing and writes `1` to a key.
 #[derive(Clone, Copy)]
 pub enum Line {
     Opened(u64),
-    Ceiling(u64),
+    Ceiling(u32),
     /// The number, the timestamp, the letter of the key, and the coordinator.
-    Prepare(u16, u64, u8, u8),
+    Prepare(u16, u32, u8, u8),
     /// The same, with the mask of the parts.
-    Commit(u16, u64, u8, u16),
+    Commit(u16, u32, u8, u16),
     Abort(u16),
     /// The number and the timestamp.
-    Committed(u16, u64),
+    Committed(u16, u32),
     Aborted(u16),
-    Horizon(u64),
+    Horizon(u32),
     /// The epoch, the greatest timestamp and the horizon.
-    Base(u64, u64, u64),
+    Base(u64, u32, u32),
     /// The timestamp and the letter of the key, which holds `1`.
-    Version(u64, u8),
+    Version(u32, u8),
     /// The same, of an erasure.
-    Erased(u64, u8),
+    Erased(u32, u8),
     /// The number, the timestamp and the mask of the parts.
-    Settled(u16, u64, u16),
+    Settled(u16, u32, u16),
     /// The number, the coordinator and the timestamp.
-    Closed(u16, u8, u64),
+    Closed(u16, u8, u32),
     /// The number and the coordinator of what was aborted.
     ClosedAborted(u16, u8),
 }
@@ -51,20 +51,23 @@ fn one_write(alloc: Global, key: Key) -> Option<Writes> {
 }
 
 /// Transaction 1.number promises at a timestamp to write `1` to a key.
-pub fn promise(alloc: Global, number: u16, at: u64, key: Key, coordinator: u8) -> Option<Prepared> {
+pub fn promise(alloc: Global, number: u16, at: u32, key: Key, coordinator: u8) -> Option<Prepared> {
+    let Some(coordinator) = ShardNo::new(coordinator) else {
+        return None;
+    };
     let Some(writes) = one_write(alloc, key) else {
         return None;
     };
     Some(Prepared {
         txn: id(number),
-        coordinator: shard(coordinator),
+        coordinator,
         at: stamp(at),
         reads: Keys::none(alloc),
         writes,
     })
 }
 
-fn decision(alloc: Global, number: u16, at: u64, letter: u8, mask: u16) -> Option<Record> {
+fn decision(alloc: Global, number: u16, at: u32, letter: u8, mask: u16) -> Option<Record> {
     let Some(parts) = Parts::from_mask(mask) else {
         return None;
     };
@@ -111,14 +114,12 @@ pub fn record_of(alloc: Global, line: Line) -> Option<Record> {
         },
         Line::Erased(at, letter) => Some(version(at, letter, None)),
         Line::Settled(number, at, mask) => settled(number, at, mask),
-        Line::Closed(number, coordinator, at) => {
-            Some(closed(number, coordinator, Some(stamp(at))))
-        }
-        Line::ClosedAborted(number, coordinator) => Some(closed(number, coordinator, None)),
+        Line::Closed(number, coordinator, at) => { closed(number, coordinator, Some(stamp(at))) }
+        Line::ClosedAborted(number, coordinator) => closed(number, coordinator, None),
     }
 }
 
-fn base(epoch: u64, floor: u64, horizon: u64) -> Option<Record> {
+fn base(epoch: u64, floor: u32, horizon: u32) -> Option<Record> {
     match Epoch::new(epoch) {
         Some(epoch) => Some(Record::Base {
             epoch,
@@ -129,7 +130,7 @@ fn base(epoch: u64, floor: u64, horizon: u64) -> Option<Record> {
     }
 }
 
-fn version(at: u64, letter: u8, value: Option<Value>) -> Record {
+fn version(at: u32, letter: u8, value: Option<Value>) -> Record {
     Record::Version(Install {
         key: key(letter),
         at: stamp(at),
@@ -137,7 +138,7 @@ fn version(at: u64, letter: u8, value: Option<Value>) -> Record {
     })
 }
 
-fn settled(number: u16, at: u64, mask: u16) -> Option<Record> {
+fn settled(number: u16, at: u32, mask: u16) -> Option<Record> {
     match Parts::from_mask(mask) {
         Some(parts) => Some(Record::Settled {
             txn: id(number),
@@ -148,11 +149,14 @@ fn settled(number: u16, at: u64, mask: u16) -> Option<Record> {
     }
 }
 
-fn closed(number: u16, coordinator: u8, outcome: Option<Stamp>) -> Record {
-    Record::Closed {
-        txn: id(number),
-        coordinator: shard(coordinator),
-        outcome,
+fn closed(number: u16, coordinator: u8, outcome: Option<Stamp>) -> Option<Record> {
+    match ShardNo::new(coordinator) {
+        Some(coordinator) => Some(Record::Closed {
+            txn: id(number),
+            coordinator,
+            outcome,
+        }),
+        None => None,
     }
 }
 

@@ -3,7 +3,7 @@ ghost use Rattle.std.specs.Prelude.{◌≡◌, [], ◌∷◌, IfOk};
 ghost use Rattle.board.specs.declared.entry.BoardEntry.TheVariants.{Horizon, Safe};
 
 use board::{Publisher, Snapshot, Viewer, start};
-use made::{key, stamp};
+use made::{WrongRows, key, stamp};
 use std::alloc::Global;
 use std::sync::Wait;
 use std::thread;
@@ -14,7 +14,7 @@ use units::{Fault, Install, Reason, Seen, Splits, Value};
 // A look for a key of one byte, in a buffer of so many bytes.
 struct Look {
     key: u8,
-    at: u64,
+    at: u32,
     room: usize,
     answer: Result<Seen, Fault>,
 }
@@ -419,15 +419,10 @@ fn is_so<R: Threads + Wait + Sync>(rt: &R, alloc: Global, row: &Board) -> bool {
     }
 }
 
-/// The first row that is wrong.
-pub fn wrong<R: Threads + Wait + Sync>(rt: &R, alloc: Global) -> &'static str {
+/// Goes over all rows.
+pub fn go_over<R: Threads + Wait + Sync>(wrong: &mut WrongRows, rt: &R, alloc: Global) {
     for row in &BOARDS {
-        if !is_so(rt, alloc, row) {
-            return row.name;
-        }
+        wrong.unless(is_so(rt, alloc, row), row.name);
     }
-    if !forgets(rt, alloc) {
-        return "a horizon";
-    }
-    ""
+    wrong.unless(forgets(rt, alloc), "a horizon");
 }

@@ -2,14 +2,14 @@
 use crate::checks::is_printed;
 use crate::text_logs::{keys_of, parts_of, value_of, writes_of};
 use bag::Bag;
-use made::{id, key, shard, stamp};
+use made::{WrongRows, id, key, shard, stamp};
 use message::{
     Address, Answer, Ask, Commit, Done, Envelope, GiveUp, Message, Outcome, Prepare, Read,
     ReadAnswer, Reads, Vote,
 };
 use std::alloc::Global;
 use texts::Text;
-use units::Epoch;
+use units::{Epoch, ShardNo};
 
 // The messages of a session, and then those of a shard.
 enum Sent {
@@ -186,7 +186,8 @@ fn message(alloc: Global, sent: &Sent) -> Message {
 
 fn envelope(alloc: Global, row: &Row) -> Envelope {
     let to = match row.shard {
-        Some(number) => Address::Shard(shard(number)),
+        // No line is to shard 15.
+        Some(number) => Address::Shard(ShardNo::new(number).unwrap_or(shard(15))),
         None => Address::Session(id(2)),
     };
     Envelope {
@@ -210,33 +211,21 @@ fn has(alloc: Global, bag: &Bag, number: u64, line: &str) -> bool {
     }
 }
 
-// The first row that is wrong, in an empty bag. Messages have numbers from 0 on.
-fn wrong_in(alloc: Global, bag: &mut Bag, rows: &[Row]) -> &'static str {
-    for (number, row) in rows.iter().enumerate() {
-        if !is_put(bag, number as u64, envelope(alloc, row)) {
-            return row.line;
-        }
+// Goes over the rows, in an empty bag. Messages have numbers from 0 on.
+fn go_over_in(wrong: &mut WrongRows, alloc: Global, bag: &mut Bag) {
+    for (number, row) in ROWS.iter().enumerate() {
+        wrong.unless(is_put(bag, number as u64, envelope(alloc, row)), row.line);
     }
-    for (number, row) in rows.iter().enumerate() {
-        if !has(alloc, bag, number as u64, row.line) {
-            return row.line;
-        }
+    for (number, row) in ROWS.iter().enumerate() {
+        wrong.unless(has(alloc, bag, number as u64, row.line), row.line);
     }
-    if bag.len() == 16 && bag.nth(16).is_none() {
-        ""
-    } else {
-        "16 messages"
-    }
+    wrong.unless(bag.len() == 16 && bag.nth(16).is_none(), "16 messages");
 }
 
-/// The first row that is wrong.
-pub fn wrong(alloc: Global) -> &'static str {
+/// Goes over all rows.
+pub fn go_over(wrong: &mut WrongRows, alloc: Global) {
     let mut bag = Bag::new(alloc);
-    let wrong = if bag.len() == 0 {
-        wrong_in(alloc, &mut bag, &ROWS)
-    } else {
-        "no message"
-    };
+    wrong.unless(bag.len() == 0, "no message");
+    go_over_in(wrong, alloc, &mut bag);
     drop(bag);
-    wrong
 }

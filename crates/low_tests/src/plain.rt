@@ -2,7 +2,7 @@
 use crate::crowd::account;
 use crate::tokens::{becomes_firm, enters, gives_up, goes_on, leaves, release_all, requests};
 use locks::{Held, Table};
-use made::id;
+use made::{WrongRows, id};
 use std::alloc::Global;
 use units::{Asked, Lock, Mode, TxnId};
 
@@ -304,16 +304,12 @@ fn agrees(table: &mut Table, alloc: Global, tokens: &mut Vec<Held>, turns: u64) 
     true
 }
 
-/// The first that is wrong.
-pub fn wrong(alloc: Global) -> &'static str {
+/// Goes over the drawn requests.
+pub fn go_over(wrong: &mut WrongRows, alloc: Global) {
     let mut table = Table::new(alloc);
     let mut tokens = Vec::new(alloc);
     let told = agrees(&mut table, alloc, &mut tokens, 20_000);
     release_all(&mut table, tokens);
     drop(table);
-    if told {
-        ""
-    } else {
-        "drawn requests for several accounts"
-    }
+    wrong.unless(told, "drawn requests for several accounts");
 }

@@ -1,6 +1,7 @@
 //! Records and lines as they are printed, and lines that are refused.
 use crate::checks::is_printed;
 use crate::text_logs::reads;
+use made::WrongRows;
 use std::alloc::Global;
 use texts::{Text, lines};
 use units::{Fault, Line, Reason};
@@ -113,22 +114,13 @@ fn is_read(alloc: Global, row: &Row) -> bool {
     }
 }
 
-/// The first row that is wrong.
-pub fn wrong(alloc: Global) -> &'static str {
+/// Goes over all rows.
+pub fn go_over(wrong: &mut WrongRows, alloc: Global) {
     let mut log = Vec::new(alloc);
     let printed = reads(alloc, RECORDS, &mut log) && log.len() == 19;
     drop(log);
-    if !printed {
-        return "a record of each kind";
-    }
+    wrong.unless(printed, "a record of each kind");
     for row in &ROWS {
-        if !is_read(alloc, row) {
-            return if row.text.is_empty() {
-                "no line"
-            } else {
-                row.text
-            };
-        }
+        wrong.unless(is_read(alloc, row), row.text);
     }
-    ""
 }

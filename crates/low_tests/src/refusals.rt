@@ -1,5 +1,6 @@
 //! Words that are taken or refused.
 use disk::Fate;
+use made::WrongRows;
 use texts::{fate, key, number, reading, txn};
 
 struct Spelt {
@@ -100,17 +101,13 @@ fn is_spelt(row: &Spelt) -> bool {
     }
 }
 
-/// The first row that is wrong.
-pub fn wrong() -> &'static str {
+/// Goes over all rows.
+pub fn go_over(wrong: &mut WrongRows) {
     for row in &FATES {
-        if !is_spelt(row) {
-            return row.word;
-        }
+        wrong.unless(is_spelt(row), row.word);
     }
     for row in &LIMITS {
-        if !is_taken(&row.kind, row.taken) || is_taken(&row.kind, row.refused) {
-            return row.taken;
-        }
+        let within = is_taken(&row.kind, row.taken) && !is_taken(&row.kind, row.refused);
+        wrong.unless(within, row.taken);
     }
-    ""
 }

@@ -1,4 +1,5 @@
 //! Screens that are told of turns at given moments.
+use made::WrongRows;
 use progress::{Ended, Screen, Turn};
 use std::alloc::Global;
 use std::io;
@@ -136,12 +137,9 @@ fn shows_its_lines(alloc: Global, row: &Row) -> bool {
     same
 }
 
-/// The first row that is wrong.
-pub fn wrong(alloc: Global) -> &'static str {
+/// Goes over all rows.
+pub fn go_over(wrong: &mut WrongRows, alloc: Global) {
     for row in &ROWS {
-        if !shows_its_lines(alloc, row) {
-            return row.name;
-        }
+        wrong.unless(shows_its_lines(alloc, row), row.name);
     }
-    ""
 }

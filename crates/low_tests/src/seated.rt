@@ -4,7 +4,7 @@ use crate::drawn;
 use crate::ids::{admits, ask};
 use crate::text_logs::{keys_of, record_of};
 use gatelog::{GateLog, Logged};
-use made::{id, key, shard, stamp};
+use made::{WrongRows, id, key, shard, stamp};
 use record::Record;
 use rows::{CommitRequest, Gathering, Row, Rows};
 use simdisk::SimDisk;
@@ -21,7 +21,7 @@ enum Step {
     // 1.1 begins to collect votes.
     Collects,
     // A vote of shard 1 comes to 1.1.
-    Votes(u64),
+    Votes(u32),
     // 1.1 has the vote at 108 alone.
     HasOneVote,
     // A record is logged, and 1.1 goes on by it.
@@ -132,14 +132,14 @@ fn spend(rows: &mut Rows, logged: Logged) -> Record {
     let own = id(1);
     match (logged.item(), rows.find(own)) {
         (Record::Prepare(record), Some(Row::Reading(state)))
-            if record.txn.is(own) && state.wait().is_none() => { rows.prepare(own, logged) }
-        (Record::Commit(record), Some(Row::Collecting(_))) if record.txn.is(own) => {
+            if record.txn == own && state.wait().is_none() => { rows.prepare(own, logged) }
+        (Record::Commit(record), Some(Row::Collecting(_))) if record.txn == own => {
             rows.decide(own, logged)
         }
-        (Record::Abort { txn }, Some(Row::Reading(_) | Row::Collecting(_))) if txn.is(own) => {
+        (Record::Abort { txn }, Some(Row::Reading(_) | Row::Collecting(_))) if *txn == own => {
             rows.abort(own, logged)
         }
-        (Record::Outcome { txn, .. }, Some(Row::Prepared(_) | Row::Decided(_))) if txn.is(own) => {
+        (Record::Outcome { txn, .. }, Some(Row::Prepared(_) | Row::Decided(_))) if *txn == own => {
             rows.close(own, logged)
         }
         _ => logged.spend(),
@@ -183,7 +183,7 @@ fn gathering(alloc: Global) -> Result<Gathering, Fault> {
 }
 
 // A vote of shard 1 comes to 1.1, if it collects votes.
-fn votes(rows: &mut Rows, at: u64) -> bool {
+fn votes(rows: &mut Rows, at: u32) -> bool {
     let own = id(1);
     match rows.find(own) {
         Some(Row::Collecting(_)) => {
@@ -279,24 +279,20 @@ fn is_told(log: &mut Log, alloc: Global, steps: &[Step]) -> bool {
     told
 }
 
-// The first story that is wrong, with a log of all records.
-fn wrong_by(log: &mut Log, alloc: Global) -> &'static str {
+// Goes over the stories, with a log of all records.
+fn go_over_with(wrong: &mut WrongRows, log: &mut Log, alloc: Global) {
     for story in &STORIES {
-        if !is_told(log, alloc, story.steps) {
-            return story.name;
-        }
+        wrong.unless(is_told(log, alloc, story.steps), story.name);
     }
-    ""
 }
 
-/// The first row that is wrong.
-pub fn wrong(alloc: Global) -> &'static str {
+/// Goes over all rows.
+pub fn go_over(wrong: &mut WrongRows, alloc: Global) {
     match GateLog::format(SimDisk::new(alloc)) {
         Ok(mut log) => {
-            let wrong = wrong_by(&mut log, alloc);
+            go_over_with(wrong, &mut log, alloc);
             drop(log);
-            wrong
         }
-        Err(_) => "no log",
+        Err(_) => wrong.unless(false, "no log"),
     }
 }

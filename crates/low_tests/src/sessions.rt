@@ -2,7 +2,7 @@
 ghost use Rattle.std.specs.Prelude.{◌≡◌};
 
 use crate::checks::{is_line, is_printed};
-use made::{id, key, shard, stamp};
+use made::{WrongRows, id, key, shard, stamp};
 use message::{Answer, Done, Envelope, Outbox, ReadAnswer};
 use session::{Closed, Closing, Finished, Heard, Ongoing, Open, Tx};
 use std::alloc::Global;
@@ -24,7 +24,7 @@ enum Does {
 enum Then {
     GivesUp,
     Hears,
-    Quits(Option<u64>),
+    Quits(Option<u32>),
 }
 
 struct Story {
@@ -225,7 +225,7 @@ fn gives_up<S: Ongoing>(tx: Tx<'_, S>, alloc: Global, lines: &[&str]) -> bool {
 }
 
 // It says so as it quits and as it asks once more, and takes its end then.
-fn quits(tx: Tx<'_, Closing>, alloc: Global, story: &Story, at: u64) -> bool {
+fn quits(tx: Tx<'_, Closing>, alloc: Global, story: &Story, at: u32) -> bool {
     match tx.quit(alloc) {
         Ok((tx, out)) => {
             let said = says(alloc, out, story.farewells) && says_again(&tx, alloc, story.closing);
@@ -239,7 +239,7 @@ fn quits(tx: Tx<'_, Closing>, alloc: Global, story: &Story, at: u64) -> bool {
 }
 
 // The end of a transaction of this number, at a timestamp, or aborted where that is 0.
-fn end_of(number: u16, at: u64) -> Done {
+fn end_of(number: u16, at: u32) -> Done {
     if at == 0 {
         Done::aborted(id(number))
     } else {
@@ -247,7 +247,7 @@ fn end_of(number: u16, at: u64) -> Done {
     }
 }
 
-fn finished_at(at: u64) -> Finished {
+fn finished_at(at: u32) -> Finished {
     if at == 0 {
         Finished::Aborted
     } else {
@@ -255,7 +255,7 @@ fn finished_at(at: u64) -> Finished {
     }
 }
 
-fn takes_its_end<S: Closed>(tx: Tx<'_, S>, at: u64) -> bool {
+fn takes_its_end<S: Closed>(tx: Tx<'_, S>, at: u32) -> bool {
     let done = end_of(2, at);
     match tx.take(&done) {
         Ok(finished) => finished == finished_at(at),
@@ -266,7 +266,7 @@ fn takes_its_end<S: Closed>(tx: Tx<'_, S>, at: u64) -> bool {
     }
 }
 
-fn takes_no_other<S: Closed>(tx: Tx<'_, S>, at: u64) -> bool {
+fn takes_no_other<S: Closed>(tx: Tx<'_, S>, at: u32) -> bool {
     let done = end_of(3, at);
     match tx.take(&done) {
         Ok(_) => false,
@@ -349,28 +349,21 @@ fn are_drawn(alloc: Global, splits: &Splits) -> bool {
     drawn
 }
 
-// The first row that is wrong.
-fn wrong_by(alloc: Global, splits: &Splits) -> &'static str {
+// Goes over the stories.
+fn go_over_with(wrong: &mut WrongRows, alloc: Global, splits: &Splits) {
     for story in &STORIES {
-        if !is_told(alloc, splits, story) {
-            return story.name;
-        }
+        wrong.unless(is_told(alloc, splits, story), story.name);
     }
-    if are_drawn(alloc, splits) {
-        ""
-    } else {
-        "7.0 and 7.1"
-    }
+    wrong.unless(are_drawn(alloc, splits), "7.0 and 7.1");
 }
 
-/// The first row that is wrong.
-pub fn wrong(alloc: Global) -> &'static str {
+/// Goes over all rows.
+pub fn go_over(wrong: &mut WrongRows, alloc: Global) {
     match Splits::new(alloc, &[key(b'm')]) {
         Ok(splits) => {
-            let wrong = wrong_by(alloc, &splits);
+            go_over_with(wrong, alloc, &splits);
             drop(splits);
-            wrong
         }
-        Err(_) => "no splits",
+        Err(_) => wrong.unless(false, "no splits"),
     }
 }

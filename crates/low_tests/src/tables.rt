@@ -5,7 +5,7 @@ ghost use Rattle.low_tests.specs.Seats.{nth, Sits, AreSeated, KeepsClaims, Keeps
 
 use crate::ids::needs;
 use locks::{Held, Table};
-use made::key;
+use made::{WrongRows, key};
 use std::alloc::Global;
 use units::{Asked, Fault, Mode, TxnId};
 
@@ -340,15 +340,12 @@ fn is_told(table: &mut Table, alloc: Global, steps: &[Step]) -> bool
     told
 }
 
-/// The first row that is wrong.
-pub fn wrong(alloc: Global) -> &'static str {
+/// Goes over all rows.
+pub fn go_over(wrong: &mut WrongRows, alloc: Global) {
     for story in &STORIES {
         let mut table = Table::new(alloc);
         let told = is_told(&mut table, alloc, story.steps);
         drop(table);
-        if !told {
-            return story.name;
-        }
+        wrong.unless(told, story.name);
     }
-    ""
 }

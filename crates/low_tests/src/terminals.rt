@@ -1,4 +1,5 @@
 //! Terminals that threads tell of turns and looks.
+use made::WrongRows;
 use progress::{Ended, NoWatch, Terminal, Turn, Watch};
 use std::alloc::Global;
 use std::sync::Wait;
@@ -46,14 +47,14 @@ fn counts<R: Threads + Wait + time::Clock + Sync>(rt: &R, alloc: Global) -> bool
     counts
 }
 
-/// The first row that is wrong. A watch may be absent.
-pub fn wrong<R: Threads + Wait + time::Clock + Sync>(rt: &R, alloc: Global) -> &'static str {
+/// Goes over the one story. A watch may be absent.
+pub fn go_over<R: Threads + Wait + time::Clock + Sync>(
+    wrong: &mut WrongRows,
+    rt: &R,
+    alloc: Global,
+) {
     let none: Option<NoWatch> = None;
     work(rt, &none);
     work(rt, &Some(NoWatch));
-    if counts(rt, alloc) {
-        ""
-    } else {
-        "twenty turns"
-    }
+    wrong.unless(counts(rt, alloc), "twenty turns");
 }

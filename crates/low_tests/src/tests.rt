@@ -1,95 +1,154 @@
 //! The tests, each of some areas.
-use crate::checks::{check, check_rows};
+use crate::checks::{end, go_over};
 use crate::{
     clocks, crowd, devices, disks, documents, drawers, drive_lines, figures, files, forgotten,
     handed, heads, horizons, known, ledgers, left, limits, looks, messages, migrated, plain,
     records, refusals, renewed, screens, seated, sessions, spellings, tables, terminals, turned,
     verdicts, versioned,
 };
+use made::WrongRows;
 
 #[test]
 fn low_crates(rt: HostRuntime) {
     let alloc = rt.alloc();
-    check(&rt, "limits", limits::wrong(alloc));
-    check(&rt, "words", refusals::wrong());
-    check(&rt, "records", records::wrong(alloc));
-    check(&rt, "messages", messages::wrong(alloc));
-    check(&rt, "settings", documents::wrong(alloc));
-    check(&rt, "verdicts", verdicts::wrong(alloc));
-    check(&rt, "clocks", clocks::wrong(alloc));
-    check(&rt, "the lock table", tables::wrong(alloc));
-    check(&rt, "rows", seated::wrong(alloc));
-    check(&rt, "sessions", sessions::wrong(alloc));
-    check(&rt, "tickets", drawers::wrong(&rt, alloc));
-    check(&rt, "looks", looks::wrong(&rt, alloc));
-    check(&rt, "figures", figures::wrong());
-    check(&rt, "lines", drive_lines::wrong(alloc));
-    check(&rt, "screens", screens::wrong(alloc));
-    check(&rt, "terminals", terminals::wrong(&rt, alloc));
+    let mut wrong = WrongRows::none(alloc);
+    limits::go_over(wrong.of("limits"), alloc);
+    refusals::go_over(wrong.of("words"));
+    records::go_over(wrong.of("records"), alloc);
+    messages::go_over(wrong.of("messages"), alloc);
+    documents::go_over(wrong.of("settings"), alloc);
+    verdicts::go_over(wrong.of("verdicts"), alloc);
+    clocks::go_over(wrong.of("clocks"), alloc);
+    tables::go_over(wrong.of("the lock table"), alloc);
+    seated::go_over(wrong.of("rows"), alloc);
+    sessions::go_over(wrong.of("sessions"), alloc);
+    drawers::go_over(wrong.of("tickets"), &rt, alloc);
+    looks::go_over(wrong.of("looks"), &rt, alloc);
+    figures::go_over(wrong.of("figures"));
+    drive_lines::go_over(wrong.of("lines"), alloc);
+    screens::go_over(wrong.of("screens"), alloc);
+    terminals::go_over(wrong.of("terminals"), &rt, alloc);
+    end(&rt, wrong);
 }
 
 #[test]
 fn crowded_lock_tables(rt: HostRuntime) {
-    check(&rt, "a thousand waiters", crowd::wrong(rt.alloc()));
-    check(&rt, "a plain lock table", plain::wrong(rt.alloc()));
+    let alloc = rt.alloc();
+    let mut wrong = WrongRows::none(alloc);
+    crowd::go_over(wrong.of("a thousand waiters"), alloc);
+    plain::go_over(wrong.of("a plain lock table"), alloc);
+    end(&rt, wrong);
 }
 
 #[test]
 fn disks_and_logs(rt: HostRuntime) {
-    check_rows(&rt, &rt, "failing calls", &devices::FAILING);
-    check_rows(&rt, &rt, "disks in memory", &devices::LIVES);
-    check_rows(&rt, &rt, "disks over files", &disks::ROWS);
-    check_rows(&rt, &rt, "spellings", &spellings::VECTORS);
-    check_rows(&rt, &rt, "bytes that are read", &spellings::READ);
-    check_rows(&rt, &rt, "the log in its file", &files::CASES);
-    check_rows(&rt, &rt, "files that are no logs", &files::REFUSED);
-    check_rows(&rt, &rt, "areas of logs", &files::AREAS);
+    let mut wrong = WrongRows::none(rt.alloc());
+    go_over(&mut wrong, &rt, "failing calls", &devices::FAILING);
+    go_over(&mut wrong, &rt, "disks in memory", &devices::LIVES);
+    go_over(&mut wrong, &rt, "disks over files", &disks::ROWS);
+    go_over(&mut wrong, &rt, "spellings", &spellings::VECTORS);
+    go_over(&mut wrong, &rt, "bytes that are read", &spellings::READ);
+    go_over(&mut wrong, &rt, "the log in its file", &files::CASES);
+    go_over(&mut wrong, &rt, "files that are no logs", &files::REFUSED);
+    go_over(&mut wrong, &rt, "areas of logs", &files::AREAS);
+    end(&rt, wrong);
 }
 
 #[test]
 fn turned_logs(rt: HostRuntime) {
-    check_rows(&rt, &rt, "logs that are turned over", &turned::TURNED);
-    assert!(&rt; turned::ends(&rt), "a log without a slot left");
+    let mut wrong = WrongRows::none(rt.alloc());
+    go_over(
+        &mut wrong,
+        &rt,
+        "logs that are turned over",
+        &turned::TURNED,
+    );
+    wrong.unless(turned::ends(&rt), "a log without a slot left");
+    end(&rt, wrong);
 }
 
 #[test]
 fn migrated_files(rt: HostRuntime) {
-    check_rows(&rt, &rt, "files of version 1", &migrated::MIGRATED);
-    check_rows(&rt, &rt, "migrations that fail", &migrated::FAILING);
+    let mut wrong = WrongRows::none(rt.alloc());
+    go_over(&mut wrong, &rt, "files of version 1", &migrated::MIGRATED);
+    go_over(&mut wrong, &rt, "migrations that fail", &migrated::FAILING);
+    end(&rt, wrong);
 }
 
 #[test]
 fn forgotten_versions(rt: HostRuntime) {
-    check_rows(&rt, &rt, "versions behind a horizon", &forgotten::FORGOTTEN);
-    check_rows(&rt, &rt, "many versions behind a horizon", &horizons::MANY);
-    check_rows(&rt, &rt, "drawn versions behind horizons", &horizons::DRAWN);
+    let mut wrong = WrongRows::none(rt.alloc());
+    go_over(
+        &mut wrong,
+        &rt,
+        "versions behind a horizon",
+        &forgotten::FORGOTTEN,
+    );
+    go_over(
+        &mut wrong,
+        &rt,
+        "many versions behind a horizon",
+        &horizons::MANY,
+    );
+    go_over(
+        &mut wrong,
+        &rt,
+        "drawn versions behind horizons",
+        &horizons::DRAWN,
+    );
+    end(&rt, wrong);
 }
 
 #[test]
 fn renewed_logs(rt: HostRuntime) {
-    check_rows(&rt, &rt, "spellings of heads", &heads::VECTORS);
-    check_rows(&rt, &rt, "bytes of heads", &heads::READ);
-    check_rows(&rt, &rt, "what renewed logs determine", &known::RENEWED);
+    let mut wrong = WrongRows::none(rt.alloc());
+    go_over(&mut wrong, &rt, "spellings of heads", &heads::VECTORS);
+    go_over(&mut wrong, &rt, "bytes of heads", &heads::READ);
+    go_over(
+        &mut wrong,
+        &rt,
+        "what renewed logs determine",
+        &known::RENEWED,
+    );
+    end(&rt, wrong);
 }
 
 #[test]
 fn records_of_renewed_logs(rt: HostRuntime) {
-    check_rows(&rt, &rt, "records that are handed on", &handed::HANDED);
+    let mut wrong = WrongRows::none(rt.alloc());
+    go_over(
+        &mut wrong,
+        &rt,
+        "records that are handed on",
+        &handed::HANDED,
+    );
+    end(&rt, wrong);
 }
 
 #[test]
 fn renewed_logs_that_are_opened(rt: HostRuntime) {
-    check_rows(&rt, &rt, "renewed logs", &renewed::TAKEN);
-    check_rows(&rt, &rt, "bases and versions", &renewed::MISPLACED);
-    check_rows(&rt, &rt, "what ended", &renewed::ENDED);
+    let mut wrong = WrongRows::none(rt.alloc());
+    go_over(&mut wrong, &rt, "renewed logs", &renewed::TAKEN);
+    go_over(&mut wrong, &rt, "bases and versions", &renewed::MISPLACED);
+    go_over(&mut wrong, &rt, "what ended", &renewed::ENDED);
+    end(&rt, wrong);
 }
 
 #[test]
 fn what_is_kept_of_logs(rt: HostRuntime) {
-    check_rows(&rt, &rt, "what logs determine", &known::CASES);
-    check_rows(&rt, &rt, "logs that are opened again", &left::REOPENED);
-    check_rows(&rt, &rt, "versions", &versioned::LOOKED);
-    check_rows(&rt, &rt, "drawn versions", &versioned::DRAWN);
-    assert!(rt; ledgers::is_installed(rt.alloc()), "a promise is installed");
-    assert!(rt; ledgers::are_added_once(rt.alloc()), "ids are added once");
+    let mut wrong = WrongRows::none(rt.alloc());
+    go_over(&mut wrong, &rt, "what logs determine", &known::CASES);
+    go_over(
+        &mut wrong,
+        &rt,
+        "logs that are opened again",
+        &left::REOPENED,
+    );
+    go_over(&mut wrong, &rt, "versions", &versioned::LOOKED);
+    go_over(&mut wrong, &rt, "drawn versions", &versioned::DRAWN);
+    let installed = ledgers::is_installed(rt.alloc());
+    wrong
+        .of("ledgers")
+        .unless(installed, "a promise is installed");
+    end(&rt, wrong);
 }

@@ -1,11 +1,11 @@
 //! Logs that are read from the text of their records. A word that cannot be read stands for something else, so that the
 //! record is not printed as it was written.
 use crate::checks::is_printed;
-use made::{shard, stamp};
+use made::shard;
 use record::{Committed, Prepared, Record};
 use std::alloc::Global;
 use texts::Text;
-use units::{Epoch, Install, Key, Keys, Parts, TxnId, Value, Write, Writes};
+use units::{Epoch, Install, Key, Keys, Parts, Stamp, TxnId, Value, Write, Writes};
 
 /// Adds the records of a text to a log, one a line. Says whether each is printed as its line.
 pub fn reads(alloc: Global, text: &str, log: &mut Vec<Record>) -> bool {
@@ -41,43 +41,47 @@ pub fn record_of(alloc: Global, line: &str) -> Record {
         "opened" => Record::Opened {
             epoch: Epoch::new(first).unwrap_or(Epoch::first()),
         },
-        "ceiling" => Record::Ceiling { at: stamp(first) },
-        "horizon" => Record::Horizon { at: stamp(first) },
+        "ceiling" => Record::Ceiling {
+            at: stamp_of(first),
+        },
+        "horizon" => Record::Horizon {
+            at: stamp_of(first),
+        },
         "prepare" => Record::Prepare(Prepared {
             txn,
             coordinator: shard((second % 16) as u8),
-            at: stamp(third),
+            at: stamp_of(third),
             reads: keys_of(alloc, words[4]),
             writes: writes_of(alloc, words[5]),
         }),
         "commit" => Record::Commit(Committed {
             txn,
-            at: stamp(second),
+            at: stamp_of(second),
             parts: parts_of(words[3]),
             reads: keys_of(alloc, words[4]),
             writes: writes_of(alloc, words[5]),
         }),
         "outcome" if words[2] == "committed" => Record::Outcome {
             txn,
-            outcome: Some(stamp(third)),
+            outcome: Some(stamp_of(third)),
         },
         "outcome" => Record::Outcome { txn, outcome: None },
         "base" => Record::Base {
             epoch: Epoch::new(first).unwrap_or(Epoch::first()),
-            floor: stamp(second),
-            horizon: stamp(third),
+            floor: stamp_of(second),
+            horizon: stamp_of(third),
         },
         "version" => version_of(alloc, first, words[2]),
         "settled" => Record::Settled {
             txn,
-            at: stamp(second),
+            at: stamp_of(second),
             parts: parts_of(words[3]),
         },
         "closed" => Record::Closed {
             txn,
             coordinator: shard((second % 16) as u8),
             outcome: if words[3] == "committed" {
-                Some(stamp(number(words[4])))
+                Some(stamp_of(number(words[4])))
             } else {
                 None
             },
@@ -91,7 +95,7 @@ fn version_of(alloc: Global, at: u64, word: &str) -> Record {
     let write = write_of(alloc, word);
     Record::Version(Install {
         key: write.key,
-        at: stamp(at),
+        at: stamp_of(at),
         value: write.value,
     })
 }
@@ -99,6 +103,10 @@ fn version_of(alloc: Global, at: u64, word: &str) -> Record {
 /// The id of a word.
 pub fn txn_of(word: &str) -> TxnId {
     texts::txn(word).unwrap_or(made::id(0))
+}
+
+fn stamp_of(micros: u64) -> Stamp {
+    Stamp::new(micros).unwrap_or(Stamp::zero())
 }
 
 fn number(word: &str) -> u64 {

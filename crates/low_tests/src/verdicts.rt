@@ -2,6 +2,7 @@
 use crate::checks::is_printed;
 use crate::text_logs::reads;
 use inspector::inspect;
+use made::WrongRows;
 use output::VerdictText;
 use record::Record;
 use std::alloc::Global;
@@ -389,17 +390,12 @@ fn has_its_verdict(alloc: Global, case: &Case) -> bool {
     read && given
 }
 
-/// The first row that is wrong.
-pub fn wrong(alloc: Global) -> &'static str {
+/// Goes over all rows.
+pub fn go_over(wrong: &mut WrongRows, alloc: Global) {
     for case in &CASES {
-        if !has_its_verdict(alloc, case) {
-            return case.name;
-        }
+        wrong.unless(has_its_verdict(alloc, case), case.name);
     }
     for case in &OF_RENEWED {
-        if !has_its_verdict(alloc, case) {
-            return case.name;
-        }
+        wrong.unless(has_its_verdict(alloc, case), case.name);
     }
-    ""
 }

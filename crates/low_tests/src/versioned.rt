@@ -13,7 +13,7 @@ use versions::Versions;
 // A version of a key, by its letter: the timestamp, and a value of one letter or an erasure.
 pub struct Version {
     pub key: u8,
-    pub at: u64,
+    pub at: u32,
     pub value: Option<u8>,
 }
 
@@ -21,7 +21,7 @@ pub struct Version {
 #[derive(Clone, Copy)]
 pub struct Plain {
     pub key: Key,
-    pub at: u64,
+    pub at: u32,
     pub value: Option<u8>,
 }
 
@@ -332,9 +332,12 @@ pub static LOOKED: [Named<Looked>; 5] = [
 pub fn all_found(versions: &Versions, rows: &[Lookup]) -> bool {
     for row in rows {
         let key = key(row.key);
-        let (found, at) = match row.at {
-            Some(at) => (versions.at(&key, stamp(at)), stamp(at)),
-            None => (versions.latest(&key), stamp(Stamp::MAX)),
+        let Ok(at) = Stamp::new(row.at.unwrap_or(Stamp::MAX)) else {
+            return false;
+        };
+        let found = match row.at {
+            Some(_) => versions.at(&key, at),
+            None => versions.latest(&key),
         };
         let (count, probes) = versions.find(&key, at, &mut Count::none());
         let placed = match row.place {
@@ -400,7 +403,7 @@ fn draw_key(state: &mut u64, letters: usize) -> Key {
 pub fn draw_version(state: &mut u64, letters: &[usize; 5], turn: u32) -> Plain {
     let chosen = draw(state, 5) as usize;
     let key = draw_key(state, letters[chosen]);
-    let at = u64::from(turn) + draw(state, 60);
+    let at = turn.saturating_add(draw(state, 60) as u32);
     let value = match draw(state, 5) {
         0 => None,
         drawn => Some(drawn as u8),
@@ -418,7 +421,7 @@ struct Listed {
     is_above: bool,
 }
 
-fn told(all: &[Plain], key: &Key, at: u64) -> Listed {
+fn told(all: &[Plain], key: &Key, at: u32) -> Listed {
     let mut listed = Listed {
         count: 0,
         value: None,
@@ -426,7 +429,7 @@ fn told(all: &[Plain], key: &Key, at: u64) -> Listed {
         is_above: true,
     };
     for one in all {
-        match one.key.compare(key) {
+        match one.key.cmp(key) {
             Ordering::Less => listed.count = listed.count.saturating_add(1),
             Ordering::Greater => {}
             Ordering::Equal => {

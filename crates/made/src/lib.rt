@@ -3,8 +3,11 @@
 
 ghost use Rattle.std.specs.Prelude.{◌≡◌, ◌<◌, ◌^◌};
 
+mod wrong_rows;
+
 use std::alloc::{AllocError, Global};
 use units::{Key, ShardNo, Stamp, TxnId};
+pub use wrong_rows::WrongRows;
 
 /// How many bytes the slots take in the file of a log.
 pub const SLOTS: u64 = 9_216;
@@ -58,19 +61,21 @@ pub fn id(number: u16) -> TxnId {
     }
 }
 
-/// A timestamp, or 0 where that is none.
-pub fn stamp(micros: u64) -> Stamp
-    ensures { micros < 2 ^ 62 → result ≡ micros }
+/// A timestamp of 32 bits, each of which is one.
+pub fn stamp(micros: u32) -> Stamp
+    ensures { result ≡ micros }
 {
-    match Stamp::new(micros) {
+    match Stamp::new(u64::from(micros)) {
         Ok(at) => at,
-        Err(_) => Stamp::zero(),
+        Err(_) => unreachable!(),
     }
 }
 
-/// A shard by its number modulo 16.
-pub fn shard(number: u8) -> ShardNo {
-    match ShardNo::new(number % 16) {
+/// A shard by its number.
+pub fn shard(number: u8) -> ShardNo
+    requires { number < 16 }
+{
+    match ShardNo::new(number) {
         Some(shard) => shard,
         None => unreachable!(),
     }

@@ -351,6 +351,9 @@ fn tell_others(
         (other_parts told.now.from parts)) }
     ensures memory { IfErr result (λ fault. fault ≡ Fault.Memory) }
 {
+    if !parts.has_others(told.from) {
+        return Ok(());
+    }
     let others = other_parts(alloc, told.from, parts)?;
     for other in others.as_slice() {
         out.push(outcome_to(told, *other))?;

@@ -1,5 +1,6 @@
 //! Commands that ask the system for files.
 use crate::given::{AMPLE, Asked, File, comes_to};
+use made::WrongRows;
 use std::alloc::Global;
 
 pub static FILES: [File<'static>; 24] = [
@@ -121,7 +122,7 @@ pub static FILES: [File<'static>; 24] = [
 ];
 
 // Commands that make, judge or drive logs.
-static ASKED: [Asked; 38] = [
+pub static ASKED: [Asked; 38] = [
     Asked {
         text: "format new.log",
         words: &["format", "new.log"],
@@ -430,7 +431,7 @@ static ASKED: [Asked; 38] = [
 ];
 
 // What logs hold, as lines.
-static DUMPED: [Asked; 13] = [
+pub static DUMPED: [Asked; 13] = [
     Asked {
         text: "dump done.log",
         words: &["dump", "done.log"],
@@ -525,7 +526,7 @@ static DUMPED: [Asked; 13] = [
 ];
 
 // And in numbers.
-static COUNTED: [Asked; 7] = [
+pub static COUNTED: [Asked; 7] = [
     Asked {
         text: "stats done.log",
         words: &["stats", "done.log"],
@@ -675,27 +676,9 @@ in doubt 0
     },
 ];
 
-// The first row that does not come to what it says.
-fn wrong_of(alloc: Global, rows: &[Asked]) -> &'static str {
+/// Goes over commands over these files.
+pub fn go_over(wrong: &mut WrongRows, alloc: Global, rows: &[Asked]) {
     for row in rows {
-        if !comes_to(alloc, &FILES, row, AMPLE) {
-            return row.text;
-        }
+        wrong.unless(comes_to(alloc, &FILES, row, AMPLE), row.text);
     }
-    ""
-}
-
-/// The first command that makes, judges or drives logs, and does not come to what its row says.
-pub fn wrong(alloc: Global) -> &'static str {
-    wrong_of(alloc, &ASKED)
-}
-
-/// The first dump that does not come to what its row says.
-pub fn wrong_dump(alloc: Global) -> &'static str {
-    wrong_of(alloc, &DUMPED)
-}
-
-/// The first command of numbers that does not come to what its row says.
-pub fn wrong_count(alloc: Global) -> &'static str {
-    wrong_of(alloc, &COUNTED)
 }

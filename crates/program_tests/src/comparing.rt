@@ -1,5 +1,6 @@
 //! Schedules are played by the program, and what their reports say is compared.
 use crate::given::{AMPLE, File, PLAY, print};
+use made::WrongRows;
 use std::alloc::Global;
 
 // A schedule and what its report says, without the events that were only done: first the other events, and then the messages,
@@ -42,12 +43,10 @@ pub fn reports(alloc: Global, schedule: &str, wanted: &str) -> bool {
     right
 }
 
-/// The first schedule that does not come to what is wanted.
-pub fn wrong(alloc: Global, cases: &[Case]) -> &'static str {
+/// Goes over schedules, which come to what is wanted.
+pub fn go_over(wrong: &mut WrongRows, alloc: Global, cases: &[Case]) {
     for case in cases {
-        if !reports(alloc, case.schedule, case.report) {
-            return case.name;
-        }
+        let right = reports(alloc, case.schedule, case.report);
+        wrong.unless(right, case.name);
     }
-    ""
 }

@@ -2,6 +2,7 @@
 //! Then the shard is opened, each message comes once more, the transaction is settled, and each message comes again. In the end it is
 //! committed on all three, at one timestamp. So it is too where each shard's log was turned over behind the decision.
 use crate::given::{AMPLE, File, PLAY, print};
+use made::WrongRows;
 use std::alloc::{AllocError, Global};
 
 const BEGUN: &str = "shards 3
@@ -288,34 +289,28 @@ fn is_so(alloc: Global, stop: &Stop, kind: &Kind, call: u64, turned: bool) -> bo
     is_committed(alloc, &played(alloc, text.as_str()), at)
 }
 
-// A stop in each call comes to what the row says.
-fn are_so(alloc: Global, stop: &Stop, turned: bool) -> bool {
-    for kind in &KINDS {
+// A stop in each call comes to what the row says. Its place is told by the kind of the stop, and the call.
+fn go_over_calls(wrong: &mut WrongRows, alloc: Global, stop: &Stop, turned: bool) {
+    for (number, kind) in KINDS.iter().enumerate() {
         for call in 0..4 {
-            if !is_so(alloc, stop, kind, call, turned) {
-                return false;
-            }
+            let place = (number as u64).saturating_mul(10).saturating_add(call);
+            wrong.unless_at(is_so(alloc, stop, kind, call, turned), stop.name, place);
         }
     }
-    true
 }
 
-/// The first row that is wrong.
-pub fn wrong(alloc: Global) -> &'static str {
+/// Goes over all rows.
+pub fn go_over(wrong: &mut WrongRows, alloc: Global) {
     for stop in &STOPS {
-        if !are_so(alloc, stop, false) {
-            return stop.name;
-        }
+        go_over_calls(wrong, alloc, stop, false);
     }
-    ""
 }
 
-/// The first row behind the decision that is wrong where each shard's log was turned over behind it.
-pub fn wrong_turned(alloc: Global) -> &'static str {
+/// Goes over the rows behind the decision, where each shard's log was turned over behind it.
+pub fn go_over_turned(wrong: &mut WrongRows, alloc: Global) {
     for stop in &STOPS {
-        if stop.place > DECISION && !are_so(alloc, stop, true) {
-            return stop.name;
+        if stop.place > DECISION {
+            go_over_calls(wrong, alloc, stop, true);
         }
     }
-    ""
 }

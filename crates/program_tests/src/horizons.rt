@@ -1,5 +1,6 @@
 //! A shard forgets what is below a horizon: nothing above what it serves, and what is forgotten stays so, also behind an opening.
 use crate::comparing::{Case, reports};
+use made::WrongRows;
 use std::alloc::Global;
 
 pub static HORIZONS: [Case; 3] = [
@@ -299,14 +300,11 @@ stride 0
     }
 }
 
-/// The first row that is wrong.
-pub fn wrong(alloc: Global) -> &'static str {
+/// Goes over all rows.
+pub fn go_over(wrong: &mut WrongRows, alloc: Global) {
     for row in &STOPS {
         for call in 0..4 {
-            if !is_so(alloc, row, call) {
-                return row.stop;
-            }
+            wrong.unless_at(is_so(alloc, row, call), row.stop, call);
         }
     }
-    ""
 }

@@ -16,6 +16,8 @@ mod given;
 #[cfg(test)]
 mod horizons;
 #[cfg(test)]
+mod of_compactions;
+#[cfg(test)]
 mod of_keys;
 #[cfg(test)]
 mod of_logs;
@@ -41,5 +43,3 @@ mod tests;
 mod turnovers;
 #[cfg(test)]
 mod unlawful;
-#[cfg(test)]
-mod whole_schedules;

@@ -1,6 +1,6 @@
 //! What the logs in some files hold, as numbers.
 use crate::given::{File, stats};
-use made::FIRST_GATE;
+use made::{FIRST_GATE, WrongRows};
 use std::alloc::Global;
 use units::Fault;
 
@@ -217,12 +217,9 @@ fn holds(alloc: Global, row: &Row) -> bool {
     }
 }
 
-/// The first row that is wrong.
-pub fn wrong(alloc: Global) -> &'static str {
+/// Goes over all rows.
+pub fn go_over(wrong: &mut WrongRows, alloc: Global) {
     for row in &ROWS {
-        if !holds(alloc, row) {
-            return row.name;
-        }
+        wrong.unless(holds(alloc, row), row.name);
     }
-    ""
 }

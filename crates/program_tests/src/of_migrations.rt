@@ -1,6 +1,7 @@
 //! Commands that migrate a log of version 1.
 use crate::asked;
 use crate::given::{AMPLE, Asked, comes_to};
+use made::WrongRows;
 use std::alloc::Global;
 
 static ASKED: [Asked; 12] = [
@@ -90,12 +91,9 @@ static ASKED: [Asked; 12] = [
     },
 ];
 
-/// The first row that is wrong.
-pub fn wrong(alloc: Global) -> &'static str {
+/// Goes over all rows.
+pub fn go_over(wrong: &mut WrongRows, alloc: Global) {
     for row in &ASKED {
-        if !comes_to(alloc, &asked::FILES, row, AMPLE) {
-            return row.text;
-        }
+        wrong.unless(comes_to(alloc, &asked::FILES, row, AMPLE), row.text);
     }
-    ""
 }

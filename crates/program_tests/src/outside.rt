@@ -1,6 +1,6 @@
 //! What befalls the core of a shard from outside a run shows in the run: the cores that it plays lie open here.
 use lives::{Life, Run};
-use made::stamp;
+use made::{WrongRows, stamp};
 use message::Input;
 use script::schedule;
 use std::alloc::Global;
@@ -134,12 +134,9 @@ fn is_so(alloc: Global, outside: &Outside) -> bool {
     so
 }
 
-/// The first row that is wrong.
-pub fn wrong(alloc: Global) -> &'static str {
+/// Goes over all rows.
+pub fn go_over(wrong: &mut WrongRows, alloc: Global) {
     for outside in &OUTSIDE {
-        if !is_so(alloc, outside) {
-            return outside.name;
-        }
+        wrong.unless(is_so(alloc, outside), outside.name);
     }
-    ""
 }

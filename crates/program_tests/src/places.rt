@@ -2,7 +2,7 @@
 use crate::given::{File, Memory};
 use crate::{asked, of_keys};
 use cli::place_of;
-use made::FIRST_GATE;
+use made::{FIRST_GATE, WrongRows};
 use std::alloc::Global;
 use units::{Fault, Reason};
 
@@ -42,7 +42,7 @@ static FILES: [File<'static>; 6] = [
     },
 ];
 
-static OF_FILES: [Row; 14] = [
+static OF_FILES: [Row; 17] = [
     Row {
         name: "play, not there",
         words: &["play", "missing"],
@@ -106,6 +106,24 @@ static OF_FILES: [Row; 14] = [
     Row {
         name: "migrate, the new one is there",
         words: &["migrate", "old_version.log", "opened.log"],
+        fault: Fault::Device,
+        place: "--> opened.log",
+    },
+    Row {
+        name: "compact, the old one is cut",
+        words: &["compact", "cut.log", "new.log"],
+        fault: Fault::Damaged { offset: FIRST_GATE },
+        place: "--> cut.log",
+    },
+    Row {
+        name: "compact, the old one is not there",
+        words: &["compact", "missing", "opened.log"],
+        fault: Fault::Device,
+        place: "--> missing",
+    },
+    Row {
+        name: "compact, the new one is there",
+        words: &["compact", "done.log", "opened.log"],
         fault: Fault::Device,
         place: "--> opened.log",
     },
@@ -239,20 +257,15 @@ fn lies(alloc: Global, files: &[File<'_>], row: &Row) -> bool {
     }
 }
 
-fn first_wrong(alloc: Global, files: &[File<'_>], rows: &[Row]) -> &'static str {
+fn go_over_rows(wrong: &mut WrongRows, alloc: Global, files: &[File<'_>], rows: &[Row]) {
     for row in rows {
-        if !lies(alloc, files, row) {
-            return row.name;
-        }
+        wrong.unless(lies(alloc, files, row), row.name);
     }
-    ""
 }
 
-/// The first of some files, of stores and of drives that is wrong.
-pub fn wrong(alloc: Global) -> [&'static str; 3] {
-    [
-        first_wrong(alloc, &asked::FILES, &OF_FILES),
-        first_wrong(alloc, &of_keys::FILES, &OF_STORES),
-        first_wrong(alloc, &FILES, &OF_DRIVES),
-    ]
+/// Goes over the rows of some files, of stores and of drives.
+pub fn go_over(wrong: &mut WrongRows, alloc: Global) {
+    go_over_rows(wrong, alloc, &asked::FILES, &OF_FILES);
+    go_over_rows(wrong, alloc, &of_keys::FILES, &OF_STORES);
+    go_over_rows(wrong, alloc, &FILES, &OF_DRIVES);
 }

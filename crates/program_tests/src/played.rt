@@ -1,20 +1,19 @@
 //! What `play` prints of a file.
 use crate::given::{AMPLE, Asked, File, PLAY, comes_to};
+use made::WrongRows;
 use std::alloc::Global;
 
-// The bytes of a file, what is printed to both outputs, and the status.
+// A schedule, what is printed to both outputs, and the status.
 struct Played {
     name: &'static str,
-    bytes: &'static [u8],
+    schedule: &'static str,
     printed: &'static str,
     refused: &'static str,
     status: u8,
 }
 
-static PLAYED: [Played; 19] = [
-    Played {
-        name: "a commit at one shard",
-        bytes: b"shards 2
+/// One write at one shard. The first settling comes too early.
+pub const ONE_SHARD: &str = "shards 2
 split m
 stride 0
 100 begin 1.1
@@ -23,7 +22,29 @@ stride 0
 105 deliver 0 100 110
 112 settle 0 1.1 105 112
 115 settle 0 1.1 112 121
-",
+";
+
+/// A write at each of two shards. The number of the outcome's message is 4.
+pub const TWO_SHARDS: &str = "shards 2
+split m
+stride 0
+100 begin 1.2
+100 write 1.2 a 1
+100 write 1.2 z 2
+100 close 1.2
+105 deliver 0 100 110
+205 deliver 1 200 210
+206 deliver 2 200 210
+215 settle 0 1.2 201 230
+216 deliver 4 210 220
+217 look 1 z 200
+";
+
+static PLAYED: [Played; 18] = [
+    // The timestamp is above the latest end of the reading.
+    Played {
+        name: "a commit at one shard",
+        schedule: ONE_SHARD,
         printed: "event 0 ok
 event 1 ok
 event 2 ok
@@ -46,22 +67,10 @@ verdict yes
         refused: "",
         status: 0,
     },
+    // The timestamp is that of the vote.
     Played {
         name: "a commit at two shards",
-        bytes: b"shards 2
-split m
-stride 0
-100 begin 1.2
-100 write 1.2 a 1
-100 write 1.2 z 2
-100 close 1.2
-105 deliver 0 100 110
-205 deliver 1 200 210
-206 deliver 2 200 210
-215 settle 0 1.2 201 230
-216 deliver 4 210 220
-217 look 1 z 200
-",
+        schedule: TWO_SHARDS,
         printed: "event 0 ok
 event 1 ok
 event 2 ok
@@ -96,7 +105,7 @@ verdict yes
     },
     Played {
         name: "each kind of event of sessions, and of shards that stay up",
-        bytes: b"shards 2
+        schedule: "shards 2
 split m
 stride 50
 100 begin 1.1
@@ -204,7 +213,7 @@ verdict yes
     },
     Played {
         name: "a horizon",
-        bytes: b"shards 1
+        schedule: "shards 1
 stride 0
 100 advance 0 100 100 110
 101 forget 0 101 100 110
@@ -237,77 +246,70 @@ verdict yes
     },
     Played {
         name: "a horizon with a reading without the true time",
-        bytes: b"shards 1\nstride 0\n100 advance 0 100 100 110\n100 forget 0 50 101 110\n",
+        schedule: "shards 1\nstride 0\n100 advance 0 100 100 110\n100 forget 0 50 101 110\n",
         printed: "",
         refused: "fault: 7 BadRequest(unlawful 1)\n",
         status: 2,
     },
     Played {
         name: "no events",
-        bytes: b"shards 1\nstride 0\n",
+        schedule: "shards 1\nstride 0\n",
         printed: "log 0\nopened 1\nlines\nverdict yes\n",
         refused: "",
         status: 0,
     },
     Played {
         name: "an empty file",
-        bytes: b"",
-        printed: "",
-        refused: "fault: 7 BadRequest(syntax 1)\n",
-        status: 2,
-    },
-    Played {
-        name: "bytes that are no text",
-        bytes: b"shards 1\nstride 0\n100 begin \xff\n",
+        schedule: "",
         printed: "",
         refused: "fault: 7 BadRequest(syntax 1)\n",
         status: 2,
     },
     Played {
         name: "a number with a leading zero",
-        bytes: b"shards 1\nstride 0\n100 begin 1.1\n0100 begin 1.2\n",
+        schedule: "shards 1\nstride 0\n100 begin 1.1\n0100 begin 1.2\n",
         printed: "",
         refused: "fault: 7 BadRequest(syntax 4)\n",
         status: 2,
     },
     Played {
         name: "a reading with its ends exchanged",
-        bytes: b"shards 1\nstride 0\n100 resume 0 110 100\n",
+        schedule: "shards 1\nstride 0\n100 resume 0 110 100\n",
         printed: "",
         refused: "fault: 7 BadRequest(syntax 3)\n",
         status: 2,
     },
     Played {
         name: "splits that do not ascend",
-        bytes: b"shards 3\nsplit m\nsplit m\nstride 0\n",
+        schedule: "shards 3\nsplit m\nsplit m\nstride 0\n",
         printed: "",
         refused: "fault: 7 BadRequest(splits)\n",
         status: 2,
     },
     Played {
         name: "an id that is begun twice",
-        bytes: b"shards 1\nstride 0\n100 begin 1.1\n100 begin 1.1\n",
+        schedule: "shards 1\nstride 0\n100 begin 1.1\n100 begin 1.1\n",
         printed: "",
         refused: "fault: 7 BadRequest(unlawful 1)\n",
         status: 2,
     },
     Played {
         name: "time that falls",
-        bytes: b"shards 1\nstride 0\n100 begin 1.1\n100 begin 1.2\n99 begin 1.3\n",
+        schedule: "shards 1\nstride 0\n100 begin 1.1\n100 begin 1.2\n99 begin 1.3\n",
         printed: "",
         refused: "fault: 7 BadRequest(unlawful 2)\n",
         status: 2,
     },
     Played {
         name: "a reading without the true time",
-        bytes: b"shards 1\nstride 0\n100 resume 0 101 110\n",
+        schedule: "shards 1\nstride 0\n100 resume 0 101 110\n",
         printed: "",
         refused: "fault: 7 BadRequest(unlawful 0)\n",
         status: 2,
     },
     Played {
         name: "a crash and an opening",
-        bytes: b"shards 1\nstride 0\n100 begin 1.1\n101 crash 0\n102 open 0\n",
+        schedule: "shards 1\nstride 0\n100 begin 1.1\n101 crash 0\n102 open 0\n",
         printed: "event 0 ok
 event 1 crashed
 event 2 ok
@@ -323,21 +325,21 @@ verdict yes
     },
     Played {
         name: "an opening of a shard that is up",
-        bytes: b"shards 1\nstride 0\n100 begin 1.1\n101 open 0\n",
+        schedule: "shards 1\nstride 0\n100 begin 1.1\n101 open 0\n",
         printed: "",
         refused: "fault: 7 BadRequest(unlawful 1)\n",
         status: 2,
     },
     Played {
         name: "a crash of one shard in an event of another",
-        bytes: b"shards 2\nsplit m\nstride 0\n100 begin 1.1\n101 crash 0 0 old resume 1 90 110\n",
+        schedule: "shards 2\nsplit m\nstride 0\n100 begin 1.1\n101 crash 0 0 old resume 1 90 110\n",
         printed: "",
         refused: "fault: 7 BadRequest(unlawful 1)\n",
         status: 2,
     },
     Played {
         name: "each kind of event, with crashes and failing calls",
-        bytes: b"shards 2
+        schedule: "shards 2
 split m
 stride 0
 100 begin 1.1
@@ -487,30 +489,44 @@ verdict yes
     },
     Played {
         name: "an event that may not happen, before a crash",
-        bytes: b"shards 1\nstride 0\n100 begin 1.1\n100 begin 1.1\n101 crash 0 2 fF open 0\n",
+        schedule: "shards 1\nstride 0\n100 begin 1.1\n100 begin 1.1\n101 crash 0 2 fF open 0\n",
         printed: "",
         refused: "fault: 7 BadRequest(unlawful 1)\n",
         status: 2,
     },
 ];
 
-/// The first row that is wrong. Each of them is a file that is played.
-pub fn wrong(alloc: Global) -> &'static str {
+// What is said of bytes that are no schedule.
+static NO_TEXT: Played = Played {
+    name: "bytes that are no text",
+    schedule: "",
+    printed: "",
+    refused: "fault: 7 BadRequest(syntax 1)\n",
+    status: 2,
+};
+
+// Whether a file of these bytes is played as the row says.
+fn is_played(alloc: Global, bytes: &[u8], row: &Played) -> bool {
+    let file = File {
+        path: "a.schedule",
+        bytes,
+    };
+    let asked = Asked {
+        text: row.name,
+        words: PLAY,
+        printed: row.printed,
+        refused: row.refused,
+        status: row.status,
+    };
+    comes_to(alloc, &[file], &asked, AMPLE)
+}
+
+/// Goes over all rows. Each of them is a file that is played.
+pub fn go_over(wrong: &mut WrongRows, alloc: Global) {
     for row in &PLAYED {
-        let file = File {
-            path: "a.schedule",
-            bytes: row.bytes,
-        };
-        let asked = Asked {
-            text: row.name,
-            words: PLAY,
-            printed: row.printed,
-            refused: row.refused,
-            status: row.status,
-        };
-        if !comes_to(alloc, &[file], &asked, AMPLE) {
-            return row.name;
-        }
+        let right = is_played(alloc, row.schedule.as_bytes(), row);
+        wrong.unless(right, row.name);
     }
-    ""
+    let right = is_played(alloc, b"shards 1\nstride 0\n100 begin \xff\n", &NO_TEXT);
+    wrong.unless(right, NO_TEXT.name);
 }

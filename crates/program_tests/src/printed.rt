@@ -2,6 +2,7 @@
 use crate::given::{AMPLE, Asked, Writes, comes_to};
 use crate::{of_keys, of_renewed};
 use cli::{Command, command};
+use made::WrongRows;
 use std::alloc::Global;
 use units::{Fault, Reason};
 
@@ -176,44 +177,34 @@ static FAILING: [Failing; 4] = [
     },
 ];
 
-/// The first command that does not come to what its row says.
-pub fn wrong_answer(alloc: Global) -> &'static str {
+/// Goes over commands without files.
+pub fn go_over(wrong: &mut WrongRows, alloc: Global) {
     for row in &PRINTED {
-        if !comes_to(alloc, &[], row, AMPLE) {
-            return row.text;
-        }
+        wrong.unless(comes_to(alloc, &[], row, AMPLE), row.text);
     }
     for row in &ASKING_HELP {
-        if !comes_to(alloc, &[], row, BEGINNING) {
-            return row.text;
-        }
+        wrong.unless(comes_to(alloc, &[], row, BEGINNING), row.text);
     }
     for row in &FAILING {
-        if !comes_to(alloc, &[], &row.asked, row.writes) {
-            return row.asked.text;
-        }
+        let printed = comes_to(alloc, &[], &row.asked, row.writes);
+        wrong.unless(printed, row.asked.text);
     }
-    ""
 }
 
-/// The first command over the logs of keys that does not come to what its row says.
-pub fn wrong_of_keys(alloc: Global) -> &'static str {
+/// Goes over commands over the logs of keys.
+pub fn go_over_keys(wrong: &mut WrongRows, alloc: Global) {
     for row in &of_keys::ASKED {
-        if !comes_to(alloc, &of_keys::FILES, row, AMPLE) {
-            return row.text;
-        }
+        let printed = comes_to(alloc, &of_keys::FILES, row, AMPLE);
+        wrong.unless(printed, row.text);
     }
-    ""
 }
 
-/// The first command over renewed logs that does not come to what its row says.
-pub fn wrong_of_renewed(alloc: Global) -> &'static str {
+/// Goes over commands over renewed logs.
+pub fn go_over_renewed(wrong: &mut WrongRows, alloc: Global) {
     for row in &of_renewed::ASKED {
-        if !comes_to(alloc, &of_renewed::FILES, row, AMPLE) {
-            return row.text;
-        }
+        let printed = comes_to(alloc, &of_renewed::FILES, row, AMPLE);
+        wrong.unless(printed, row.text);
     }
-    ""
 }
 
 // Words, and whether they are the command once, or else none.
@@ -316,12 +307,9 @@ fn are_taken(alloc: Global, row: &Words) -> bool {
     }
 }
 
-/// The first words that are not taken as they should.
-pub fn wrong_words(alloc: Global) -> &'static str {
+/// Goes over words that are a command, or none.
+pub fn go_over_words(wrong: &mut WrongRows, alloc: Global) {
     for row in &WORDS {
-        if !are_taken(alloc, row) {
-            return row.text;
-        }
+        wrong.unless(are_taken(alloc, row), row.text);
     }
-    ""
 }

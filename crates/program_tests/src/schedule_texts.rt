@@ -1,4 +1,5 @@
 //! Schedules that are read, and lines that are refused.
+use made::WrongRows;
 use script::schedule;
 use std::alloc::Global;
 use units::{Fault, Reason};
@@ -209,16 +210,9 @@ fn is_read(alloc: Global, row: &Row) -> bool {
     }
 }
 
-/// The first row that is wrong.
-pub fn wrong(alloc: Global) -> &'static str {
+/// Goes over all rows.
+pub fn go_over(wrong: &mut WrongRows, alloc: Global) {
     for row in &ROWS {
-        if !is_read(alloc, row) {
-            return if row.text.is_empty() {
-                "an empty text"
-            } else {
-                row.text
-            };
-        }
+        wrong.unless(is_read(alloc, row), row.text);
     }
-    ""
 }

@@ -1,6 +1,7 @@
 //! A stop at each device call: the call fails, or the shard crashes in it. The first call writes a record behind the gate, the
 //! second makes that durable, the third opens the gate, and the fourth makes that durable.
 use crate::comparing::{Case, reports};
+use made::WrongRows;
 use std::alloc::Global;
 
 // A call of the first Commit fails. What comes next, at 108, comes to a shard that its device stopped: a look is answered, and
@@ -355,14 +356,11 @@ stride 0
     right
 }
 
-/// The first row that is wrong.
-pub fn wrong(alloc: Global) -> &'static str {
+/// Goes over all rows.
+pub fn go_over(wrong: &mut WrongRows, alloc: Global) {
     for row in &CRASHED {
         for call in 0..5 {
-            if !is_kept(alloc, row, call) {
-                return row.fate;
-            }
+            wrong.unless_at(is_kept(alloc, row, call), row.fate, call);
         }
     }
-    ""
 }

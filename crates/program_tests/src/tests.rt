@@ -4,60 +4,54 @@ use crate::crashes::CRASHES;
 use crate::horizons::HORIZONS;
 use crate::stops::FAILED;
 use crate::turnovers::TURNOVERS;
-use crate::whole_schedules::SCHEDULES;
 use crate::{
-    asked, comparing, each_call, horizons, of_logs, of_migrations, outside, places, played,
-    printed, schedule_texts, stops, turnovers, unlawful,
+    asked, comparing, each_call, horizons, of_compactions, of_logs, of_migrations, outside, places,
+    played, printed, schedule_texts, stops, turnovers, unlawful,
 };
+use made::WrongRows;
 use std::process::Abort;
 
-// Ends the test with the row that is wrong, if there is one: each area names the first of its rows that does not hold, and else
-// gives an empty text.
-fn check(rt: &impl Abort, area: &str, wrong: &str) {
-    assert!(rt; wrong.is_empty(), "{area}: {wrong}");
+// Ends the test where rows are wrong, with all of them.
+fn end(rt: &impl Abort, wrong: WrongRows) {
+    assert!(rt; wrong.is_none(), "{}", wrong.text());
+    drop(wrong);
 }
 
 #[test]
 fn answers(rt: HostRuntime) {
     let alloc = rt.alloc();
-    check(&rt, "commands", printed::wrong_answer(alloc));
-    check(&rt, "commands over files", asked::wrong(alloc));
-    check(&rt, "dumps", asked::wrong_dump(alloc));
-    check(&rt, "numbers", asked::wrong_count(alloc));
-    check(&rt, "commands over keys", printed::wrong_of_keys(alloc));
-    check(
-        &rt,
-        "commands over renewed logs",
-        printed::wrong_of_renewed(alloc),
-    );
-    check(&rt, "words", printed::wrong_words(alloc));
-    check(&rt, "numbers of logs", of_logs::wrong(alloc));
-    check(&rt, "migrations", of_migrations::wrong(alloc));
-    check(&rt, "files that are played", played::wrong(alloc));
-    for place in places::wrong(alloc) {
-        check(&rt, "places of faults", place);
-    }
-    check(&rt, "crashes in calls", stops::wrong(alloc));
-    check(&rt, "stops in each call", each_call::wrong(alloc));
-    check(
-        &rt,
-        "stops behind turnovers",
-        each_call::wrong_turned(alloc),
-    );
-    check(&rt, "stops in turnovers", turnovers::wrong(alloc));
-    check(&rt, "stops at horizons", horizons::wrong(alloc));
-    check(&rt, "texts", schedule_texts::wrong(alloc));
-    check(&rt, "lists", unlawful::wrong(alloc));
-    check(&rt, "outside", outside::wrong(alloc));
+    let mut wrong = WrongRows::none(alloc);
+    printed::go_over(wrong.of("commands"), alloc);
+    asked::go_over(wrong.of("commands over files"), alloc, &asked::ASKED);
+    asked::go_over(wrong.of("dumps"), alloc, &asked::DUMPED);
+    asked::go_over(wrong.of("numbers"), alloc, &asked::COUNTED);
+    printed::go_over_keys(wrong.of("commands over keys"), alloc);
+    printed::go_over_renewed(wrong.of("commands over renewed logs"), alloc);
+    printed::go_over_words(wrong.of("words"), alloc);
+    of_logs::go_over(wrong.of("numbers of logs"), alloc);
+    of_migrations::go_over(wrong.of("migrations"), alloc);
+    of_compactions::go_over(wrong.of("compactions"), alloc);
+    played::go_over(wrong.of("files that are played"), alloc);
+    places::go_over(wrong.of("places of faults"), alloc);
+    stops::go_over(wrong.of("crashes in calls"), alloc);
+    each_call::go_over(wrong.of("stops in each call"), alloc);
+    each_call::go_over_turned(wrong.of("stops behind turnovers"), alloc);
+    turnovers::go_over(wrong.of("stops in turnovers"), alloc);
+    horizons::go_over(wrong.of("stops at horizons"), alloc);
+    schedule_texts::go_over(wrong.of("texts"), alloc);
+    unlawful::go_over(wrong.of("lists"), alloc);
+    outside::go_over(wrong.of("outside"), alloc);
+    end(&rt, wrong);
 }
 
 #[test]
 fn whole_runs(rt: HostRuntime) {
     let alloc = rt.alloc();
-    check(&rt, "schedules", comparing::wrong(alloc, &SCHEDULES));
-    check(&rt, "runs", comparing::wrong(alloc, &CASES));
-    check(&rt, "crashes", comparing::wrong(alloc, &CRASHES));
-    check(&rt, "failing calls", comparing::wrong(alloc, &FAILED));
-    check(&rt, "horizons", comparing::wrong(alloc, &HORIZONS));
-    check(&rt, "turnovers", comparing::wrong(alloc, &TURNOVERS));
+    let mut wrong = WrongRows::none(alloc);
+    comparing::go_over(wrong.of("runs"), alloc, &CASES);
+    comparing::go_over(wrong.of("crashes"), alloc, &CRASHES);
+    comparing::go_over(wrong.of("failing calls"), alloc, &FAILED);
+    comparing::go_over(wrong.of("horizons"), alloc, &HORIZONS);
+    comparing::go_over(wrong.of("turnovers"), alloc, &TURNOVERS);
+    end(&rt, wrong);
 }

@@ -1,5 +1,6 @@
 //! A shard's log is turned over: it then begins with a base, and keeps what it said; a stop in the turnover leaves the former log or the new one.
 use crate::comparing::{Case, reports};
+use made::WrongRows;
 use std::alloc::{AllocError, Global};
 
 pub static TURNOVERS: [Case; 5] = [
@@ -380,21 +381,17 @@ verdict yes
     right
 }
 
-/// The first row that is wrong.
-pub fn wrong(alloc: Global) -> &'static str {
+/// Goes over all rows.
+pub fn go_over(wrong: &mut WrongRows, alloc: Global) {
     for row in &STOPS {
         for call in 0..row.calls {
-            if !is_so(alloc, row, call) {
-                return row.stop;
-            }
+            wrong.unless_at(is_so(alloc, row, call), row.stop, call);
         }
     }
     for call in 0..5 {
         for (fate, opens) in [("old", false), ("new", true), ("a5", true), ("37", false)] {
-            if !is_left(alloc, call, fate, opens) {
-                return fate;
-            }
+            wrong.unless_at(is_left(alloc, call, fate, opens), fate, call);
         }
     }
-    if is_spent(alloc) { "" } else { "slots" }
+    wrong.unless(is_spent(alloc), "slots");
 }

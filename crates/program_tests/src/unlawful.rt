@@ -1,5 +1,6 @@
 //! Lists of events that may not happen, and some that may.
-use crate::whole_schedules::{ONE_SHARD, TWO_SHARDS};
+use crate::played::{ONE_SHARD, TWO_SHARDS};
+use made::WrongRows;
 use playing::{lawful, play};
 use script::schedule;
 use std::alloc::Global;
@@ -347,12 +348,9 @@ fn is_so(alloc: Global, list: &List) -> bool {
     so
 }
 
-/// The first row that is wrong.
-pub fn wrong(alloc: Global) -> &'static str {
+/// Goes over all rows.
+pub fn go_over(wrong: &mut WrongRows, alloc: Global) {
     for list in &LISTS {
-        if !is_so(alloc, list) {
-            return list.name;
-        }
+        wrong.unless(is_so(alloc, list), list.name);
     }
-    ""
 }

@@ -25,7 +25,8 @@ use Rattle.protocol.specs.Refusals.{is_own}
 use Rattle.protocol.specs.Rows.{Memory, Row, Phase, Idle, WaitsRead, WaitsPrepare, WaitsCommit, Collecting, IsPrepared, IsDecided, Voted, Standing}
 use Rattle.protocol.specs.Rows.{IsUnknown, WasEnded, HasRow, WasAborted, WasSettled, WasClosed, claims, find_row, with_vote, without_row, without_rows}
 use Rattle.protocol.specs.Plan.{Before, Change, Keeps, Ends, Drops, Puts, Plan, Planned, carried, after_change, is_crowded, opens, roomed, stands}
-use Rattle.protocol.specs.Cells.{commit_stamp, other_parts, plan_abort, plan_advance, plan_ask, plan_commit, plan_commit_fresh, plan_forget, plan_commit_granted}
+use Rattle.protocol.specs.Cells.{commit_stamp, other_parts, plan_abort, plan_advance, plan_ask, plan_commit, plan_commit_fresh, plan_forget}
+use Rattle.protocol.specs.Cells.{plan_commit_granted}
 use Rattle.protocol.specs.Cells.{plan_commit_now, plan_count, plan_decide, plan_give_up, plan_go_on, plan_nudge, plan_outcome, plan_prepare}
 use Rattle.protocol.specs.Cells.{plan_prepare_fresh, plan_prepare_now, plan_promise, plan_read, plan_read_now, plan_read_row, plan_resume}
 use Rattle.protocol.specs.Cells.{plan_resume_id, plan_resume_row, plan_settle, plan_tell, plan_unpromised, plan_vote, to_read}
@@ -138,7 +139,8 @@ module _ (P : List Bytes → List Write → Bool) (named : Phase → Bool) (note
       → Told (plan_prepare_now b earliest m)
   unfolding plan_prepare_now
   walk_prepare_now b earliest m own =
-      told_roomed _ _ (told_cond _ _ _ (walk_promise b _ earliest m.txn m.coordinator m.reads.keys m.writes own) (told _ (fits.preparing m.coordinator m.reads.keys m.writes ∙ own) refl))
+      told_roomed _ _ (told_cond _ _ _ (walk_promise b _ earliest m.txn m.coordinator m.reads.keys m.writes own)
+      (told _ (fits.preparing m.coordinator m.reads.keys m.writes ∙ own) refl))
 
   walk_prepare_fresh : (b : Before) (earliest : ℕ) (m : Prepare) (held : List Lock) → P m.reads.keys m.writes ≡ true
       → Told (plan_prepare_fresh b earliest m held)

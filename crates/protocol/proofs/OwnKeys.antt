@@ -76,7 +76,8 @@ pub step_keeps_own : StepKeepsOwn
 unfolding Told
 step_keeps_own rows setup facts memory now i p own e =
     rows-carried (keys_belong setup) (names_own setup) (belongs setup) (own_fits setup) p memory
-    (subst (Told (keys_belong setup) (names_own setup) (belongs setup) (own_fits setup)) e (own_input setup (start_of_step rows setup facts memory) now i own)).0
+    (subst (Told (keys_belong setup) (names_own setup) (belongs setup) (own_fits setup)) e
+    (own_input setup (start_of_step rows setup facts memory) now i own)).0
     own
 
 pub logged_belongs : LoggedBelongs

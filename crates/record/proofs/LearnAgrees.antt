@@ -19,13 +19,16 @@ use Rattle.record.specs.Accepted.{Taken, Accepted, DamagedAt, StrangerAt, taken,
 use Rattle.record.specs.Facts.{Facts, TxnStatus, facts_of, learn, with_status, after_outcome, installs_at, or_floor}
 use Rattle.record.specs.FactLaws.{LearnAgrees, LearntAgrees, AcceptedFollows, learnt}
 use Rattle.record.specs.Installs.{installs_of, installed_by, writes_by}
-use Rattle.record.specs.Records.{Ended, Status, Unrecorded, StandsPrepared, StandsDecided, HasAborted, HasSettled, HasClosed, as_opened, as_ended, as_version, settled_decision, closed_promise}
-use Rattle.record.specs.Records.{stamp_in, as_horizon, id_in, ids_of, epoch_of, floor_of, horizon_of, prepared_of, committed_of, is_aborted, ended_of, status_by, status_of}
+use Rattle.record.specs.Records.{Ended, Status, Unrecorded, StandsPrepared, StandsDecided, HasAborted, HasSettled, HasClosed, as_opened, as_ended}
+use Rattle.record.specs.Records.{as_version, settled_decision, closed_promise}
+use Rattle.record.specs.Records.{stamp_in, as_horizon, id_in, ids_of, epoch_of, floor_of, horizon_of, prepared_of, committed_of, is_aborted, ended_of}
+use Rattle.record.specs.Records.{status_by, status_of}
 use Rattle.record.specs.declared.record.Committed.{Committed}
 use Rattle.record.specs.declared.record.Prepared.{Prepared}
 use Rattle.record.specs.declared.record.Record.{Record}
 use Rattle.record.specs.declared.record.Record.TheVariants.{Opened, Ceiling, Prepare, Commit, Abort, Outcome, Horizon, Base, Version, Settled, Closed}
-use Rattle.record.proofs.Sound.{Sound, sound_empty, sound_more, made, new_facts, prepare_new, commit_new, settled_new, closed_new, outcome_follows, opened_follows}
+use Rattle.record.proofs.Sound.{Sound, sound_empty, sound_more, made, new_facts, prepare_new, commit_new, settled_new, closed_new, outcome_follows}
+use Rattle.record.proofs.Sound.{opened_follows}
 use Rattle.record.proofs.Sound.{aborted_more, committed_more, prepared_more, ended_more, outcome_made, base_first, version_next}
 use Rattle.record.proofs.Statuses.{status_more, status_same, recorded_is, entries_by, entries_with, or_none}
 
@@ -436,7 +439,8 @@ learns shard log (Horizon at) s h =
     same_facts _ _ (epoch_more shard log (Horizon at) h) (floor_more log (Horizon at)) (entries_stay log (Horizon at) refl)
     (installs_stay shard log (Horizon at) s h refl refl) (horizon_more log (Horizon at))
 learns shard log (Base epoch floor horizon) s h =
-    same_facts _ _ (epoch_more shard log (Base epoch floor horizon) h) (floor_more log (Base epoch floor horizon)) (entries_stay log (Base epoch floor horizon) refl)
+    same_facts _ _ (epoch_more shard log (Base epoch floor horizon) h) (floor_more log (Base epoch floor horizon))
+    (entries_stay log (Base epoch floor horizon) refl)
     (installs_stay shard log (Base epoch floor horizon) s h refl refl) (horizon_more log (Base epoch floor horizon))
 learns shard log (Version install) s h =
     same_facts _ _ (epoch_more shard log (Version install) h) (floor_more log (Version install)) (entries_stay log (Version install) refl)

@@ -201,7 +201,8 @@ late_right h lines i j e =
         late_begin h lines i j q.1 (ap (slice_get lines) (sym (ap (λ (p : ℕ × ℕ). p.0) one)) ∙ at) (is ∙ ap (λ (p : ℕ × ℕ). Some (p.1)) one)
 
 right_by : (logs : List (List Record)) (lines : List Line) (a b : Option Id) (c : Option ℕ) (d : Option (ℕ × ℕ))
-    → first_torn logs ≡ a → first_lost (history logs) lines ≡ b → wrong_read (are_renewed logs) (history logs) lines ≡ c → first_wrong_order (history logs) lines ≡ d
+    → first_torn logs ≡ a → first_lost (history logs) lines ≡ b → wrong_read (are_renewed logs) (history logs) lines ≡ c
+    → first_wrong_order (history logs) lines ≡ d
     → IsRight logs lines (first_fault a b c d)
 right_by logs lines (Some t) b c d torn lost wrong late = torn_right logs t torn
 right_by logs lines None (Some t) c d torn lost wrong late = lost_right (history logs) lines t lost

@@ -150,7 +150,8 @@ ended_made shard log (Version install) t h there = cc
 ended_made shard log (Settled u at parts) t h there =
     or_right (made log t) _ (single (same_id u t) (settled_decision u at parts) ∙ sym (single (same_id u t) (ended_one u (Some at))) ∙ there)
 ended_made shard log (Closed u coordinator outcome) t h there =
-    or_right (made log t) _ (or-false _ ∙ single (same_id u t) (closed_promise u coordinator outcome) ∙ sym (single (same_id u t) (ended_one u outcome)) ∙ there)
+    or_right (made log t) _ (or-false _ ∙ single (same_id u t) (closed_promise u coordinator outcome) ∙ sym (single (same_id u t) (ended_one u outcome))
+    ∙ there)
 ended_made shard log (Prepare p) t h there = cc
 ended_made shard log (Commit c) t h there = cc
 ended_made shard log (Abort u) t h there = cc

@@ -6,7 +6,8 @@ use Rattle.units.specs.Limits.{most_rows}
 use Rattle.units.specs.Lists.{gather, head, when}
 use Rattle.units.specs.Ids.{Id}
 use Rattle.units.specs.Keys.{Bytes, shard_of}
-use Rattle.record.specs.Records.{Status, Unrecorded, StandsPrepared, StandsDecided, status_of, prepared_of, committed_of, ended_of, epoch_of, floor_of, horizon_of, ids_of, as_opened}
+use Rattle.record.specs.Records.{Status, Unrecorded, StandsPrepared, StandsDecided, status_of, prepared_of, committed_of, ended_of, epoch_of}
+use Rattle.record.specs.Records.{floor_of, horizon_of, ids_of, as_opened}
 use Rattle.record.specs.declared.record.Prepared.{Prepared}
 use Rattle.record.specs.declared.record.Committed.{Committed}
 use Rattle.record.specs.Installs.{installs_of, writes_by}

@@ -20,6 +20,7 @@ pub left_by : (setup : Setup) (ts : List Placed) (state : Option Kept) → Goes 
 left_by setup ts None goes = ap items goes.begun
 left_by setup ts (Some k) goes = (goes.state_of.0, goes.stands.known, goes.state_of.1.memory ∙ ap rebuilt goes.stands.known)
 
-pub soundly : (setup : Setup) (ts : List Placed) (k : Kept) → IsLawfulTable (claims k.memory.rows) → Goes setup ts (Some k) → IsSound setup.shard k.facts k.memory
+pub soundly : (setup : Setup) (ts : List Placed) (k : Kept) → IsLawfulTable (claims k.memory.rows) → Goes setup ts (Some k)
+    → IsSound setup.shard k.facts k.memory
 soundly setup ts k laws goes =
     subst (λ (s : Setup). IsSound s.shard k.facts k.memory) goes.state_of.0 (recovered_sound k.setup.shard k goes.state_of.1 laws)

@@ -4,14 +4,14 @@ use board::Viewer;
 use desk::Desk;
 use disk::Disk;
 use gatelog::GateLog;
-use made::{key, shard, stamp};
+use made::{key, stamp};
 use message::{Envelope, Input};
 use shard::Core;
 use simdisk::SimDisk;
 use std::alloc::Global;
 use std::sync::Wait;
 use truetime::Reading;
-use units::{Book, Capacity, Fault, Setup, Splits, Stamp, Stride, TxnId};
+use units::{Book, Capacity, Fault, Setup, ShardNo, Splits, Stamp, Stride, TxnId};
 
 /// A shard behind its board.
 pub type Shard<'r, R> = Desk<SimDisk, &'r R>;
@@ -31,7 +31,7 @@ fn setup(teller: &Teller<'_>, alloc: Global, number: u8) -> Option<Setup> {
     let stride = Stride::new(0)?;
     let book = Book::On(Capacity::new(16)?);
     Some(Setup {
-        shard: shard(number),
+        shard: ShardNo::new(number)?,
         splits: splits(teller, alloc)?,
         stride,
         book,
@@ -152,7 +152,7 @@ fn is_new(core: &Core<SimDisk>) -> bool {
 }
 
 /// A reading of the clock.
-pub fn reading(earliest: u64, latest: u64) -> Option<Reading> {
+pub fn reading(earliest: u32, latest: u32) -> Option<Reading> {
     Reading::new(stamp(earliest), stamp(latest)).ok()
 }
 

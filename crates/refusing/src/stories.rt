@@ -23,8 +23,8 @@ impl<R: Wait> Pair<'_, R> {
         teller: &mut Teller<'_>,
         name: &str,
         envelope: Envelope,
-        earliest: u64,
-        latest: u64,
+        earliest: u32,
+        latest: u32,
     ) -> Option<Vec<Envelope>> {
         let now = reading(earliest, latest)?;
         let Envelope { to, message } = envelope;
@@ -45,8 +45,8 @@ impl<R: Wait> Pair<'_, R> {
         &mut self,
         teller: &mut Teller<'_>,
         txn: TxnId,
-        earliest: u64,
-        latest: u64,
+        earliest: u32,
+        latest: u32,
     ) -> Option<Vec<Envelope>> {
         let now = reading(earliest, latest)?;
         give(teller, &mut self.first, "settle", &now, &Input::Settle(txn))

@@ -1,2 +1,4 @@
-pub mod Consistent
+pub mod Seen
+pub mod SameStatus
 pub mod Plain
+pub mod Consistent

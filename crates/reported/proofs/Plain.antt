@@ -1,12 +1,11 @@
 -- An area that begins with no base has all records that were logged since its disk was formatted.
 use Rattle.std.specs.List.{list_any}
-use Rattle.std.proofs.Common.{◌≡◌, ◌⊎◌, inl, inr, ℕ, suc, Bool, true, false, cond, not, ◌&&◌, ◌||◌, nat_le, IsFalse, List, [], ◌∷◌, ◌++◌, length, map, Option}
+use Rattle.std.proofs.Common.{◌≡◌, ◌⊎◌, inl, inr, ℕ, suc, Bool, true, false, cond, ◌||◌, nat_le, List, [], ◌∷◌, ◌++◌, length, map, Option}
 use Rattle.std.proofs.Common.{Some, None, slice_get, refl, sym, ap, ◌∙◌, subst, option_to_list}
 use Rattle.std.proofs.lemmas.Bool.{and_parts, cases_eq, false≢true}
 use Rattle.std.proofs.lemmas.List.{append-nil}
 use Rattle.units.specs.Keys.{Bytes}
 use Rattle.units.specs.Lists.{replaced}
-use Rattle.units.specs.declared.setup.Setup.{Setup}
 use Rattle.units.proofs.Folds.{any_append}
 use Rattle.disk.specs.declared.plan.Fate.{Fate}
 use Rattle.gatelog.specs.ArmedTurn.{is_left_turn, is_read_turn}
@@ -15,12 +14,11 @@ use Rattle.message.specs.declared.message.Envelope.{Envelope}
 use Rattle.protocol.specs.Rows.{Memory}
 use Rattle.protocol.specs.Step.{Does}
 use Rattle.record.specs.Accepted.{is_base}
-use Rattle.record.specs.Facts.{facts_of}
 use Rattle.record.specs.Verdict.{are_renewed, has_base}
 use Rattle.record.specs.declared.record.Record.{Record}
 use Rattle.renewal.specs.Turned.{turned}
 use Rattle.session.specs.Sessions.{Moved, Denies, Goes}
-use Rattle.world.specs.Areas.{IsBeside, MayHaveDone, MayLeaveArea}
+use Rattle.world.specs.Areas.{IsBeside, MayLeaveArea}
 use Rattle.world.specs.Lawful.{lawful, lawful_from, may_act, may_happen}
 use Rattle.world.specs.World.{World, ShardNow, Area, Nothing, Shown, Hidden, TurnShown, TurnHidden, acts, area_behind, areas_of, crashed, effect, failed_in}
 use Rattle.world.specs.World.{failed_turn, finished, fresh_log, fresh_shard, happens, logs_of, look_at_view, look_noted, look_shard, moved, new_area, put_out}
@@ -32,7 +30,7 @@ use Rattle.world.specs.declared.event.Event.{Event}
 use Rattle.world.specs.declared.event.Reply.{Reply}
 use Rattle.world.proofs.Places.{get-replaced_other, get-replaced_same, replicated}
 use Rattle.law.proofs.Acts.{acts_go, step_of}
-use Rattle.law.proofs.Areas.{IsLeft, logs_no_turn, no_more, read_may_leave}
+use Rattle.law.proofs.Areas.{IsLeft, no_more, read_may_leave}
 
 -- it has all of them, or it has a base
 abbrev pub IsPlain : List Record → Area → Type 0
@@ -84,7 +82,8 @@ module _ (w : World) (plain : ArePlain w) where
 
   set_plain : (n : ℕ) (old new : ShardNow) → slice_get w.shards n ≡ Some old →
       ((log : List Record) (area : Area) → MayLeaveArea new log area → IsPlain log area) → ArePlain (set_shard n new w)
-  set_plain n old new there new_plain m s e = elim (cases_eq n m) [ inl same ↦ by_place same | inr ne ↦ plain m s (sym (get-replaced_other w.shards n m new ne) ∙ e) ]
+  set_plain n old new there new_plain m s e = elim (cases_eq n m)
+      [ inl same ↦ by_place same | inr ne ↦ plain m s (sym (get-replaced_other w.shards n m new ne) ∙ e) ]
     where
       some_same : (a b : ShardNow) → Some a ≡ Some b → a ≡ b
       some_same a b k = cc

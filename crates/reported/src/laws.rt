@@ -9,7 +9,7 @@ use record::sound_is_yes;
 /// transaction stands at one timestamp on all its shards or on none; its looks and its reads of committed transactions are those of the
 /// serial run by timestamp; and what began after an acknowledgement has the larger timestamp. The logs on the run's own disks, which every
 /// image that a crash may leave of them holds, keep what these records say, and openings take them. Where no log has a base they are
-/// these records, and the verdict on them is yes.
+/// these records. The verdict on them is yes, and the lines that count by them count by all records.
 pub fn reports()
     ensures { ReportsAreConsistent }
 {

@@ -155,7 +155,7 @@ fn first_from(rows: &[Row], txn: TxnId) -> usize
     ensures parted { IsPartitionPoint (λ r. older (txn_of r) txn ≡ true)
         (λ r. older (txn_of r) txn ≡ false) rows.now result }
 {
-    rows.partition_point(|row| row.txn().is_older_than(txn))
+    rows.partition_point(|row| row.txn() < txn)
 }
 
 // The n-th prepared transaction.
@@ -234,5 +234,5 @@ fn place_for(rows: &[Row], txn: TxnId) -> usize
     ensures within { result ≤ length rows.now }
     ensures place { result ≡ position_or_len (λ r. older txn (txn_of r)) rows.now }
 {
-    rows.partition_point(|row| !txn.is_older_than(row.txn()))
+    rows.partition_point(|row| row.txn() <= txn)
 }

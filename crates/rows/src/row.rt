@@ -33,7 +33,7 @@ impl Row {
     pub fn is_of(&self, txn: TxnId) -> bool
         ensures { result ≡ same_id (txn_of self.now) txn }
     {
-        self.txn().is(txn)
+        self.txn() == txn
     }
 
     /// Whether it reads.

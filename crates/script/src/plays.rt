@@ -1,6 +1,6 @@
 //! Schedules are played, and the reports are judged.
-ghost use Rattle.std.specs.Prelude.{◌≡◌, map, IsFalse, IfOk, IfErr};
-ghost use Rattle.record.specs.Verdict.{are_renewed, verdict};
+ghost use Rattle.std.specs.Prelude.{◌≡◌, map, IfOk, IfErr};
+ghost use Rattle.record.specs.Verdict.{verdict};
 ghost use Rattle.playing.specs.Reports.{IsNoReport, IsReport};
 
 use inspector::inspect;
@@ -17,16 +17,14 @@ pub struct Played {
     pub verdict: Verdict,
 }
 
-/// Plays a schedule and judges its report. Where no log was renewed the verdict is yes, by the law of the store. Events that are not lawful
-/// are refused with the number of the first.
+/// Plays a schedule and judges its report. The verdict is yes, by the law of the store. Events that are not lawful are refused with the
+/// number of the first.
 pub fn judged(alloc: Global, config: &Config, events: &[Event]) -> Result<Played, Fault>
     ensures report { IfOk result (λ played. IsReport config.now events.now played.report) }
     ensures verdict { IfOk result
         (λ played. played.verdict ≡ verdict
         (map (λ log. log.items) played.report.logs.items) played.report.lines.items) }
-    ensures yes { IfOk result
-        (λ played. IsFalse (are_renewed (map (λ log. log.items) played.report.logs.items))
-        → played.verdict ≡ Verdict.Yes) }
+    ensures yes { IfOk result (λ played. played.verdict ≡ Verdict.Yes) }
     ensures refused { IfErr result (λ fault. IsNoReport config.now events.now fault) }
 {
     reports();

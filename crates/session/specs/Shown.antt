@@ -15,7 +15,8 @@ use Rattle.message.specs.declared.message.Answer.TheVariants.{Holds, Refused}
 use Rattle.session.specs.declared.answered.Answered.{Answered}
 use Rattle.session.specs.declared.answered.Heard.{Heard}
 use Rattle.session.specs.declared.answered.Finished.{Finished}
-use Rattle.session.specs.Sessions.{Client, Stage, IsOpen, IsClosing, Moved, Denies, Goes, is_doomed, epochs_agree, prepare_for, read_set, shards_told, writes_at_shard}
+use Rattle.session.specs.Sessions.{Client, Stage, IsOpen, IsClosing, Moved, Denies, Goes, is_doomed, epochs_agree, prepare_for, read_set, shards_told}
+use Rattle.session.specs.Sessions.{writes_at_shard}
 
 -- a transaction: the splits of the shards that it goes over, and its client
 pub record Session : Type 0 where

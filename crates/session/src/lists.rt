@@ -13,24 +13,14 @@ use units::{Epoch, Fault, Key, ShardNo, Write};
 pub fn has_key(keys: &[Key], key: &Key) -> bool
     ensures { result ≡ has_key keys.now key.now }
 {
-    for other in keys {
-        if key.is(other) {
-            return true;
-        }
-    }
-    false
+    keys.contains(key)
 }
 
 /// A value of the key was taken.
 pub fn was_taken(taken: &[Answered], key: &Key) -> bool
     ensures { result ≡ list_any (λ a. same_key a.key key.now) taken.now }
 {
-    for answered in taken {
-        if answered.key.is(key) {
-            return true;
-        }
-    }
-    false
+    taken.iter().any(|answered| answered.key == *key)
 }
 
 /// The answers of a shard are all of this epoch.
@@ -49,19 +39,14 @@ pub fn epochs_agree(taken: &[Answered], shard: ShardNo, epoch: Epoch) -> bool
 pub fn is_written(writes: &[Write], key: &Key) -> bool
     ensures { result ≡ writes_key writes.now key.now }
 {
-    for write in writes {
-        if write.key.is(key) {
-            return true;
-        }
-    }
-    false
+    writes.iter().any(|write| write.key == *key)
 }
 
 /// Takes a key out of a list.
 pub fn drop_key(keys: &mut Vec<Key>, key: &Key)
     ensures same { keys.new.items ≡ without_key keys.old.items key.now }
 {
-    keys.retain(|other| !other.is(key));
+    keys.retain(|other| other != key);
 }
 
 /// Takes a key's write out of a list.
@@ -70,7 +55,7 @@ pub fn drop_write(writes: &mut Vec<Write>, key: &Key)
     ensures shorter { vec_len writes.new ≤ vec_len writes.old }
     ensures capacity { vec_capacity writes.new ≡ vec_capacity writes.old }
 {
-    writes.retain(|write| !write.key.is(key));
+    writes.retain(|write| write.key != *key);
 }
 
 /// How many keys at the front of a list come before a key.
@@ -79,7 +64,7 @@ pub fn place_among(keys: &[Key], key: &Key) -> usize
     ensures limit { result ≤ length keys.now }
 {
     for (i, other) in keys.iter().enumerate() {
-        if !other.is_before(key) {
+        if other >= key {
             return i;
         }
     }
@@ -92,7 +77,7 @@ pub fn write_place(writes: &[Write], key: &Key) -> usize
     ensures limit { result ≤ length writes.now }
 {
     for (i, write) in writes.iter().enumerate() {
-        if !write.key.is_before(key) {
+        if write.key >= *key {
             return i;
         }
     }

@@ -272,7 +272,7 @@ impl<'s> Tx<'s, Open> {
             return true;
         }
         match &self.doom {
-            Some(doom) => key.is(doom),
+            Some(doom) => key == doom,
             None => false,
         }
     }
@@ -383,6 +383,6 @@ impl<'s, S: Phase> Tx<'s, S> {
     pub(crate) fn is_of(&self, txn: TxnId) -> bool
         ensures { result ≡ same_id self.now.client.txn txn }
     {
-        self.txn.is(txn)
+        self.txn == txn
     }
 }

@@ -1,5 +1,5 @@
 -- What a core whose book is full makes of an input, and what a book with a page more says of its core.
-use Rattle.std.proofs.Common.{◌≡◌, ◌⊎◌, inl, inr, ⊎_elim, ℕ, ◌≤◌, ◌<◌, ◌∙◌, ◌∷◌, [], ◌++◌, Bool, true, false, IsTrue, IsFalse, List, length, Option}
+use Rattle.std.proofs.Common.{◌≡◌, ◌⊎◌, inl, inr, ⊎_elim, ℕ, ◌≤◌, ◌<◌, ◌∙◌, ◌∷◌, [], ◌++◌, Bool, true, false, IsFalse, List, length, Option}
 use Rattle.std.proofs.Common.{Some, None, Result, Ok, Err, IfOk, IfErr, refl, sym, ap, subst, arith}
 use Rattle.std.proofs.Math.Logic.{∥∥₁_elim}
 use Rattle.std.proofs.Props.{props}
@@ -18,7 +18,7 @@ use Rattle.record.specs.declared.record.Record.{Record}
 use Rattle.truetime.specs.Interval.{Interval}
 use Rattle.protocol.specs.Rows.{Memory, rebuilt}
 use Rattle.protocol.specs.Replay.{Stand}
-use Rattle.protocol.specs.Step.{Stepped, Refuses, Does, facts_after, stepped}
+use Rattle.protocol.specs.Step.{Stepped, Does, facts_after, stepped}
 use Rattle.book.specs.Books.{BookView, HasBookRoom, IsBookFull, IsBookOf, PageIsStep, Replays, new_book, with_page}
 use Rattle.gatelog.specs.Frames.{IsNearLimit}
 use Rattle.protocol.specs.Plan.{Planned}

@@ -2,10 +2,12 @@ pub mod Agrees
 pub mod Appends
 pub mod Booked
 pub mod Carried
+pub mod Commits
 pub mod Commitments
 pub mod Plans
 pub mod Results
 pub mod Settling
+pub mod TakenIn
 pub mod Openings
 pub mod TakenUp
 pub mod Showable

@@ -33,7 +33,8 @@ use Rattle.recovery.specs.Recovered.{fault_in, items}
 use Rattle.shard.specs.Armed.{FailsIn, HasPlace}
 use Rattle.shard.specs.Logs.{records_in, and_logged, facts_logged, items_of, KeepsRecords, HoldsOldOrWith, BeginsAsBefore}
 use Rattle.shard.specs.On.{CoreView}
-use Rattle.shard.specs.Opened.{HasAppended, HasNotAppended, HasNotOpened, HasOpened, HasLawfulEpoch, IsSpent, IsTaken, IsToldReason, is_reason, LeavesOpening, end_in}
+use Rattle.shard.specs.Opened.{HasAppended, HasNotAppended, HasNotOpened, HasOpened, HasLawfulEpoch, IsSpent, IsTaken, IsToldReason, is_reason}
+use Rattle.shard.specs.Opened.{LeavesOpening, end_in}
 use Rattle.shard.specs.Opened.{fault_of, next_opening, opening_of}
 use Rattle.shard.proofs.Agrees.{fold_is}
 use Rattle.shard.proofs.Openings.{follows_next}
@@ -207,8 +208,10 @@ module _ {D : Type 0} (keeps obeys : Type 0) (file : D → File) (clock : D → 
           gate = λ records keep read.
               let all : Ok (items entries) ≡ Ok records = sym (records_are keep) ∙ read in
               let these : items entries ≡ records = cc in
-              subst (λ rs. (core.gate ≡ next_gate (end_in (surface (file disk)).seen rs) (next_opening rs)) × HasPlace (end_in (surface (file disk)).seen rs) (Some (next_opening rs))) these
-              (subst (λ g. (core.gate ≡ next_gate g (next_opening (items entries))) × HasPlace g (Some (next_opening (items entries)))) (found.ends keep) it.gate);
+              subst (λ rs. (core.gate ≡ next_gate (end_in (surface (file disk)).seen rs) (next_opening rs))
+              × HasPlace (end_in (surface (file disk)).seen rs) (Some (next_opening rs))) these
+              (subst (λ g. (core.gate ≡ next_gate g (next_opening (items entries))) × HasPlace g (Some (next_opening (items entries)))) (found.ends keep)
+              it.gate);
           epoch = λ records keep read.
               let all : Ok (items entries) ≡ Ok records = sym (records_are keep) ∙ read in
               let these : items entries ≡ records = cc in

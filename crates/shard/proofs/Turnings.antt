@@ -211,7 +211,8 @@ module _ {D : Type 0} (keeps obeys : Type 0) (file : D → File) (clock : D → 
 
     -- the memory for it was taken before
     pub turned_as : {T : Type 0} (mid : D) (result : Result T Fault) → HasGone mid old.gate old.slot (turned old.facts) result
-        → HasTurnPlace old.slot old.gate (turned old.facts) → file mid ≡ file old.disk → failures old.disk ≤ failures mid → LeavesOnly clock since old.disk mid (MayLeave (surface (file old.disk)))
+        → HasTurnPlace old.slot old.gate (turned old.facts) → file mid ≡ file old.disk → failures old.disk ≤ failures mid
+        → LeavesOnly clock since old.disk mid (MayLeave (surface (file old.disk)))
         → plan mid ≡ plan old.disk → HasTurned keeps obeys file clock since failures plan old new result
     turned_as {T = T} mid result h there same stay time plans = record {
       setup = setup;

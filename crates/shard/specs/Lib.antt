@@ -5,6 +5,7 @@ pub mod On
 pub mod Due
 pub mod Booked
 pub mod Settled
+pub mod Staged
 pub mod Core
 pub mod Look
 pub mod Opened

@@ -8,6 +8,7 @@ mod logging;
 mod machine;
 mod opening;
 mod shard_core;
+mod staging;
 mod turning;
 
 pub use message::Input;

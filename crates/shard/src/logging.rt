@@ -1,15 +1,19 @@
-//! One record is staged and appended.
-ghost use Rattle.std.specs.Prelude.{◌≡◌, ◌≢◌, ◌⊎◌, ◌+◌, ◌<◌, ◌≤◌, ◌^◌, ℕ, Some, IsTrue, IsFalse, IfOk, IfErr, OnOk};
+//! Records are staged and appended.
+ghost use Rattle.std.specs.Option.{option_map};
+ghost use Rattle.std.specs.Prelude.{◌≡◌, ◌≢◌, ◌⊎◌, ◌+◌, ◌<◌, ◌≤◌, ◌^◌, ℕ, length, Some, IsTrue, IsFalse, IfOk, IfErr, OnOk};
 ghost use Rattle.disk.specs.File.{surface};
 ghost use Rattle.disk.specs.declared.plan.FailurePlan.TheVariants.{Never, AfterWrite};
+ghost use Rattle.disk.specs.Image.{MayLeave};
 ghost use Rattle.disk.specs.Moments.{LeavesOnly};
-ghost use Rattle.gatelog.specs.Frames.{next_gate, IsFull};
+ghost use Rattle.gatelog.specs.Frames.{next_gate, staged_bytes, IsFull};
 ghost use Rattle.gatelog.specs.Shown.{disk_of, gate_at, next_slot, is_stopped};
 ghost use Rattle.shard.specs.Armed.{FailsIn, GoesPast};
+ghost use Rattle.shard.specs.On.{IsLogFull};
+ghost use Rattle.shard.specs.Staged.{IsPlaced};
 ghost use Rattle.shard.specs.Logs.{records_in, and_logged, KeepsRecords, HoldsOldOrWith, BeginsAsBefore};
 
 use disk::Disk;
-use gatelog::{GateLog, Logged};
+use gatelog::{GateLog, Logged, Staged};
 use record::Record;
 use std::alloc::Global;
 use units::Fault;
@@ -72,4 +76,78 @@ pub fn append_record<D: Disk>(
     let staged = gate_log.stage(alloc, item)?;
     let logged = gate_log.append(staged)?;
     Ok(logged)
+}
+
+/// Takes all the memory that an append of a record needs, where there is one. Nothing is written.
+pub fn stage_record<D: Disk>(
+    gate_log: &mut GateLog<D>,
+    alloc: Global,
+    item: Option<Record>,
+) -> Result<Option<Staged>, Fault>
+    requires { IsFalse (is_stopped gate_log.old) }
+    ensures item { IfOk result (λ frame. option_map (λ e. e.item) frame ≡ item) }
+    ensures placed { IfOk result
+        (IsPlaced D.obeys (D.has_room (disk_of gate_log.new)) (gate_at gate_log.new)) }
+    ensures same { (gate_at gate_log.new ≡ gate_at gate_log.old)
+        × (is_stopped gate_log.new ≡ is_stopped gate_log.old)
+        × (next_slot gate_log.new ≡ next_slot gate_log.old) }
+    ensures file { D.file (disk_of gate_log.new) ≡ D.file (disk_of gate_log.old) }
+    ensures plan { D.plan (disk_of gate_log.new) ≡ D.plan (disk_of gate_log.old) }
+    ensures failures_stay { D.failures (disk_of gate_log.old) ≤ D.failures (disk_of gate_log.new) }
+    ensures time { LeavesOnly D.clock D.since (disk_of gate_log.old) (disk_of gate_log.new)
+        (MayLeave (surface (D.file (disk_of gate_log.old)))) }
+    ensures cause { IfErr result (λ fault. (fault ≡ Fault.Memory)
+        ⊎ ((fault ≡ Fault.TimeSpent) × IsLogFull (gate_at gate_log.old) item)) }
+{
+    match item {
+        Some(item) => match gate_log.stage(alloc, item) {
+            Ok(staged) => Ok(Some(staged)),
+            Err(fault) => Err(fault),
+        },
+        None => Ok(None),
+    }
+}
+
+/// Appends a record that was staged. It takes no memory, and fails by the device alone.
+pub fn append_staged<D: Disk>(gate_log: &mut GateLog<D>, staged: Staged) -> Result<Logged, Fault>
+    requires running { IsFalse (is_stopped gate_log.old) }
+    requires at { staged.offset ≡ gate_at gate_log.old }
+    requires place { next_gate (gate_at gate_log.old) staged.item + 1 ≤ 2 ^ 40 }
+    requires room { D.obeys
+        → D.has_room (disk_of gate_log.old) 4 (length (staged_bytes staged.item) + 1) }
+    ensures item { IfOk result (λ logged. logged ≡ staged.item) }
+    ensures failures_stay { D.failures (disk_of gate_log.old) ≤ D.failures (disk_of gate_log.new) }
+    ensures running { OnOk result (IsFalse (is_stopped gate_log.new)) }
+    ensures gate { OnOk result
+        (gate_at gate_log.new ≡ next_gate (gate_at gate_log.old) staged.item) }
+    ensures slot { next_slot gate_log.new ≡ next_slot gate_log.old }
+    ensures cause { IfErr result (λ fault. (fault ≡ Fault.Device)
+        × (D.failures (disk_of gate_log.old) < D.failures (disk_of gate_log.new))
+        × IsTrue (is_stopped gate_log.new)) }
+    ensures any_moment { D.keeps_model →
+        LeavesOnly D.clock D.since (disk_of gate_log.old) (disk_of gate_log.new)
+        (HoldsOldOrWith (records_in (surface (D.file (disk_of gate_log.old))).seen)
+        (Some staged.item)) }
+    ensures begins { D.keeps_model →
+        LeavesOnly D.clock D.since (disk_of gate_log.old) (disk_of gate_log.new)
+        (BeginsAsBefore (surface (D.file (disk_of gate_log.old)))) }
+    ensures durable { OnOk result (D.keeps_model →
+        KeepsRecords (surface (D.file (disk_of gate_log.new)))
+        (and_logged (records_in (surface (D.file (disk_of gate_log.old))).seen)
+        (Some staged.item))) }
+    ensures read { OnOk result (D.keeps_model →
+        records_in (surface (D.file (disk_of gate_log.new))).seen ≡ and_logged
+        (records_in (surface (D.file (disk_of gate_log.old))).seen) (Some staged.item)) }
+    // With no call armed the device does not fail.
+    ensures planned { D.obeys → D.plan (disk_of gate_log.old) ≡ Never
+        → (D.plan (disk_of gate_log.new) ≡ Never) × IfErr result (λ fault. fault ≢ Fault.Device) }
+    // With a call armed, counted from 0: it fails where it is one of the append's, and leaves this.
+    ensures armed { (call : ℕ) → D.obeys → D.keeps_model
+        → D.plan (disk_of gate_log.old) ≡ AfterWrite call
+        → OnOk result (GoesPast call (Some staged.item))
+        × IfErr result (FailsIn call (gate_at gate_log.old)
+        (records_in (surface (D.file (disk_of gate_log.old))).seen) (Some staged.item)
+        (D.file (disk_of gate_log.new))) }
+{
+    gate_log.append(staged)
 }

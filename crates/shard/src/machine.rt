@@ -23,14 +23,13 @@ use crate::inputs::plan_input;
 use crate::logging::append_record;
 use disk::Disk;
 use gatelog::GateLog;
-use memory::{State, Step, ready_plans_can_be_carried};
+use memory::{State, Step};
 use message::{Input, Outbox};
 use protocol::{
     fresh_is_showable, fresh_is_sound, installs_above, logged_follows, opening_keeps_sound,
     own_refusals, step_keeps_showable, step_keeps_sound, writes_ascend,
 };
 use record::Record;
-use renewal::{alike_stays, lasting_follows};
 use std::alloc::Global;
 use truetime::Reading;
 use units::{Epoch, Fault, Setup};
@@ -96,7 +95,7 @@ impl<D: Disk> Machine<D> {
         }
     }
 
-    // Logs the record of a step, where there is one, and carries its plan out. All memory is taken before.
+    // Stages a step and commits it: its record is logged, where it has one, and its plan carried out.
     pub(crate) fn carry_out(&mut self, alloc: Global, step: Step) -> Result<Outbox, Fault>
         requires running { IsFalse (seen_machine self.old).stopped }
         requires stands { D.keeps_model
@@ -109,29 +108,11 @@ impl<D: Disk> Machine<D> {
             (carried (plan_of self.old.state.memory.rows step) self.old.state.memory)
             step.plan.outbox) result }
     {
-        ready_plans_can_be_carried();
-        alike_stays();
-        lasting_follows();
-        let Step { plan, logged } = step;
-        let ready = match self.state.make_ready(alloc, &plan) {
-            Ok(ready) => ready,
-            Err(fault) => {
-                drop(plan);
-                drop(logged);
-                return Err(fault);
-            }
+        let staged = match self.stage(alloc, step) {
+            Ok(staged) => staged,
+            Err(fault) => return Err(fault),
         };
-        let Some(item) = logged else {
-            return Ok(self.state.carry(plan, None));
-        };
-        match append_record(&mut self.gate_log, alloc, item) {
-            Ok(logged) => Ok(self.state.carry(plan, Some(logged))),
-            Err(fault) => {
-                self.state.undo(&plan, ready);
-                drop(plan);
-                Err(fault)
-            }
-        }
+        self.commit(staged)
     }
 
     // A machine of a log without records, to which the first opening is added.

@@ -1,5 +1,6 @@
 -- What follows from a list of records that its shard takes.
-use Rattle.std.proofs.Common.{◌≡◌, ◌∙◌, ◌&&◌, ◌++◌, ◌∷◌, ◌+◌, ◌<◌, [], ℕ, zero, suc, arith, Bool, true, false, List, length, refl, sym, ap, ap₂, subst, take, IsTrue, slice_index_or}
+use Rattle.std.proofs.Common.{◌≡◌, ◌∙◌, ◌&&◌, ◌++◌, ◌∷◌, ◌+◌, ◌<◌, [], ℕ, zero, suc, arith, Bool, true, false, List, length, refl, sym, ap, ap₂}
+use Rattle.std.proofs.Common.{subst, take, IsTrue, slice_index_or}
 use Rattle.std.proofs.lemmas.List.{map-append}
 use Rattle.std.proofs.Math.Seq.{take-suc}
 use Rattle.units.specs.declared.setup.Setup.{Setup}

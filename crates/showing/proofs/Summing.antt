@@ -1,5 +1,6 @@
 -- What is told of logs, one log at a time, and then of all of them.
-use Rattle.std.proofs.Common.{◌≡◌, ◌∙◌, ◌++◌, ◌∷◌, ◌+◌, ◌<◌, ◌≤◌, [], ℕ, Bool, List, length, map, take, get_or, append-nil, append_assoc, arith, ap, ap₂, sym, flat_map}
+use Rattle.std.proofs.Common.{◌≡◌, ◌∙◌, ◌++◌, ◌∷◌, ◌+◌, ◌<◌, ◌≤◌, [], ℕ, Bool, List, length, map, take, get_or, append-nil, append_assoc, arith, ap}
+use Rattle.std.proofs.Common.{ap₂, sym, flat_map}
 use Rattle.std.specs.Prelude.{if◌then◌else◌}
 use Rattle.std.proofs.lemmas.Bool.{le-ltb, lt-ltb}
 use Rattle.std.proofs.lemmas.Grind.{flat_map-append}

@@ -1,5 +1,6 @@
 -- What some writes make of a key, one write more at a time, and what a log says of its transactions.
-use Rattle.std.proofs.Common.{◌≡◌, ◌∙◌, ◌++◌, ◌∷◌, ◌+◌, ◌<◌, [], ℕ, suc, arith, Some, List, length, map, sym, ap, take, slice_index_or, append_assoc, flat_map, IsTrue}
+use Rattle.std.proofs.Common.{◌≡◌, ◌∙◌, ◌++◌, ◌∷◌, ◌+◌, ◌<◌, [], ℕ, suc, arith, Some, List, length, map, sym, ap, take, slice_index_or, append_assoc}
+use Rattle.std.proofs.Common.{flat_map, IsTrue}
 use Rattle.std.specs.Prelude.{filter}
 use Rattle.std.proofs.lemmas.List.{map-append}
 use Rattle.std.proofs.lemmas.List.Elements.{filter-append}

@@ -39,7 +39,7 @@ fn newer<'a>(
 ) -> Option<&'a Install>
     ensures { option_copied result ≡ newer one.now key.now at (option_copied best.entry) }
 {
-    if one.at.micros() > at.micros() || !one.key.is(key) {
+    if one.at.micros() > at.micros() || one.key != *key {
         return best;
     }
     match best {

@@ -90,7 +90,7 @@ fn tell_version(told: &mut Vec<Told>, version: &Install, key: &Key) -> Result<()
         (told.new.items ≡ told.old.items ++ version_told key.now version.now) }
     ensures memory { IfErr result (λ fault. fault ≡ Fault.Memory) }
 {
-    if !version.key.is(key) {
+    if version.key != *key {
         return Ok(());
     }
     let value = copy_value(&version.value)?;
@@ -149,7 +149,7 @@ fn tell_write(
         ++ told_as key.now txn (write.now ∷ []) (Some standing.now)) }
     ensures memory { IfErr result (λ fault. fault ≡ Fault.Memory) }
 {
-    if !write.key.is(key) {
+    if write.key != *key {
         return Ok(());
     }
     let value = copy_value(&write.value)?;

@@ -1,5 +1,6 @@
 -- What a transaction does while its code runs, and what attempts come to.
-use Rattle.std.proofs.Common.{◌≡◌, ◌⊎◌, inl, inr, ℕ, Bool, true, false, true≢false, cond, not, ◌&&◌, nat_le, List, [], ◌∷◌, ◌++◌, length, Result, Err, refl, ap, sym, ◌∙◌, subst, length-append, arith, ◌+◌, ◌<◌, ◌≤◌}
+use Rattle.std.proofs.Common.{◌≡◌, ◌⊎◌, inl, inr, ℕ, Bool, true, false, true≢false, cond, not, ◌&&◌, nat_le, List, [], ◌∷◌, ◌++◌, length, Result, Err}
+use Rattle.std.proofs.Common.{refl, ap, sym, ◌∙◌, subst, length-append, arith, ◌+◌, ◌<◌, ◌≤◌}
 use Rattle.std.specs.List.{FoldsTo, list_all}
 use Rattle.std.specs.Fn.{Mut, CalledAtMut}
 use Rattle.std.specs.Borrow.{MutBor}
@@ -20,7 +21,8 @@ use Rattle.client.specs.Traffic.{Traffic}
 use Rattle.client.specs.declared.ended.Ended.{Ended}
 use Rattle.client.specs.declared.ended.Halt.{Halt}
 use Rattle.client.specs.declared.ended.Halt.TheVariants as halt
-use Rattle.store.specs.Attempts.{AreAborted, Act, Reads, Writes, IsAct, AreActs, HasDone, Doing, IsAtWork, Attempt, Worker, AreAttempts, HasTried, IsAttempt, Runs}
+use Rattle.store.specs.Attempts.{AreAborted, Act, Reads, Writes, IsAct, AreActs, HasDone, Doing, IsAtWork, Attempt, Worker, AreAttempts, HasTried}
+use Rattle.store.specs.Attempts.{IsAttempt, Runs}
 use Rattle.store.specs.Attempts.{Ends, beginning, drew, id_in, kept, runs_again, traffic_of, worked, worked_all}
 
 -- a step that is made leaves the session that it says

@@ -20,7 +20,8 @@ module _ {A : Type 0} (p : A → Bool) (less : A → A → Bool) (x : A) where
       out true e = absurd (cc e)
       out false e = (refl, e)
 
-      by_less : (l : Bool) → (p y ≡ false) × (filter p ys ≡ []) → (filter p ys ≡ [] → filter p (insert less x ys) ≡ x ∷ []) → filter p (cond l (y ∷ insert less x ys) (x ∷ y ∷ ys)) ≡ x ∷ []
+      by_less : (l : Bool) → (p y ≡ false) × (filter p ys ≡ []) → (filter p ys ≡ [] → filter p (insert less x ys) ≡ x ∷ [])
+          → filter p (cond l (y ∷ insert less x ys) (x ∷ y ∷ ys)) ≡ x ∷ []
       by_less true is more = ap (λ b. cond b (y ∷ filter p (insert less x ys)) (filter p (insert less x ys))) is.0 ∙ more is.1
       by_less false is more = ap (λ b. cond b (x ∷ filter p (y ∷ ys)) (filter p (y ∷ ys))) has ∙ ap (λ l. x ∷ l) none
 
@@ -38,7 +39,8 @@ module _ {A : Type 0} (p q : A → Bool) where
   none_left [] = refl
   none_left (y ∷ ys) = by_test (q y) refl (none_left ys)
     where
-      by_test : (b : Bool) → q y ≡ b → filter q (filter (λ z. not (q z)) ys) ≡ [] → filter q (cond (not b) (y ∷ filter (λ z. not (q z)) ys) (filter (λ z. not (q z)) ys)) ≡ []
+      by_test : (b : Bool) → q y ≡ b → filter q (filter (λ z. not (q z)) ys) ≡ []
+          → filter q (cond (not b) (y ∷ filter (λ z. not (q z)) ys) (filter (λ z. not (q z)) ys)) ≡ []
       by_test true e more = more
       by_test false e more =
           ap (λ b. cond b (y ∷ filter q (filter (λ z. not (q z)) ys)) (filter q (filter (λ z. not (q z)) ys))) e ∙ more
@@ -52,7 +54,8 @@ module _ {A : Type 0} (p q : A → Bool) where
       fails e true h = absurd (true≢false (sym e ∙ apart y h))
       fails e false h = refl
 
-      by_test : (b : Bool) → q y ≡ b → filter p (filter (λ z. not (q z)) ys) ≡ filter p ys → filter p (cond (not b) (y ∷ filter (λ z. not (q z)) ys) (filter (λ z. not (q z)) ys)) ≡ filter p (y ∷ ys)
+      by_test : (b : Bool) → q y ≡ b → filter p (filter (λ z. not (q z)) ys) ≡ filter p ys
+          → filter p (cond (not b) (y ∷ filter (λ z. not (q z)) ys) (filter (λ z. not (q z)) ys)) ≡ filter p (y ∷ ys)
       by_test true e more = more ∙ sym (ap (λ b. cond b (y ∷ filter p ys) (filter p ys)) (fails e (p y) refl))
       by_test false e more = ap (λ l. cond (p y) (y ∷ l) l) more
 

@@ -14,8 +14,8 @@ abbrev pub seen_in : Seen → List ℕ → Option Bytes
 seen_in Absent buffer = None
 seen_in (Value n) buffer = Some (take n buffer)
 
--- The value of a key at a timestamp by one list of its shard's board, which serves the timestamp and has not forgotten it. The list begins with all that the viewer
--- has seen and was told of before, and every longer list of the board gives the same value.
+-- The value of a key at a timestamp by one list of its shard's board, which serves the timestamp and has not forgotten it. The list
+-- begins with all that the viewer has seen and was told of before, and every longer list of the board gives the same value.
 pub record IsShown (viewer : Viewing) (key : Bytes) (at : ℕ) (value : Option Bytes) : Type 0 where
   pub list : List BoardEntry
   pub later : IsPrefix viewer.seen list

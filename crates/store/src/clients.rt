@@ -83,7 +83,7 @@ impl<'s, R: Wait + time::Clock> Client<'s, R> {
             };
             let own = transaction.id();
             let ran = code(&mut transaction);
-            let ran = kept(own.is(transaction.id()), ran);
+            let ran = kept(own == transaction.id(), ran);
             let ended = self.finish(transaction, ran);
             if !runs_again(&ran, &ended) {
                 return ended;

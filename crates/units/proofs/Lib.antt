@@ -7,7 +7,7 @@ pub mod IdLaws
 pub mod IdOrder
 pub mod KeyLaws
 pub mod ListLaws
-pub mod Short
+pub mod InOrder
 pub mod Marked
 pub mod KeyOrder
 pub mod ByIdHalves

@@ -1,5 +1,6 @@
 -- What a look answers, and what it leaves in the buffer that it was given.
-use Rattle.std.specs.Prelude.{ℕ, ◌≡◌, ◌≤◌, ◌<◌, ◌⊎◌, IsTrue, IsFalse, Bool, List, Option, None, Some, Result, Ok, Err, length, drop, ◌++◌, if◌then◌else◌, nat_lt}
+use Rattle.std.specs.Prelude.{ℕ, ◌≡◌, ◌≤◌, ◌<◌, ◌⊎◌, IsTrue, IsFalse, Bool, List, Option, None, Some, Result, Ok, Err, length, drop, ◌++◌}
+use Rattle.std.specs.Prelude.{if◌then◌else◌, nat_lt}
 use Rattle.units.specs.Keys.{Bytes}
 use Rattle.units.specs.declared.fault.Fault.{Fault}
 use Rattle.units.specs.declared.fault.Fault.TheVariants.{NotYet, Room, Stranger, TooOld}

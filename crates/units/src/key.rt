@@ -3,7 +3,7 @@ ghost use Rattle.std.specs.Prelude.{◌≡◌, ℕ, List, [], ◌∷◌, ◌<◌
 ghost use Rattle.units.specs.Padded.{zeros_behind};
 ghost use Rattle.std.specs.Cmp.Lexicographic.{slice_cmp, nat_list_cmp_total};
 ghost use Rattle.std.specs.Ordering.{nat_cmp};
-ghost use Rattle.units.specs.Keys.{same_key, key_before};
+ghost use Rattle.units.specs.Keys.{same_key};
 ghost use Rattle.units.specs.KeyEq.{same_key-equivalence, same_key-partial, key_order, key_ties, same_input};
 
 use crate::{Fault, Reason};
@@ -11,7 +11,8 @@ use std::cmp::Ordering;
 use std::hash::{Hash, Hasher};
 use std::marker::Model;
 
-/// A key of 1 to 64 bytes. It is a plain value, so a copy of it takes no memory. Keys are ordered by their bytes.
+/// A key of 1 to 64 bytes. It is a plain value, so a copy of it takes no memory. Keys are ordered by their bytes: a key comes
+/// before each longer one that it begins.
 #[derive(Clone, Copy)]
 pub struct Key {
     bytes: [u8; 64],
@@ -63,27 +64,6 @@ impl Key {
     {
         &self.bytes[..self.len]
     }
-
-    /// It has the same bytes.
-    pub fn is(&self, other: &Key) -> bool
-        ensures { result ≡ same_key self.now other.now }
-    {
-        is_same(self.as_bytes(), other.as_bytes())
-    }
-
-    /// It comes before another key. A key comes before each longer one that it begins.
-    pub fn is_before(&self, other: &Key) -> bool
-        ensures { result ≡ key_before self.now other.now }
-    {
-        come_before(self.as_bytes(), other.as_bytes())
-    }
-
-    /// How it stands to another key in their order, by one comparison.
-    pub fn compare(&self, other: &Key) -> Ordering
-        ensures { result ≡ slice_cmp nat_cmp self.now other.now }
-    {
-        self.as_bytes().cmp(other.as_bytes())
-    }
 }
 
 impl PartialEq for Key {
@@ -92,7 +72,7 @@ impl PartialEq for Key {
     ghost laws = { same_key-partial };
 
     fn eq(&self, other: &Key) -> bool {
-        self.is(other)
+        is_same(self.as_bytes(), other.as_bytes())
     }
 }
 
@@ -106,7 +86,7 @@ impl PartialOrd for Key {
     ghost laws = { key_order };
 
     fn partial_cmp(&self, other: &Key) -> Option<Ordering> {
-        Some(self.compare(other))
+        Some(self.cmp(other))
     }
 }
 
@@ -120,7 +100,7 @@ impl Ord for Key {
     ghost matches_eq = { key_ties };
 
     fn cmp(&self, other: &Key) -> Ordering {
-        self.compare(other)
+        self.as_bytes().cmp(other.as_bytes())
     }
 }
 
@@ -132,12 +112,6 @@ impl Hash for Key {
     fn hash<H: Hasher>(&self, state: &mut H) {
         state.write(self.as_bytes());
     }
-}
-
-fn come_before(a: &[u8], b: &[u8]) -> bool
-    ensures { result ≡ key_before a.now b.now }
-{
-    a.cmp(b).is_lt()
 }
 
 // Puts the bytes at the front of a row of zeros.

@@ -77,9 +77,5 @@ impl Keys {
 pub(crate) fn ascend(keys: &[Key]) -> bool
     ensures { result ≡ ascends key_before keys.now }
 {
-    match keys {
-        [first, second, ..] => first.is_before(second) && ascend(&keys[1..]),
-        [_] => true,
-        [] => true,
-    }
+    keys.is_sorted_by(|key, next| key < next)
 }

@@ -90,11 +90,7 @@ fn count_up_to(splits: &[Key], key: &Key) -> usize
         None => 0,
         Some((split, rest)) => {
             let others = count_up_to(rest, key);
-            if key.is_before(split) {
-                others
-            } else {
-                others + 1
-            }
+            if key >= split { others + 1 } else { others }
         }
     }
 }

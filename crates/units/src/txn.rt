@@ -1,6 +1,5 @@
 //! Ids of transactions.
 ghost use Rattle.std.specs.Prelude.{◌≡◌, ◌<◌, ◌≤◌, ◌^◌, ◌⊎◌, Some, IsSome, IfSome, ◌↔◌};
-ghost use Rattle.units.specs.Ids.{same_id, older};
 ghost use Rattle.units.specs.Texts.{txn_text};
 
 use std::fmt;
@@ -96,20 +95,6 @@ impl TxnId {
         ensures limit { result < 2 ^ 62 }
     {
         self.number
-    }
-
-    /// It is the same id.
-    pub fn is(self, other: TxnId) -> bool
-        ensures { result ≡ same_id self other }
-    {
-        self.run == other.run && self.number == other.number
-    }
-
-    /// It is the older one, which is the smaller id.
-    pub fn is_older_than(self, other: TxnId) -> bool
-        ensures { result ≡ older self other }
-    {
-        self.run < other.run || (self.run == other.run && self.number < other.number)
     }
 }
 

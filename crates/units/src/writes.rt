@@ -54,7 +54,7 @@ impl Install {
     pub fn is_before(&self, next: &Install) -> bool
         ensures { result ≡ version_before self.now next.now }
     {
-        self.key.is_before(&next.key) || (self.key.is(&next.key) && self.at < next.at)
+        (&self.key, self.at) < (&next.key, next.at)
     }
 }
 
@@ -149,21 +149,12 @@ impl Writes {
 fn is_written(writes: &[Write], key: &Key) -> bool
     ensures { result ≡ writes_key writes.now key.now }
 {
-    for write in writes {
-        if write.key.is(key) {
-            return true;
-        }
-    }
-    false
+    writes.iter().any(|write| write.key == *key)
 }
 
 // Each key is before the next one.
 fn ascend(writes: &[Write]) -> bool
     ensures { result ≡ ascends write_before writes.now }
 {
-    match writes {
-        [first, second, ..] => first.key.is_before(&second.key) && ascend(&writes[1..]),
-        [_] => true,
-        [] => true,
-    }
+    writes.is_sorted_by(|write, next| write.key < next.key)
 }

@@ -20,7 +20,8 @@ from-newer n x None = by_test (nat_le n x.at)
 from-newer n x (Some y) = by_tests (nat_le n x.at) (nat_le n y.at) (nat_lt x.at y.at) refl refl refl
   where
     by_tests : (a b c : Bool) → nat_le n x.at ≡ a → nat_le n y.at ≡ b → nat_lt x.at y.at ≡ c →
-        cond a (newer x (cond {A = Option Install} b (Some y) None)) (cond {A = Option Install} b (Some y) None) ≡ from_on n (cond {A = Option Install} c (Some y) (Some x))
+        cond a (newer x (cond {A = Option Install} b (Some y) None)) (cond {A = Option Install} b (Some y) None) ≡ from_on n
+        (cond {A = Option Install} c (Some y) (Some x))
     by_tests true true true h k l = rw (k, l) refl
     by_tests true true false h k l = rw (h, l) refl
     by_tests true false true h k l = absurd (grind (arith, nat_tests))
@@ -71,7 +72,8 @@ newer-more x (Some y) (Some z) h = by_tests (nat_lt x.at y.at) (nat_lt x.at z.at
     by_tests false false k l = omega arith
 
 -- where one test passes all that another passes, its newest is no earlier
-pub newest-wider : (p q : Install → Bool) → ((x : Install) → p x ≡ true → q x ≡ true) → (a : List Install) → at_of (newest (filter p a)) ≤ at_of (newest (filter q a))
+pub newest-wider : (p q : Install → Bool) → ((x : Install) → p x ≡ true → q x ≡ true) → (a : List Install)
+    → at_of (newest (filter p a)) ≤ at_of (newest (filter q a))
 newest-wider p q more [] = omega arith
 newest-wider p q more (x ∷ a) = by_tests (p x) (q x) refl refl (newest-wider p q more a)
   where

@@ -97,7 +97,8 @@ module _ (installs : List Install) (places : List ℕ) (up : AscendsByVersion (a
   }
 
   -- behind that, the version of a place is swapped to where it comes in order
-  module _ (new : List Install) (after : List ℕ) (at from : ℕ) (lt : at < length places) (from_is : from ≡ get_or places at 0) (r : IsRedirected places after at from) where
+  module _ (new : List Install) (after : List ℕ) (at from : ℕ) (lt : at < length places) (from_is : from ≡ get_or places at 0)
+      (r : IsRedirected places after at from) where
     at_there : get_or (set after at at) at 0 ≡ at
     at_there = get_or-set_at after at at at 0 refl (omega (arith, lt, r.len))
 

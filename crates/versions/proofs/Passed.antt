@@ -61,7 +61,8 @@ earlier x y before same =
 before-stays : (h : ℕ) (x : Install) (t : List Install) (y : Install) → version_before x y ≡ true → stays h (x ∷ t) y ≡ stays h t y
 before-stays h x t y before = by_test (is_by y.key h x) refl
   where
-    by_test : (b : Bool) → is_by y.key h x ≡ b → list_all (λ z. nat_le z.at y.at) (cond b (x ∷ filter (is_by y.key h) t) (filter (is_by y.key h) t)) ≡ stays h t y
+    by_test : (b : Bool) → is_by y.key h x ≡ b → list_all (λ z. nat_le z.at y.at) (cond b (x ∷ filter (is_by y.key h) t) (filter (is_by y.key h) t))
+        ≡ stays h t y
     by_test true k =
         let same : same_key x.key y.key ≡ true = grind (arith, nat_tests) in
         let lt : x.at < y.at = earlier x y before same in

@@ -93,7 +93,8 @@ pub within_copied : (places : List ℕ) (len from to : ℕ) → from < length pl
 within_copied places len from to lt within =
     all_set (λ p. p < len) places to (get_or places from 0) (place_within places len from 0 within lt) within
 
-pub arranged_copied : (installs : List Install) (places : List ℕ) (from to : ℕ) → from < length places → arranged installs (set places to (get_or places from 0))
+pub arranged_copied : (installs : List Install) (places : List ℕ) (from to : ℕ) → from < length places
+    → arranged installs (set places to (get_or places from 0))
     ≡ set (arranged installs places) to (get_or (arranged installs places) from no_install)
 arranged_copied installs places from to lt =
     map-set (λ p. get_or installs p no_install) places to (get_or places from 0)

@@ -53,7 +53,7 @@ pub fn is_passed(installs: &[Install], places: &Places, at: usize, horizon: Stam
         return false;
     }
     let next = &installs[places.get(at + 1)];
-    next.key.is(&installs[places.get(at)].key) && next.at <= horizon
+    next.key == installs[places.get(at)].key && next.at <= horizon
 }
 
 /// Brings the versions that have a place to the front, in the order of the places, and drops the others.

@@ -19,7 +19,7 @@ fn is_not_after(install: &Install, key: &Key, at: u64, compared: &mut Count) -> 
     ensures counted { compared.new.number ≡ compared.old.number + 1 }
 {
     compared.rise();
-    match install.key.compare(key) {
+    match install.key.cmp(key) {
         Ordering::Less => true,
         Ordering::Equal => install.at.micros() <= at,
         Ordering::Greater => false,
@@ -140,7 +140,7 @@ fn newest_in<'a>(
     }
     let place = places.get(count - 1);
     let last = &installs[place];
-    if last.key.is(key) { Some(last) } else { None }
+    if last.key == *key { Some(last) } else { None }
 }
 
 // The newest version of the key at the timestamp, in microseconds, or before.

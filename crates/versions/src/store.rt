@@ -71,7 +71,11 @@ impl Versions {
         ensures refused { IfErr result (λ fault. (fault ≡ Fault.Memory) × (self.new ≡ self.old)) }
         ensures succeeds { more ≤ self.old.room → IsOk result }
     {
-        self.installs.reserve(more)?;
+        let len = self.installs.len();
+        if self.installs.capacity() - len < more {
+            // An eighth more, so that little of a long list stands empty.
+            self.installs.reserve_exact(more.max(len / 8))?;
+        }
         self.places.reserve(more)?;
         self.room = self.room.max(more);
         Ok(())

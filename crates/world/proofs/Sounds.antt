@@ -277,7 +277,8 @@ module _ (Allowed : Setup → Input → Type 0) (Sound : Setup → Facts → Mem
       where
         by_test : (b : Bool) → SoundShard (setup_of config n)
             (crashed s (read_log s ++ cond b (r ∷ []) []) (with_records (read_area s) (cond b (r ∷ []) [])))
-        by_test true = crashed_sound (read_log s ++ r ∷ []) (with_records (read_area s) (r ∷ [])) (record { memory = memory; sound = e.sound allowed; good = e.good allowed })
+        by_test true = crashed_sound (read_log s ++ r ∷ []) (with_records (read_area s) (r ∷ []))
+            (record { memory = memory; sound = e.sound allowed; good = e.good allowed })
         by_test false = crashed_sound (read_log s ++ []) (with_records (read_area s) []) (subst (SoundLog (setup_of config n)) (sym (append-nil (read_log s)))
             (sound.left (read_log s) read_left))
 

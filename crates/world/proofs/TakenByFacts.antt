@@ -12,7 +12,8 @@ use Rattle.units.specs.Locks.{clash, locks_of}
 use Rattle.units.specs.Versions.{above_versions}
 use Rattle.units.specs.declared.setup.Setup.{Setup}
 use Rattle.units.specs.declared.writes.Write.{Write}
-use Rattle.record.specs.Accepted.{Taken, Accepted, DamagedAt, StrangerAt, begins, belongs, fits_beside, followed, followed_from, follows, locks_standing, may_stand}
+use Rattle.record.specs.Accepted.{Taken, Accepted, DamagedAt, StrangerAt, begins, belongs, fits_beside, followed, followed_from, follows}
+use Rattle.record.specs.Accepted.{locks_standing, may_stand}
 use Rattle.record.specs.Accepted.{taken, taken_from}
 use Rattle.record.specs.Facts.{facts_of, no_facts, recorded}
 use Rattle.record.specs.Installs.{installs_of, writes_by}
@@ -90,7 +91,8 @@ with_next shard log r before h = followed_more shard log r ∙ and_from _ _ befo
 
 -- a list is taken whose records follow, have their places and are of the shard
 from_facts : (setup : Setup) (before : List Record) (place : ℕ) (log : List Record) → followed setup.shard before ≡ true →
-    followed_from setup.shard before log ≡ true → AllFit (facts_of before) log → list_all (belongs setup) log ≡ true → taken_from setup before place log ≡ Accepted
+    followed_from setup.shard before log ≡ true → AllFit (facts_of before) log → list_all (belongs setup) log ≡ true
+    → taken_from setup before place log ≡ Accepted
 from_facts setup before place [] known h fits own = refl
 from_facts setup before place (r ∷ rs) known h fits own =
     let come = and_parts (begins before r && follows setup.shard before r) (followed_from setup.shard (before ++ r ∷ []) rs) h in
@@ -136,7 +138,8 @@ last_is_next setup before place (q ∷ qs) r h =
     subst (λ l. IsNext setup l r) (append_assoc before (q ∷ []) qs)
     (last_is_next setup (before ++ q ∷ []) (place + 1) qs r (rest (belongs setup q) _ h))
   where
-    rest : (a b : Bool) → cond (not a) (StrangerAt place) (cond b (taken_from setup (before ++ q ∷ []) (place + 1) (qs ++ r ∷ [])) (DamagedAt place)) ≡ Accepted →
+    rest : (a b : Bool) → cond (not a) (StrangerAt place) (cond b (taken_from setup (before ++ q ∷ []) (place + 1) (qs ++ r ∷ [])) (DamagedAt place))
+        ≡ Accepted →
         taken_from setup (before ++ q ∷ []) (place + 1) (qs ++ r ∷ []) ≡ Accepted
     rest false b k = cc
     rest true false k = cc

@@ -95,7 +95,8 @@ module _ (w : World) where
   refused_settings : (n : ℕ) (s : ShardNow) (doing : Doing) (f : Fault) → Fixed w (refused_doing w n s doing f).0
   refused_settings n s Doing.Open f = by_state s.state
     where
-      by_state : (st : State) → Fixed w ((elim st as (λ x. After) [ Runs m ↦ refused w f | _ ↦ (set_shard n (crashed s (read_log s) (read_area s)) w, Reply.Refused f) ]).0)
+      by_state : (st : State) → Fixed w ((elim st as (λ x. After)
+          [ Runs m ↦ refused w f | _ ↦ (set_shard n (crashed s (read_log s) (read_area s)) w, Reply.Refused f) ]).0)
       by_state (Runs m) = (refl, refl)
       by_state (IsStopped m) = (refl, refl)
       by_state IsDown = (refl, refl)

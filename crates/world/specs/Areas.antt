@@ -8,7 +8,8 @@ use Rattle.message.specs.declared.message.Envelope.{Envelope}
 use Rattle.protocol.specs.Rows.{Memory}
 use Rattle.protocol.specs.Step.{Does}
 use Rattle.renewal.specs.Keeps.{Keeps}
-use Rattle.world.specs.World.{World, ShardNow, Area, Unsure, Nothing, Shown, Hidden, TurnShown, TurnHidden, area_behind, effect, read_log, run, setup_of, with_records}
+use Rattle.world.specs.World.{World, ShardNow, Area, Unsure, Nothing, Shown, Hidden, TurnShown, TurnHidden, area_behind, effect, read_log, run}
+use Rattle.world.specs.World.{setup_of, with_records}
 use Rattle.world.specs.Lawful.{lawful}
 use Rattle.world.specs.Headline.{doing_of}
 use Rattle.world.specs.declared.event.Config.{Config}

@@ -184,7 +184,7 @@ fn place(ids: &IndexSet<TxnId>, begun: &[Begun<'_>], txn: TxnId) -> usize
     let Some(at) = ids.get_index_of(&txn) else {
         return begun.len();
     };
-    if at < begun.len() && begun[at].txn.is(txn) {
+    if at < begun.len() && begun[at].txn == txn {
         at
     } else {
         begun.len()

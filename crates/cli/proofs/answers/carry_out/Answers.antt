@@ -15,7 +15,12 @@ returns-in-Ok-clause-tells g c plain =
     let words : List Word = map (λ w. w.now) c.args.words.now in
     let is : command_of words ≡ Ok (asked_for c.in-Ok.asked) = c.in-Ok.ensures.exact (ap (λ b. b || asks_help words) plain) in
     IfOk-weaker c.run.result.0 _ _
-    (λ status told. (told.0, subst (λ (r : Result Asked Fault). TellsTo (IsPutBy (goal.P-post g c.args.system.now.drive.put c.args.alloc)) r status told.0) (sym is) told.1, told.2))
+    (λ status told. (
+      told.0,
+      subst (λ (r : Result Asked Fault). TellsTo (IsPutBy (goal.P-post g c.args.system.now.drive.put c.args.alloc)) r status
+          told.0) (sym is) told.1,
+      told.2,
+    ))
     c.run.ensures.tells
 
 pub returns-in-Ok-clause-numbered : goal.returns-in-Ok-clause-numbered

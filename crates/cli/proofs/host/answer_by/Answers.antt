@@ -12,7 +12,8 @@ returns-clause-numbered g c plain two =
       | inl failed ↦ inl failed
       | inr told ↦ inr (
         told.0,
-        of_command (IsRefusedBy (goal.D-post g c.args.engine.run c.args.alloc)) (IsUnputBy (goal.P-post g c.args.engine.put c.args.alloc)) HasNoVerdict AnyFault (command_of (map (λ w. w.now) c.args.words.now)) told.0
+        of_command (IsRefusedBy (goal.D-post g c.args.engine.run c.args.alloc)) (IsUnputBy (goal.P-post g c.args.engine.put c.args.alloc)) HasNoVerdict
+            AnyFault (command_of (map (λ w. w.now) c.args.words.now)) told.0
             (λ why. subst HasNoVerdict why.3 (c.requires.refuses why.0 why.1 why.2)) (λ why. tt) told.1,
         told.2,
       )

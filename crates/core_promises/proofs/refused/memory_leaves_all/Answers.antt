@@ -28,7 +28,8 @@ returns-clause-state g c = λ e.
     let old = seen c.args.core.now in
     let new = seen c.on.new.self in
     let stood = went g.D.Disk.keeps_model g.D.Disk.obeys g.D.Disk.file g.D.Disk.clock g.D.Disk.since g.D.Disk.failures g.D.Disk.plan old new
-    (step_of old c.args.now.now c.args.input.now) _ _ (room-or-full old.setup.book (book_of c.args.core.now)) c.on.result c.on.ensures.stepped c.on.ensures.crowded in
+    (step_of old c.args.now.now c.args.input.now) _ _ (room-or-full old.setup.book (book_of c.args.core.now)) c.on.result c.on.ensures.stepped
+    c.on.ensures.crowded in
     let all = stands g.D.Disk.file old new c.on.result stood.1 e in
     (stood.2, all.0, all.1, all.2)
 
@@ -37,7 +38,8 @@ returns-clause-log g c = λ e.
     let old = seen c.args.core.now in
     let new = seen c.on.new.self in
     let stood = went g.D.Disk.keeps_model g.D.Disk.obeys g.D.Disk.file g.D.Disk.clock g.D.Disk.since g.D.Disk.failures g.D.Disk.plan old new
-    (step_of old c.args.now.now c.args.input.now) _ _ (room-or-full old.setup.book (book_of c.args.core.now)) c.on.result c.on.ensures.stepped c.on.ensures.crowded in
+    (step_of old c.args.now.now c.args.input.now) _ _ (room-or-full old.setup.book (book_of c.args.core.now)) c.on.result c.on.ensures.stepped
+    c.on.ensures.crowded in
     let all = stands g.D.Disk.file old new c.on.result stood.1 e in
     (all.3, all.4)
 

@@ -33,7 +33,8 @@ returns-in-Err-clause-first g c = λ some few.
     let front = taken_front c.loop-rt.cores.items c.remove.new.self.items c.remove.result left c.remove.ensures.value c.remove.ensures.items in
     let whole = was.1 ∙ ap (λ l. was.0 ++ l) front in
     let nodes : c.len.result ≡ length was.0 = omega (arith, c.len.ensures, c.loop-rt.opened.nodes.ok.0, was.2.nodes) in
-    let fits : c.len.result < 16 = let b = below_all c.args.cores.items was.0 c.remove.new.self.items c.remove.result 16 whole c.requires in omega (arith, b, nodes) in
+    let fits : c.len.result < 16 = let b = below_all c.args.cores.items was.0 c.remove.new.self.items c.remove.result 16 whole c.requires in omega
+    (arith, b, nodes) in
     record {
       before = was.0;
       core = c.remove.result;

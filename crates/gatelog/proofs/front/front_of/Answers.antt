@@ -7,7 +7,9 @@ use Rattle.spelling.specs.Reading.{read_record}
 use Rattle.gatelog.proofs.Scan.{closed_step}
 use Rattle.gatelog.proofs.Reading.{damaged_step, end_step}
 use Rattle.gatelog.proofs.Fronts.{none-short, none-least, none-most, none-long, none-record, some-record, whole-length, count-read, body-read, behind_frame}
-use Rattle.gatelog.proofs.front.front_of.Goals.{then-left-eq0, else-left-eq0, then-is_short, else-is_short, then-count-lt1-via-then-count-lt1, then-count-lt1-via-else-count-lt1+then-count, then-count-lt1-via-else-count-lt1+else-count+then-behind-left}
+use Rattle.gatelog.proofs.front.front_of.Goals.{then-left-eq0, else-left-eq0, then-is_short, else-is_short, then-count-lt1-via-then-count-lt1}
+use Rattle.gatelog.proofs.front.front_of.Goals.{then-count-lt1-via-else-count-lt1+then-count}
+use Rattle.gatelog.proofs.front.front_of.Goals.{then-count-lt1-via-else-count-lt1+else-count+then-behind-left}
 use Rattle.gatelog.proofs.front.front_of.Goals as goal
 
 pub returns-then-gate-clause-front : goal.returns-then-gate-clause-front
@@ -76,7 +78,8 @@ returns-in-Ok-Some-clause-front c beyond long =
       λ at.
           ap (λ l. entries_at at 0 (l ++ beyond)) c.in-Some.ensures.cases.0
           ∙ behind_frame at c.in-Some.gate.now (rest ++ beyond) item (4 + n) (5 + n) c.if-gate.false found long (omega arith)
-          ∙ ap (λ l. with_entry (record { offset = at; item = item }) (entries_at (at + (5 + n)) 0 (drop (5 + n) (l ++ beyond)))) (sym c.in-Some.ensures.cases.0),
+          ∙ ap (λ l. with_entry (record { offset = at; item = item }) (entries_at (at + (5 + n)) 0 (drop (5 + n) (l ++ beyond))))
+          (sym c.in-Some.ensures.cases.0),
     )
 
 pub returns-in-Ok-None-clause-front : goal.returns-in-Ok-None-clause-front

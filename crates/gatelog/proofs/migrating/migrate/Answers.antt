@@ -38,7 +38,8 @@ returns-clause-copied g c keeps =
     let image = (surface (g.D.Disk.file c.args.from.now)).seen in
     let copied =
     has-copied found.0 c.deref.result.now spelled g.D.Disk.file g.D.Disk.clock g.D.Disk.since image c.args.to c.lay_out.new.disk (c.len.result - 1)
-    (found.2 keeps) (omega (arith, copy-long found.0 c.deref.result.now spelled, c.len.ensures, c.deref.ensures.len)) (c.in_default.ensures.done keeps) (c.in_default.ensures.laid keeps) in (
+    (found.2 keeps) (omega (arith, copy-long found.0 c.deref.result.now spelled, c.len.ensures, c.deref.ensures.len)) (c.in_default.ensures.done keeps)
+    (c.in_default.ensures.laid keeps) in (
       found.0,
       subst (λ d. HasCopied g.D.Disk.file g.D.Disk.clock g.D.Disk.since image c.args.to d (gate_at c.laid.result) found.0) (sym c.laid.ensures.disk)
           (subst (λ n. HasCopied g.D.Disk.file g.D.Disk.clock g.D.Disk.since image c.args.to c.lay_out.new.disk n found.0) (sym c.laid.ensures.gate) copied),

@@ -18,7 +18,8 @@ pub pass-requires : goal.pass-requires
 pass-requires g c =
     let a = c.args.ahead.now in
     (in_any a (Whole c.in-Ok-Whole.item c.in-Ok-Whole.size)
-    (told a c.bytes.result.now c.left.result _ c.in-Ok-Whole.field-0 c.bytes.ensures c.left.ensures.value c.in-Ok-Whole.field-0-is c.in-Ok-Whole.ensures.front)).0
+    (told a c.bytes.result.now c.left.result _ c.in-Ok-Whole.field-0 c.bytes.ensures c.left.ensures.value c.in-Ok-Whole.field-0-is
+    c.in-Ok-Whole.ensures.front)).0
 
 pub more-requires-clause-left : goal.more-requires-clause-left
 more-requires-clause-left g c =
@@ -33,7 +34,8 @@ returns-in-Ok-Closed-clause-closed g c = (
   λ keeps.
       let a = c.args.ahead.now in
       in_file (surface (g.D.Disk.file c.args.disk.now)).seen a Closed (c.requires.there keeps)
-      (told a c.bytes.result.now c.left.result _ c.in-Ok-Closed.field-0 c.bytes.ensures c.left.ensures.value c.in-Ok-Closed.field-0-is c.in-Ok-Closed.ensures.front) a.at
+      (told a c.bytes.result.now c.left.result _ c.in-Ok-Closed.field-0 c.bytes.ensures c.left.ensures.value c.in-Ok-Closed.field-0-is
+      c.in-Ok-Closed.ensures.front) a.at
       ∙ ap (λ (n : ℕ). Ok ([], n)) (sym c.at-at.ensures),
 )
 
@@ -61,7 +63,8 @@ returns-in_ok-take-in-Ok-Whole-clause-goes_on g c keeps total so_far =
     let front = told a c.bytes.result.now c.left.result _ c.in-Ok-Whole.field-0 c.bytes.ensures c.left.ensures.value c.in-Ok-Whole.field-0-is
     c.in-Ok-Whole.ensures.front in
     let taken : g.S.Sink.taken c.take.new.self ≡ g.S.Sink.taken c.args.sink.now ++ entry ∷ [] = c.in_ok-take-in-Ok-Whole.ensures.taken
-    ∙ ap (λ (e : Placed). g.S.Sink.taken c.args.sink.now ++ e ∷ []) (c.new.ensures ∙ ap (λ (n : ℕ). record { offset = n; item = c.in-Ok-Whole.item }) c.at-at.ensures) in
+    ∙ ap (λ (e : Placed). g.S.Sink.taken c.args.sink.now ++ e ∷ [])
+    (c.new.ensures ∙ ap (λ (n : ℕ). record { offset = n; item = c.in-Ok-Whole.item }) c.at-at.ensures) in
     ap (λ (n : ℕ). with_entries (g.S.Sink.taken c.take.new.self) (entries_at n 0 (drop n image))) c.pass.ensures.at
     ∙ ap (λ (l : List Placed). with_entries l rest) taken
     ∙ sym (one_more (g.S.Sink.taken c.args.sink.now) entry rest)
@@ -75,7 +78,8 @@ returns-in_ok-take-in-Ok-Whole-clause-placed g c begins so_far =
     let front = in_any a (Whole c.in-Ok-Whole.item c.in-Ok-Whole.size) (told a c.bytes.result.now c.left.result _ c.in-Ok-Whole.field-0 c.bytes.ensures
     c.left.ensures.value c.in-Ok-Whole.field-0-is c.in-Ok-Whole.ensures.front) in
     let taken : g.S.Sink.taken c.take.new.self ≡ g.S.Sink.taken c.args.sink.now ++ entry ∷ [] = c.in_ok-take-in-Ok-Whole.ensures.taken
-    ∙ ap (λ (e : Placed). g.S.Sink.taken c.args.sink.now ++ e ∷ []) (c.new.ensures ∙ ap (λ (n : ℕ). record { offset = n; item = c.in-Ok-Whole.item }) c.at-at.ensures) in
+    ∙ ap (λ (e : Placed). g.S.Sink.taken c.args.sink.now ++ e ∷ [])
+    (c.new.ensures ∙ ap (λ (n : ℕ). record { offset = n; item = c.in-Ok-Whole.item }) c.at-at.ensures) in
     placed_next begins (g.S.Sink.taken c.args.sink.now) a.at c.in-Ok-Whole.item c.in-Ok-Whole.size (g.S.Sink.taken c.take.new.self) c.pass.new.self.at
     so_far taken c.pass.ensures.at front.1
 
@@ -89,6 +93,7 @@ returns-in-Ok-Broken-clause-cause g c = inr (inr (
   λ keeps.
       let a = c.args.ahead.now in
       in_file (surface (g.D.Disk.file c.args.disk.now)).seen a Broken (c.requires.there keeps)
-      (told a c.bytes.result.now c.left.result _ c.in-Ok-Broken.field-0 c.bytes.ensures c.left.ensures.value c.in-Ok-Broken.field-0-is c.in-Ok-Broken.ensures.front) a.at
+      (told a c.bytes.result.now c.left.result _ c.in-Ok-Broken.field-0 c.bytes.ensures c.left.ensures.value c.in-Ok-Broken.field-0-is
+      c.in-Ok-Broken.ensures.front) a.at
       ∙ ap (λ (n : ℕ). Err (Damaged n)) (sym c.at-at.ensures),
 ))

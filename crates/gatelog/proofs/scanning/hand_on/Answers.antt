@@ -61,14 +61,17 @@ returns-in_err-gate-clause-cause g c =
     by_cause (inr (inr damaged)) = inr (inr (
       subst (λ f. IsTrue (is_no_log f)) (sym damaged.0) refl,
       λ keeps. breaks image rest (g.S.Sink.taken c.loop-gate.sink) c.loop-gate.ahead fault
-          (subst (IsHanded image rest (g.S.Sink.taken c.loop-gate.sink) c.loop-gate.ahead) (none_yet c.loop-gate.gate c.loop-gate-test.ensures) (c.loop-gate.invariant.so_far keeps))
-          (subst (λ (f : File). entries_at c.loop-gate.ahead.at 0 (drop c.loop-gate.ahead.at (surface f).seen) ≡ Err fault) c.loop-gate.invariant.same (damaged.1 keeps)),
+          (subst (IsHanded image rest (g.S.Sink.taken c.loop-gate.sink) c.loop-gate.ahead) (none_yet c.loop-gate.gate c.loop-gate-test.ensures)
+          (c.loop-gate.invariant.so_far keeps))
+          (subst (λ (f : File). entries_at c.loop-gate.ahead.at 0 (drop c.loop-gate.ahead.at (surface f).seen) ≡ Err fault) c.loop-gate.invariant.same
+          (damaged.1 keeps)),
     ))
 
     by_fault : (r : Result ℕ Fault) → r ≡ Err fault → Cause → IfErr r (λ f. (f ≡ Memory) ⊎ (((f ≡ Device)
         × (g.D.Disk.failures c.args.disk.now < g.D.Disk.failures c.hand_next.new.disk)) ⊎ (IsTrue (is_no_log f) × (g.D.Disk.keeps_model → rest ≡ Err f))))
     by_fault r is cause = subst (λ q. IfErr q (λ f. (f ≡ Memory) ⊎ (((f ≡ Device)
-        × (g.D.Disk.failures c.args.disk.now < g.D.Disk.failures c.hand_next.new.disk)) ⊎ (IsTrue (is_no_log f) × (g.D.Disk.keeps_model → rest ≡ Err f))))) (sym is) cause
+        × (g.D.Disk.failures c.args.disk.now < g.D.Disk.failures c.hand_next.new.disk))
+        ⊎ (IsTrue (is_no_log f) × (g.D.Disk.keeps_model → rest ≡ Err f))))) (sym is) cause
 
 pub returns-in_err-gate-clause-waits : goal.returns-in_err-gate-clause-waits
 returns-in_err-gate-clause-waits g c obey waiting =

@@ -39,7 +39,8 @@ loop-left-preserved c =
     record {
       few = omega (arith, i.few);
       size = omega (arith, i.size, i.few, c.loop-left-test.true, nine, ap length c.split_at.ensures.back, length-drop 9 c.loop-left.rest.now);
-      above = placed-said c.loop-left.area c.args.len c.in_ok-said.said c.unwrap_or-area.result _ _ _ i.above c.unwrap_or-area.ensures c.in_ok-said.ensures.opened;
+      above = placed-said c.loop-left.area c.args.len c.in_ok-said.said c.unwrap_or-area.result _ _ _ i.above c.unwrap_or-area.ensures
+          c.in_ok-said.ensures.opened;
       says = λ beyond long. past-said c.loop-left.rest.now beyond c.split_at.result.0.now c.split_at.result.1.now nine
           c.split_at.ensures.front c.split_at.ensures.back c.loop-left.left c.loop-left.area c.args.len c.loop-left.shut c.loop-left-test.true i.few
           (omega (arith, i.size, c.requires.inside, nine)) c.in_ok-said.said c.unwrap_or-area.result c.is_none-shut.result c.unwrap_or-area.ensures

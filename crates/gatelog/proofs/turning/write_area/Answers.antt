@@ -97,10 +97,12 @@ returns-clause-any_moment g c keeps =
     let P : List ℕ → Type 0 = MayLeave (tried_write at (length bytes) file) in
     let run = one_call g.D.Disk.file g.D.Disk.clock g.D.Disk.since g.D.Disk.failures old mid P c.write_at.ensures.time
     (g.met.D.Disk.only_now old) (tried_write_more at (length bytes) file) (c.write_at.ensures.crash keeps) in
-    and_then g.D.Disk.clock g.D.Disk.since old mid c.open_behind.new.disk P _ (IsOldOrNew file.seen s.gate s.slot s.items) run (c.open_behind.ensures.any_moment keeps)
+    and_then g.D.Disk.clock g.D.Disk.since old mid c.open_behind.new.disk P _ (IsOldOrNew file.seen s.gate s.slot s.items) run
+    (c.open_behind.ensures.any_moment keeps)
     (while-first file may.0 s.gate s.slot s.items may.1 at bytes at-is c.bytes.ensures.bytes)
     (while-last file may.0 s.gate s.slot s.items may.1 (surface (g.D.Disk.file mid)) (8 + 9 * c.slot-slot.result) c.write_u64.new.buf
-    (mid-area file may.0 s.gate s.slot s.items may.1 at bytes at-is c.bytes.ensures.bytes (surface (g.D.Disk.file mid)) (c.in_ok-write_at.ensures.written keeps))
+    (mid-area file may.0 s.gate s.slot s.items may.1 at bytes at-is c.bytes.ensures.bytes (surface (g.D.Disk.file mid))
+    (c.in_ok-write_at.ensures.written keeps))
     (omega (arith, c.slot-slot.ensures.slot)) (offset-is g c))
 
 pub returns-clause-done : goal.returns-clause-done

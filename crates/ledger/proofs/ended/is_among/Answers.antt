@@ -9,7 +9,7 @@ returns-then-place-ids c =
     let ids = c.args.ids.now in
     let found = c.index-ids-place.result in
     let place = c.place_of-place.ensures.place in
-    c.is.ensures
+    c.eq.ensures
     ∙ ap (λ id. same_id id c.args.txn) (c.index-ids-place.is ∙ ap (λ n. get_or ids n found) place)
     ∙ has_at (λ id. id) ids c.args.txn found c.requires (subst (λ (n : ℕ). n < length ids) place c.if-place-ids.true)
     ∙ has_id-is ids c.args.txn

@@ -16,10 +16,12 @@ returns-clause-added g c =
     let before = g.R.Recorder.records c.args.recorder.now in
     let after = g.R.Recorder.records c.loop-txn.recorder in
     sym (append-nil after)
-    ∙ ap (λ (ids : List Id). after ++ gather (λ t. standing_item (known_of facts t)) ids) (sym (drop_all c.loop-txn.txn-index c.args.ids.now c.loop-txn-test.false))
+    ∙ ap (λ (ids : List Id). after ++ gather (λ t. standing_item (known_of facts t)) ids)
+    (sym (drop_all c.loop-txn.txn-index c.args.ids.now c.loop-txn-test.false))
     ∙ c.loop-txn.invariant
     ∙ ap (λ (ids : List Id). before ++ gather (λ t. standing_item (known_of facts t)) ids) c.requires.ids
-    ∙ ap (λ (items : List Record). before ++ items) (made_of_ids standing_item facts (by_ids facts.entries (subst (IsById (λ t. t)) c.requires.ids c.requires.order)))
+    ∙ ap (λ (items : List Record). before ++ items) (made_of_ids standing_item facts
+    (by_ids facts.entries (subst (IsById (λ t. t)) c.requires.ids c.requires.order)))
 
 pub loop-txn-preserved : goal.loop-txn-preserved
 loop-txn-preserved g c =

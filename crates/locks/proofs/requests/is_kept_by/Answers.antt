@@ -1,4 +1,5 @@
 use Rattle.std.proofs.Common.{◌∙◌, sym, ap, [], ◌∷◌}
+use Rattle.std.proofs.lemmas.Bool.{not-true}
 use Rattle.std.specs.Option.{option_copied}
 use Rattle.locks.specs.Ways.{keeps_out}
 use Rattle.locks.proofs.Firsts.{found_any}
@@ -13,5 +14,5 @@ returns-then-keeps_out c =
 pub returns-then-seems_paired : goal.returns-then-seems_paired
 returns-then-seems_paired c =
     sym (kept_by_none c.args.tally.now c.args.claims.now c.args.txn c.args.other c.args.lock.now c.in-Some.claim.now c.requires
-    (sym c.is.ensures ∙ c.if-not-is.true) (sym c.find.ensures ∙ ap option_copied c.in-Some.is)
+    (not-true _ (sym c.ne.ensures ∙ c.if-ne.true)) (sym c.find.ensures ∙ ap option_copied c.in-Some.is)
     (sym c.keeps_out.ensures ∙ c.if-keeps_out.false) (sym c.seems_paired.ensures ∙ c.if-seems_paired.true))

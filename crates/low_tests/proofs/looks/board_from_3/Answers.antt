@@ -1,4 +1,4 @@
-use Rattle.std.proofs.Common.{◌∙◌, arith}
+use Rattle.std.proofs.Common.{◌∙◌}
 use Rattle.std.proofs.lemmas.Result.{IfOk-weaker}
 use Rattle.low_tests.proofs.Boards.{from_three}
 use Rattle.low_tests.proofs.looks.board_from_3.Goals as goal
@@ -6,5 +6,5 @@ use Rattle.low_tests.proofs.looks.board_from_3.Goals as goal
 pub returns-in-Ok : goal.returns-in-Ok
 returns-in-Ok g c =
     IfOk-weaker c.start.result _ _
-    (λ made is. (is.0 ∙ from_three _ _ (c.stamp.ensures (omega arith)) (c.stamp-in-Ok.ensures (omega arith)), is.1))
+    (λ made is. (is.0 ∙ from_three _ _ c.stamp.ensures c.stamp-in-Ok.ensures, is.1))
     c.start.ensures.publisher

@@ -8,8 +8,8 @@ use Rattle.versions.proofs.forgetting.is_passed.Goals as goal
 le_is : (a b : ℕ) → is_le (nat_cmp a b) ≡ nat_le a b
 le_is a b = grind (arith, nat_tests)
 
-pub returns-then-is : goal.returns-then-is
-returns-then-is c =
+pub returns-then-eq : goal.returns-then-eq
+returns-then-eq c =
     let installs = c.args.installs.now in
     let places = c.args.places.now.places in
     let at = c.args.at in
@@ -23,11 +23,11 @@ returns-then-is c =
     let behind = arranged_at installs places (at + 1) next no_install c.requires.within (omega (arith, c.if-at-len.false, c.len-len.ensures))
     (c.index-installs-get.is ∙ ap (λ (p : ℕ). get_or installs p next) c.get.ensures) in
     let le : c.le.result ≡ nat_le next.at c.args.horizon = c.le.ensures ∙ le_is next.at c.args.horizon in
-    le ∙ sym (ap (λ b. b && nat_le next.at c.args.horizon) (sym c.is.ensures ∙ c.if-is.true))
+    le ∙ sym (ap (λ b. b && nat_le next.at c.args.horizon) (sym c.eq.ensures ∙ c.if-eq.true))
     ∙ passed_by_next c.args.horizon t at this next lt here behind
 
-pub returns-else-is : goal.returns-else-is
-returns-else-is c =
+pub returns-else-eq : goal.returns-else-eq
+returns-else-eq c =
     let installs = c.args.installs.now in
     let places = c.args.places.now.places in
     let at = c.args.at in
@@ -40,5 +40,5 @@ returns-else-is c =
     (c.index-installs-get-2.is ∙ ap (λ (p : ℕ). get_or installs p found) c.get-2.ensures) ∙ c.index-installs-get-2.is in
     let behind = arranged_at installs places (at + 1) next no_install c.requires.within (omega (arith, c.if-at-len.false, c.len-len.ensures))
     (c.index-installs-get.is ∙ ap (λ (p : ℕ). get_or installs p next) c.get.ensures) in
-    c.if-is.false ∙ sym (ap (λ b. b && nat_le next.at c.args.horizon) (sym c.is.ensures ∙ c.if-is.false))
+    c.if-eq.false ∙ sym (ap (λ b. b && nat_le next.at c.args.horizon) (sym c.eq.ensures ∙ c.if-eq.false))
     ∙ passed_by_next c.args.horizon t at this next lt here behind

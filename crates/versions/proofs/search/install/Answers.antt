@@ -10,7 +10,8 @@ place-requires-clause-order c =
     let items = c.args.installs.now.items in
     let places = c.args.places.now.places in
     subst AscendsByVersion
-    (sym (ap (λ t. arranged t places) (c.deref.ensures.value ∙ c.push_reserved.ensures.items) ∙ still_arranged items (c.args.new ∷ []) places c.requires.within))
+    (sym (ap (λ t. arranged t places) (c.deref.ensures.value ∙ c.push_reserved.ensures.items)
+    ∙ still_arranged items (c.args.new ∷ []) places c.requires.within))
     c.requires.order
 
 pub place-requires-clause-heads : goal.place-requires-clause-heads
@@ -18,7 +19,8 @@ place-requires-clause-heads c =
     let items = c.args.installs.now.items in
     let places = c.args.places.now.places in
     subst (λ t. AreHeads c.args.places.now.prefix t c.args.places.now.heads)
-    (sym (ap (λ t. arranged t places) (c.deref.ensures.value ∙ c.push_reserved.ensures.items) ∙ still_arranged items (c.args.new ∷ []) places c.requires.within))
+    (sym (ap (λ t. arranged t places) (c.deref.ensures.value ∙ c.push_reserved.ensures.items)
+    ∙ still_arranged items (c.args.new ∷ []) places c.requires.within))
     c.requires.heads
 
 pub returns-clause-items : goal.returns-clause-items

@@ -10,8 +10,8 @@ returns-then-count-eq0 c =
     sym (newest_none c.args.key.now c.args.at (arranged c.args.installs.now c.args.places.now.places)
     (λ k d le lt. c.requires.after k d (omega (arith, c.if-count-eq0.true)) lt))
 
-pub returns-then-is : goal.returns-then-is
-returns-then-is c =
+pub returns-then-eq : goal.returns-then-eq
+returns-then-eq c =
     let found = c.args.count in
     let last = c.index-installs-place.result in
     let t = arranged c.args.installs.now c.args.places.now.places in
@@ -22,10 +22,10 @@ returns-then-is c =
     (c.index-installs-place.is ∙ ap (λ (p : ℕ). get_or c.args.installs.now p last) c.get-place.ensures)))
     (λ k d lt. c.requires.before k d (omega (arith, c.if-count-eq0.false))) (λ k d le lt. c.requires.after k d
     (omega (arith, c.if-count-eq0.false)) lt)
-    ∙ ap (λ b. cond {A = Option Install} b (Some last) None) (sym c.is.ensures ∙ c.if-is.true))
+    ∙ ap (λ b. cond {A = Option Install} b (Some last) None) (sym c.eq.ensures ∙ c.if-eq.true))
 
-pub returns-else-is : goal.returns-else-is
-returns-else-is c =
+pub returns-else-eq : goal.returns-else-eq
+returns-else-eq c =
     let found = c.args.count in
     let last = c.index-installs-place.result in
     let t = arranged c.args.installs.now c.args.places.now.places in
@@ -36,4 +36,4 @@ returns-else-is c =
     (c.index-installs-place.is ∙ ap (λ (p : ℕ). get_or c.args.installs.now p last) c.get-place.ensures)))
     (λ k d lt. c.requires.before k d (omega (arith, c.if-count-eq0.false))) (λ k d le lt. c.requires.after k d
     (omega (arith, c.if-count-eq0.false)) lt)
-    ∙ ap (λ b. cond {A = Option Install} b (Some last) None) (sym c.is.ensures ∙ c.if-is.false))
+    ∙ ap (λ b. cond {A = Option Install} b (Some last) None) (sym c.eq.ensures ∙ c.if-eq.false))

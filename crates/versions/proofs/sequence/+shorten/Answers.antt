@@ -11,5 +11,6 @@ returns-clause-spots t c =
     let all = c.in-Some.ensures.cases.0 in
     let laid : IsLaid (first ∷ rest) = subst IsLaid all c.requires in
     ap (λ (l : List Spot). l ++ joined c.shorten-2.new.pieces) c.shorten.ensures
-    ∙ shorter_joined first (joined rest) (joined c.shorten-2.new.pieces) c.args.len c.saturating_sub.result laid.0 c.saturating_sub.ensures c.shorten-2.ensures.spots
+    ∙ shorter_joined first (joined rest) (joined c.shorten-2.new.pieces) c.args.len c.saturating_sub.result laid.0 c.saturating_sub.ensures
+    c.shorten-2.ensures.spots
     ∙ ap (λ l. take c.args.len (joined l)) (sym all)

@@ -22,7 +22,8 @@ returns-clause-there g c keeps =
     let piece : c.in_ok-piece.piece.items ≡ take count (drop (at + length front) image) =
     c.in_ok-piece.ensures.bytes keeps ∙ ap (λ n. take count (drop n image)) (sym size) in
     let more = one_piece image at front (inside.len - inside.read) count (inside.len - (inside.read + count)) c.in_ok-piece.piece.items now le left piece in
-    let taken : length c.extend_from_slice.new.self.items ≡ length front + count = ap length items ∙ length-append front c.in_ok-piece.piece.items ∙ ap (λ n. length front + n) c.in_ok-piece.ensures.size in
+    let taken : length c.extend_from_slice.new.self.items ≡ length front + count = ap length items ∙ length-append front c.in_ok-piece.piece.items
+    ∙ ap (λ n. length front + n) c.in_ok-piece.ensures.size in
     let same_at : at ≡ inside.read + count + 0 - length c.extend_from_slice.new.self.items = omega (arith, taken, size, long, inside.within, inside.before) in
     subst (λ (a : Ahead). IsAhead image a)
     (λ i. record { at = same_at i; bytes = sym items i; left = inside.len - (inside.read + count) }) more

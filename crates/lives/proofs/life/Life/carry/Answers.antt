@@ -15,7 +15,8 @@ returns-then-is_up c s h =
 
 pub returns-then-opens : goal.returns-then-opens
 returns-then-opens c s h =
-    subst (λ l. Carries c.args.setup.now c.args.bag.now s c.args.call c.args.doing.now c.args.self.now l c.open-life.result.1) (sym c.replace-then-opens.ensures.after)
+    subst (λ l. Carries c.args.setup.now c.args.bag.now s c.args.call c.args.doing.now c.args.self.now l c.open-life.result.1)
+    (sym c.replace-then-opens.ensures.after)
     (open_carries c.args.setup.now c.args.bag.now s c.args.call c.args.doing.now (sym c.opens.ensures ∙ c.if-opens.true) c.into_disk-disk.result
     c.args.self.now c.open-life.result.0 c.open-life.result.1 (sym (c.is_up.ensures c.args.setup.now s h) ∙ c.if-is_up.false)
     (c.into_disk-disk.ensures c.args.setup.now s (subst (LivesAs c.args.setup.now s) (sym c.replace.ensures.value) h)) c.open-life.ensures)

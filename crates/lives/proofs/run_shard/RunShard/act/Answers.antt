@@ -7,7 +7,16 @@ use Rattle.lives.proofs.run_shard.RunShard.act.Goals as goal
 pub returns-in-Err : goal.returns-in-Err
 returns-in-Err c setup s h =
     let old : RunShard = c.args.self.now in
-    let mid : RunShard = record { setup = old.setup; life = c.carry.new.self; installs = old.installs; from = old.from; views = old.views; high = old.high; rises = old.rises } in
+    let mid : RunShard = record {
+      setup = old.setup;
+      life = c.carry.new.self;
+      installs = old.installs;
+      from = old.from;
+      views = old.views;
+      high
+          = old.high;
+      rises = old.rises;
+    } in
     let kept : IsKept old mid = record { setup = refl; installs = refl; from = refl; views = refl; high = refl; rises = refl } in
     acts_err setup c.args.bag.now s c.args.call c.args.doing.now old mid h kept _ c.in-Err.fault refl c.in-Err.ensures
 
@@ -18,7 +27,16 @@ returns-in-Err-note c setup s h =
 pub returns-in-Ok-note : goal.returns-in-Ok-note
 returns-in-Ok-note c setup s h =
     let old : RunShard = c.args.self.now in
-    let mid : RunShard = record { setup = old.setup; life = c.carry.new.self; installs = old.installs; from = old.from; views = old.views; high = old.high; rises = old.rises } in
+    let mid : RunShard = record {
+      setup = old.setup;
+      life = c.carry.new.self;
+      installs = old.installs;
+      from = old.from;
+      views = old.views;
+      high
+          = old.high;
+      rises = old.rises;
+    } in
     let kept : IsKept old mid = record { setup = refl; installs = refl; from = refl; views = refl; high = refl; rises = refl } in
     acts_ok setup c.args.bag.now s c.args.call c.args.doing.now old mid h kept c.note.new.self c.in-Ok.out
     c.in-Ok.ensures c.in-Ok-note.ensures.noted

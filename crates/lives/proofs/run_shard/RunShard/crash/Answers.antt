@@ -7,8 +7,26 @@ use Rattle.lives.proofs.run_shard.RunShard.crash.Goals as goal
 pub returns-in-Ok-clause-crashed : goal.returns-in-Ok-clause-crashed
 returns-in-Ok-clause-crashed c setup s h orderly =
     let old : RunShard = c.args.self.now in
-    let mid : RunShard = record { setup = old.setup; life = c.carry-answer.new.self; installs = old.installs; from = old.from; views = old.views; high = old.high; rises = old.rises } in
-    let new : RunShard = record { setup = old.setup; life = c.crash.new.self; installs = old.installs; from = old.from; views = old.views; high = old.high; rises = old.rises } in
+    let mid : RunShard = record {
+      setup = old.setup;
+      life = c.carry-answer.new.self;
+      installs = old.installs;
+      from = old.from;
+      views = old.views;
+      high
+          = old.high;
+      rises = old.rises;
+    } in
+    let new : RunShard = record {
+      setup = old.setup;
+      life = c.crash.new.self;
+      installs = old.installs;
+      from = old.from;
+      views = old.views;
+      high
+          = old.high;
+      rises = old.rises;
+    } in
     let first : IsKept old mid = record { setup = refl; installs = refl; from = refl; views = refl; high = refl; rises = refl } in
     let then : IsKept mid new = record { setup = refl; installs = refl; from = refl; views = refl; high = refl; rises = refl } in
     subst (λ o. OnOk c.crash.result (StandsFor setup new (crashed_within setup c.args.bag.now o c.args.fate s))) (sym c.in-Some.is)
@@ -19,7 +37,16 @@ returns-in-Ok-clause-crashed c setup s h orderly =
 pub returns-in-None-clause-crashed : goal.returns-in-None-clause-crashed
 returns-in-None-clause-crashed c setup s h orderly =
     let old : RunShard = c.args.self.now in
-    let new : RunShard = record { setup = old.setup; life = c.crash-in-None.new.self; installs = old.installs; from = old.from; views = old.views; high = old.high; rises = old.rises } in
+    let new : RunShard = record {
+      setup = old.setup;
+      life = c.crash-in-None.new.self;
+      installs = old.installs;
+      from = old.from;
+      views = old.views;
+      high
+          = old.high;
+      rises = old.rises;
+    } in
     subst (λ o. OnOk c.crash-in-None.result (StandsFor setup new (crashed_within setup c.args.bag.now o c.args.fate s))) (sym c.in-None.is)
     (crash_so setup s c.args.fate old new c.crash-in-None.result h
     (record { setup = refl; installs = refl; from = refl; views = refl; high = refl; rises = refl }) (λ t k. c.crash-in-None.ensures.crashed old.setup t k))

@@ -19,4 +19,5 @@ returns-then-serves-2-clause-shown c setup s n h there here =
     subst (λ x. IfOk c.look_at_core.result (λ reply. reply ≡ x))
     (by_core setup core r.installs.items r.from r.high r.views.items n v c.args.is_here k c.args.at
     (told_as setup s core s.state (subst (LivesAs setup s) c.in-Up.is h.lives))
-    (subst (ShowsLife r.installs.items r.from) c.in-Up.is h.shows) (h.apart c.if-self.true) there same (c.serves.ensures c.if-serves.true) serves here) c.look_at_core.ensures.shown
+    (subst (ShowsLife r.installs.items r.from) c.in-Up.is h.shows) (h.apart c.if-self.true) there same (c.serves.ensures c.if-serves.true) serves here)
+    c.look_at_core.ensures.shown

@@ -47,7 +47,8 @@ take_up-requires-clause-known g c = λ keep.
       failures_stay = c.in-Ok-scan.ensures.failures_stay;
       planned = λ obey never. (c.in-Ok-scan.ensures.planned obey never).0;
     } in
-    let rebuilt_as : IsRebuilt c.args.setup (items ts) (Some c.in-Some.state) = subst (λ s. IsRebuilt s (items ts) (Some c.in-Some.state)) told (subst (IsRebuilt (told_to c.scan.new.sink) (items ts)) c.in-Some.is c.in-Ok-finish.ensures.found) in
+    let rebuilt_as : IsRebuilt c.args.setup (items ts) (Some c.in-Some.state) = subst (λ s. IsRebuilt s (items ts) (Some c.in-Some.state)) told
+    (subst (IsRebuilt (told_to c.scan.new.sink) (items ts)) c.in-Some.is c.in-Ok-finish.ensures.found) in
     ap facts_logged (same_records g.D.Disk.keeps_model g.D.Disk.obeys g.D.Disk.file g.D.Disk.clock g.D.Disk.since g.D.Disk.failures g.D.Disk.plan
     c.args.disk _ _ _ ts found keep ∙ records_are g.D.Disk.keeps_model g.D.Disk.obeys g.D.Disk.file g.D.Disk.clock g.D.Disk.since
     g.D.Disk.failures g.D.Disk.plan c.args.disk _ _ _ ts found keep)
@@ -59,7 +60,8 @@ take_up-requires-clause-showable g c =
     let ts : List Placed = entries_in c.scan.new.sink in
     let told : told_to c.scan.new.sink ≡ c.args.setup = c.in-Ok-scan.ensures.told ∙ c.in-Ok.ensures.setup in
     let accepted : taken c.args.setup (items ts) ≡ Accepted = subst (λ s. taken s (items ts) ≡ Accepted) told c.in-Ok-finish.ensures.accepted in
-    let rebuilt_as : IsRebuilt c.args.setup (items ts) (Some c.in-Some.state) = subst (λ s. IsRebuilt s (items ts) (Some c.in-Some.state)) told (subst (IsRebuilt (told_to c.scan.new.sink) (items ts)) c.in-Some.is c.in-Ok-finish.ensures.found) in
+    let rebuilt_as : IsRebuilt c.args.setup (items ts) (Some c.in-Some.state) = subst (λ s. IsRebuilt s (items ts) (Some c.in-Some.state)) told
+    (subst (IsRebuilt (told_to c.scan.new.sink) (items ts)) c.in-Some.is c.in-Ok-finish.ensures.found) in
     taken-showable c.taken_is_showable.ensures c.args.setup ts c.in-Some.state accepted
     c.in-Ok-finish.ensures.ascends rebuilt_as.1 rebuilt_as.2
 
@@ -68,7 +70,8 @@ take_up-requires-clause-lasting g c =
     let ts : List Placed = entries_in c.scan.new.sink in
     let told : told_to c.scan.new.sink ≡ c.args.setup = c.in-Ok-scan.ensures.told ∙ c.in-Ok.ensures.setup in
     let accepted : taken c.args.setup (items ts) ≡ Accepted = subst (λ s. taken s (items ts) ≡ Accepted) told c.in-Ok-finish.ensures.accepted in
-    let rebuilt_as : IsRebuilt c.args.setup (items ts) (Some c.in-Some.state) = subst (λ s. IsRebuilt s (items ts) (Some c.in-Some.state)) told (subst (IsRebuilt (told_to c.scan.new.sink) (items ts)) c.in-Some.is c.in-Ok-finish.ensures.found) in
+    let rebuilt_as : IsRebuilt c.args.setup (items ts) (Some c.in-Some.state) = subst (λ s. IsRebuilt s (items ts) (Some c.in-Some.state)) told
+    (subst (IsRebuilt (told_to c.scan.new.sink) (items ts)) c.in-Some.is c.in-Ok-finish.ensures.found) in
     ∣ taken-lasting c.taken_lasts.ensures c.args.setup ts c.in-Some.state.facts accepted c.in-Ok-finish.ensures.ascends rebuilt_as.1 ∣₁
 
 pub returns-in-Some-clause-opened : goal.returns-in-Some-clause-opened
@@ -86,7 +89,8 @@ returns-in-Some-clause-opened g c =
       failures_stay = c.in-Ok-scan.ensures.failures_stay;
       planned = λ obey never. (c.in-Ok-scan.ensures.planned obey never).0;
     } in
-    let rebuilt_as : IsRebuilt c.args.setup (items ts) (Some c.in-Some.state) = subst (λ s. IsRebuilt s (items ts) (Some c.in-Some.state)) told (subst (IsRebuilt (told_to c.scan.new.sink) (items ts)) c.in-Some.is c.in-Ok-finish.ensures.found) in
+    let rebuilt_as : IsRebuilt c.args.setup (items ts) (Some c.in-Some.state) = subst (λ s. IsRebuilt s (items ts) (Some c.in-Some.state)) told
+    (subst (IsRebuilt (told_to c.scan.new.sink) (items ts)) c.in-Some.is c.in-Ok-finish.ensures.found) in
     let k = c.in-Some.state in
     let rs = items ts in
     through c.take_up.result c.with_book.result (λ core. core.machine) (λ core. book_of core ≡ c.in-Ok-finish.book)
@@ -96,7 +100,8 @@ returns-in-Some-clause-opened g c =
     (λ core setup facts memory slot appended.
     opened g.D.Disk.keeps_model g.D.Disk.obeys g.D.Disk.file g.D.Disk.clock g.D.Disk.since g.D.Disk.failures g.D.Disk.plan c.args.disk
     (disk_of c.in-Ok-scan.gate_log) (gate_at c.in-Ok-scan.gate_log) (next_slot c.in-Ok-scan.gate_log) ts found
-    g.met.D.Disk.counts_now c.args.setup (Record.Opened (k.facts.epoch + 1)) (seen_machine core) (epoch_of_facts rs k.facts rebuilt_as.1) appended slot (setup ∙ rebuilt_as.0)
+    g.met.D.Disk.counts_now c.args.setup (Record.Opened (k.facts.epoch + 1)) (seen_machine core) (epoch_of_facts rs k.facts rebuilt_as.1) appended slot
+    (setup ∙ rebuilt_as.0)
     (memory ∙ ap rebuilt (sym facts)) accepted
     (facts ∙ facts_then c.learn_agrees.ensures c.accepted_follows.ensures c.args.setup rs k.facts accepted rebuilt_as.1))
     c.take_up.ensures.setup c.take_up.ensures.facts c.take_up.ensures.memory c.take_up.ensures.slot c.take_up.ensures.appended)
@@ -116,7 +121,8 @@ returns-in-Some-clause-refused g c =
       failures_stay = c.in-Ok-scan.ensures.failures_stay;
       planned = λ obey never. (c.in-Ok-scan.ensures.planned obey never).0;
     } in
-    let rebuilt_as : IsRebuilt c.args.setup (items ts) (Some c.in-Some.state) = subst (λ s. IsRebuilt s (items ts) (Some c.in-Some.state)) told (subst (IsRebuilt (told_to c.scan.new.sink) (items ts)) c.in-Some.is c.in-Ok-finish.ensures.found) in
+    let rebuilt_as : IsRebuilt c.args.setup (items ts) (Some c.in-Some.state) = subst (λ s. IsRebuilt s (items ts) (Some c.in-Some.state)) told
+    (subst (IsRebuilt (told_to c.scan.new.sink) (items ts)) c.in-Some.is c.in-Ok-finish.ensures.found) in
     let k = c.in-Some.state in
     let rs = items ts in
     not-through c.take_up.result c.with_book.result
@@ -212,8 +218,10 @@ with_book-requires g c =
     let ts : List Placed = entries_in c.scan.new.sink in
     let told : told_to c.scan.new.sink ≡ c.args.setup = c.in-Ok-scan.ensures.told ∙ c.in-Ok.ensures.setup in
     let accepted : taken c.args.setup (items ts) ≡ Accepted = subst (λ s. taken s (items ts) ≡ Accepted) told c.in-Ok-finish.ensures.accepted in
-    let booked : c.in-Ok-finish.book ≡ new_book c.args.setup.book (items ts) = c.in-Ok-finish.ensures.book ∙ ap (λ (s : Setup). new_book s.book (items ts)) told in
-    let rebuilt_as : IsRebuilt c.args.setup (items ts) (Some c.in-Some.state) = subst (λ s. IsRebuilt s (items ts) (Some c.in-Some.state)) told (subst (IsRebuilt (told_to c.scan.new.sink) (items ts)) c.in-Some.is c.in-Ok-finish.ensures.found) in
+    let booked : c.in-Ok-finish.book ≡ new_book c.args.setup.book (items ts) = c.in-Ok-finish.ensures.book
+    ∙ ap (λ (s : Setup). new_book s.book (items ts)) told in
+    let rebuilt_as : IsRebuilt c.args.setup (items ts) (Some c.in-Some.state) = subst (λ s. IsRebuilt s (items ts) (Some c.in-Some.state)) told
+    (subst (IsRebuilt (told_to c.scan.new.sink) (items ts)) c.in-Some.is c.in-Ok-finish.ensures.found) in
     let k = c.in-Some.state in
     let rs = items ts in
     from_four c.take_up.result _ _ _ _ _
@@ -230,7 +238,8 @@ pub with_book-requires-in-None : goal.with_book-requires-in-None
 with_book-requires-in-None g c =
     let ts : List Placed = entries_in c.scan.new.sink in
     let told : told_to c.scan.new.sink ≡ c.args.setup = c.in-Ok-scan.ensures.told ∙ c.in-Ok.ensures.setup in
-    let booked : c.in-Ok-finish.book ≡ new_book c.args.setup.book (items ts) = c.in-Ok-finish.ensures.book ∙ ap (λ (s : Setup). new_book s.book (items ts)) told in
+    let booked : c.in-Ok-finish.book ≡ new_book c.args.setup.book (items ts) = c.in-Ok-finish.ensures.book
+    ∙ ap (λ (s : Setup). new_book s.book (items ts)) told in
     let rs = items ts in
     let empty : items ts ≡ [] = subst (IsRebuilt (told_to c.scan.new.sink) (items ts)) c.in-None.is c.in-Ok-finish.ensures.found in
     from_four c.begin.result _ _ _ _ _
@@ -246,7 +255,8 @@ pub returns-in-Some-clause-book : goal.returns-in-Some-clause-book
 returns-in-Some-clause-book g c =
     let ts : List Placed = entries_in c.scan.new.sink in
     let told : told_to c.scan.new.sink ≡ c.args.setup = c.in-Ok-scan.ensures.told ∙ c.in-Ok.ensures.setup in
-    let booked : c.in-Ok-finish.book ≡ new_book c.args.setup.book (items ts) = c.in-Ok-finish.ensures.book ∙ ap (λ (s : Setup). new_book s.book (items ts)) told in
+    let booked : c.in-Ok-finish.book ≡ new_book c.args.setup.book (items ts) = c.in-Ok-finish.ensures.book
+    ∙ ap (λ (s : Setup). new_book s.book (items ts)) told in
     IfOk-weaker c.with_book.result (λ core. (c.take_up.result ≡ Ok core.machine) × (book_of core ≡ c.in-Ok-finish.book)) _
     (λ core made keep records read.
     found-in c.args.setup (items ts) (book_of core) _ (ap items_of (c.in-Ok-scan.ensures.entries keep)) (made.1 ∙ booked) records read)
@@ -256,7 +266,8 @@ pub returns-in-None-clause-book : goal.returns-in-None-clause-book
 returns-in-None-clause-book g c =
     let ts : List Placed = entries_in c.scan.new.sink in
     let told : told_to c.scan.new.sink ≡ c.args.setup = c.in-Ok-scan.ensures.told ∙ c.in-Ok.ensures.setup in
-    let booked : c.in-Ok-finish.book ≡ new_book c.args.setup.book (items ts) = c.in-Ok-finish.ensures.book ∙ ap (λ (s : Setup). new_book s.book (items ts)) told in
+    let booked : c.in-Ok-finish.book ≡ new_book c.args.setup.book (items ts) = c.in-Ok-finish.ensures.book
+    ∙ ap (λ (s : Setup). new_book s.book (items ts)) told in
     IfOk-weaker c.with_book-in-None.result (λ core. (c.begin.result ≡ Ok core.machine) × (book_of core ≡ c.in-Ok-finish.book)) _
     (λ core made keep records read.
     found-in c.args.setup (items ts) (book_of core) _ (ap items_of (c.in-Ok-scan.ensures.entries keep)) (made.1 ∙ booked) records read)

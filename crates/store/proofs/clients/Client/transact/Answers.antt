@@ -9,8 +9,8 @@ returns-then-not-runs_again g c =
     let tried = c.loop-try.invariant.tried in
     let one =
     attempted g.F.FnMut c.loop-try.self c.begin.new.self c.finish-ended.new.self c.in-Ok.transaction c.code-ran.new.arg2 c.loop-try.code c.code-ran.new.self
-    c.code-ran.result c.kept-ran.result c.id-own.result c.id.result c.is.result c.finish-ended.result c.in-Ok.ensures
-    (record { shown = _; shows = refl; left = _; called = c.code-ran.ensures; leaves = refl }) c.id-own.ensures c.id.ensures c.is.ensures c.kept-ran.ensures
+    c.code-ran.result c.kept-ran.result c.id-own.result c.id.result c.eq.result c.finish-ended.result c.in-Ok.ensures
+    (record { shown = _; shows = refl; left = _; called = c.code-ran.ensures; leaves = refl }) c.id-own.ensures c.id.ensures c.eq.ensures c.kept-ran.ensures
     c.finish-ended.ensures.work c.finish-ended.ensures.ended in
     let room : c.loop-try._try < c.args.tries = search rules in (
       tried.0 ++ one.attempt ∷ [],
@@ -37,8 +37,8 @@ loop-try-preserved g c =
     let tried = c.loop-try.invariant.tried in
     let one =
     attempted g.F.FnMut c.loop-try.self c.begin.new.self c.finish-ended.new.self c.in-Ok.transaction c.code-ran.new.arg2 c.loop-try.code c.code-ran.new.self
-    c.code-ran.result c.kept-ran.result c.id-own.result c.id.result c.is.result c.finish-ended.result c.in-Ok.ensures
-    (record { shown = _; shows = refl; left = _; called = c.code-ran.ensures; leaves = refl }) c.id-own.ensures c.id.ensures c.is.ensures c.kept-ran.ensures
+    c.code-ran.result c.kept-ran.result c.id-own.result c.id.result c.eq.result c.finish-ended.result c.in-Ok.ensures
+    (record { shown = _; shows = refl; left = _; called = c.code-ran.ensures; leaves = refl }) c.id-own.ensures c.id.ensures c.eq.ensures c.kept-ran.ensures
     c.finish-ended.ensures.work c.finish-ended.ensures.ended in
     record {
       callable = mut_next g.F.FnMut c.loop-try.code _ _ c.code-ran.new.self c.code-ran.new.self c.code-ran.ensures refl c.loop-try.invariant.callable;

@@ -16,7 +16,8 @@ gather-requires-clause-order c =
     let items = c.self.inside.installs.items in
     let places = c.self.inside.places.places in
     let left : arranged items c.forget.new.places.places ≡ pruned c.args.horizon (arranged items places) =
-    subst (λ (s : List Install). arranged s c.forget.new.places.places ≡ pruned c.args.horizon (arranged s places)) c.deref.ensures.value c.forget.ensures.items in
+    subst (λ (s : List Install). arranged s c.forget.new.places.places ≡ pruned c.args.horizon (arranged s places)) c.deref.ensures.value
+    c.forget.ensures.items in
     subst AscendsByVersion (sym left) (kept-pruned 4611686018427387903 c.args.horizon (arranged items places) c.self.invariant.kept).order
 
 pub invariant_of-self : goal.invariant_of-self

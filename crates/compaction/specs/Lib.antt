@@ -1,0 +1,2 @@
+pub mod Compacted
+pub mod Shown

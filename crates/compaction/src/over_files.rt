@@ -1,0 +1,31 @@
+//! A log is compacted from a file into a new one.
+ghost use Rattle.std.specs.Prelude.{IfErr};
+ghost use Rattle.compaction.specs.Compacted.{IsNotCompacted};
+
+use crate::compacting::compact;
+use crate::gathered::Gathered;
+use std::alloc::Global;
+use system::Files;
+use units::Fault;
+
+/// Makes a file with the records of the log in another one, which stays as it is. What is wrong with the old file counts first, and then
+/// nothing is made; then `Device`, where there is something of the new one's name.
+pub fn compact_file<F: Files>(alloc: Global, files: &F, old: &str, new: &str) -> Result<(), Fault>
+    ensures { IfErr result IsNotCompacted }
+{
+    let from = match Gathered::of(alloc, files.open(alloc, old)?) {
+        Ok(from) => from,
+        Err((fault, _)) => return Err(fault),
+    };
+    let to = match files.create(alloc, new) {
+        Ok(to) => to,
+        Err(fault) => {
+            drop(from);
+            return Err(fault);
+        }
+    };
+    match compact(from, to) {
+        Ok(_) => Ok(()),
+        Err((fault, _, _)) => Err(fault),
+    }
+}

@@ -1,0 +1,211 @@
+//! Logs that are compacted: the new file, byte for byte where it is told, with each failing call; and the old one, which stays as it is.
+use crate::compacted_rows::{COMPACTED, Compacted, FAILING, Holds, REFUSED, Refused};
+use crate::cores::{formatted, plain};
+use crate::logs::with_log;
+use crate::turned_rows::{COMMIT, SETTLE, TURN};
+use crate::turning::{Kind, compare_bytes, crashed, left};
+use crate::verdict::end;
+use compaction::{Gathered, compact};
+use disk::{Disk, Fate};
+use gatelog::GateLog;
+use made::{WrongRows, with_slots};
+use simdisk::SimDisk;
+use std::alloc::Global;
+use std::process::Abort;
+use std::sync::Wait;
+use units::Fault;
+
+// The bytes of a file.
+fn bytes_on(rt: &impl Abort, alloc: Global, disk: &mut SimDisk) -> Vec<u8> {
+    let mut bytes = vec![in alloc; 0u8; disk.len() as usize]
+        .ok()
+        .expect(rt, "memory");
+    disk.read_at(0, &mut bytes).expect(rt, "a read");
+    bytes
+}
+
+// The file still holds these bytes.
+fn compare_old(
+    wrong: &mut WrongRows,
+    rt: &impl Abort,
+    alloc: Global,
+    disk: SimDisk,
+    name: &str,
+    before: Vec<u8>,
+) {
+    let mut disk = disk;
+    let after = bytes_on(rt, alloc, &mut disk);
+    drop(disk);
+    let same = before.as_slice() == after.as_slice();
+    let len = before.len() as u64;
+    drop(before);
+    drop(after);
+    wrong.unless_at(same, name, len);
+}
+
+// The disk of the new file. The old one stays as it is.
+fn compacted(
+    wrong: &mut WrongRows,
+    rt: &impl Abort,
+    alloc: Global,
+    old: SimDisk,
+    name: &str,
+) -> SimDisk {
+    let mut old = old;
+    let before = bytes_on(rt, alloc, &mut old);
+    let gathered = Gathered::of(alloc, old).ok().expect(rt, name);
+    let (old, log) = compact(gathered, SimDisk::new(alloc)).ok().expect(rt, name);
+    compare_old(wrong, rt, alloc, old, name, before);
+    log.into_disk()
+}
+
+fn go<R: Wait + Abort>(wrong: &mut WrongRows, rt: &R, alloc: Global, row: &Compacted) {
+    let name = row.name;
+    let new = formatted(rt, alloc);
+    let old = left(
+        wrong,
+        rt,
+        alloc,
+        Kind::Core,
+        new,
+        plain(0, 0),
+        name,
+        row.asks,
+    );
+    wrong.unless_at(old.len() == row.old_size, name, old.len());
+    let mut disk = compacted(wrong, rt, alloc, old, name);
+    wrong.unless_at(disk.len() == row.new_size, name, disk.len());
+    if let Some(wanted) = row.bytes {
+        compare_bytes(wrong, rt, alloc, &mut disk, name, wanted);
+    }
+    let disk = crashed(rt, alloc, disk, Fate::Old);
+    let disk = with_log(wrong, alloc, disk, name, row.log);
+    let disk = left(
+        wrong,
+        rt,
+        alloc,
+        Kind::Core,
+        disk,
+        plain(0, 0),
+        name,
+        row.again,
+    );
+    drop(with_log(wrong, alloc, disk, name, row.then));
+}
+
+// Of a log without records, and of what it is compacted to.
+fn go_empty(wrong: &mut WrongRows, rt: &impl Abort, alloc: Global) {
+    let name = "a log without records";
+    let disk = compacted(wrong, rt, alloc, formatted(rt, alloc), name);
+    wrong.unless_at(disk.len() == 9_226, name, disk.len());
+    let disk = with_log(wrong, alloc, disk, name, &[]);
+    let disk = compacted(wrong, rt, alloc, disk, name);
+    wrong.unless_at(disk.len() == 9_226, name, disk.len());
+    drop(with_log(wrong, alloc, disk, name, &[]));
+}
+
+// What a file holds of the renewed log of one settled commit.
+fn held(alloc: Global, disk: SimDisk) -> Option<Holds> {
+    match GateLog::open(alloc, disk) {
+        Ok((log, entries)) => {
+            let count = entries.len();
+            drop(log);
+            drop(entries);
+            match count {
+                0 => Some(Holds::Empty),
+                3 => Some(Holds::All),
+                _ => None,
+            }
+        }
+        Err((fault, disk)) => {
+            drop(disk);
+            if fault == Fault::NotALog {
+                Some(Holds::NoLog)
+            } else {
+                None
+            }
+        }
+    }
+}
+
+// Which call of the new file fails, where one does: it is not laid out before call 5.
+fn fail<R: Wait + Abort>(
+    wrong: &mut WrongRows,
+    rt: &R,
+    alloc: Global,
+    row: &(u64, Option<Fate>, Holds),
+) {
+    let name = "a call of the new file fails";
+    let (call, fate, holds) = *row;
+    let asks = [COMMIT, SETTLE, TURN];
+    let new = formatted(rt, alloc);
+    let mut old = left(wrong, rt, alloc, Kind::Core, new, plain(0, 0), name, &asks);
+    let before = bytes_on(rt, alloc, &mut old);
+    let gathered = Gathered::of(alloc, old).ok().expect(rt, name);
+    let mut to = SimDisk::new(alloc);
+    to.fail_next(call);
+    let (old, mut disk, right) = match compact(gathered, to) {
+        Ok((old, log)) => (old, log.into_disk(), call == 10),
+        Err((fault, old, second)) => {
+            let (disk, calls) = match second {
+                Ok(log) => (log.into_disk(), 5..10),
+                Err(disk) => (disk, 0..5),
+            };
+            (old, disk, fault == Fault::Device && calls.contains(&call))
+        }
+    };
+    wrong.unless_at(right, name, call);
+    compare_old(wrong, rt, alloc, old, name, before);
+    disk.arm(None);
+    if let Some(fate) = fate {
+        disk = crashed(rt, alloc, disk, fate);
+    }
+    wrong.unless_at(held(alloc, disk) == Some(holds), name, call);
+}
+
+// The file is refused, and stays as it is.
+fn refuse(wrong: &mut WrongRows, rt: &impl Abort, alloc: Global, row: &Refused) {
+    let mut bytes = with_slots(alloc, row.told).ok().expect(rt, "memory");
+    if let Some(place) = bytes.get_mut(8) {
+        *place = row.slot;
+    }
+    let mut old = SimDisk::new(alloc);
+    old.write_at(0, &bytes).ok().expect(rt, "memory");
+    if let Some(call) = row.fails {
+        old.fail_next(call);
+    }
+    match Gathered::of(alloc, old) {
+        Ok(gathered) => {
+            drop(gathered);
+            drop(bytes);
+            wrong.unless_at(false, row.name, 0);
+        }
+        Err((fault, old)) => {
+            wrong.unless_at(fault == row.fault, row.name, 1);
+            compare_old(wrong, rt, alloc, old, row.name, bytes);
+        }
+    }
+}
+
+// It fails where a record is left out, or the new file is as long as the old one.
+#[test]
+fn logs_are_compacted(rt: HostRuntime) {
+    let mut wrong = WrongRows::none(rt.alloc());
+    for row in &COMPACTED {
+        go(&mut wrong, &rt, rt.alloc(), row);
+    }
+    go_empty(&mut wrong, &rt, rt.alloc());
+    end(&rt, wrong);
+}
+
+#[test]
+fn compactions_that_fail(rt: HostRuntime) {
+    let mut wrong = WrongRows::none(rt.alloc());
+    for row in &FAILING {
+        fail(&mut wrong, &rt, rt.alloc(), row);
+    }
+    for row in &REFUSED {
+        refuse(&mut wrong, &rt, rt.alloc(), row);
+    }
+    end(&rt, wrong);
+}

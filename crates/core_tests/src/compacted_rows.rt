@@ -1,0 +1,220 @@
+//! Logs that are compacted, what the new file holds, and logs of which none is made.
+use crate::logs::Line;
+use crate::turned_rows::{
+    A, COMMIT, DONE, NEW, NEW_AGAIN, OLD, OLD_AGAIN, SECOND, SETTLE, SETTLE_SECOND, TURN,
+};
+use crate::turning::{Ask, Asked, Bytes};
+use disk::Fate;
+use units::Fault;
+
+/// A log by what a core on a new one is asked, and the lengths of its file and of the new one.
+pub struct Compacted {
+    pub name: &'static str,
+    pub asks: &'static [Asked],
+    pub old_size: u64,
+    pub new_size: u64,
+    // The bytes of the new file, where they are told.
+    pub bytes: Option<&'static Bytes>,
+    // Its records, once it was opened and asked so, and then.
+    pub log: &'static [Line],
+    pub again: &'static [Asked],
+    pub then: &'static [Line],
+}
+
+// The file of the renewed log of one settled commit: no record in the first area, whose closed gate is byte 9,224; behind it Base 1 111 0,
+// Version 111 a=1, Settled 1.1 111 parts 0, of 30, 20 and 32 bytes, and a closed gate. Slot 0 is open and names 9,225.
+const SHORT: &Bytes = &Bytes {
+    told: &[
+        0x53, 0x50, 0x4e, 0x4c, 0x4f, 0x47, 0x30, 0x32, 0, 0xa5, 0, 0, 0, 25, 8, 0, 0, 0, 0, 0, 0,
+        0, 1, 0, 0, 0, 0, 0, 0, 0, 0x6f, 0, 0, 0, 0, 0, 0, 0, 0, 0xa5, 0, 0, 0, 15, 9, 1, 0x61, 0,
+        0, 0, 0, 0, 0, 0, 0x6f, 1, 0, 1, 0x31, 0xa5, 0, 0, 0, 27, 10, 0, 0, 0, 0, 0, 0, 0, 1, 0, 0,
+        0, 0, 0, 0, 0, 1, 0, 0, 0, 0, 0, 0, 0, 0x6f, 0, 1, 0,
+    ],
+    slots: [
+        0xa5, 0, 0, 0, 0, 0, 0, 0x24, 0x09, 0, 0, 0, 0, 0, 0, 0, 0, 0,
+    ],
+};
+
+const SETTLED: Compacted = Compacted {
+    name: "a settled commit that was turned over",
+    asks: &[COMMIT, SETTLE, TURN],
+    old_size: 9_395,
+    new_size: 9_308,
+    bytes: Some(SHORT),
+    log: NEW,
+    again: &[(230, 240, Ask::Given(A, DONE))],
+    then: NEW_AGAIN,
+};
+
+pub static COMPACTED: [Compacted; 4] = [
+    SETTLED,
+    Compacted {
+        name: "the same, turned over twice",
+        asks: &[COMMIT, SETTLE, TURN, TURN],
+        old_size: 9_478,
+        ..SETTLED
+    },
+    Compacted {
+        name: "a log that was never turned over",
+        asks: &[COMMIT, SETTLE],
+        old_size: 9_312,
+        new_size: 9_313,
+        bytes: None,
+        log: OLD,
+        then: OLD_AGAIN,
+        ..SETTLED
+    },
+    Compacted {
+        name: "commits behind a turnover",
+        asks: &[COMMIT, SETTLE, TURN, SECOND, SETTLE_SECOND],
+        old_size: 9_395 + 73,
+        new_size: 9_308 + 73,
+        bytes: None,
+        log: &[
+            Line::Base(1, 111, 0),
+            Line::Version(111, b'a', b'1'),
+            Line::Settled(1, 111),
+            Line::Decided(211),
+            Line::Committed(211),
+        ],
+        again: &[
+            (230, 240, Ask::Given(A, DONE)),
+            (230, 240, Ask::Look(b'a', 211, Ok(b'2'))),
+        ],
+        then: &[
+            Line::Base(1, 111, 0),
+            Line::Version(111, b'a', b'1'),
+            Line::Settled(1, 111),
+            Line::Decided(211),
+            Line::Committed(211),
+            Line::Opened(2),
+        ],
+    },
+];
+
+/// What a file holds: no log, the empty one, or all records.
+#[derive(Clone, Copy, PartialEq, Eq)]
+pub enum Holds {
+    NoLog,
+    Empty,
+    All,
+}
+
+/// A call of the new file that fails, counted from 0, what becomes then of the oldest change that is not synced, where there is a crash, and
+/// what the file holds. Calls 0 to 4 lay it out, and 5 to 9 turn it over. Call 10 is none of its own.
+pub static FAILING: [(u64, Option<Fate>, Holds); 44] = [
+    (0, None, Holds::NoLog),
+    (0, Some(Fate::Old), Holds::NoLog),
+    (0, Some(Fate::New), Holds::NoLog),
+    (0, Some(Fate::Filled(0xa5)), Holds::NoLog),
+    (1, None, Holds::NoLog),
+    (1, Some(Fate::Old), Holds::NoLog),
+    (1, Some(Fate::New), Holds::NoLog),
+    (1, Some(Fate::Filled(0xa5)), Holds::NoLog),
+    (2, None, Holds::NoLog),
+    (2, Some(Fate::Old), Holds::NoLog),
+    (2, Some(Fate::New), Holds::NoLog),
+    (2, Some(Fate::Filled(0xa5)), Holds::NoLog),
+    (3, None, Holds::NoLog),
+    (3, Some(Fate::Old), Holds::NoLog),
+    (3, Some(Fate::New), Holds::Empty),
+    (3, Some(Fate::Filled(0xa5)), Holds::NoLog),
+    (4, None, Holds::Empty),
+    (4, Some(Fate::Old), Holds::NoLog),
+    (4, Some(Fate::New), Holds::Empty),
+    (4, Some(Fate::Filled(0xa5)), Holds::NoLog),
+    (5, None, Holds::Empty),
+    (5, Some(Fate::Old), Holds::Empty),
+    (5, Some(Fate::New), Holds::Empty),
+    (5, Some(Fate::Filled(0xa5)), Holds::Empty),
+    (6, None, Holds::Empty),
+    (6, Some(Fate::Old), Holds::Empty),
+    (6, Some(Fate::New), Holds::Empty),
+    (6, Some(Fate::Filled(0xa5)), Holds::Empty),
+    (7, None, Holds::Empty),
+    (7, Some(Fate::Old), Holds::Empty),
+    (7, Some(Fate::New), Holds::Empty),
+    (7, Some(Fate::Filled(0xa5)), Holds::Empty),
+    (8, None, Holds::Empty),
+    (8, Some(Fate::Old), Holds::Empty),
+    (8, Some(Fate::New), Holds::All),
+    (8, Some(Fate::Filled(0xa5)), Holds::All),
+    (8, Some(Fate::Filled(0x37)), Holds::Empty),
+    (9, None, Holds::All),
+    (9, Some(Fate::Old), Holds::Empty),
+    (9, Some(Fate::New), Holds::All),
+    (9, Some(Fate::Filled(0xa5)), Holds::All),
+    (9, Some(Fate::Filled(0x37)), Holds::Empty),
+    (10, None, Holds::All),
+    (10, Some(Fate::Old), Holds::All),
+];
+
+/// A file that is told without its slots, the gate of its first slot, where it has slots, a call of it that fails, and why it is refused.
+pub struct Refused {
+    pub name: &'static str,
+    pub told: &'static [u8],
+    pub slot: u8,
+    pub fails: Option<u64>,
+    pub fault: Fault,
+}
+
+const NO_BYTE: Refused = Refused {
+    name: "no byte",
+    told: b"",
+    slot: 0,
+    fails: None,
+    fault: Fault::NotALog,
+};
+
+pub static REFUSED: [Refused; 9] = [
+    NO_BYTE,
+    Refused {
+        name: "a part of the header",
+        told: b"SPNLOG0",
+        ..NO_BYTE
+    },
+    Refused {
+        name: "version 1",
+        told: b"SPNLOG01\0",
+        ..NO_BYTE
+    },
+    Refused {
+        name: "no gate",
+        told: b"SPNLOG02",
+        fault: Fault::Damaged { offset: 9_224 },
+        ..NO_BYTE
+    },
+    Refused {
+        name: "past the end",
+        told: b"SPNLOG02\xa5\0\0\0\x09",
+        fault: Fault::Damaged { offset: 9_224 },
+        ..NO_BYTE
+    },
+    Refused {
+        name: "no gate behind a record",
+        told: b"SPNLOG02\xa5\0\0\0\x09\x01\0\0\0\0\0\0\0\x01",
+        fault: Fault::Damaged { offset: 9_238 },
+        ..NO_BYTE
+    },
+    Refused {
+        name: "an open slot of no area",
+        told: b"SPNLOG02\0",
+        slot: 0xa5,
+        fault: Fault::Damaged { offset: 8 },
+        ..NO_BYTE
+    },
+    Refused {
+        name: "its sync fails",
+        told: b"SPNLOG02\0",
+        fails: Some(0),
+        fault: Fault::Device,
+        ..NO_BYTE
+    },
+    Refused {
+        name: "its first read fails",
+        told: b"SPNLOG02\0",
+        fails: Some(1),
+        fault: Fault::Device,
+        ..NO_BYTE
+    },
+];

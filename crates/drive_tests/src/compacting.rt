@@ -1,0 +1,207 @@
+//! Logs that are compacted, and take the names of the old ones.
+use crate::commands::{Output, Step, furnished, go_over};
+use crate::folder::Folder;
+use crate::verdict::end;
+use cli::{Engine, Put, System, put_in_store};
+use drive::drive_shards;
+use host_files::HostFiles;
+use made::{ONE_COMMIT, WrongRows, in_version_1, with_slots};
+use settings::Settings;
+use std::alloc::Global;
+use std::process::Abort;
+
+const DRIVE: Step = Step {
+    command: "drive",
+    names: &["files.settings"],
+    more: &[],
+    output: Output::Driven(200),
+    fault: "",
+    status: 0,
+};
+
+const COMPACT: Step = Step {
+    command: "compact",
+    names: &["shard-0.log", "shard-0.new"],
+    more: &[],
+    output: Output::Nothing,
+    fault: "",
+    status: 0,
+};
+
+const NO_DEVICE: Step = Step {
+    fault: "fault: 2 Device\n",
+    status: 2,
+    ..COMPACT
+};
+
+const NO_LOG: Step = Step {
+    fault: "fault: 12 NotALog\n",
+    status: 2,
+    ..COMPACT
+};
+
+const PUT: Step = Step {
+    command: "put",
+    names: &["."],
+    more: &["k0001", "once"],
+    output: Output::Committed,
+    fault: "",
+    status: 0,
+};
+
+const GET: Step = Step {
+    command: "get",
+    names: &["."],
+    more: &["k0001"],
+    output: Output::Is("=once\n"),
+    fault: "",
+    status: 0,
+};
+
+const INSPECT: Step = Step {
+    command: "inspect",
+    names: &["no.lines", "shard-0.log", "shard-1.log"],
+    more: &[],
+    output: Output::Yes,
+    fault: "",
+    status: 0,
+};
+
+// A store, and new files of its logs. What is refused makes nothing.
+static STEPS: [Step; 14] = [
+    DRIVE,
+    PUT,
+    COMPACT,
+    Step {
+        names: &["shard-1.log", "shard-1.new"],
+        ..COMPACT
+    },
+    Step {
+        names: &["no.lines", "shard-0.new", "shard-1.new"],
+        ..INSPECT
+    },
+    NO_DEVICE,
+    Step {
+        names: &["shard-0.log", "shard-0.log"],
+        ..NO_DEVICE
+    },
+    Step {
+        names: &["missing.log", "other.log"],
+        ..NO_DEVICE
+    },
+    Step {
+        names: &["shard-0.log", "missing/new.log"],
+        ..NO_DEVICE
+    },
+    Step {
+        names: &["no.lines", "other.log"],
+        ..NO_LOG
+    },
+    Step {
+        names: &["old.log", "other.log"],
+        ..NO_LOG
+    },
+    Step {
+        names: &["cut.log", "other.log"],
+        fault: "fault: 11 Damaged at 9224\n",
+        ..NO_LOG
+    },
+    Step {
+        command: "dump",
+        names: &["other.log"],
+        ..NO_DEVICE
+    },
+    Step {
+        names: &["turned.log", "short.log"],
+        ..COMPACT
+    },
+];
+
+// Once the new files have the names of the old ones.
+static SWAPPED: [Step; 6] = [
+    INSPECT,
+    GET,
+    Step {
+        more: &["k0001", "twice"],
+        ..PUT
+    },
+    Step {
+        output: Output::Is("=twice\n"),
+        ..GET
+    },
+    DRIVE,
+    INSPECT,
+];
+
+// The records of a renewed log: Base 1 111 0, Version 111 a=1, Settled 1.1 111 parts 0, and a closed gate.
+const RENEWED: [u8; 83] = [
+    0xa5, 0, 0, 0, 25, 8, 0, 0, 0, 0, 0, 0, 0, 1, 0, 0, 0, 0, 0, 0, 0, 0x6f, 0, 0, 0, 0, 0, 0, 0,
+    0, 0xa5, 0, 0, 0, 15, 9, 1, 0x61, 0, 0, 0, 0, 0, 0, 0, 0x6f, 1, 0, 1, 0x31, 0xa5, 0, 0, 0, 27,
+    10, 0, 0, 0, 0, 0, 0, 0, 1, 0, 0, 0, 0, 0, 0, 0, 1, 0, 0, 0, 0, 0, 0, 0, 0x6f, 0, 1, 0,
+];
+
+// A file with these frames in its first area, and the renewed log behind them, whose offset this is.
+fn turned_over(test: &impl Abort, alloc: Global, first: &[u8], offset: [u8; 2]) -> Vec<u8> {
+    let mut bytes = with_slots(alloc, first).ok().expect(test, "memory");
+    let added = bytes.extend_from_slice(&RENEWED);
+    added.ok().expect(test, "memory");
+    let slot = [0xa5, 0, 0, 0, 0, 0, 0, offset[0], offset[1]];
+    for (place, byte) in bytes.iter_mut().skip(8).zip(slot) {
+        *place = byte;
+    }
+    bytes
+}
+
+// Makes the files that the commands name.
+fn put_files(rt: &HostRuntime, test: &impl Abort, folder: &Folder) {
+    let alloc = rt.alloc();
+    let turned = turned_over(test, alloc, &ONE_COMMIT, [0x24, 0x60]);
+    folder.put_bytes(rt, test, "turned.log", &turned);
+    drop(turned);
+    let cut = with_slots(alloc, b"SPNLOG02").ok().expect(test, "memory");
+    folder.put_bytes(rt, test, "cut.log", &cut);
+    drop(cut);
+    folder.put_bytes(rt, test, "old.log", &in_version_1(ONE_COMMIT));
+}
+
+// The compaction of the log that was turned over: its records alone, from byte 9,225 on.
+fn is_short(rt: &HostRuntime, test: &impl Abort, folder: &Folder) -> bool {
+    let alloc = rt.alloc();
+    let short = turned_over(test, alloc, b"SPNLOG02\0", [0x24, 0x09]);
+    let made = short.len() == 9_308 && folder.has(rt, test, "short.log", &short);
+    drop(short);
+    let turned = turned_over(test, alloc, &ONE_COMMIT, [0x24, 0x60]);
+    let stays = turned.len() == 9_395 && folder.has(rt, test, "turned.log", &turned);
+    drop(turned);
+    made && stays
+}
+
+// It fails where a compaction writes over a file that is there, changes the old one, makes an empty log, or exchanges both.
+#[test]
+fn compacted_logs(rt: HostRuntime) {
+    let folder = furnished(&rt, &rt);
+    put_files(&rt, &rt, &folder);
+    let system = System {
+        files: HostFiles {
+            rt: &rt,
+            is_watched: false,
+        },
+        drive: Engine {
+            run: |alloc: Global, settings: &Settings| {
+                drive_shards(&rt, alloc, settings, Some(Vec::<u8>::new(alloc)))
+            },
+            put: |alloc: Global, write: Put<'_>| put_in_store(&rt, alloc, write),
+        },
+    };
+    let mut wrong = WrongRows::none(rt.alloc());
+    go_over(&mut wrong, &rt, &rt, &system, &folder, &STEPS);
+    wrong.unless(is_short(&rt, &rt, &folder), "the files");
+    if wrong.is_none() {
+        folder.rename(&rt, &rt, "shard-0.new", "shard-0.log");
+        folder.rename(&rt, &rt, "shard-1.new", "shard-1.log");
+        let swapped = wrong.of("swapped");
+        go_over(swapped, &rt, &rt, &system, &folder, &SWAPPED);
+    }
+    wrong.unless(folder.remove(&rt), "the folder");
+    end(&rt, wrong);
+}

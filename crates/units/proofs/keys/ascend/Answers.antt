@@ -1,0 +1,11 @@
+use Rattle.std.proofs.Common.{rules}
+use Rattle.std.proofs.lemmas.List.Sorted.{answers_always}
+use Rattle.units.specs.Keys.{key_before}
+use Rattle.units.proofs.InOrder.{ascends_by}
+use Rattle.units.proofs.KeyOrder.{before_by}
+use Rattle.units.proofs.keys.ascend.Goals as goal
+
+pub returns : goal.returns
+returns c =
+    ascends_by key_before c.args.keys.now _ (c.is_sorted_by.ensures.cases key_before
+    (answers_always _ _ _ (λ f a r g h. search (rules, before_by a.0.now a.1.0.now))))
