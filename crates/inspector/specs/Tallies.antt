@@ -7,7 +7,7 @@ use Rattle.record.specs.History.{by_shard}
 use Rattle.record.specs.Records.{as_committed, as_ended}
 use Rattle.record.specs.Whole.{Decision, fits_decision, parts_exist}
 use Rattle.record.specs.declared.record.Record.{Record}
-use Rattle.record.specs.declared.record.Record.TheVariants.{Opened, Ceiling, Prepare, Commit, Abort, Outcome, Horizon, Base, Version, Settled, Closed}
+use Rattle.record.specs.declared.record.Record.TheVariants.{Prepare, Abort, Outcome, Settled, Closed}
 use Rattle.inspector.specs.declared.whole.Stand.{Stand}
 use Rattle.inspector.specs.declared.whole.Stand.TheVariants.{Nothing, Otherwise, Promised}
 use Rattle.inspector.specs.declared.whole.Tally.{Tally}
@@ -49,18 +49,13 @@ promised_as t d u coordinator at =
 
 -- how a record stands to a decision of an id
 abbrev pub stand_of : Id → Decision → Record → Stand
-stand_of t d (Opened epoch) = Nothing
-stand_of t d (Ceiling at) = Nothing
-stand_of t d (Horizon at) = Nothing
 stand_of t d (Prepare p) = promised_as t d p.txn p.coordinator p.at
-stand_of t d (Commit c) = Nothing
 stand_of t d (Abort u) = turned_down (same_id t u)
 stand_of t d (Outcome u None) = turned_down (same_id u t)
 stand_of t d (Outcome u (Some s)) = turned_down (same_id t u && not (nat_eq d.commit.at s))
-stand_of t d (Base epoch floor horizon) = Nothing
-stand_of t d (Version install) = Nothing
 stand_of t d (Settled u s parts) = turned_down (same_id t u && not (nat_eq d.commit.at s))
 stand_of t d (Closed u coordinator None) = turned_down (same_id u t)
+stand_of t d _ = Nothing
 stand_of t d (Closed u coordinator (Some s)) =
     cond (same_id t u && not (nat_eq d.commit.at s)) Otherwise (promised_as t d u coordinator s)
 

@@ -140,15 +140,12 @@ abbrev pub RecordEvidence : Scene → List Record → ℕ → Record → Type 0
 RecordEvidence sc log n (Record.Opened epoch) = Unit {0}
 RecordEvidence sc log n (Record.Ceiling at) = Unit {0}
 RecordEvidence sc log n (Record.Horizon at) = Unit {0}
-RecordEvidence sc log n (Record.Base epoch floor horizon) = ⊥
-RecordEvidence sc log n (Record.Version install) = ⊥
-RecordEvidence sc log n (Record.Settled u s parts) = ⊥
-RecordEvidence sc log n (Record.Closed u coordinator outcome) = ⊥
 RecordEvidence sc log n (Record.Prepare p) = PrepareAsked sc.world n p.txn p.coordinator p.reads p.writes
 RecordEvidence sc log n (Record.Commit c) = CommitEvidence sc n c
 RecordEvidence sc log n (Record.Abort t) = WasAsked sc.world n t ⊎ WasQuestioned sc.world n t
 RecordEvidence sc log n (Record.Outcome t (Some s)) = (s < sc.now) × (HasDecision log t s ⊎ WasTold sc.world log n t (Some s))
 RecordEvidence sc log n (Record.Outcome t None) = WasTold sc.world log n t None
+RecordEvidence sc log n _ = ⊥
 
 -- ---- rows
 

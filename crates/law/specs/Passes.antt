@@ -93,15 +93,7 @@ HeldWhileOpen w a x =
 abbrev pub IsClaim : Record → Id → ℕ → List Bytes → Type 0
 IsClaim (Record.Prepare p) t at ks = (p.txn ≡ t) × (p.at ≡ at) × (p.reads ≡ ks)
 IsClaim (Record.Commit c) t at ks = (c.txn ≡ t) × (c.at ≡ at) × (c.reads ≡ ks)
-IsClaim (Record.Opened epoch) t at ks = ⊥
-IsClaim (Record.Ceiling s) t at ks = ⊥
-IsClaim (Record.Horizon s) t at ks = ⊥
-IsClaim (Record.Base epoch floor horizon) t at ks = ⊥
-IsClaim (Record.Version install) t at ks = ⊥
-IsClaim (Record.Settled u s parts) t at ks = ⊥
-IsClaim (Record.Closed u coordinator outcome) t at ks = ⊥
-IsClaim (Record.Abort u) t at ks = ⊥
-IsClaim (Record.Outcome u o) t at ks = ⊥
+IsClaim _ t at ks = ⊥
 
 -- the log has an outcome of the reader, and a time is not below it
 pub record IsPastEnd (log : List Record) (t : Id) (at : ℕ) : Type 0 where
@@ -145,16 +137,10 @@ abbrev pub ComesAbove : ℕ → Record → Type 0
 ComesAbove at (Record.Prepare p) = at < p.at
 ComesAbove at (Record.Commit c) = at < c.at
 ComesAbove at (Record.Outcome u (Some s)) = at < s
-ComesAbove at (Record.Outcome u None) = Unit {0}
-ComesAbove at (Record.Opened epoch) = Unit {0}
-ComesAbove at (Record.Ceiling s) = Unit {0}
-ComesAbove at (Record.Horizon s) = Unit {0}
-ComesAbove at (Record.Abort u) = Unit {0}
-ComesAbove at (Record.Base epoch floor horizon) = Unit {0}
 ComesAbove at (Record.Version install) = at < install.at
 ComesAbove at (Record.Settled u s parts) = at < s
 ComesAbove at (Record.Closed u coordinator (Some s)) = at < s
-ComesAbove at (Record.Closed u coordinator None) = Unit {0}
+ComesAbove at _ = Unit {0}
 
 -- a log is another with more behind it, all of it above a time that its floor keeps
 pub record IsAboveServed (before log : List Record) (at : ℕ) : Type 0 where

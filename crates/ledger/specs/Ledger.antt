@@ -1,45 +1,26 @@
 -- What the record that comes next installs.
-use Rattle.std.specs.Prelude.{IsTrue, Bool, not, ◌||◌, List, [], ◌∷◌, Some, None}
+use Rattle.std.specs.Prelude.{IsTrue, Bool, not, ◌||◌, List, [], ◌∷◌, Some}
 use Rattle.units.specs.Lists.{ascends}
 use Rattle.units.specs.Versions.{above_versions, version_before}
 use Rattle.units.specs.declared.writes.Install.{Install}
 use Rattle.units.specs.declared.writes.Write.{Write}
 use Rattle.record.specs.Facts.{Facts, recorded}
 use Rattle.record.specs.declared.record.Record.{Record}
-use Rattle.record.specs.declared.record.Record.TheVariants.{Opened, Ceiling, Prepare, Commit, Abort, Outcome, Horizon, Base, Version, Settled, Closed}
+use Rattle.record.specs.declared.record.Record.TheVariants.{Outcome, Version}
 use Rattle.facts.specs.Stages.{is_head}
 use Rattle.facts.specs.declared.stage.Stage.{Stage}
 use Rattle.protocol.specs.Sound.{writes_standing}
 
 -- the writes that the record that comes next installs
 abbrev pub writes_given : Facts → Record → List Write
-writes_given facts (Opened epoch) = []
-writes_given facts (Ceiling at) = []
-writes_given facts (Horizon at) = []
-writes_given facts (Prepare p) = []
-writes_given facts (Commit c) = []
-writes_given facts (Abort t) = []
-writes_given facts (Outcome t None) = []
 writes_given facts (Outcome t (Some s)) = writes_standing (recorded facts t)
-writes_given facts (Base epoch floor horizon) = []
 writes_given facts (Version i) = record { key = i.key; value = i.value } ∷ []
-writes_given facts (Settled t at parts) = []
-writes_given facts (Closed t coordinator outcome) = []
+writes_given facts _ = []
 
 -- an outcome is above the versions of the keys that it writes; that a version of a head is above those of its key is told from their order
 abbrev pub CanInstall : Facts → Record → Type 0
-CanInstall facts (Opened epoch) = Unit {0}
-CanInstall facts (Ceiling at) = Unit {0}
-CanInstall facts (Horizon at) = Unit {0}
-CanInstall facts (Prepare p) = Unit {0}
-CanInstall facts (Commit c) = Unit {0}
-CanInstall facts (Abort t) = Unit {0}
-CanInstall facts (Outcome t None) = Unit {0}
 CanInstall facts (Outcome t (Some s)) = IsTrue (above_versions facts.installs s (writes_standing (recorded facts t)))
-CanInstall facts (Base epoch floor horizon) = Unit {0}
-CanInstall facts (Version i) = Unit {0}
-CanInstall facts (Settled t at parts) = Unit {0}
-CanInstall facts (Closed t coordinator outcome) = Unit {0}
+CanInstall facts _ = Unit {0}
 
 -- in the head of a log the versions ascend by key and timestamp
 abbrev pub head_ascends : Stage → List Install → Bool

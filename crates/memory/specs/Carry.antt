@@ -44,59 +44,24 @@ IsServing None = Unit {0}
 IsServing (Some (Record.Ceiling at)) = Unit {0}
 IsServing (Some (Record.Horizon at)) = Unit {0}
 IsServing (Some (Record.Opened epoch)) = Unit {0}
-IsServing (Some (Record.Prepare p)) = ⊥
-IsServing (Some (Record.Commit c)) = ⊥
-IsServing (Some (Record.Abort u)) = ⊥
-IsServing (Some (Record.Outcome u o)) = ⊥
-IsServing (Some (Record.Base epoch floor horizon)) = ⊥
-IsServing (Some (Record.Version install)) = ⊥
-IsServing (Some (Record.Settled u at parts)) = ⊥
-IsServing (Some (Record.Closed u coordinator outcome)) = ⊥
+IsServing _ = ⊥
 
 -- a row goes by an abort, or by its outcome
 abbrev pub MayDrop : List Row → Id → Option Record → Type 0
 MayDrop rows t (Some (Record.Abort u)) = (u ≡ t) × (may_drop rows t ≡ true)
 MayDrop rows t (Some (Record.Outcome u o)) = (u ≡ t) × (has_phase may_close rows t ≡ true)
-MayDrop rows t None = ⊥
-MayDrop rows t (Some (Record.Opened epoch)) = ⊥
-MayDrop rows t (Some (Record.Ceiling at)) = ⊥
-MayDrop rows t (Some (Record.Horizon at)) = ⊥
-MayDrop rows t (Some (Record.Prepare p)) = ⊥
-MayDrop rows t (Some (Record.Commit c)) = ⊥
-MayDrop rows t (Some (Record.Base epoch floor horizon)) = ⊥
-MayDrop rows t (Some (Record.Version install)) = ⊥
-MayDrop rows t (Some (Record.Settled u at parts)) = ⊥
-MayDrop rows t (Some (Record.Closed u coordinator outcome)) = ⊥
+MayDrop rows t _ = ⊥
 
 -- a row stands by a promise or a decision of its transaction
 abbrev pub MayStand : Id → Option Record → Type 0
 MayStand t (Some (Record.Prepare p)) = p.txn ≡ t
 MayStand t (Some (Record.Commit c)) = c.txn ≡ t
-MayStand t None = ⊥
-MayStand t (Some (Record.Opened epoch)) = ⊥
-MayStand t (Some (Record.Ceiling at)) = ⊥
-MayStand t (Some (Record.Horizon at)) = ⊥
-MayStand t (Some (Record.Abort u)) = ⊥
-MayStand t (Some (Record.Outcome u o)) = ⊥
-MayStand t (Some (Record.Base epoch floor horizon)) = ⊥
-MayStand t (Some (Record.Version install)) = ⊥
-MayStand t (Some (Record.Settled u at parts)) = ⊥
-MayStand t (Some (Record.Closed u coordinator outcome)) = ⊥
+MayStand t _ = ⊥
 
 -- a decision of the transaction is logged
 abbrev pub IsDecision : Id → Option Record → Type 0
 IsDecision t (Some (Record.Commit c)) = c.txn ≡ t
-IsDecision t None = ⊥
-IsDecision t (Some (Record.Opened epoch)) = ⊥
-IsDecision t (Some (Record.Ceiling at)) = ⊥
-IsDecision t (Some (Record.Horizon at)) = ⊥
-IsDecision t (Some (Record.Prepare p)) = ⊥
-IsDecision t (Some (Record.Abort u)) = ⊥
-IsDecision t (Some (Record.Outcome u o)) = ⊥
-IsDecision t (Some (Record.Base epoch floor horizon)) = ⊥
-IsDecision t (Some (Record.Version install)) = ⊥
-IsDecision t (Some (Record.Settled u at parts)) = ⊥
-IsDecision t (Some (Record.Closed u coordinator outcome)) = ⊥
+IsDecision t _ = ⊥
 
 -- a change that may be made of these rows
 abbrev pub FitsRows : List Row → List Id → List Lock → Option Record → Change → Type 0
@@ -195,30 +160,13 @@ MayUndo rows _ _ = Unit {0}
 abbrev pub CanStand : List Row → Id → Record → Type 0
 CanStand rows t (Record.Prepare p) = (p.txn ≡ t) × (has_phase is_idle rows t ≡ true) × (0 < p.at)
 CanStand rows t (Record.Commit c) = (c.txn ≡ t) × (has_phase may_decide rows t ≡ true) × (0 < c.at)
-CanStand rows t (Record.Opened epoch) = ⊥
-CanStand rows t (Record.Ceiling at) = ⊥
-CanStand rows t (Record.Horizon at) = ⊥
-CanStand rows t (Record.Abort u) = ⊥
-CanStand rows t (Record.Outcome u o) = ⊥
-CanStand rows t (Record.Base epoch floor horizon) = ⊥
-CanStand rows t (Record.Version install) = ⊥
-CanStand rows t (Record.Settled u at parts) = ⊥
-CanStand rows t (Record.Closed u coordinator outcome) = ⊥
+CanStand rows t _ = ⊥
 
 -- a promise or a decision that is logged has a timestamp above 0
 abbrev pub IsDated : Option Record → Type 0
 IsDated (Some (Record.Prepare p)) = 0 < p.at
 IsDated (Some (Record.Commit c)) = 0 < c.at
-IsDated None = Unit {0}
-IsDated (Some (Record.Opened epoch)) = Unit {0}
-IsDated (Some (Record.Ceiling at)) = Unit {0}
-IsDated (Some (Record.Horizon at)) = Unit {0}
-IsDated (Some (Record.Abort u)) = Unit {0}
-IsDated (Some (Record.Outcome u o)) = Unit {0}
-IsDated (Some (Record.Base epoch floor horizon)) = Unit {0}
-IsDated (Some (Record.Version install)) = Unit {0}
-IsDated (Some (Record.Settled u at parts)) = Unit {0}
-IsDated (Some (Record.Closed u coordinator outcome)) = Unit {0}
+IsDated _ = Unit {0}
 
 -- who asks for locks by a step that fits may do so
 abbrev pub FitStepsMayAsk : Type 0

@@ -93,15 +93,7 @@ MayEnd rows (t ∷ ts) = (has_phase is_reading rows t ≡ true) × MayEnd (witho
 abbrev pub phase_by : Record → Phase
 phase_by (Record.Prepare p) = IsPrepared p.coordinator p.at
 phase_by (Record.Commit c) = IsDecided c.at c.parts
-phase_by (Record.Opened epoch) = Idle
-phase_by (Record.Ceiling at) = Idle
-phase_by (Record.Horizon at) = Idle
-phase_by (Record.Base epoch floor horizon) = Idle
-phase_by (Record.Version install) = Idle
-phase_by (Record.Settled u at parts) = Idle
-phase_by (Record.Closed u coordinator outcome) = Idle
-phase_by (Record.Abort t) = Idle
-phase_by (Record.Outcome t outcome) = Idle
+phase_by _ = Idle
 
 -- the timestamp of a row that is prepared, and of one that is decided
 abbrev pub prepared_row : Row → Option (Id × ℕ)

@@ -66,30 +66,12 @@ collecting_with_yes n p s = record { token = s.token; request = s.request; votes
 -- the record is a promise of the transaction
 abbrev pub is_prepare_of : Id → Record → Bool
 is_prepare_of t (Record.Prepare p) = same_id p.txn t
-is_prepare_of t (Record.Opened epoch) = false
-is_prepare_of t (Record.Ceiling at) = false
-is_prepare_of t (Record.Horizon at) = false
-is_prepare_of t (Record.Commit c) = false
-is_prepare_of t (Record.Abort u) = false
-is_prepare_of t (Record.Outcome u o) = false
-is_prepare_of t (Record.Base epoch floor horizon) = false
-is_prepare_of t (Record.Version install) = false
-is_prepare_of t (Record.Settled u at parts) = false
-is_prepare_of t (Record.Closed u coordinator o) = false
+is_prepare_of t _ = false
 
 -- it is a decision of the transaction
 abbrev pub is_commit_of : Id → Record → Bool
 is_commit_of t (Record.Commit c) = same_id c.txn t
-is_commit_of t (Record.Opened epoch) = false
-is_commit_of t (Record.Ceiling at) = false
-is_commit_of t (Record.Horizon at) = false
-is_commit_of t (Record.Prepare p) = false
-is_commit_of t (Record.Abort u) = false
-is_commit_of t (Record.Outcome u o) = false
-is_commit_of t (Record.Base epoch floor horizon) = false
-is_commit_of t (Record.Version install) = false
-is_commit_of t (Record.Settled u at parts) = false
-is_commit_of t (Record.Closed u coordinator o) = false
+is_commit_of t _ = false
 
 -- it is an abort of the transaction
 abbrev pub is_abort_of : Id → Record → Bool
@@ -98,41 +80,14 @@ is_abort_of t r = when (λ u. same_id u t) (as_aborted r)
 -- it says how the transaction ended at this shard
 abbrev pub is_outcome_of : Id → Record → Bool
 is_outcome_of t (Record.Outcome u o) = same_id u t
-is_outcome_of t (Record.Opened epoch) = false
-is_outcome_of t (Record.Ceiling at) = false
-is_outcome_of t (Record.Horizon at) = false
-is_outcome_of t (Record.Prepare p) = false
-is_outcome_of t (Record.Commit c) = false
-is_outcome_of t (Record.Abort u) = false
-is_outcome_of t (Record.Base epoch floor horizon) = false
-is_outcome_of t (Record.Version install) = false
-is_outcome_of t (Record.Settled u at parts) = false
-is_outcome_of t (Record.Closed u coordinator o) = false
+is_outcome_of t _ = false
 
 -- the state that a logged promise leads to
 abbrev pub prepared_by : Token → Record → PreparedState
 prepared_by token (Record.Prepare p) = record { token = token; coordinator = p.coordinator; at = p.at }
-prepared_by token (Record.Opened epoch) = record { token = token; coordinator = 0; at = 0 }
-prepared_by token (Record.Ceiling at) = record { token = token; coordinator = 0; at = 0 }
-prepared_by token (Record.Horizon at) = record { token = token; coordinator = 0; at = 0 }
-prepared_by token (Record.Base epoch floor horizon) = record { token = token; coordinator = 0; at = 0 }
-prepared_by token (Record.Version install) = record { token = token; coordinator = 0; at = 0 }
-prepared_by token (Record.Settled u at parts) = record { token = token; coordinator = 0; at = 0 }
-prepared_by token (Record.Closed u coordinator outcome) = record { token = token; coordinator = 0; at = 0 }
-prepared_by token (Record.Commit c) = record { token = token; coordinator = 0; at = 0 }
-prepared_by token (Record.Abort u) = record { token = token; coordinator = 0; at = 0 }
-prepared_by token (Record.Outcome u o) = record { token = token; coordinator = 0; at = 0 }
+prepared_by token _ = record { token = token; coordinator = 0; at = 0 }
 
 -- the state that a logged decision leads to
 abbrev pub decided_by : Token → Record → DecidedState
 decided_by token (Record.Commit c) = record { token = token; at = c.at; parts = c.parts }
-decided_by token (Record.Opened epoch) = record { token = token; at = 0; parts = [] }
-decided_by token (Record.Ceiling at) = record { token = token; at = 0; parts = [] }
-decided_by token (Record.Horizon at) = record { token = token; at = 0; parts = [] }
-decided_by token (Record.Base epoch floor horizon) = record { token = token; at = 0; parts = [] }
-decided_by token (Record.Version install) = record { token = token; at = 0; parts = [] }
-decided_by token (Record.Settled u at parts) = record { token = token; at = 0; parts = [] }
-decided_by token (Record.Closed u coordinator outcome) = record { token = token; at = 0; parts = [] }
-decided_by token (Record.Prepare p) = record { token = token; at = 0; parts = [] }
-decided_by token (Record.Abort u) = record { token = token; at = 0; parts = [] }
-decided_by token (Record.Outcome u o) = record { token = token; at = 0; parts = [] }
+decided_by token _ = record { token = token; at = 0; parts = [] }

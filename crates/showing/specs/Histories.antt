@@ -12,7 +12,7 @@ use Rattle.record.specs.Accepted.{taken}
 use Rattle.record.specs.Installs.{installs_of}
 use Rattle.record.specs.Records.{ended_of}
 use Rattle.record.specs.declared.record.Record.{Record}
-use Rattle.record.specs.declared.record.Record.TheVariants.{Opened, Ceiling, Prepare, Commit, Abort, Outcome, Horizon, Base, Version, Settled, Closed}
+use Rattle.record.specs.declared.record.Record.TheVariants.{Prepare, Commit, Version}
 use Rattle.gatelog.specs.Log.{log}
 use Rattle.gatelog.specs.Placed.{Placed}
 use Rattle.recovery.specs.Recovered.{fault_in, items}
@@ -44,17 +44,10 @@ version_told k i =
 
 -- what a record says of a key, by the ends of transactions
 abbrev pub told_by : (Id → Option (Option ℕ)) → Bytes → Record → List Told
-told_by ends k (Opened epoch) = []
-told_by ends k (Ceiling at) = []
-told_by ends k (Horizon at) = []
 told_by ends k (Prepare p) = told_as k p.txn p.writes (standing_by (Promised p.at) (ends p.txn))
 told_by ends k (Commit c) = told_as k c.txn c.writes (standing_by (Decided c.at) (ends c.txn))
-told_by ends k (Abort t) = []
-told_by ends k (Outcome t outcome) = []
-told_by ends k (Base epoch floor horizon) = []
 told_by ends k (Version install) = version_told k install
-told_by ends k (Settled t at parts) = []
-told_by ends k (Closed t coordinator outcome) = []
+told_by ends k _ = []
 
 -- what a log says of a key: each write that was promised or decided and not aborted, in order, with how it stands, and each version
 -- that a renewed log holds

@@ -8,7 +8,7 @@ use Rattle.units.specs.declared.writes.Install.{Install}
 use Rattle.record.specs.Installs.{installs_of}
 use Rattle.record.specs.Records.{epoch_of, floor_of}
 use Rattle.record.specs.declared.record.Record.{Record}
-use Rattle.record.specs.declared.record.Record.TheVariants.{Opened, Ceiling, Prepare, Commit, Abort, Outcome, Horizon, Base, Version, Settled, Closed}
+use Rattle.record.specs.declared.record.Record.TheVariants.{Prepare, Commit, Settled}
 use Rattle.gatelog.specs.Log.{log}
 use Rattle.gatelog.specs.Placed.{Placed}
 use Rattle.recovery.specs.Recovered.{items}
@@ -29,17 +29,9 @@ keys_of installs = fold with_key [] (map (λ i. i.key) installs)
 
 -- the record as a promise or a decision that tells of no end, which is in doubt until there is an outcome
 abbrev pub as_begun : Record → Option InDoubt
-as_begun (Opened epoch) = None
-as_begun (Ceiling at) = None
-as_begun (Horizon at) = None
 as_begun (Prepare p) = Some (record { txn = p.txn; at = p.at; is_decided = false })
 as_begun (Commit c) = Some (record { txn = c.txn; at = c.at; is_decided = true })
-as_begun (Abort t) = None
-as_begun (Outcome t o) = None
-as_begun (Base epoch floor horizon) = None
-as_begun (Version install) = None
-as_begun (Settled t at parts) = None
-as_begun (Closed t coordinator outcome) = None
+as_begun _ = None
 
 -- it is in doubt, where its transaction has no end
 abbrev pub unless_ended : InDoubt → Option (Option ℕ) → Option InDoubt
@@ -73,17 +65,9 @@ decided_by None = None
 decided_by (Some parts) = head parts
 
 abbrev pub parts_in : Record → Option (List ℕ)
-parts_in (Opened epoch) = None
-parts_in (Ceiling at) = None
-parts_in (Horizon at) = None
-parts_in (Prepare p) = None
 parts_in (Commit c) = Some c.parts
-parts_in (Abort t) = None
-parts_in (Outcome t o) = None
-parts_in (Base epoch floor horizon) = None
-parts_in (Version install) = None
 parts_in (Settled t at parts) = Some parts
-parts_in (Closed t coordinator outcome) = None
+parts_in _ = None
 
 -- a shard, or the last one
 abbrev pub or_last : Option ℕ → ℕ
