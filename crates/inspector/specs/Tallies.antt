@@ -55,9 +55,9 @@ stand_of t d (Outcome u None) = turned_down (same_id u t)
 stand_of t d (Outcome u (Some s)) = turned_down (same_id t u && not (nat_eq d.commit.at s))
 stand_of t d (Settled u s parts) = turned_down (same_id t u && not (nat_eq d.commit.at s))
 stand_of t d (Closed u coordinator None) = turned_down (same_id u t)
-stand_of t d _ = Nothing
 stand_of t d (Closed u coordinator (Some s)) =
     cond (same_id t u && not (nat_eq d.commit.at s)) Otherwise (promised_as t d u coordinator s)
+stand_of t d _ = Nothing
 
 -- the transaction that a record ends at a timestamp
 abbrev pub ended_at_a_time : Record → Option Id
