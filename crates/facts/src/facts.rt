@@ -223,8 +223,7 @@ impl Facts {
             Record::Abort { txn } => self.epoch > 0 && self.is_new(*txn),
             Record::Outcome { txn, outcome } => { self.epoch > 0 && self.allows(*txn, *outcome) }
             Record::Horizon { at } => { self.epoch > 0 && self.horizon < *at && *at <= self.floor }
-            Record::Base { .. } | Record::Version(_) => false,
-            Record::Settled { .. } | Record::Closed { .. } => false,
+            _ => false,
         }
     }
 
@@ -235,9 +234,6 @@ impl Facts {
             follows_head self.now.shard self.now.stage self.now.facts item.now }
     {
         match item {
-            Record::Opened { .. } | Record::Ceiling { .. } | Record::Horizon { .. } => false,
-            Record::Prepare(_) | Record::Commit(_) => false,
-            Record::Abort { .. } | Record::Outcome { .. } => false,
             Record::Base {
                 epoch,
                 floor,
@@ -444,10 +440,7 @@ fn stage_after(stage: Stage, item: &Record) -> Stage
 {
     match item {
         Record::Opened { .. } => Stage::Open,
-        Record::Ceiling { .. } | Record::Horizon { .. } => stage.past_head(),
-        Record::Prepare(_) | Record::Commit(_) => stage.past_head(),
-        Record::Abort { .. } | Record::Outcome { .. } => stage.past_head(),
         Record::Base { .. } | Record::Version(_) => stage,
-        Record::Settled { .. } | Record::Closed { .. } => stage.past_head(),
+        _ => stage.past_head(),
     }
 }

@@ -51,9 +51,6 @@ pub fn decision_of(item: &Record) -> Option<Decision<'_>>
             reads: None,
             writes: None,
         }),
-        Record::Opened { .. } | Record::Ceiling { .. } | Record::Horizon { .. } => None,
-        Record::Base { .. } | Record::Version(_) => None,
-        Record::Prepare(_) | Record::Closed { .. } => None,
-        Record::Abort { .. } | Record::Outcome { .. } => None,
+        _ => None,
     }
 }

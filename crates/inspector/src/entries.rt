@@ -69,14 +69,13 @@ fn id_of(item: &Record) -> Option<TxnId>
     ensures { result ≡ id_in item.now }
 {
     match item {
-        Record::Opened { .. } | Record::Ceiling { .. } | Record::Horizon { .. } => None,
-        Record::Base { .. } | Record::Version(_) => None,
         Record::Prepare(prepared) => Some(prepared.txn),
         Record::Commit(committed) => Some(committed.txn),
         Record::Abort { txn } => Some(*txn),
         Record::Outcome { txn, .. } => Some(*txn),
         Record::Settled { txn, .. } => Some(*txn),
         Record::Closed { txn, .. } => Some(*txn),
+        _ => None,
     }
 }
 

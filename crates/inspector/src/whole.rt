@@ -203,8 +203,6 @@ fn stand_of(item: &Record, txn: TxnId, shard: usize, commit: &Decision<'_>) -> S
     ensures { result ≡ stand_of txn (record { shard = shard; commit = commit.now }) item.now }
 {
     match item {
-        Record::Opened { .. } | Record::Ceiling { .. } | Record::Horizon { .. } => Stand::Nothing,
-        Record::Base { .. } | Record::Version(_) | Record::Commit(_) => Stand::Nothing,
         Record::Prepare(prepared) => {
             promised_as(
                 prepared.txn,
@@ -245,6 +243,7 @@ fn stand_of(item: &Record, txn: TxnId, shard: usize, commit: &Decision<'_>) -> S
                 promised_as(*ended, *coordinator, *at, txn, shard, commit)
             }
         }
+        _ => Stand::Nothing,
     }
 }
 
@@ -328,9 +327,6 @@ fn ended_at_a_time(item: &Record) -> Option<TxnId>
             ..
         } => Some(*txn),
         Record::Settled { txn, .. } => Some(*txn),
-        Record::Outcome { outcome: None, .. } | Record::Closed { outcome: None, .. } => None,
-        Record::Opened { .. } | Record::Ceiling { .. } | Record::Horizon { .. } => None,
-        Record::Base { .. } | Record::Version(_) => None,
-        Record::Prepare(_) | Record::Commit(_) | Record::Abort { .. } => None,
+        _ => None,
     }
 }

@@ -324,10 +324,7 @@ fn stand(rows: &mut Rows, times: &mut SafeTime, txn: TxnId, logged: Logged) -> R
             times.hold(committed.at);
             rows.decide(txn, logged)
         }
-        Record::Opened { .. } | Record::Ceiling { .. } | Record::Horizon { .. } => unreachable!(),
-        Record::Abort { .. } | Record::Outcome { .. } => unreachable!(),
-        Record::Base { .. } | Record::Version(_) => unreachable!(),
-        Record::Settled { .. } | Record::Closed { .. } => unreachable!(),
+        _ => unreachable!(),
     }
 }
 

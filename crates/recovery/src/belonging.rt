@@ -15,10 +15,8 @@ pub fn belongs(setup: &Setup, item: &Record) -> bool
     match item {
         Record::Prepare(prepared) => owns_all(setup, &prepared.reads, &prepared.writes),
         Record::Commit(committed) => owns_all(setup, &committed.reads, &committed.writes),
-        Record::Opened { .. } | Record::Ceiling { .. } | Record::Horizon { .. } => true,
-        Record::Abort { .. } | Record::Outcome { .. } => true,
         Record::Version(install) => setup.owns(&install.key),
-        Record::Base { .. } | Record::Settled { .. } | Record::Closed { .. } => true,
+        _ => true,
     }
 }
 

@@ -230,9 +230,7 @@ fn is_first(item: &Record) -> bool
             floor,
             horizon,
         } => epoch.number() > 0 && *horizon <= *floor,
-        Record::Ceiling { .. } | Record::Prepare(_) | Record::Commit(_) => false,
-        Record::Abort { .. } | Record::Outcome { .. } | Record::Horizon { .. } => false,
-        Record::Version(_) | Record::Settled { .. } | Record::Closed { .. } => false,
+        _ => false,
     }
 }
 

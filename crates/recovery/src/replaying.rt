@@ -32,11 +32,8 @@ pub fn fits_beside(state: &State, alloc: Global, item: &Record) -> Result<bool, 
             txn,
             outcome: Some(at),
         } => Ok(state.takes_standing(*txn, *at)),
-        Record::Opened { .. } | Record::Ceiling { .. } | Record::Abort { .. } => Ok(true),
-        Record::Outcome { outcome: None, .. } => Ok(true),
         Record::Horizon { at } => Ok(*at <= state.safe()),
-        Record::Base { .. } | Record::Version(_) => Ok(true),
-        Record::Settled { .. } | Record::Closed { .. } => Ok(true),
+        _ => Ok(true),
     }
 }
 

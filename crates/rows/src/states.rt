@@ -176,11 +176,7 @@ impl RowReading {
                 };
                 (state, record)
             }
-            Record::Opened { .. } | Record::Ceiling { .. } | Record::Horizon { .. } =>
-                unreachable!(),
-            Record::Commit(_) | Record::Abort { .. } | Record::Outcome { .. } => unreachable!(),
-            Record::Base { .. } | Record::Version(_) => unreachable!(),
-            Record::Settled { .. } | Record::Closed { .. } => unreachable!(),
+            _ => unreachable!(),
         }
     }
 
@@ -398,9 +394,6 @@ fn decide(held: Held, logged: Logged) -> (RowDecided, Record)
             };
             (state, record)
         }
-        Record::Opened { .. } | Record::Ceiling { .. } | Record::Horizon { .. } => unreachable!(),
-        Record::Prepare(_) | Record::Abort { .. } | Record::Outcome { .. } => unreachable!(),
-        Record::Base { .. } | Record::Version(_) => unreachable!(),
-        Record::Settled { .. } | Record::Closed { .. } => unreachable!(),
+        _ => unreachable!(),
     }
 }

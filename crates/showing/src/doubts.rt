@@ -63,9 +63,6 @@ fn begun(item: &Record) -> Option<InDoubt>
             at: c.at,
             is_decided: true,
         }),
-        Record::Opened { .. } | Record::Ceiling { .. } | Record::Horizon { .. } => None,
-        Record::Abort { .. } | Record::Outcome { .. } => None,
-        Record::Base { .. } | Record::Version(_) => None,
-        Record::Settled { .. } | Record::Closed { .. } => None,
+        _ => None,
     }
 }

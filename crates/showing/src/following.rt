@@ -80,12 +80,7 @@ fn decided_by(item: &Record) -> Option<ShardNo>
     match item {
         Record::Commit(c) => Some(c.parts.least()),
         Record::Settled { parts, .. } => Some(parts.least()),
-        Record::Opened { .. }
-        | Record::Ceiling { .. }
-        | Record::Horizon { .. }
-        | Record::Prepare(_) => None,
-        Record::Abort { .. } | Record::Outcome { .. } => None,
-        Record::Base { .. } | Record::Version(_) | Record::Closed { .. } => None,
+        _ => None,
     }
 }
 

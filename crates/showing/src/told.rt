@@ -66,10 +66,8 @@ fn tell(told: &mut Vec<Told>, facts: &Facts, item: &Record, key: &Key) -> Result
             let standing = standing_by(Standing::Decided(c.at), facts.outcome(c.txn));
             tell_writes(told, c.txn, standing, &c.writes, key)
         }
-        Record::Opened { .. } | Record::Ceiling { .. } | Record::Horizon { .. } => Ok(()),
-        Record::Abort { .. } | Record::Outcome { .. } => Ok(()),
         Record::Version(version) => tell_version(told, version, key),
-        Record::Base { .. } | Record::Settled { .. } | Record::Closed { .. } => Ok(()),
+        _ => Ok(()),
     }
 }
 

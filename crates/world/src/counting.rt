@@ -83,9 +83,7 @@ fn decides(item: &Record, shard: usize) -> Option<TxnId>
     match item {
         Record::Commit(committed) => where_least(committed.txn, committed.parts, shard),
         Record::Settled { txn, parts, .. } => where_least(*txn, *parts, shard),
-        Record::Opened { .. } | Record::Ceiling { .. } | Record::Prepare(_) => None,
-        Record::Abort { .. } | Record::Outcome { .. } | Record::Horizon { .. } => None,
-        Record::Base { .. } | Record::Version(_) | Record::Closed { .. } => None,
+        _ => None,
     }
 }
 
