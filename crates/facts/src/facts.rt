@@ -258,6 +258,7 @@ impl Facts {
                     && self.is_new(*txn)
                     && *coordinator < self.shard
             }
+            _ => false,
         }
     }
 
