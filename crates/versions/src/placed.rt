@@ -85,28 +85,8 @@ impl Places {
         ensures above { result.1 < length self.now.places →
             head < slice_index_or self.now.heads result.1 0 }
     {
-        let low = self.first_at(head);
+        let low = self.spots.first_at(head);
         (low, self.first_above(low, head))
-    }
-
-    // The first head that is not below a number, by halves.
-    fn first_at(&self, head: u64) -> usize
-        ensures within { result ≤ length self.now.places }
-        ensures below { 0 < result → slice_index_or self.now.heads (result - 1) 0 < head }
-        ensures first { result < length self.now.places →
-            head ≤ slice_index_or self.now.heads result 0 }
-    {
-        let mut low = 0;
-        let mut high = self.len();
-        while low < high {
-            let middle = low + (high - low) / 2;
-            if self.head(middle) < head {
-                low = middle + 1;
-            } else {
-                high = middle;
-            }
-        }
-        low
     }
 
     // The first head from a place on that is above a number. Mostly it is the first or the second, so these are looked at first.
