@@ -11,21 +11,6 @@ use Rattle.facts.specs.Stages.{is_head}
 use Rattle.facts.specs.declared.stage.Stage.{Stage}
 use Rattle.protocol.specs.Sound.{writes_standing}
 
--- the writes that the record that comes next installs
-abbrev pub writes_given : Facts → Record → List Write
-writes_given facts (Opened epoch) = []
-writes_given facts (Ceiling at) = []
-writes_given facts (Horizon at) = []
-writes_given facts (Prepare p) = []
-writes_given facts (Commit c) = []
-writes_given facts (Abort t) = []
-writes_given facts (Outcome t None) = []
-writes_given facts (Outcome t (Some s)) = writes_standing (recorded facts t)
-writes_given facts (Base epoch floor horizon) = []
-writes_given facts (Version i) = record { key = i.key; value = i.value } ∷ []
-writes_given facts (Settled t at parts) = []
-writes_given facts (Closed t coordinator outcome) = []
-
 -- an outcome is above the versions of the keys that it writes; that a version of a head is above those of its key is told from their order
 abbrev pub CanInstall : Facts → Record → Type 0
 CanInstall facts (Opened epoch) = Unit {0}

@@ -147,8 +147,14 @@ found_below ps f (suc j) h p laid lt is le long most before here some =
     let one_less : suc j - 1 ≡ j = omega arith in
     let end = piece_within ps f p laid lt le in
     let there : f * 4096 + j < length (joined ps) = omega (arith, long, end, ap length is) in
-    omega (arith, ap (λ n. get_or (heads_of (joined ps)) n 0) same, head_there ps f j p laid (omega (arith, most)) there,
-    ap (λ q. get_or (heads_of q) j 0) is, ap (λ n. get_or (heads_of p) n 0) one_less, here (omega arith))
+    omega (
+      arith,
+      ap (λ n. get_or (heads_of (joined ps)) n 0) same,
+      head_there ps f j p laid (omega (arith, most)) there,
+      ap (λ q. get_or (heads_of q) j 0) is,
+      ap (λ n. get_or (heads_of p) n 0) one_less,
+      here (omega arith),
+    )
 
 -- and the head at that place is not
 pub found_first : (ps : List (List Spot)) (f j h : ℕ) (p : List Spot) → IsLaid ps → p ≡ get_or ps f p → j ≤ 4096
@@ -166,5 +172,11 @@ found_first ps f j h p laid is most last before here lt = by_test (nat_lt j 4096
         let all : 4096 ≤ j = grind (arith, nat_tests) in
         let end : j - 1 ≡ 4095 = omega (arith, all, most) in
         let there : f * 4096 + 4095 < length (joined ps) = omega (arith, lt, all) in
-        absurd (omega (arith, last there, head_there ps f 4095 p laid (omega arith) there, ap (λ q. get_or (heads_of q) 4095 0) is,
-        ap (λ n. get_or (heads_of p) n 0) end, before (omega (arith, all))))
+        absurd (omega (
+          arith,
+          last there,
+          head_there ps f 4095 p laid (omega arith) there,
+          ap (λ q. get_or (heads_of q) 4095 0) is,
+          ap (λ n. get_or (heads_of p) n 0) end,
+          before (omega (arith, all)),
+        ))

@@ -101,7 +101,11 @@ impl Places {
         let mut low = from;
         let mut high = self.len();
         while low < high {
-            let middle = if low - from < 2 { low } else { low + (high - low) / 2 };
+            let middle = if low - from < 2 {
+                low
+            } else {
+                low + (high - low) / 2
+            };
             if self.head(middle) <= head {
                 low = middle + 1;
             } else {

@@ -16,7 +16,12 @@ loop-low-preserved-then-get-head c =
     record {
       within = omega arith;
       end = i.end;
-      below = λ some. omega (arith, ap (λ n. get_or (heads_of spots) n 0) same, get_or-map (λ s. s.head) spots last c.get.result 0 there,
-          ap (λ (s : Spot). s.head) c.get.ensures, c.if-get-head.true);
+      below = λ some. omega (
+        arith,
+        ap (λ n. get_or (heads_of spots) n 0) same,
+        get_or-map (λ s. s.head) spots last c.get.result 0 there,
+        ap (λ (s : Spot). s.head) c.get.ensures,
+        c.if-get-head.true,
+      );
       first = i.first;
     }
