@@ -1,9 +1,8 @@
 -- What the record that comes next installs.
-use Rattle.std.specs.Prelude.{IsTrue, Bool, not, ◌||◌, List, [], ◌∷◌, Some, None}
+use Rattle.std.specs.Prelude.{IsTrue, Bool, not, ◌||◌, List, Some, None}
 use Rattle.units.specs.Lists.{ascends}
 use Rattle.units.specs.Versions.{above_versions, version_before}
 use Rattle.units.specs.declared.writes.Install.{Install}
-use Rattle.units.specs.declared.writes.Write.{Write}
 use Rattle.record.specs.Facts.{Facts, recorded}
 use Rattle.record.specs.declared.record.Record.{Record}
 use Rattle.record.specs.declared.record.Record.TheVariants.{Opened, Ceiling, Prepare, Commit, Abort, Outcome, Horizon, Base, Version, Settled, Closed}
