@@ -1,5 +1,6 @@
 -- What a status still says of the records of its id.
-use Rattle.std.specs.Prelude.{ℕ, Bool, true, false, Option, Some, None}
+use Rattle.std.specs.Prelude.{ℕ, Bool, true, false, List, [], Option, Some, None}
+use Rattle.units.specs.declared.writes.Write.{Write}
 use Rattle.record.specs.declared.record.Committed.{Committed}
 use Rattle.record.specs.declared.record.Prepared.{Prepared}
 use Rattle.record.specs.Records.{Status, StandsPrepared, StandsDecided, HasAborted, HasSettled, HasClosed}
@@ -24,3 +25,9 @@ abbrev pub outcome_in : Status → Option (Option ℕ)
 outcome_in (HasSettled at parts) = Some (Some at)
 outcome_in (HasClosed coordinator outcome) = Some outcome
 outcome_in _ = None
+
+-- the writes of a promise or a decision that stands
+abbrev pub writes_standing : Status → List Write
+writes_standing (StandsPrepared p) = p.writes
+writes_standing (StandsDecided c) = c.writes
+writes_standing _ = []

@@ -1,10 +1,13 @@
 //! The facts of a log, learnt record by record.
-ghost use Rattle.std.specs.Prelude.{◌≡◌, ◌<◌, ◌≤◌, [], IsTrue, IsFalse, IsOk, IfErr, IfOk, OnOk, OnErr, Err, ◌^◌, ◌&&◌, map, not, nat_lt};
+ghost use Rattle.std.specs.Prelude.{◌≡◌, ◌<◌, ◌≤◌, [], IsTrue, IsFalse, IsOk, IfErr, IfOk, OnOk, OnErr, Err, ◌^◌, ◌&&◌, length, map, not, nat_lt};
 ghost use Rattle.std.specs.Option.{option_copied};
 ghost use Rattle.units.specs.ById.{IsById};
+ghost use Rattle.units.specs.Keys.{write_before};
+ghost use Rattle.units.specs.Lists.{ascends};
 ghost use Rattle.units.specs.declared.fault.Fault.TheVariants.{Memory, Damaged};
 ghost use Rattle.record.specs.Accepted.{is_timed};
 ghost use Rattle.record.specs.Facts.{facts_of, learn, recorded};
+ghost use Rattle.facts.specs.Given.{writes_given};
 ghost use Rattle.facts.specs.Readers.{standing_promise, standing_decision, has_abort, outcome_in};
 ghost use Rattle.facts.specs.Rules.{follows_facts, is_unrecorded, allows};
 ghost use Rattle.facts.specs.Shown.{meaning, meant};
@@ -317,7 +320,7 @@ impl Facts {
         Ok(())
     }
 
-    /// Learns a record that may come next in the log. It takes no memory.
+    /// Learns a record that may come next in the log. It takes no memory. The writes that it installs ascend by key, and are not many.
     pub fn learn_next(&mut self, item: Record)
         requires room { 1 ≤ self.old.room }
         requires follows { IsTrue
@@ -325,6 +328,8 @@ impl Facts {
         ensures facts { self.new.facts ≡ learn self.old.facts item }
         ensures shard { self.new.shard ≡ self.old.shard }
         ensures stage { self.new.stage ≡ stage_after self.old.stage item }
+        ensures up { IsTrue (ascends write_before (writes_given self.old.facts item)) }
+        ensures few { length (writes_given self.old.facts item) ≤ 128 }
     {
         let stage = stage_after(self.stage, &item);
         self.note(item);
@@ -339,6 +344,8 @@ impl Facts {
             (follows_next self.old.shard self.old.stage self.old.facts item) }
         ensures facts { self.new.facts ≡ learn self.old.facts item }
         ensures shard { self.new.shard ≡ self.old.shard }
+        ensures up { IsTrue (ascends write_before (writes_given self.old.facts item)) }
+        ensures few { length (writes_given self.old.facts item) ≤ 128 }
     {
         match item {
             Record::Opened { epoch } => self.epoch = epoch.number(),
@@ -416,6 +423,9 @@ impl Facts {
             (follows_facts self.old.shard self.old.facts (Record.Outcome txn outcome)) }
         ensures facts { self.new.facts ≡ learn self.old.facts (Record.Outcome txn outcome) }
         ensures shard { self.new.shard ≡ self.old.shard }
+        ensures up { IsTrue (ascends write_before
+            (writes_given self.old.facts (Record.Outcome txn outcome))) }
+        ensures few { length (writes_given self.old.facts (Record.Outcome txn outcome)) ≤ 128 }
     {
         let former = close(&mut self.statuses, txn, outcome);
         if let Some(at) = &outcome {

@@ -1,12 +1,15 @@
 //! The transactions that have a record, in the order in which they came, and the versions.
-ghost use Rattle.std.specs.Prelude.{◌≡◌, ◌+◌, ◌<◌, ◌≤◌, ◌++◌, IfErr, IfOk, IsOk, IsTrue, OnOk, Some, map, vec_len, vec_capacity};
+ghost use Rattle.std.specs.Prelude.{◌≡◌, ◌+◌, ◌<◌, ◌≤◌, ◌++◌, IfErr, IfOk, IsOk, IsTrue, OnOk, Some, length, map, vec_len, vec_capacity};
 ghost use Rattle.std.specs.List.{IsDistinct};
 ghost use Rattle.indexmap.specs.IndexMap.{spare};
 ghost use Rattle.units.specs.ById.{IsById};
 ghost use Rattle.units.specs.Ids.{same_id};
+ghost use Rattle.units.specs.Keys.{write_before};
+ghost use Rattle.units.specs.Lists.{ascends};
 ghost use Rattle.units.specs.Versions.{versions};
 ghost use Rattle.units.specs.declared.fault.Fault.TheVariants.{Memory};
 ghost use Rattle.record.specs.Facts.{after_outcome, with_status, installs_at};
+ghost use Rattle.facts.specs.Readers.{writes_standing};
 ghost use Rattle.facts.specs.Rules.{allows};
 ghost use Rattle.facts.specs.Shown.{meaning, shown_entries, by_id, status_in};
 
@@ -93,7 +96,10 @@ pub fn make_room(installs: &mut Vec<Install>) -> Result<(), Fault>
 /// Installs what was promised or decided at a timestamp. It takes no memory.
 pub fn install(installs: &mut Vec<Install>, former: Status, at: Stamp)
     requires { vec_len installs.old + 128 ≤ vec_capacity installs.old }
-    ensures { installs.new.items ≡ installs.old.items ++ installs_at (meaning former) (Some at) }
+    ensures items { installs.new.items ≡
+        installs.old.items ++ installs_at (meaning former) (Some at) }
+    ensures up { IsTrue (ascends write_before (writes_standing (meaning former))) }
+    ensures few { length (writes_standing (meaning former)) ≤ 128 }
 {
     match former {
         Status::Prepared(prepared) => {
@@ -109,7 +115,9 @@ pub fn install(installs: &mut Vec<Install>, former: Status, at: Stamp)
 // Installs some writes at a timestamp.
 fn install_writes(installs: &mut Vec<Install>, writes: Writes, at: Stamp)
     requires { vec_len installs.old + 128 ≤ vec_capacity installs.old }
-    ensures { installs.new.items ≡ installs.old.items ++ versions writes at }
+    ensures items { installs.new.items ≡ installs.old.items ++ versions writes at }
+    ensures up { IsTrue (ascends write_before writes) }
+    ensures few { length writes ≤ 128 }
 {
     for write in writes.into_vec() {
         let Write { key, value } = write;

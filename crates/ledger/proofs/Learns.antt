@@ -25,10 +25,8 @@ use Rattle.facts.specs.Rules.{follows_facts}
 use Rattle.facts.specs.declared.stage.Stage.{Stage}
 use Rattle.facts.specs.declared.stage.Stage.TheVariants.{Head, Early, Open}
 use Rattle.facts.proofs.Heads.{ascends_more, behind_above}
-use Rattle.ledger.specs.Ledger.{writes_given, CanInstall, head_ascends}
-
-abbrev pub is_up : Facts → Record → Bool
-is_up facts item = ascends write_before (writes_given facts item)
+use Rattle.facts.specs.Given.{writes_given}
+use Rattle.ledger.specs.Ledger.{CanInstall, head_ascends}
 
 pub no_installs : (facts_of []).installs ≡ []
 unfolding facts_of installs_of

@@ -1,21 +1,14 @@
 -- What the record that comes next installs.
-use Rattle.std.specs.Prelude.{IsTrue, Bool, not, ◌||◌, List, [], ◌∷◌, Some}
+use Rattle.std.specs.Prelude.{IsTrue, Bool, not, ◌||◌, List, Some}
 use Rattle.units.specs.Lists.{ascends}
 use Rattle.units.specs.Versions.{above_versions, version_before}
 use Rattle.units.specs.declared.writes.Install.{Install}
-use Rattle.units.specs.declared.writes.Write.{Write}
 use Rattle.record.specs.Facts.{Facts, recorded}
 use Rattle.record.specs.declared.record.Record.{Record}
-use Rattle.record.specs.declared.record.Record.TheVariants.{Outcome, Version}
+use Rattle.record.specs.declared.record.Record.TheVariants.{Outcome}
 use Rattle.facts.specs.Stages.{is_head}
 use Rattle.facts.specs.declared.stage.Stage.{Stage}
 use Rattle.protocol.specs.Sound.{writes_standing}
-
--- the writes that the record that comes next installs
-abbrev pub writes_given : Facts → Record → List Write
-writes_given facts (Outcome t (Some s)) = writes_standing (recorded facts t)
-writes_given facts (Version i) = record { key = i.key; value = i.value } ∷ []
-writes_given facts _ = []
 
 -- an outcome is above the versions of the keys that it writes; that a version of a head is above those of its key is told from their order
 abbrev pub CanInstall : Facts → Record → Type 0

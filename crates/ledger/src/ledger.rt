@@ -1,8 +1,6 @@
 //! The facts of a log beside the versions by key.
 ghost use Rattle.std.specs.Prelude.{◌≡◌, ℕ, ◌<◌, ◌≤◌, ◌^◌, ◌++◌, [], length, IsTrue, IsOk, IfErr, OnOk};
 ghost use Rattle.std.specs.Option.{option_copied};
-ghost use Rattle.units.specs.Keys.{write_before};
-ghost use Rattle.units.specs.Lists.{ascends};
 ghost use Rattle.units.specs.Versions.{latest, at_time, above_versions};
 ghost use Rattle.record.specs.Facts.{facts_of, learn, recorded};
 ghost use Rattle.facts.specs.Rules.{follows_facts};
@@ -11,7 +9,7 @@ ghost use Rattle.facts.specs.Stages.{follows_head, follows_next, stage_after, st
 ghost use Rattle.protocol.specs.Sound.{writes_standing};
 ghost use Rattle.versions.specs.Orders.{Orders};
 ghost use Rattle.renewal.specs.Turned.{turned};
-ghost use Rattle.ledger.specs.Ledger.{writes_given, CanInstall};
+ghost use Rattle.ledger.specs.Ledger.{CanInstall};
 
 use crate::renewing::{Recorder, renew};
 use facts::{Facts, Status};
@@ -207,7 +205,6 @@ impl Ledger {
             self.forget(at);
             return;
         }
-        self.ascend(&item);
         let known = self.facts.installs().len();
         self.facts.learn_next(item);
         self.places.follow(self.facts.installs(), known);
@@ -234,24 +231,6 @@ impl Ledger {
     {
         self.facts.learn_next(Record::Horizon { at });
         self.places.forget(self.facts.installs(), at);
-    }
-
-    // The writes that a record installs ascend by key, and are not many. It does nothing.
-    fn ascend(&self, item: &Record)
-        ensures up { IsTrue (ascends write_before (writes_given self.now.facts item.now)) }
-        ensures few { length (writes_given self.now.facts item.now) ≤ 128 }
-    {
-        if let Record::Outcome {
-            txn,
-            outcome: Some(_),
-        } = item
-        {
-            let _ = match self.status(*txn) {
-                Some(Status::Prepared(prepared)) => prepared.writes.as_slice(),
-                Some(Status::Decided(committed)) => committed.writes.as_slice(),
-                _ => &[],
-            };
-        }
     }
 }
 

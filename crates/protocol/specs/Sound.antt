@@ -18,6 +18,7 @@ use Rattle.truetime.specs.Interval.{Interval}
 use Rattle.record.specs.Records.{Status, Unrecorded, StandsPrepared, StandsDecided}
 use Rattle.record.specs.Facts.{Facts, facts_of, learn, recorded}
 use Rattle.record.specs.declared.record.Record.{Record}
+pub use Rattle.facts.specs.Readers.{writes_standing}
 use Rattle.facts.specs.Rules.{follows_facts}
 use Rattle.message.specs.declared.message.Input.{Input}
 use Rattle.protocol.specs.Rows.{Memory, Row, Phase, WaitsPrepare, WaitsCommit, Collecting, IsPrepared, IsDecided, claims, find_row, rebuilt, safe}
@@ -115,12 +116,6 @@ LoggedFollows =
     (rows : ℕ) (setup : Setup) (facts : Facts) (memory : Memory) (now : Interval) (i : Input) (p : Plan) (r : Record) →
     IsSound setup.shard facts memory → plan_input setup (start_of_step rows setup facts memory) now i ≡ Ok p → p.logged ≡ Some r →
     IsTrue (follows_facts setup.shard facts r)
-
--- the writes of a promise or a decision that stands
-abbrev pub writes_standing : Status → List Write
-writes_standing (StandsPrepared p) = p.writes
-writes_standing (StandsDecided c) = c.writes
-writes_standing _ = []
 
 -- what a step installs is above the versions of its keys
 abbrev pub InstallsAbove : Type 0

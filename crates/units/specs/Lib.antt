@@ -13,5 +13,6 @@ pub mod Padded
 pub mod Masks
 pub mod Parts
 pub mod Texts
+pub mod Value
 pub mod Versions
 pub mod Installed

@@ -1,31 +1,43 @@
 //! Values.
 ghost use Rattle.std.specs.Prelude.{◌≡◌, ◌≤◌, ◌<◌, ◌⊎◌, length, MatchResult, IfOk, IfErr};
+ghost use Rattle.units.specs.Value.{bytes_of, IsText};
 
 use crate::{Fault, Reason};
 use std::alloc::Global;
 use std::marker::Model;
-use std::sync::ArcSlice;
+use std::sync::Arc;
+
+// So many bytes stand beside the count of the owners, in one block, and more in a second one.
+const SHORT: usize = 23;
 
 /// A value of at most 4,096 bytes. Copies share its bytes, and count who shares them.
 pub struct Value {
-    bytes: ArcSlice<u8>,
+    text: Arc<Text>,
+}
+
+// The bytes: few of them at the front of a row, or a list.
+#[derive(Drop)]
+enum Text {
+    Short { bytes: [u8; SHORT], len: u8 },
+    Long(Vec<u8>),
 }
 
 impl Drop for Value {
     fn drop(self) {
-        let Value { bytes: _ } = self;
+        let Value { text: _ } = self;
     }
 }
 
 impl Model for Value {
-    ghost use Rattle.std.specs.Prelude.{ℕ, List, ◌≤◌, length};
-    ghost use Rattle.std.specs.Arc.{arc_slice_items};
+    ghost use Rattle.std.specs.Prelude.{ℕ, List};
+    ghost use Rattle.std.specs.Arc.{arc_value};
+    ghost use Rattle.units.specs.Value.{bytes_of, IsText};
 
     ghost Value = { List ℕ };
 
-    ghost view = { λ v. arc_slice_items v.bytes };
+    ghost view = { λ v. bytes_of (arc_value v.text) };
 
-    ghost invariant = { λ v. length (arc_slice_items v.bytes) ≤ 4096 };
+    ghost invariant = { λ v. IsText (arc_value v.text) };
 }
 
 impl Value {
@@ -38,8 +50,13 @@ impl Value {
         if bytes.len() > 4096 {
             return Err(Fault::BadRequest(Reason::Value));
         }
-        let bytes = ArcSlice::from_slice(alloc, bytes)?;
-        Ok(Value { bytes })
+        let text = if bytes.len() <= SHORT {
+            short(bytes)
+        } else {
+            Text::Long(bytes.to_vec(alloc)?)
+        };
+        let text = Arc::new(alloc, text)?;
+        Ok(Value { text })
     }
 
     /// Its bytes.
@@ -47,7 +64,10 @@ impl Value {
         ensures same { result.now ≡ self.now }
         ensures limit { length result.now ≤ 4096 }
     {
-        self.bytes.as_slice()
+        match &*self.text {
+            Text::Short { bytes, len } => &bytes[..usize::from(*len)],
+            Text::Long(bytes) => bytes.as_slice(),
+        }
     }
 
     /// An equal value, which shares its bytes. `Memory` where their owners can't be counted any more.
@@ -55,8 +75,22 @@ impl Value {
         ensures same { IfOk result (λ value. value ≡ self.now) }
         ensures memory { IfErr result (λ fault. fault ≡ Fault.Memory) }
     {
-        let bytes = self.bytes.clone()?;
-        Ok(Value { bytes })
+        let text = Arc::try_clone(&self.text)?;
+        Ok(Value { text })
+    }
+}
+
+// The text of few bytes.
+fn short(bytes: &[u8]) -> Text
+    requires { length bytes.now ≤ 23 }
+    ensures same { bytes_of result ≡ bytes.now }
+    ensures is { IsText result }
+{
+    let mut row = [0u8; SHORT];
+    row[..bytes.len()].copy_from_slice(bytes);
+    Text::Short {
+        bytes: row,
+        len: bytes.len() as u8,
     }
 }
 

@@ -11,10 +11,11 @@ use Rattle.std.specs.Prelude.{min, nat_eq}
 use Rattle.units.specs.Keys.{same_key, key_before}
 use Rattle.units.proofs.KeyLaws.{key_before-trans, key_before-irreflexive, same_key-not_before, same_key_comm}
 use Rattle.units.specs.declared.writes.Install.{Install}
-use Rattle.std.proofs.lemmas.List.{get_or-map}
-use Rattle.versions.specs.Ordered.{is_not_after}
+use Rattle.std.proofs.lemmas.List.{get_or-map, get_or_default}
+use Rattle.versions.specs.Halves.{AllUpTo, AllAfter}
+use Rattle.versions.specs.Ordered.{is_not_after, AscendsByVersion}
 use Rattle.versions.specs.Arranged.{no_install}
-use Rattle.versions.proofs.Halves.{each_at}
+use Rattle.versions.proofs.Halves.{each_at, before_passes, after_passes}
 use Rattle.versions.specs.Heads.{AreBytes, number, head, AreHeads}
 
 pow_some : (n : ℕ) → 1 ≤ 256 ^ n
@@ -220,3 +221,29 @@ less_by x y h = ranked x y Less (sym h)
 
 pub greater_by : (x y : ℕ) → nat_cmp x y ≡ Greater → y < x
 greater_by x y h = ranked x y Greater (sym h)
+
+-- in order, where the head before a place is smaller each version up to there is not after the key, and where the head at a place is greater
+-- each version from there on is after it
+pub smaller_up_to : (prefix : List ℕ) (t : List Install) (heads key : List ℕ) (low at : ℕ) → AreHeads prefix t heads → AscendsByVersion t → low ≤ length t
+    → AreBytes key → (0 < low → get_or heads (low - 1) 0 < head prefix key) → AllUpTo key at t low
+smaller_up_to prefix t heads key zero at are up le bytes less = λ k d lt. absurd (omega (arith, lt))
+smaller_up_to prefix t heads key (suc low) at are up le bytes less = λ k d lt.
+    before_passes key at t low up there
+    (λ d. ap (is_not_after key at) (get_or_default t low d no_install there)
+    ∙ smaller_head prefix t heads key low at are there bytes below) k d (omega (arith, lt))
+  where
+    there : low < length t
+    there = omega (arith, le)
+
+    below : get_or heads low 0 < head prefix key
+    below =
+        let one_less : suc low - 1 ≡ low = omega arith in
+        omega (arith, less (omega arith), ap (λ n. get_or heads n 0) one_less)
+
+pub greater_from : (prefix : List ℕ) (t : List Install) (heads key : List ℕ) (high at : ℕ) → AreHeads prefix t heads → AscendsByVersion t → AreBytes key
+    → (high < length t → head prefix key < get_or heads high 0) → AllAfter key at t high
+greater_from prefix t heads key high at are up bytes more = λ k d le lt.
+    let there : high < length t = omega (arith, le, lt) in
+    after_passes key at t high up there
+    (λ d. ap (is_not_after key at) (get_or_default t high d no_install there)
+    ∙ greater_head prefix t heads key high at are there bytes (more there)) k d le lt

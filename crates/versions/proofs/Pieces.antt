@@ -3,11 +3,11 @@ use Rattle.std.proofs.Common.{◌≡◌, ℕ, zero, suc, ◌+◌, ◌-◌, ◌*�
 use Rattle.std.proofs.Common.{refl, sym, ap, ◌∙◌, arith}
 use Rattle.std.specs.List.{insert}
 use Rattle.std.proofs.lemmas.List.{length-set}
-use Rattle.std.proofs.lemmas.List.{append_assoc, length-append, get_or_append_left, get_or-append_right, set-append_left, set-append_right}
+use Rattle.std.proofs.lemmas.List.{append_assoc, length-append, get_or_append_left, get_or-append_right, get_or-map, set-append_left, set-append_right}
 use Rattle.std.proofs.lemmas.Bool.Decides.{nat_tests}
 use Rattle.std.proofs.lemmas.List.Edits.{insert-append_left, insert-append_right}
 use Rattle.versions.specs.declared.chunk.Spot.{Spot}
-use Rattle.versions.specs.Pieces.{joined, IsFilled, IsLaid}
+use Rattle.versions.specs.Pieces.{heads_of, joined, IsFilled, IsLaid}
 
 -- a piece before one that holds anything at such a place is full
 full_before : (p rest : List Spot) → IsFilled p rest → 4096 ≤ length (p ++ rest) → length p ≡ 4096
@@ -114,3 +114,69 @@ laid_set (p ∷ ps) (suc i) j e x laid less lt =
       still_filled p p (joined ps) (joined (set ps i (set (get_or ps i e) j x))) refl same laid.0,
       laid_set ps i j e x laid.1 less rest,
     )
+
+-- the head at a place stands in its piece
+no_spot : Spot
+no_spot = record { place = 0; head = 0 }
+
+pub head_there : (ps : List (List Spot)) (i j : ℕ) (e : List Spot) → IsLaid ps → j < 4096 → i * 4096 + j < length (joined ps)
+    → get_or (heads_of (joined ps)) (i * 4096 + j) 0 ≡ get_or (heads_of (get_or ps i e)) j 0
+head_there ps i j e laid less lt =
+    get_or-map (λ s. s.head) (joined ps) (i * 4096 + j) no_spot 0 lt
+    ∙ ap (λ (s : Spot). s.head) (get_there ps i j e no_spot laid less lt)
+    ∙ sym (get_or-map (λ s. s.head) (get_or ps i e) j no_spot 0 (place_there ps i j e laid less lt))
+
+-- a piece ends where all do, or before
+pub piece_within : (ps : List (List Spot)) (i : ℕ) (e : List Spot) → IsLaid ps → i < length ps → i * 4096 ≤ length (joined ps)
+    → i * 4096 + length (get_or ps i e) ≤ length (joined ps)
+piece_within [] i e laid lt le = absurd (omega arith)
+piece_within (p ∷ ps) zero e laid lt le = omega (arith, length-append p (joined ps))
+piece_within (p ∷ ps) (suc i) e laid lt le =
+    let full = full_before p (joined ps) laid.0 (omega (arith, le)) in
+    omega (arith, full, length-append p (joined ps), piece_within ps i e laid.1 (omega (arith, lt)) (omega (arith, le, full, length-append p (joined ps))))
+
+-- where the piece is found and the place in it, the head before that place is below
+pub found_below : (ps : List (List Spot)) (f j h : ℕ) (p : List Spot) → IsLaid ps → f < length ps → p ≡ get_or ps f p → f * 4096 ≤ length (joined ps)
+    → j ≤ length p → j ≤ 4096 → (0 < f → get_or (heads_of (joined ps)) (f * 4096 - 1) 0 < h) → (0 < j → get_or (heads_of p) (j - 1) 0 < h)
+    → 0 < f * 4096 + j → get_or (heads_of (joined ps)) (f * 4096 + j - 1) 0 < h
+found_below ps f zero h p laid lt is le long most before here some =
+    let same : f * 4096 + zero - 1 ≡ f * 4096 - 1 = omega arith in
+    omega (arith, ap (λ n. get_or (heads_of (joined ps)) n 0) same, before (omega (arith, some)))
+found_below ps f (suc j) h p laid lt is le long most before here some =
+    let same : f * 4096 + suc j - 1 ≡ f * 4096 + j = omega arith in
+    let one_less : suc j - 1 ≡ j = omega arith in
+    let end = piece_within ps f p laid lt le in
+    let there : f * 4096 + j < length (joined ps) = omega (arith, long, end, ap length is) in
+    omega (
+      arith,
+      ap (λ n. get_or (heads_of (joined ps)) n 0) same,
+      head_there ps f j p laid (omega (arith, most)) there,
+      ap (λ q. get_or (heads_of q) j 0) is,
+      ap (λ n. get_or (heads_of p) n 0) one_less,
+      here (omega arith),
+    )
+
+-- and the head at that place is not
+pub found_first : (ps : List (List Spot)) (f j h : ℕ) (p : List Spot) → IsLaid ps → p ≡ get_or ps f p → j ≤ 4096
+    → (f * 4096 + 4095 < length (joined ps) → h ≤ get_or (heads_of (joined ps)) (f * 4096 + 4095) 0)
+    → (0 < j → get_or (heads_of p) (j - 1) 0 < h) → (j < length p → h ≤ get_or (heads_of p) j 0)
+    → f * 4096 + j < length (joined ps) → h ≤ get_or (heads_of (joined ps)) (f * 4096 + j) 0
+found_first ps f j h p laid is most last before here lt = by_test (nat_lt j 4096) refl
+  where
+    by_test : (b : Bool) → nat_lt j 4096 ≡ b → h ≤ get_or (heads_of (joined ps)) (f * 4096 + j) 0
+    by_test true e =
+        let less : j < 4096 = grind (arith, nat_tests) in
+        let there : j < length (get_or ps f p) = place_there ps f j p laid less lt in
+        omega (arith, head_there ps f j p laid less lt, ap (λ q. get_or (heads_of q) j 0) is, here (omega (arith, there, ap length is)))
+    by_test false e =
+        let all : 4096 ≤ j = grind (arith, nat_tests) in
+        let end : j - 1 ≡ 4095 = omega (arith, all, most) in
+        let there : f * 4096 + 4095 < length (joined ps) = omega (arith, lt, all) in
+        absurd (omega (
+          arith,
+          last there,
+          head_there ps f 4095 p laid (omega arith) there,
+          ap (λ q. get_or (heads_of q) 4095 0) is,
+          ap (λ n. get_or (heads_of p) n 0) end,
+          before (omega (arith, all)),
+        ))

@@ -1,11 +1,15 @@
 -- A list in pieces of at most 4,096, each full where a later one holds anything.
-use Rattle.std.specs.Prelude.{◌≡◌, ℕ, ◌<◌, ◌≤◌, List, [], ◌∷◌, ◌++◌, length}
+use Rattle.std.specs.Prelude.{◌≡◌, ℕ, ◌<◌, ◌≤◌, List, [], ◌∷◌, ◌++◌, length, map}
 use Rattle.versions.specs.declared.chunk.Spot.{Spot}
 
 -- the places in order, each with its head, and for how many more there is room
 pub record Laid : Type 0 where
   pub spots : List Spot
   pub room : ℕ
+
+-- the heads of these places
+abbrev pub heads_of : List Spot → List ℕ
+heads_of spots = map (λ s. s.head) spots
 
 -- the pieces one after another
 abbrev pub joined : List (List Spot) → List Spot

@@ -1,6 +1,7 @@
 //! A piece of a long list of places, each with the head of its key.
-ghost use Rattle.std.specs.Prelude.{◌≡◌, ◌<◌, ◌≤◌, ◌++◌, ◌∷◌, [], length, take, IfOk, IfErr, slice_index_or, slice_set};
+ghost use Rattle.std.specs.Prelude.{◌≡◌, ◌-◌, ◌<◌, ◌≤◌, ◌++◌, ◌∷◌, [], length, take, IfOk, IfErr, slice_index_or, slice_set};
 ghost use Rattle.std.specs.List.{insert};
+ghost use Rattle.versions.specs.Pieces.{heads_of};
 
 use std::alloc::Global;
 use std::collections::VecDeque;
@@ -59,6 +60,27 @@ impl Piece {
         ensures { result ≡ slice_index_or self.now at result }
     {
         self.spots[at]
+    }
+
+    /// The first place whose head is not below a number, where heads ascend. A loop, and not the deque's own search, which waits for
+    /// each spot before it asks for the next: here the processor goes on with a guess, which is faster where spots miss the cache.
+    pub fn first_at(&self, head: u64) -> usize
+        ensures within { result ≤ length self.now }
+        ensures most { result ≤ 4096 }
+        ensures below { 0 < result → slice_index_or (heads_of self.now) (result - 1) 0 < head }
+        ensures first { result < length self.now → head ≤ slice_index_or (heads_of self.now) result 0 }
+    {
+        let mut low = 0;
+        let mut high = self.spots.len();
+        while low < high {
+            let middle = low + (high - low) / 2;
+            if self.spots[middle].head < head {
+                low = middle + 1;
+            } else {
+                high = middle;
+            }
+        }
+        low
     }
 
     /// Writes over one of its places.

@@ -1,5 +1,5 @@
 //! The places of versions in order, each with the head of its key.
-ghost use Rattle.std.specs.Prelude.{◌≡◌, ℕ, List, ◌+◌, ◌<◌, ◌≤◌, [], length, take, IsOk, IfErr, OnOk, slice_index_or, slice_set};
+ghost use Rattle.std.specs.Prelude.{◌≡◌, ℕ, List, ◌+◌, ◌-◌, ◌<◌, ◌≤◌, [], length, take, IsOk, IfErr, OnOk, slice_index_or, slice_set};
 ghost use Rattle.std.specs.List.{insert};
 ghost use Rattle.units.specs.Keys.{same_key};
 ghost use Rattle.units.specs.declared.writes.Install.{Install};
@@ -71,6 +71,48 @@ impl Places {
         ensures { result ≡ slice_index_or self.now.heads at 0 }
     {
         self.spots.get(at).head
+    }
+
+    /// From the first head that is not below a number to the first that is above it, where heads ascend. The contract speaks of the
+    /// heads at both ends alone.
+    pub(crate) fn range(&self, head: u64) -> (usize, usize)
+        ensures order { result.0 ≤ result.1 }
+        ensures within { result.1 ≤ length self.now.places }
+        ensures below { 0 < result.0 → slice_index_or self.now.heads (result.0 - 1) 0 < head }
+        ensures first { result.0 < length self.now.places →
+            head ≤ slice_index_or self.now.heads result.0 0 }
+        ensures last { result.0 < result.1 → slice_index_or self.now.heads (result.1 - 1) 0 ≤ head }
+        ensures above { result.1 < length self.now.places →
+            head < slice_index_or self.now.heads result.1 0 }
+    {
+        let low = self.spots.first_at(head);
+        (low, self.first_above(low, head))
+    }
+
+    // The first head from a place on that is above a number. Mostly it is the first or the second, so these are looked at first.
+    fn first_above(&self, from: usize, head: u64) -> usize
+        requires { from ≤ length self.now.places }
+        ensures order { from ≤ result }
+        ensures within { result ≤ length self.now.places }
+        ensures last { from < result → slice_index_or self.now.heads (result - 1) 0 ≤ head }
+        ensures above { result < length self.now.places →
+            head < slice_index_or self.now.heads result 0 }
+    {
+        let mut low = from;
+        let mut high = self.len();
+        while low < high {
+            let middle = if low - from < 2 {
+                low
+            } else {
+                low + (high - low) / 2
+            };
+            if self.head(middle) <= head {
+                low = middle + 1;
+            } else {
+                high = middle;
+            }
+        }
+        low
     }
 
     /// The head that a key has beside these places.

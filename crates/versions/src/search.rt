@@ -115,8 +115,33 @@ fn count(installs: &[Install], places: &Places, key: &Key, at: u64) -> usize
     if len > 0 && is_not_after_at(installs, places, len - 1, key, key_head, at, &mut compared) {
         return len;
     }
-    let (count, _) = find(installs, places, key, at, &mut compared);
-    count
+    among(installs, places, key, key_head, at)
+}
+
+// The same, where the last is after them. The heads leave those whose head is the key's, mostly one or none, and of these alone versions
+// are read.
+fn among(installs: &[Install], places: &Places, key: &Key, key_head: u64, at: u64) -> usize
+    requires within { AreWithin places.now.places (length installs.now) }
+    requires order { AscendsByVersion (arranged installs.now places.now.places) }
+    requires heads { AreHeads places.now.prefix (arranged installs.now places.now.places)
+        places.now.heads }
+    requires bytes { AreBytes key.now }
+    requires head { key_head ≡ head places.now.prefix key.now }
+    ensures count { result ≡ count_not_after key.now at (arranged installs.now places.now.places) }
+    ensures before { AllUpTo key.now at (arranged installs.now places.now.places) result }
+    ensures after { AllAfter key.now at (arranged installs.now places.now.places) result }
+    ensures bound { result ≤ length places.now.places }
+{
+    let (mut low, mut high) = places.range(key_head);
+    while low < high {
+        let middle = low + (high - low) / 2;
+        if is_not_after(&installs[places.get(middle)], key, at, &mut Count::none()) {
+            low = middle + 1;
+        } else {
+            high = middle;
+        }
+    }
+    low
 }
 
 // The newest of so many versions from the front, where it is of the key.
@@ -157,7 +182,7 @@ fn newest_by<'a>(
     ensures { option_copied result ≡
         newest (filter (is_by key.now at) (arranged installs.now places.now.places)) }
 {
-    let (count, _) = find(installs, places, key, at, &mut Count::none());
+    let count = among(installs, places, key, places.head_of(key), at);
     newest_in(installs, places, key, at, count)
 }
 

@@ -1,7 +1,7 @@
 //! A long list of places, each with its head, in pieces, so that one more moves few of them.
-ghost use Rattle.std.specs.Prelude.{◌≡◌, ◌+◌, ◌*◌, ◌<◌, ◌≤◌, [], length, take, IsOk, IfErr, OnOk, OnErr, slice_index_or, slice_set};
+ghost use Rattle.std.specs.Prelude.{◌≡◌, ◌+◌, ◌-◌, ◌*◌, ◌^◌, ◌<◌, ◌≤◌, [], length, take, IsOk, IfErr, OnOk, OnErr, slice_index_or, slice_set};
 ghost use Rattle.std.specs.List.{insert};
-ghost use Rattle.versions.specs.Pieces.{joined, IsLaid};
+ghost use Rattle.versions.specs.Pieces.{heads_of, joined, IsLaid};
 
 use crate::chunk::{PIECE, Piece, Spot};
 use std::alloc::Global;
@@ -55,6 +55,43 @@ impl Sequence {
         ensures { result ≡ slice_index_or self.now.spots at result }
     {
         get(&self.pieces, at)
+    }
+
+    /// The first place whose head is not below a number, where heads ascend: the piece is found by halves, and the place in it. The
+    /// contract speaks of the heads there and right before alone.
+    pub fn first_at(&self, head: u64) -> usize
+        ensures within { result ≤ length self.now.spots }
+        ensures below { 0 < result → slice_index_or (heads_of self.now.spots) (result - 1) 0 < head }
+        ensures first { result < length self.now.spots →
+            head ≤ slice_index_or (heads_of self.now.spots) result 0 }
+    {
+        let full = self.full_below(head);
+        match self.pieces.get(full) {
+            Some(piece) => full * PIECE + piece.first_at(head),
+            None => full * PIECE,
+        }
+    }
+
+    // How many full pieces end below a head.
+    fn full_below(&self, head: u64) -> usize
+        ensures within { result * 4096 ≤ length self.now.spots }
+        ensures counted { length self.now.spots < 2 ^ 64 }
+        ensures below { 0 < result →
+            slice_index_or (heads_of self.now.spots) (result * 4096 - 1) 0 < head }
+        ensures first { result * 4096 + 4095 < length self.now.spots →
+            head ≤ slice_index_or (heads_of self.now.spots) (result * 4096 + 4095) 0 }
+    {
+        let mut low = 0;
+        let mut high = self.len / PIECE;
+        while low < high {
+            let middle = low + (high - low) / 2;
+            if self.get(middle * PIECE + (PIECE - 1)).head < head {
+                low = middle + 1;
+            } else {
+                high = middle;
+            }
+        }
+        low
     }
 
     /// Makes room for so many more.

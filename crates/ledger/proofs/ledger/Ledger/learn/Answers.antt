@@ -6,8 +6,8 @@ use Rattle.facts.specs.Known.{Known}
 use Rattle.versions.specs.Orders.{Orders, AreBehind}
 use Rattle.facts.specs.Stages.{follows_next, stage_after}
 use Rattle.facts.specs.declared.stage.Stage.{Stage}
-use Rattle.ledger.specs.Ledger.{writes_given, CanInstall, head_ascends}
-use Rattle.ledger.proofs.Learns.{Installs, installs, still_rising, still_orders, risen_orders, are_behind, as_many_more, is_up, still_rise}
+use Rattle.ledger.specs.Ledger.{CanInstall, head_ascends}
+use Rattle.ledger.proofs.Learns.{Installs, installs, still_rising, still_orders, risen_orders, are_behind, as_many_more, still_rise}
 use Rattle.ledger.proofs.ledger.Ledger.learn.Goals as goal
 
 pub follow-requires-clause-known : goal.follow-requires-clause-known
@@ -33,11 +33,10 @@ follow-requires-clause-behind c =
     let may : follows_next c.self.inside.facts.shard c.self.inside.facts.stage f c.args.item ≡ true =
     subst (λ (k : Known). follows_next k.shard k.stage k.facts c.args.item ≡ true) (sym c.self.view_is) c.requires.follows in
     let new : Installs f c.args.item = installs c.self.inside.facts.shard c.self.inside.facts.stage f c.args.item c.self.invariant.1 may can in
-    let up = subst (λ (k : Known). is_up k.facts c.args.item ≡ true) (sym c.self.view_is) c.ascend.ensures.up in
     let known : length c.installs-known.result.now ≡ length f.installs = ap length c.installs-known.ensures in
     subst (λ (t : List Install). AreBehind t (length c.installs-known.result.now))
     (sym (c.installs.ensures ∙ ap (λ (g : Facts). g.installs) c.learn_next.ensures.facts))
-    (subst (AreBehind (learn f c.args.item).installs) (sym known) (are_behind f c.args.item new up))
+    (subst (AreBehind (learn f c.args.item).installs) (sym known) (are_behind f c.args.item new c.learn_next.ensures.up))
 
 pub follow-requires-clause-longer : goal.follow-requires-clause-longer
 follow-requires-clause-longer c =
@@ -59,9 +58,8 @@ follow-requires-clause-room c =
     let new : Installs f c.args.item = installs c.self.inside.facts.shard c.self.inside.facts.stage f c.args.item c.self.invariant.1 may can in
     let long = ap length (c.installs.ensures ∙ ap (λ (g : Facts). g.installs) c.learn_next.ensures.facts) ∙ as_many_more f c.args.item new in
     let known : length c.installs-known.result.now ≡ length f.installs = ap length c.installs-known.ensures in
-    let few = subst (λ (k : Known). length (writes_given k.facts c.args.item) ≤ 128) (sym c.self.view_is) c.ascend.ensures.few in
     let room : 1 ≤ min c.self.inside.facts.room (c.self.inside.places.room / 128) = subst (λ (k : Known). 1 ≤ k.room) (sym c.self.view_is) c.requires.room in
-    omega (arith, long, known, few, room)
+    omega (arith, long, known, c.learn_next.ensures.few, room)
 
 pub invariant_of-self : goal.invariant_of-self
 invariant_of-self c =
@@ -85,5 +83,5 @@ invariant_of-self c =
           (subst (λ (g : Facts). head_ascends (stage_after c.self.inside.facts.stage c.args.item) g.installs ≡ true) (sym c.learn_next.ensures.facts)
           (still_rising c.self.inside.facts.shard c.self.inside.facts.stage f c.args.item c.self.invariant.1 may)),
       subst (λ (g : Facts). rises_by_key [] g.installs ≡ true) (sym c.learn_next.ensures.facts)
-          (still_rise f c.args.item new c.self.invariant.2 (subst (λ (k : Known). is_up k.facts c.args.item ≡ true) (sym c.self.view_is) c.ascend.ensures.up)),
+          (still_rise f c.args.item new c.self.invariant.2 c.learn_next.ensures.up),
     )
