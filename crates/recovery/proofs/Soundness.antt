@@ -281,10 +281,7 @@ forgotten_good f at below good = each f.entries below good
             → IsGoodPart after (part_of s) × AllByRecursion (IsGood after) es
         by_status (StandsPrepared p) k due rest = (one _ (and_parts _ _ k).0 due, rest (and_parts _ _ k).1 all.1)
         by_status (StandsDecided c) k due rest = (one _ (and_parts _ _ k).0 due, rest (and_parts _ _ k).1 all.1)
-        by_status Unrecorded k due rest = (tt, rest k all.1)
-        by_status HasAborted k due rest = (tt, rest k all.1)
-        by_status (HasSettled at ps) k due rest = (tt, rest k all.1)
-        by_status (HasClosed c o) k due rest = (tt, rest k all.1)
+        by_status _ k due rest = (tt, rest k all.1)
 
 pub taken_more : (shard : ℕ) (f : Facts) (r : Record) → IsById (λ e. e.txn) f.entries → AllByRecursion IsOwn f.entries →
     IsLawfulTable (claims (standing_rows f))
@@ -379,13 +376,6 @@ base_first n above none = omega (arith, above, eqb-true n 0 none)
 pub headed_more : (shard : ℕ) (s : Stage) (f : Facts) (r : Record) → IsById (λ e. e.txn) f.entries → head_is_bare s f.entries ≡ true
     → follows_head shard s f r ≡ true → IsTaken f → IsTaken (learn f r)
 unfolding learn follows_head
-headed_more shard s f (Record.Opened e) up bare follows taken = absurd (false≢true follows)
-headed_more shard s f (Record.Ceiling at) up bare follows taken = absurd (false≢true follows)
-headed_more shard s f (Record.Horizon at) up bare follows taken = absurd (false≢true follows)
-headed_more shard s f (Record.Prepare p) up bare follows taken = absurd (false≢true follows)
-headed_more shard s f (Record.Commit c) up bare follows taken = absurd (false≢true follows)
-headed_more shard s f (Record.Abort t) up bare follows taken = absurd (false≢true follows)
-headed_more shard s f (Record.Outcome t o) up bare follows taken = absurd (false≢true follows)
 headed_more shard s f (Record.Base e floor n) up bare follows taken =
     absurd (base_first f.epoch taken.opened ((and_parts _ _ ((and_parts _ _ follows).0)).0))
 headed_more shard s f (Record.Version i) up bare follows taken =
@@ -404,6 +394,7 @@ headed_more shard s f (Record.Settled t at parts) up bare follows taken = record
   good = noted_good f (learn f (Record.Settled t at parts)) t (HasSettled at parts) up refl refl refl (up_left f.floor at) tt taken.good;
   covered = covered_later f.floor (max f.floor at) f.installs (up_left f.floor at) taken.covered;
   horizon = under_later f.horizon f.floor at taken.horizon;
+headed_more shard s f _ up bare follows taken = absurd (false≢true follows)
 }
 headed_more shard s f (Record.Closed t c None) up bare follows taken = record {
   opened = taken.opened;

@@ -1,7 +1,7 @@
 -- The verdict on a whole log, told record by record from the facts.
 use Rattle.std.specs.List.{list_all, list_any}
 use Rattle.std.proofs.Common.{◌≡◌, ℕ, suc, ◌+◌, ◌<◌, Bool, true, false, not, cond, ◌&&◌, nat_lt, List, [], ◌∷◌, ◌++◌, map, length, take, drop, get_or}
-use Rattle.std.proofs.Common.{Some, None, refl, sym, ap, subst, ◌∙◌, ◌⊎◌, inl, inr, arith}
+use Rattle.std.proofs.Common.{Some, None, refl, sym, ap, subst, ◌∙◌, arith}
 use Rattle.std.specs.Prelude.{slice_get}
 use Rattle.std.proofs.lemmas.Bool.{and_parts}
 use Rattle.std.proofs.lemmas.List.{append_assoc, drop_more, length-append, take_more}
@@ -64,19 +64,12 @@ installs_is shard log t s follows =
 beside_is : (shard : ℕ) (log : List Record) (r : Record) → follows_next shard (stage_of log) (facts_of log) r ≡ true → fits_beside log r
     ≡ fits_facts (facts_of log) r
 unfolding fits_beside
-beside_is shard log (Record.Opened epoch) follows = refl
-beside_is shard log (Record.Ceiling at) follows = refl
 beside_is shard log (Record.Horizon at) follows = ap (list_all (nat_lt at)) (stamps_are log)
 beside_is shard log (Record.Prepare p) follows = stands_is log p.at p.reads p.writes
 beside_is shard log (Record.Commit c) follows = stands_is log c.at c.reads c.writes
-beside_is shard log (Record.Abort t) follows = refl
-beside_is shard log (Record.Outcome t None) follows = refl
 beside_is shard log (Record.Outcome t (Some s)) follows =
     installs_is shard log t s (outcome_next shard (stage_of log) (facts_of log) t (Some s) follows)
-beside_is shard log (Record.Base e f n) follows = refl
-beside_is shard log (Record.Version i) follows = refl
-beside_is shard log (Record.Settled t at parts) follows = refl
-beside_is shard log (Record.Closed t coordinator outcome) follows = refl
+beside_is shard log _ follows = refl
 
 -- and it follows by the log where it does by the facts
 follows_is : (shard : ℕ) (log : List Record) (r : Record) → followed shard log ≡ true → (begins log r && follows shard log r) ≡
@@ -218,13 +211,6 @@ after_first setup entries first rest stage facts whole none staged learnt =
     (at_next setup entries [] first rest (stage_of []) (facts_of [])
     (subst (λ left. Stands setup entries [] left (stage_of []) (facts_of [])) whole (at_start setup entries)) none))
 
--- or it is refused
-pub fault_first : (setup : Setup) (entries : List Placed) (first : Placed) (rest : List Placed) (fault : Fault) → entries ≡ first ∷ rest
-    → fault_next setup (stage_of []) (facts_of []) first ≡ Some fault → fault_in (taken setup (items entries)) entries ≡ Some fault
-fault_first setup entries first rest fault whole refused =
-    at_fault setup entries [] first rest (stage_of []) (facts_of []) fault
-    (subst (λ left. Stands setup entries [] left (stage_of []) (facts_of [])) whole (at_start setup entries)) refused
-
 module _ (setup : Setup) (entries : List Placed) (first : Placed) (rest : List Placed) (i : ℕ) (e : Placed) (stage : Stage) (facts : Facts)
     (whole : entries ≡ first ∷ rest) (lt : i < length rest) (is : e ≡ get_or rest i e) (may_stand : Stands setup entries (take (i + 1) entries)
     (drop i rest) stage facts) where
@@ -260,8 +246,3 @@ module _ (setup : Setup) (entries : List Placed) (first : Placed) (rest : List P
 pub none_taken : (setup : Setup) (entries : List Placed) → length entries ≡ 0 → taken setup (items entries) ≡ Accepted
 none_taken setup [] none = at_end setup [] [] (stage_of []) (facts_of []) (at_start setup [])
 none_taken setup (e ∷ es) none = absurd (omega (arith, none))
-
--- for want of memory, or for the verdict
-pub or_fault : (P Q R : Type 0) → (Q → R) → P ⊎ Q → P ⊎ R
-or_fault P Q R h (inl p) = inl p
-or_fault P Q R h (inr q) = inr (h q)

@@ -180,12 +180,10 @@ ended-fit x [] = tt
 ended-fit x (e ∷ es) = by_status e.txn e.status (λ y. ended-fit y es)
   where
     by_status : (t : Id) (s : Status) → ((y : Facts) → AllFit y (gather ended_item es)) → AllFit x (gather ended_item (entry t s ∷ es))
-    by_status t Unrecorded rest = rest x
-    by_status t (StandsPrepared p) rest = rest x
-    by_status t (StandsDecided c) rest = rest x
     by_status t HasAborted rest = (refl, rest _)
     by_status t (HasSettled at ps) rest = (refl, rest _)
     by_status t (HasClosed c o) rest = (refl, rest _)
+    by_status t _ rest = rest x
 
 put-parts : (e f : ℕ) (acc : List TxnStatus) (vs : List Install) (h : ℕ) (t u : Id) (s : Status) (at : ℕ) → u ≡ t → at ≤ f
     → facts_with e f (with_member id_of acc (entry t s)) vs h ≡ facts_with e (max f at) (with_status acc u s) vs h

@@ -14,7 +14,7 @@ use Rattle.units.proofs.ByIdLaws.{all-without, found_has, without-map}
 use Rattle.units.proofs.ListLaws.{find-is}
 use Rattle.units.proofs.Folds.{there_first}
 use Rattle.record.specs.declared.record.Record.{Record}
-use Rattle.protocol.specs.Rows.{Row, Phase, Idle, WaitsRead, WaitsPrepare, WaitsCommit, Collecting as CollectsVotes, IsPrepared, IsDecided, claim_of}
+use Rattle.protocol.specs.Rows.{Row, Phase, Idle, claim_of}
 use Rattle.protocol.specs.Rows.{claims, find_row, without_row, needs_of, is_firm, held_in, without_rows}
 use Rattle.protocol.proofs.RowTable.{claims-find_row, claims-without_row}
 use Rattle.locks.specs.Table.{Token, has_claim, without_claim, without_claims, change_claim, made_firm}
@@ -113,12 +113,7 @@ has_its_claim {rows = rows} {t = t} {y = y} table out tied = ap (has_claim table
 -- an idle row needs nothing
 pub idle_is : (p : Phase) → is_idle p ≡ true → p ≡ Idle
 idle_is Idle e = refl
-idle_is (WaitsRead k) e = absurd (false≢true e)
-idle_is (WaitsPrepare c rs ws) e = absurd (false≢true e)
-idle_is (WaitsCommit l ps rs ws) e = absurd (false≢true e)
-idle_is (CollectsVotes l ps rs ws vs) e = absurd (false≢true e)
-idle_is (IsPrepared c p) e = absurd (false≢true e)
-idle_is (IsDecided s ps) e = absurd (false≢true e)
+idle_is _ e = absurd (false≢true e)
 
 -- a transaction whose row passes a test passes a weaker one
 pub passes_more : (p q : Phase → Bool) → ((x : Phase) → p x ≡ true → q x ≡ true) → (rows : List CodeRow) (t : Id) → passes p rows t ≡ true →
@@ -143,55 +138,19 @@ firm_claim t held p q idle needs firm =
 -- the states after a promise and a decision
 pub prepared_token : (k : Token) (r : Record) → (prepared_by k r).token ≡ k
 prepared_token k (Record.Prepare p) = refl
-prepared_token k (Record.Opened e) = refl
-prepared_token k (Record.Ceiling s) = refl
-prepared_token k (Record.Horizon s) = refl
-prepared_token k (Record.Base epoch floor horizon) = refl
-prepared_token k (Record.Version install) = refl
-prepared_token k (Record.Settled t at parts) = refl
-prepared_token k (Record.Closed t coordinator outcome) = refl
-prepared_token k (Record.Commit c) = refl
-prepared_token k (Record.Abort t) = refl
-prepared_token k (Record.Outcome t o) = refl
+prepared_token k _ = refl
 
 pub prepared_phase : (t : Id) (k : Token) (r : Record) → is_prepare_of t r ≡ true → phase_of (Prepared (prepared_by k r)) ≡ phase_by r
 prepared_phase t k (Record.Prepare p) e = refl
-prepared_phase t k (Record.Opened n) e = absurd (false≢true e)
-prepared_phase t k (Record.Ceiling s) e = absurd (false≢true e)
-prepared_phase t k (Record.Horizon s) e = absurd (false≢true e)
-prepared_phase t k (Record.Base epoch floor horizon) e = absurd (false≢true e)
-prepared_phase t k (Record.Version install) e = absurd (false≢true e)
-prepared_phase t k (Record.Settled u at parts) e = absurd (false≢true e)
-prepared_phase t k (Record.Closed u coordinator outcome) e = absurd (false≢true e)
-prepared_phase t k (Record.Commit c) e = absurd (false≢true e)
-prepared_phase t k (Record.Abort u) e = absurd (false≢true e)
-prepared_phase t k (Record.Outcome u o) e = absurd (false≢true e)
+prepared_phase t k _ e = absurd (false≢true e)
 
 pub decided_token : (k : Token) (r : Record) → (decided_by k r).token ≡ k
 decided_token k (Record.Prepare p) = refl
-decided_token k (Record.Opened e) = refl
-decided_token k (Record.Ceiling s) = refl
-decided_token k (Record.Horizon s) = refl
-decided_token k (Record.Base epoch floor horizon) = refl
-decided_token k (Record.Version install) = refl
-decided_token k (Record.Settled t at parts) = refl
-decided_token k (Record.Closed t coordinator outcome) = refl
-decided_token k (Record.Commit c) = refl
-decided_token k (Record.Abort t) = refl
-decided_token k (Record.Outcome t o) = refl
+decided_token k _ = refl
 
 pub decided_phase : (t : Id) (k : Token) (r : Record) → is_commit_of t r ≡ true → phase_of (Decided (decided_by k r)) ≡ phase_by r
-decided_phase t k (Record.Prepare p) e = absurd (false≢true e)
-decided_phase t k (Record.Opened n) e = absurd (false≢true e)
-decided_phase t k (Record.Ceiling s) e = absurd (false≢true e)
-decided_phase t k (Record.Horizon s) e = absurd (false≢true e)
-decided_phase t k (Record.Base epoch floor horizon) e = absurd (false≢true e)
-decided_phase t k (Record.Version install) e = absurd (false≢true e)
-decided_phase t k (Record.Settled u at parts) e = absurd (false≢true e)
-decided_phase t k (Record.Closed u coordinator outcome) e = absurd (false≢true e)
 decided_phase t k (Record.Commit c) e = refl
-decided_phase t k (Record.Abort u) e = absurd (false≢true e)
-decided_phase t k (Record.Outcome u o) e = absurd (false≢true e)
+decided_phase t k _ e = absurd (false≢true e)
 
 -- as many rows are seen as the code has
 pub length-paired : (rows : List CodeRow) (table : List Claim) → length (paired rows table) ≡ length rows

@@ -45,22 +45,16 @@ prepared {rows = rows} {t = t} {s = s} new table next z r out tied view idle min
 -- a phase of a transaction that reads
 pub reading_is_open : (w : Option Wait) → is_firm (phase_of_wait w) ≡ false
 reading_is_open None = refl
-reading_is_open (Some (Wait.Read k)) = refl
-reading_is_open (Some (Wait.Prepare p)) = refl
-reading_is_open (Some (Wait.Commit c)) = refl
+reading_is_open _ = refl
 
 pub reading_may_abort : (w : Option Wait) → may_abort (phase_of_wait w) ≡ true
 reading_may_abort None = refl
-reading_may_abort (Some (Wait.Read k)) = refl
-reading_may_abort (Some (Wait.Prepare p)) = refl
-reading_may_abort (Some (Wait.Commit c)) = refl
+reading_may_abort _ = refl
 
 -- one that reads and may decide is idle
 reading_decides : (w : Option Wait) → may_decide (phase_of_wait w) ≡ true → phase_of_wait w ≡ Idle
 reading_decides None e = refl
-reading_decides (Some (Wait.Read k)) e = absurd (false≢true e)
-reading_decides (Some (Wait.Prepare p)) e = absurd (false≢true e)
-reading_decides (Some (Wait.Commit c)) e = absurd (false≢true e)
+reading_decides _ e = absurd (false≢true e)
 
 -- who may decide or abort reads or collects, and who may close is prepared or decided
 pub who_decides : (y : CodeRow) → may_decide (phase_of y) ≡ true → ((x : ReadingState) → y ≡ Reading x → ⊥) → ((x : CollectingState) → y ≡ Collecting x → ⊥) → ⊥

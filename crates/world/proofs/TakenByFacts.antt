@@ -1,6 +1,6 @@
 -- Whether a log is taken is told from what it says: record by record, and of one more record.
 use Rattle.std.specs.List.{list_all, list_any}
-use Rattle.std.proofs.Common.{◌≡◌, ℕ, ◌+◌, Bool, true, false, not, cond, ◌&&◌, nat_lt, List, [], ◌∷◌, ◌++◌, length, map, Some, None, refl, sym, ap, subst}
+use Rattle.std.proofs.Common.{◌≡◌, ℕ, ◌+◌, Bool, true, false, not, cond, ◌&&◌, nat_lt, List, [], ◌∷◌, ◌++◌, length, map, Some, refl, sym, ap, subst}
 use Rattle.std.proofs.Common.{◌∙◌, append_assoc}
 use Rattle.std.proofs.lemmas.Bool.{and_from, and_parts}
 use Rattle.std.proofs.lemmas.List.{append-nil}
@@ -62,19 +62,12 @@ installs_is shard log t s follows =
 beside_is : (shard : ℕ) (log : List Record) (r : Record) → follows_next shard (stage_of log) (facts_of log) r ≡ true →
     fits_beside log r ≡ fits_facts (facts_of log) r
 unfolding fits_beside
-beside_is shard log (Record.Opened epoch) follows = refl
-beside_is shard log (Record.Ceiling at) follows = refl
 beside_is shard log (Record.Horizon at) follows = ap (list_all (nat_lt at)) (stamps_are log)
 beside_is shard log (Record.Prepare p) follows = stands_is log p.at p.reads p.writes
 beside_is shard log (Record.Commit c) follows = stands_is log c.at c.reads c.writes
-beside_is shard log (Record.Abort t) follows = refl
-beside_is shard log (Record.Outcome t None) follows = refl
 beside_is shard log (Record.Outcome t (Some s)) follows =
     installs_is shard log t s (outcome_next shard (stage_of log) (facts_of log) t (Some s) follows)
-beside_is shard log (Record.Base e f n) follows = refl
-beside_is shard log (Record.Version i) follows = refl
-beside_is shard log (Record.Settled t at parts) follows = refl
-beside_is shard log (Record.Closed t coordinator outcome) follows = refl
+beside_is shard log _ follows = refl
 
 -- it follows by the log where it does by the facts
 follows_is : (shard : ℕ) (log : List Record) (r : Record) → followed shard log ≡ true →
@@ -153,17 +146,11 @@ was_next setup log r h = last_is_next setup [] 0 log r h
 no_head : (shard : ℕ) (log : List Record) (r : Record) → is_logged r ≡ true → follows_next shard (stage_of log) (facts_of log) r ≡
     follows_facts shard (facts_of log) r
 unfolding follows_next follows_head
-no_head shard log (Record.Opened epoch) h = or-false _
-no_head shard log (Record.Ceiling at) h = or-false _
-no_head shard log (Record.Horizon at) h = or-false _
-no_head shard log (Record.Prepare p) h = or-false _
-no_head shard log (Record.Commit c) h = or-false _
-no_head shard log (Record.Abort t) h = or-false _
-no_head shard log (Record.Outcome t outcome) h = or-false _
 no_head shard log (Record.Base epoch floor horizon) h = cc
 no_head shard log (Record.Version install) h = cc
 no_head shard log (Record.Settled t at parts) h = cc
 no_head shard log (Record.Closed t coordinator outcome) h = cc
+no_head shard log _ h = or-false _
 
 -- it may come next where the facts take it, and the other way round
 pub next_takes : (setup : Setup) (log : List Record) (r : Record) → followed setup.shard log ≡ true → is_logged r ≡ true → IsNext setup log r →

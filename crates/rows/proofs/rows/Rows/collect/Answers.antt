@@ -14,15 +14,18 @@ pub collect-collecting-requires : goal.collect-collecting-requires
 collect-collecting-requires c = has_its_claim c.self.inside.locks c.take_reading-reading.ensures c.self.invariant
 
 pub put-requires-clause-absent : goal.put-requires-clause-absent
-put-requires-clause-absent c = absent_out c.collect-collecting.result.token.txn c.take_reading-reading.ensures (ap (λ (z : CollectingState). z.token.txn) c.collect-collecting.ensures.state)
+put-requires-clause-absent c = absent_out c.collect-collecting.result.token.txn c.take_reading-reading.ensures
+    (ap (λ (z : CollectingState). z.token.txn) c.collect-collecting.ensures.state)
 
 pub put-requires-clause-room : goal.put-requires-clause-room
 put-requires-clause-room c = (taken c.take_reading-reading.ensures).space
 
 pub invariant_of-self : goal.invariant_of-self
 invariant_of-self c = (collected c.put.new.self c.self.inside.locks c.collect-collecting.new.table c.collect-collecting.result c.args.gathering
-    c.take_reading-reading.ensures c.self.invariant c.self.view_is c.requires c.put.ensures c.collect-collecting.ensures.state c.collect-collecting.ensures.table).tied
+    c.take_reading-reading.ensures c.self.invariant c.self.view_is
+    c.requires c.put.ensures c.collect-collecting.ensures.state c.collect-collecting.ensures.table).tied
 
 pub returns : goal.returns
 returns c = (collected c.put.new.self c.self.inside.locks c.collect-collecting.new.table c.collect-collecting.result c.args.gathering
-    c.take_reading-reading.ensures c.self.invariant c.self.view_is c.requires c.put.ensures c.collect-collecting.ensures.state c.collect-collecting.ensures.table).rows_are
+    c.take_reading-reading.ensures c.self.invariant c.self.view_is
+    c.requires c.put.ensures c.collect-collecting.ensures.state c.collect-collecting.ensures.table).rows_are

@@ -9,12 +9,13 @@ use Rattle.rows.proofs.Transitions.{decided, decided_by_votes, who_decides}
 use Rattle.rows.proofs.rows.Rows.decide.Goals as goal
 
 pub take-requires : goal.take-requires
-take-requires c =
-    passes_there may_decide c.self.inside.rows c.args.txn (passes_seen may_decide c.self.inside.rows c.self.inside.locks c.args.txn c.self.view_is c.requires.may)
+take-requires c = passes_there may_decide c.self.inside.rows c.args.txn
+    (passes_seen may_decide c.self.inside.rows c.self.inside.locks c.args.txn c.self.view_is c.requires.may)
 
 pub unreachable-requires : goal.unreachable-requires
 unreachable-requires c = who_decides c.take.result (found_passes may_decide c.self.inside.rows c.args.txn c.take.result c.take.ensures.row
-    (passes_seen may_decide c.self.inside.rows c.self.inside.locks c.args.txn c.self.view_is c.requires.may)) c.in_default.not-Reading c.in_default.not-Collecting
+    (passes_seen may_decide c.self.inside.rows c.self.inside.locks c.args.txn c.self.view_is c.requires.may))
+    c.in_default.not-Reading c.in_default.not-Collecting
 
 pub decide-decided-requires-clause-mine : goal.decide-decided-requires-clause-mine
 decide-decided-requires-clause-mine c = ap (λ (i : Id). is_commit_of i c.args.logged) (out_txn c.in-Reading.ensures) ∙ c.requires.mine
@@ -23,7 +24,8 @@ pub decide-decided-requires-clause-claim : goal.decide-decided-requires-clause-c
 decide-decided-requires-clause-claim c = has_its_claim c.self.inside.locks c.in-Reading.ensures c.self.invariant
 
 pub put-requires-clause-absent : goal.put-requires-clause-absent
-put-requires-clause-absent c = absent_out c.decide-decided.result.0.token.txn c.in-Reading.ensures (ap (λ (z : DecidedState). z.token.txn) c.decide-decided.ensures.state
+put-requires-clause-absent c =
+    absent_out c.decide-decided.result.0.token.txn c.in-Reading.ensures (ap (λ (z : DecidedState). z.token.txn) c.decide-decided.ensures.state
     ∙ ap (λ (k : Token). k.txn) (decided_token c.in-Reading.reading.token c.args.logged))
 
 pub put-requires-clause-room : goal.put-requires-clause-room
@@ -43,7 +45,8 @@ pub decide-decided-requires-in-Collecting : goal.decide-decided-requires-in-Coll
 decide-decided-requires-in-Collecting c = ap (λ (i : Id). is_commit_of i c.args.logged) (out_txn c.in-Collecting.ensures) ∙ c.requires.mine
 
 pub put-requires-in-Collecting-clause-absent : goal.put-requires-in-Collecting-clause-absent
-put-requires-in-Collecting-clause-absent c = absent_out c.decide-decided-in-Collecting.result.0.token.txn c.in-Collecting.ensures (ap (λ (z : DecidedState). z.token.txn) c.decide-decided-in-Collecting.ensures.state
+put-requires-in-Collecting-clause-absent c = absent_out c.decide-decided-in-Collecting.result.0.token.txn c.in-Collecting.ensures
+    (ap (λ (z : DecidedState). z.token.txn) c.decide-decided-in-Collecting.ensures.state
     ∙ ap (λ (k : Token). k.txn) (decided_token c.in-Collecting.collecting.token c.args.logged))
 
 pub put-requires-in-Collecting-clause-room : goal.put-requires-in-Collecting-clause-room

@@ -31,8 +31,10 @@ put-requires-clause-room c = (taken c.take_reading-reading.ensures).space
 
 pub invariant_of-self : goal.invariant_of-self
 invariant_of-self c = (granted_more c.put.new.self c.self.inside.locks c.grant-reading.new.table c.grant-reading.result c.args.needs.now
-    c.take_reading-reading.ensures c.self.invariant c.self.view_is c.put.ensures c.grant-reading.ensures.txn c.grant-reading.ensures.wait c.grant-reading.ensures.table).tied
+    c.take_reading-reading.ensures c.self.invariant c.self.view_is c.put.ensures c.grant-reading.ensures.txn c.grant-reading.ensures.wait
+    c.grant-reading.ensures.table).tied
 
 pub returns : goal.returns
 returns c = (granted_more c.put.new.self c.self.inside.locks c.grant-reading.new.table c.grant-reading.result c.args.needs.now
-    c.take_reading-reading.ensures c.self.invariant c.self.view_is c.put.ensures c.grant-reading.ensures.txn c.grant-reading.ensures.wait c.grant-reading.ensures.table).rows_are
+    c.take_reading-reading.ensures c.self.invariant c.self.view_is c.put.ensures c.grant-reading.ensures.txn c.grant-reading.ensures.wait
+    c.grant-reading.ensures.table).rows_are

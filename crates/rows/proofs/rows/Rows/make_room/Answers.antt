@@ -25,7 +25,8 @@ invariant_of-self c = (given_room c.put.new.self c.self.inside.locks c.make_room
     c.put.ensures c.make_room-made.ensures.txn c.make_room-made.ensures.wait).tied
 
 pub returns-clause-rows : goal.returns-clause-rows
-returns-clause-rows c = (given_room c.put.new.self c.self.inside.locks c.make_room-made.new.self c.take_reading-reading.ensures c.self.invariant c.self.view_is
+returns-clause-rows c =
+    (given_room c.put.new.self c.self.inside.locks c.make_room-made.new.self c.take_reading-reading.ensures c.self.invariant c.self.view_is
     c.put.ensures c.make_room-made.ensures.txn c.make_room-made.ensures.wait).rows_are
 
 pub returns-clause-room : goal.returns-clause-room

@@ -19,7 +19,8 @@ pub prepare-prepared-requires-clause-claim : goal.prepare-prepared-requires-clau
 prepare-prepared-requires-clause-claim c = has_its_claim c.self.inside.locks c.take_reading-reading.ensures c.self.invariant
 
 pub put-requires-clause-absent : goal.put-requires-clause-absent
-put-requires-clause-absent c = absent_out c.prepare-prepared.result.0.token.txn c.take_reading-reading.ensures (ap (λ (z : PreparedState). z.token.txn) c.prepare-prepared.ensures.state
+put-requires-clause-absent c =
+    absent_out c.prepare-prepared.result.0.token.txn c.take_reading-reading.ensures (ap (λ (z : PreparedState). z.token.txn) c.prepare-prepared.ensures.state
     ∙ ap (λ (k : Token). k.txn) (prepared_token c.take_reading-reading.result.token c.args.logged))
 
 pub put-requires-clause-room : goal.put-requires-clause-room
