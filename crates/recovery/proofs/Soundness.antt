@@ -394,7 +394,6 @@ headed_more shard s f (Record.Settled t at parts) up bare follows taken = record
   good = noted_good f (learn f (Record.Settled t at parts)) t (HasSettled at parts) up refl refl refl (up_left f.floor at) tt taken.good;
   covered = covered_later f.floor (max f.floor at) f.installs (up_left f.floor at) taken.covered;
   horizon = under_later f.horizon f.floor at taken.horizon;
-headed_more shard s f _ up bare follows taken = absurd (false≢true follows)
 }
 headed_more shard s f (Record.Closed t c None) up bare follows taken = record {
   opened = taken.opened;
@@ -408,6 +407,7 @@ headed_more shard s f (Record.Closed t c (Some at)) up bare follows taken = reco
   covered = covered_later f.floor (max f.floor at) f.installs (up_left f.floor at) taken.covered;
   horizon = under_later f.horizon f.floor at taken.horizon;
 }
+headed_more shard s f _ up bare follows taken = absurd (false≢true follows)
 
 -- ---- so it is sound
 
