@@ -1,5 +1,5 @@
 -- Each transition of a state, as a contract sees the rows before and after it.
-use Rattle.std.proofs.Common.{◌≡◌, ℕ, Bool, true, false, not, cond, List, [], ◌∷◌, Option, Some, None, refl, sym, ap, ◌∙◌}
+use Rattle.std.proofs.Common.{◌≡◌, ℕ, Bool, true, false, cond, List, [], ◌∷◌, Option, Some, None, refl, sym, ap, ◌∙◌}
 use Rattle.std.proofs.lemmas.Bool.{false≢true}
 use Rattle.units.specs.Ids.{Id, same_id}
 use Rattle.units.specs.ById.{IsById, change_member}
@@ -12,7 +12,7 @@ use Rattle.protocol.proofs.RowTable.{with_row-is}
 use Rattle.locks.specs.Table.{Token, change_claim, granted, waiting, made_firm}
 use Rattle.rows.specs.States.{ReadingState, CollectingState, PreparedState, DecidedState, is_prepare_of, is_commit_of, prepared_by, decided_by}
 use Rattle.rows.specs.States.{collecting_of, collecting_with_yes as with_yes_state}
-use Rattle.rows.specs.CodeRows.{phase_of, phase_of_wait, put_in, is_idle, is_collecting, may_decide, may_abort, may_close}
+use Rattle.rows.specs.CodeRows.{phase_of, phase_of_wait, put_in, is_idle, is_collecting, may_decide}
 use Rattle.rows.specs.CodeRows.{IsOut}
 use Rattle.rows.specs.RowTable.{RowTable, table_of, paired, has_phase, put_row, phase_by, phase_in, phase_of_row, with_yes}
 use Rattle.rows.specs.declared.row.Row.{Row as CodeRow}
@@ -47,33 +47,17 @@ pub reading_is_open : (w : Option Wait) → is_firm (phase_of_wait w) ≡ false
 reading_is_open None = refl
 reading_is_open _ = refl
 
-pub reading_may_abort : (w : Option Wait) → may_abort (phase_of_wait w) ≡ true
-reading_may_abort None = refl
-reading_may_abort _ = refl
-
 -- one that reads and may decide is idle
 reading_decides : (w : Option Wait) → may_decide (phase_of_wait w) ≡ true → phase_of_wait w ≡ Idle
 reading_decides None e = refl
 reading_decides _ e = absurd (false≢true e)
 
--- who may decide or abort reads or collects, and who may close is prepared or decided
+-- who may decide reads or collects
 pub who_decides : (y : CodeRow) → may_decide (phase_of y) ≡ true → ((x : ReadingState) → y ≡ Reading x → ⊥) → ((x : CollectingState) → y ≡ Collecting x → ⊥) → ⊥
 who_decides (Reading s) h n m = n s refl
 who_decides (Collecting s) h n m = m s refl
 who_decides (Prepared s) h n m = false≢true h
 who_decides (Decided s) h n m = false≢true h
-
-pub who_aborts : (y : CodeRow) → may_abort (phase_of y) ≡ true → ((x : ReadingState) → y ≡ Reading x → ⊥) → ((x : CollectingState) → y ≡ Collecting x → ⊥) → ⊥
-who_aborts (Reading s) h n m = n s refl
-who_aborts (Collecting s) h n m = m s refl
-who_aborts (Prepared s) h n m = false≢true h
-who_aborts (Decided s) h n m = false≢true h
-
-pub who_closes : (y : CodeRow) → may_close (phase_of y) ≡ true → ((x : PreparedState) → y ≡ Prepared x → ⊥) → ((x : DecidedState) → y ≡ Decided x → ⊥) → ⊥
-who_closes (Reading s) h n m = false≢true (ap not (sym (reading_may_abort s.wait)) ∙ h)
-who_closes (Collecting s) h n m = false≢true h
-who_closes (Prepared s) h n m = n s refl
-who_closes (Decided s) h n m = m s refl
 
 -- a transaction that is idle is decided
 pub decided : {rows mid : List CodeRow} {t : Id} {s : ReadingState} {seen : RowTable} (new : List CodeRow) (table next : List Claim) (z : DecidedState)
