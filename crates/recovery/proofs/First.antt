@@ -21,7 +21,8 @@ use Rattle.gatelog.specs.Placed.{Placed}
 use Rattle.protocol.specs.Rows.{rebuilt}
 use Rattle.protocol.proofs.StepSound.{fresh_is_sound}
 use Rattle.memory.specs.Kept.{Kept}
-use Rattle.recovery.specs.Recovered.{IsGood, IsOwn, IsRecovered, fault_next, fits_facts, base_in, head_is_bare, is_first}
+use Rattle.protocol.specs.Beside.{fits_facts}
+use Rattle.recovery.specs.Recovered.{IsGood, IsOwn, IsRecovered, fault_next, base_in, head_is_bare, is_first}
 
 -- only the first opening or a base may come first
 first_follows : (shard : ℕ) (r : Record) → follows_next shard (stage_of []) (facts_of []) r ≡ is_first r

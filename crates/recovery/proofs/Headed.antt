@@ -17,7 +17,8 @@ use Rattle.facts.specs.declared.stage.Stage.TheVariants.{Head, Early, Open}
 use Rattle.protocol.specs.Rows.{Memory, Row, find_row, rebuilt, standing_row, without_row}
 use Rattle.protocol.proofs.FitsBeside.{unrecorded_is}
 use Rattle.memory.specs.Kept.{Kept}
-use Rattle.recovery.specs.Recovered.{IsGood, IsOwn, IsRecovered, head_is_bare, standing_rows}
+use Rattle.protocol.specs.Beside.{standing_rows}
+use Rattle.recovery.specs.Recovered.{IsGood, IsOwn, IsRecovered, head_is_bare}
 use Rattle.recovery.proofs.Again.{learn_order}
 use Rattle.recovery.proofs.Beside.{fresh_absent, rows_are}
 use Rattle.recovery.proofs.Soundness.{headed_more}

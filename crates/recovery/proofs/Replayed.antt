@@ -21,7 +21,8 @@ use Rattle.ledger.specs.Ledger.{CanInstall}
 use Rattle.memory.specs.Plans.{plan_of}
 use Rattle.memory.specs.declared.plan.Plan.{Plan}
 use Rattle.memory.specs.declared.plan.Step.{Step}
-use Rattle.recovery.specs.Recovered.{IsGood, IsOwn, IsRecovered, fits_facts, head_is_bare}
+use Rattle.protocol.specs.Beside.{fits_facts}
+use Rattle.recovery.specs.Recovered.{IsGood, IsOwn, IsRecovered, head_is_bare}
 use Rattle.recovery.proofs.Again.{learn_order, learn_own}
 use Rattle.recovery.proofs.Beside.{rows_are}
 use Rattle.recovery.proofs.Soundness.{taken_more}

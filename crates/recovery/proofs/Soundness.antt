@@ -35,7 +35,8 @@ use Rattle.protocol.proofs.RowChanges.{find_members}
 use Rattle.protocol.proofs.Serves.{AllOver, Over, under_safe}
 use Rattle.protocol.proofs.StatusChanges.{by_id-status, entry_other, entry_same}
 use Rattle.memory.specs.Kept.{Kept}
-use Rattle.recovery.specs.Recovered.{MayStandNext, IsGood, IsGoodPart, IsOwn, IsRecovered, Part, fits_facts, head_is_bare, part_of, standing_rows}
+use Rattle.protocol.specs.Beside.{fits_facts, standing_rows}
+use Rattle.recovery.specs.Recovered.{MayStandNext, IsGood, IsGoodPart, IsOwn, IsRecovered, Part, head_is_bare, part_of}
 use Rattle.recovery.proofs.Again.{id_rules}
 use Rattle.recovery.proofs.StandingRows.{found}
 

@@ -34,7 +34,8 @@ use Rattle.protocol.proofs.RowCounts.{has_row, no_more, shorter-without_row}
 use Rattle.protocol.proofs.Serves.{Over}
 use Rattle.renewal.specs.Keeps.{Alike, IsPlaced, IsRegular}
 use Rattle.renewal.specs.Laws.{TurnedFits}
-use Rattle.renewal.specs.Rules.{AllFit, stands_in}
+use Rattle.protocol.specs.Beside.{stands_in}
+use Rattle.renewal.specs.Rules.{AllFit}
 use Rattle.renewal.specs.Turned.{turned, versions_held, ended_item, standing_item}
 use Rattle.renewal.proofs.Come.{Fresh, not-among, still-fresh}
 use Rattle.renewal.proofs.Entries.{entry, id_of, is_ended, put_all, with_status-is}

@@ -23,7 +23,8 @@ use Rattle.protocol.proofs.Rising.{below, installs_rise, rise_none, rise_one}
 use Rattle.protocol.proofs.Taken.{taken_is_showable}
 use Rattle.renewal.specs.Keeps.{IsLasting, IsOfShard, IsPlaced, writes_ascend}
 use Rattle.renewal.specs.Laws.{LogIsOfShard, LogLasts, TakenLasts}
-use Rattle.renewal.specs.Rules.{AllFit, fits_facts}
+use Rattle.protocol.specs.Beside.{fits_facts}
+use Rattle.renewal.specs.Rules.{AllFit}
 use Rattle.renewal.proofs.Entries.{entry, id_of, with_status-is}
 use Rattle.renewal.proofs.Shards.{put, step-of-shard}
 use Rattle.renewal.proofs.Bounded.{IsBounded, at-most, bounded, bounded-stays, more-bounded, put-bounded, regular, step-of}

@@ -14,7 +14,8 @@ use Rattle.protocol.proofs.Ascending.{entries_after}
 use Rattle.protocol.proofs.Rising.{installs_rise, rise_none}
 use Rattle.protocol.proofs.Serves.{ascend_in, versions_follow}
 use Rattle.renewal.specs.Keeps.{IsLasting}
-use Rattle.renewal.specs.Rules.{fits_facts, takes}
+use Rattle.protocol.specs.Beside.{fits_facts}
+use Rattle.renewal.specs.Rules.{takes}
 use Rattle.renewal.specs.Laws.{LastingFollows, LastingStays}
 use Rattle.renewal.proofs.Bounded.{bounded, bounded-stays, regular, step-of}
 

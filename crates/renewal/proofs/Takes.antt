@@ -21,7 +21,8 @@ use Rattle.versions.proofs.Newest.{above_newest, was_before}
 use Rattle.versions.specs.Places.{SameVersions}
 use Rattle.renewal.specs.Keeps.{Alike}
 use Rattle.renewal.specs.Laws.{AlikeTakes}
-use Rattle.renewal.specs.Rules.{stands_in, fits_facts, takes}
+use Rattle.protocol.specs.Beside.{fits_facts, stands_in}
+use Rattle.renewal.specs.Rules.{takes}
 
 -- the rules of one id, of openings and of a horizon read no versions
 no-versions : (shard : ℕ) (e f : ℕ) (es : List TxnStatus) (is js : List Install) (n : ℕ) (r : Record)
