@@ -236,10 +236,7 @@ standing_entry f t o allowed = by_entry (find_member (λ (e : TxnStatus). e.txn)
       installs = λ s. ap (λ r. installs_at r (Some s)) (ap or_unrecorded found ∙ k);
       none = ap (λ r. installs_at r None) (ap or_unrecorded found ∙ k);
     }
-    by_status d Unrecorded k found h = absurd (false≢true h)
-    by_status d HasAborted k found h = absurd (false≢true h)
-    by_status d (HasSettled at ps) k found h = absurd (false≢true h)
-    by_status d (HasClosed c q) k found h = absurd (false≢true h)
+    by_status d _ k found h = absurd (false≢true h)
 
     by_entry : (e : Option TxnStatus) → find_member (λ (e : TxnStatus). e.txn) f.entries t ≡ e → allows (or_unrecorded e) o ≡ true → Outcomes f t
     by_entry None k h = absurd (false≢true h)
@@ -359,10 +356,7 @@ taken_more shard f (Record.Horizon at) up own lawful follows fit taken = record 
       let before : f.horizon ≤ f.floor = taken.horizon in
       (let l : at ≤ f.floor = grind (arith, nat_tests) in omega (arith, l, before));
 }
-taken_more shard f (Record.Base e floor n) up own lawful follows fit taken = absurd (false≢true follows)
-taken_more shard f (Record.Version i) up own lawful follows fit taken = absurd (false≢true follows)
-taken_more shard f (Record.Settled u at parts) up own lawful follows fit taken = absurd (false≢true follows)
-taken_more shard f (Record.Closed u coordinator q) up own lawful follows fit taken = absurd (false≢true follows)
+taken_more shard f _ up own lawful follows fit taken = absurd (false≢true follows)
 
 -- ---- a record of a head
 

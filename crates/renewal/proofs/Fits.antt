@@ -223,9 +223,7 @@ standing-fit shard facts memory sound room regular (x ∷ es) acc here placed or
           (all-with (IsIn facts) id_of acc (entry t (StandsDecided c)) there mine)
           (still-fresh acc (filter (λ x. not (is_ended x)) es) t (StandsDecided c) (all-keep _ (λ x. not (is_ended x)) es young) fr.1)),
     )
-    by_status t HasAborted there p young fr rest = rest acc up mine fr
-    by_status t (HasSettled at ps) there p young fr rest = rest acc up mine fr
-    by_status t (HasClosed c o) there p young fr rest = rest acc up mine fr
+    by_status t _ there p young fr rest = rest acc up mine fr
 
 put-keeps : (P : TxnStatus → Type 0) (acc es : List TxnStatus) → IsById id_of acc → AllByRecursion P acc → AllByRecursion P es
     → IsById id_of (put_all acc es) × AllByRecursion P (put_all acc es)
