@@ -2,6 +2,7 @@
 use Rattle.std.proofs.Common.{◌≡◌, ◌⊎◌, inl, inr, ℕ, false, leb, ◌+◌, ◌<◌, List, [], ◌∷◌, ◌++◌, length, flat_map, reverse, Ok, sym, ap, ◌∙◌, arith}
 use Rattle.std.specs.List.{AllByRecursion}
 use Rattle.std.proofs.lemmas.List.{reverse-append, length-append}
+use Rattle.std.proofs.lemmas.Grind.{flat_map-append}
 use Rattle.std.proofs.lemmas.Bool.Decides.{nat_tests}
 use Rattle.record.specs.declared.record.Record.{Record}
 use Rattle.spelling.specs.Limits.{IsRecord}
@@ -18,6 +19,10 @@ use Rattle.gatelog.proofs.Fresh.{area-size}
 
 pub newest-last : (r : Record) (rs now : List Record) → now ≡ r ∷ rs → reverse now ≡ reverse rs ++ r ∷ []
 newest-last r rs now is = ap reverse is ∙ reverse-append (r ∷ []) rs
+
+pub frame-more : (rs : List Record) (r : Record) → flat_map whole_frame (rs ++ r ∷ []) ≡ flat_map whole_frame rs ++ whole_frame r
+frame-more rs r = flat_map-append whole_frame rs (r ∷ []) ∙ ap (λ (l : List ℕ). flat_map whole_frame rs ++ l)
+    (Rattle.std.proofs.lemmas.List.append-nil (whole_frame r))
 
 pub fit-more : (rs : List Record) (r : Record) → AllByRecursion IsRecord rs → IsRecord r → AllByRecursion IsRecord (rs ++ r ∷ [])
 fit-more [] r all fits = (fits, tt)

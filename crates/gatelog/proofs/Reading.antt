@@ -4,7 +4,8 @@ use Rattle.std.proofs.Common.{None, Ok, Err, refl, sym, ap, ◌∙◌, append_as
 use Rattle.std.specs.Prelude.{bytes_eq}
 use Rattle.std.proofs.lemmas.Bool.{eq-eqb, cases_Bool, false≢true}
 use Rattle.std.proofs.lemmas.Slice.Eq.{bytes_eq-Decides}
-use Rattle.std.proofs.lemmas.List.{drop_more, drop-drop, length-drop, length-take-le, take-append-drop, append-nil, nil_from_length}
+use Rattle.std.proofs.lemmas.List.{drop_more, drop-drop, length-drop, length-take, length-take-le, take-append-drop, append-nil, nil_from_length}
+use Rattle.std.proofs.lemmas.List.{take_all}
 use Rattle.units.specs.declared.fault.Fault.TheVariants.{Damaged, NotALog}
 use Rattle.record.specs.declared.record.Record.{Record}
 use Rattle.gatelog.specs.Placed.{Placed}
@@ -85,6 +86,9 @@ no_header image other = elim (cases_Bool (bytes_eq (take 8 image) header)) [
   | inr none ↦ rw none refl
 ]
 
+pub too_short : (image : List ℕ) → length image < 8 → scan image ≡ Err NotALog
+too_short image lt = no_header image (λ e. absurd (omega (arith, lt, ap length e, length-take 8 image)))
+
 pub differ : (xs ys : List ℕ) → true ≡ not (bytes_eq xs ys) → xs ≢ ys
 differ xs ys other same = absurd (false≢true (sym (other ∙ ap not ((bytes_eq-Decides xs ys).1 same))))
 
@@ -93,3 +97,7 @@ agree xs ys is = elim (cases_Bool (bytes_eq xs ys)) [
   | inl same ↦ (bytes_eq-Decides xs ys).0 same
   | inr other ↦ absurd (false≢true (is ∙ ap not other))
 ]
+
+-- a slice to the end
+pub to_end : (xs : List ℕ) (n : ℕ) → take (length xs - n) (drop n xs) ≡ drop n xs
+to_end xs n = take_all (length xs - n) (drop n xs) (omega (arith, length-drop n xs))

@@ -22,11 +22,6 @@ use Rattle.gatelog.proofs.Next.{next-appended}
 use Rattle.gatelog.proofs.Goes.{gate_within}
 use Rattle.gatelog.proofs.change.write_frame.Goals as goal
 
--- what ends where the entry is to stand ends at its gate
-whole_at : (image : List ℕ) (gate : ℕ) (item : Record) (entry : Placed) → ◌≡◌ {A = Placed} (record { offset = gate; item = item }) entry
-    → IsTrue (ends_at image entry.offset) → IsTrue (ends_at image gate)
-whole_at image gate item entry is whole = subst (λ (e : Placed). IsTrue (ends_at image e.offset)) (sym is) whole
-
 pub write_and_sync-requires : goal.write_and_sync-requires
 write_and_sync-requires g c keeps =
     let seen = (surface (g.D.Disk.file c.args.disk.now)).seen in
@@ -39,7 +34,9 @@ pub returns-in_err-write_and_sync-clause-any_moment : goal.returns-in_err-write_
 returns-in_err-write_and_sync-clause-any_moment g c keeps =
     let old = c.args.disk.now in
     let inside = c.staged.inside in
-    let whole = whole_at (surface (g.D.Disk.file old)).seen inside.gate inside.item c.args.staged.now c.staged.view_is (c.requires.whole keeps) in
+    let gate-is : inside.gate ≡ c.args.staged.now.offset = ap (λ (e : Placed). e.offset) c.staged.view_is in
+    let whole : IsTrue (ends_at (surface (g.D.Disk.file old)).seen inside.gate) = subst
+    (λ (n : ℕ). IsTrue (ends_at (surface (g.D.Disk.file old)).seen n)) (sym gate-is) (c.requires.whole keeps) in
     let bytes-is : c.deref.result.now ≡ staged_bytes inside.item = c.deref.ensures.value ∙ c.staged.invariant.0 in
     let run = first_run (λ d. surface (g.D.Disk.file d)) g.D.Disk.clock g.D.Disk.since old inside.gate inside.item
     (c.requires.synced keeps) whole c.staged.invariant.1 c.deref.result.now bytes-is c.write_and_sync.new.disk (c.write_and_sync.ensures.crash keeps) in
@@ -67,7 +64,9 @@ pub write_and_sync-requires-2 : goal.write_and_sync-requires-2
 write_and_sync-requires-2 g c keeps =
     let old = c.args.disk.now in
     let inside = c.staged.inside in
-    let whole = whole_at (surface (g.D.Disk.file old)).seen inside.gate inside.item c.args.staged.now c.staged.view_is (c.requires.whole keeps) in
+    let gate-is : inside.gate ≡ c.args.staged.now.offset = ap (λ (e : Placed). e.offset) c.staged.view_is in
+    let whole : IsTrue (ends_at (surface (g.D.Disk.file old)).seen inside.gate) = subst
+    (λ (n : ℕ). IsTrue (ends_at (surface (g.D.Disk.file old)).seen n)) (sym gate-is) (c.requires.whole keeps) in
     let bytes-is : c.deref.result.now ≡ staged_bytes inside.item = c.deref.ensures.value ∙ c.staged.invariant.0 in
     let mid-is : surface (g.D.Disk.file c.write_and_sync.new.disk) ≡ after_sync (after_write (inside.gate + 1) c.deref.result.now
     (surface (g.D.Disk.file old))) = c.in_ok-write_and_sync.ensures.done keeps in
@@ -83,7 +82,9 @@ pub returns-clause-any_moment : goal.returns-clause-any_moment
 returns-clause-any_moment g c keeps =
     let old = c.args.disk.now in
     let inside = c.staged.inside in
-    let whole = whole_at (surface (g.D.Disk.file old)).seen inside.gate inside.item c.args.staged.now c.staged.view_is (c.requires.whole keeps) in
+    let gate-is : inside.gate ≡ c.args.staged.now.offset = ap (λ (e : Placed). e.offset) c.staged.view_is in
+    let whole : IsTrue (ends_at (surface (g.D.Disk.file old)).seen inside.gate) = subst
+    (λ (n : ℕ). IsTrue (ends_at (surface (g.D.Disk.file old)).seen n)) (sym gate-is) (c.requires.whole keeps) in
     let bytes-is : c.deref.result.now ≡ staged_bytes inside.item = c.deref.ensures.value ∙ c.staged.invariant.0 in
     let mid-is : surface (g.D.Disk.file c.write_and_sync.new.disk) ≡ after_sync (after_write (inside.gate + 1) c.deref.result.now
     (surface (g.D.Disk.file old))) = c.in_ok-write_and_sync.ensures.done keeps in
@@ -98,7 +99,9 @@ pub returns-in_err-write_and_sync-clause-begins : goal.returns-in_err-write_and_
 returns-in_err-write_and_sync-clause-begins g c keeps =
     let old = c.args.disk.now in
     let inside = c.staged.inside in
-    let whole = whole_at (surface (g.D.Disk.file old)).seen inside.gate inside.item c.args.staged.now c.staged.view_is (c.requires.whole keeps) in
+    let gate-is : inside.gate ≡ c.args.staged.now.offset = ap (λ (e : Placed). e.offset) c.staged.view_is in
+    let whole : IsTrue (ends_at (surface (g.D.Disk.file old)).seen inside.gate) = subst
+    (λ (n : ℕ). IsTrue (ends_at (surface (g.D.Disk.file old)).seen n)) (sym gate-is) (c.requires.whole keeps) in
     let bytes-is : c.deref.result.now ≡ staged_bytes inside.item = c.deref.ensures.value ∙ c.staged.invariant.0 in
     first_begins (λ d. surface (g.D.Disk.file d)) g.D.Disk.clock g.D.Disk.since old inside.gate inside.item
     (c.requires.synced keeps) whole c.staged.invariant.1 c.deref.result.now bytes-is c.write_and_sync.new.disk (c.write_and_sync.ensures.crash keeps)
@@ -107,7 +110,9 @@ pub returns-clause-begins : goal.returns-clause-begins
 returns-clause-begins g c keeps =
     let old = c.args.disk.now in
     let inside = c.staged.inside in
-    let whole = whole_at (surface (g.D.Disk.file old)).seen inside.gate inside.item c.args.staged.now c.staged.view_is (c.requires.whole keeps) in
+    let gate-is : inside.gate ≡ c.args.staged.now.offset = ap (λ (e : Placed). e.offset) c.staged.view_is in
+    let whole : IsTrue (ends_at (surface (g.D.Disk.file old)).seen inside.gate) = subst
+    (λ (n : ℕ). IsTrue (ends_at (surface (g.D.Disk.file old)).seen n)) (sym gate-is) (c.requires.whole keeps) in
     let bytes-is : c.deref.result.now ≡ staged_bytes inside.item = c.deref.ensures.value ∙ c.staged.invariant.0 in
     let mid-is : surface (g.D.Disk.file c.write_and_sync.new.disk) ≡ after_sync (after_write (inside.gate + 1) c.deref.result.now
     (surface (g.D.Disk.file old))) = c.in_ok-write_and_sync.ensures.done keeps in
@@ -120,7 +125,9 @@ pub returns-clause-done : goal.returns-clause-done
 returns-clause-done g c = on_map c.write_and_sync-2.result (λ done keeps.
     let old = c.args.disk.now in
     let inside = c.staged.inside in
-    let whole = whole_at (surface (g.D.Disk.file old)).seen inside.gate inside.item c.args.staged.now c.staged.view_is (c.requires.whole keeps) in
+    let gate-is : inside.gate ≡ c.args.staged.now.offset = ap (λ (e : Placed). e.offset) c.staged.view_is in
+    let whole : IsTrue (ends_at (surface (g.D.Disk.file old)).seen inside.gate) = subst
+    (λ (n : ℕ). IsTrue (ends_at (surface (g.D.Disk.file old)).seen n)) (sym gate-is) (c.requires.whole keeps) in
     let bytes-is : c.deref.result.now ≡ staged_bytes inside.item = c.deref.ensures.value ∙ c.staged.invariant.0 in
     let mid-is : surface (g.D.Disk.file c.write_and_sync.new.disk) ≡ after_sync (after_write (inside.gate + 1) c.deref.result.now
     (surface (g.D.Disk.file old))) = c.in_ok-write_and_sync.ensures.done keeps in
@@ -140,7 +147,8 @@ pub returns-clause-next : goal.returns-clause-next
 returns-clause-next g c = on_map c.write_and_sync-2.result (λ done slot keeps next.
     let old = surface (g.D.Disk.file c.args.disk.now) in
     let inside = c.staged.inside in
-    let whole = whole_at old.seen inside.gate inside.item c.args.staged.now c.staged.view_is (c.requires.whole keeps) in
+    let gate-is : inside.gate ≡ c.args.staged.now.offset = ap (λ (e : Placed). e.offset) c.staged.view_is in
+    let whole : IsTrue (ends_at old.seen inside.gate) = subst (λ (n : ℕ). IsTrue (ends_at old.seen n)) (sym gate-is) (c.requires.whole keeps) in
     let found = ends_found (scan old.seen) inside.gate whole in
     subst (λ (l : List ℕ). IsNextOrNone l slot) (sym (ap (λ (f : Surface). f.seen) (done keeps)
     ∙ ap (λ (f : Surface). with_bytes inside.gate (open_gate ∷ []) f.seen) (c.in_ok-write_and_sync.ensures.done keeps)))
