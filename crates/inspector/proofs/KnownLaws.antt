@@ -30,9 +30,7 @@ same_in_at us vs same t at = any_of_id us t at ∙ ap (λ l. list_any (λ u. nat
 
 same_lost_by : (us vs : List Txn) → HaveSame us vs → (l : Line) → lost_by us l ≡ lost_by vs l
 same_lost_by us vs same (Ack t at m) = ap (λ b. cond b None (Some t)) (same_in_at us vs same t at)
-same_lost_by us vs same (Begin t m) = refl
-same_lost_by us vs same (Read t k x) = refl
-same_lost_by us vs same (Look k at x) = refl
+same_lost_by us vs same _ = refl
 
 same_lost : (us vs : List Txn) → HaveSame us vs → (lines : List Line) → first_lost us lines ≡ first_lost vs lines
 same_lost us vs same lines = ap (λ (lost : Line → Option Id). head (ids_once (gather lost lines))) (λ i l. same_lost_by us vs same l i)
@@ -86,9 +84,7 @@ same_late_acks : (us vs : List Txn) → HaveSame us vs → (ls : List (ℕ × Li
 same_late_acks us vs same ls (Begin t m) =
     ap (λ (o : Option Txn). elim o as (λ x. List ℕ) [ None ↦ [] | Some u ↦ gather (λ l. cond (is_late_ack m u.at l.1) (Some (l.0)) None) ls ])
     (same_find us vs same t)
-same_late_acks us vs same ls (Ack t at m) = refl
-same_late_acks us vs same ls (Read t k x) = refl
-same_late_acks us vs same ls (Look k at x) = refl
+same_late_acks us vs same ls _ = refl
 
 same_wrong_order : (us vs : List Txn) → HaveSame us vs → (lines : List Line) → first_wrong_order us lines ≡ first_wrong_order vs lines
 same_wrong_order us vs same lines =

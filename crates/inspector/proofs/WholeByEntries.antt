@@ -11,7 +11,7 @@ use Rattle.record.specs.Records.{Ended, as_aborted, as_committed, as_ended, as_p
 use Rattle.record.specs.Whole.{Decision, decisions, fits_decision, is_promise_for, is_whole, is_whole_by, outcomes_fit, promises_of}
 use Rattle.record.specs.declared.record.Committed.{Committed}
 use Rattle.record.specs.declared.record.Record.{Record}
-use Rattle.record.specs.declared.record.Record.TheVariants.{Opened, Ceiling, Prepare, Commit, Abort, Outcome, Horizon, Base, Version, Settled, Closed}
+use Rattle.record.specs.declared.record.Record.TheVariants.{Prepare, Commit, Abort, Outcome, Settled, Closed}
 use Rattle.inspector.specs.Entries.{About, about_in, entries, log_numbered, logs_from, of_txn}
 
 -- the record is about a transaction
@@ -176,56 +176,24 @@ all_of p q (y ∷ ys) = by_test (p y) (all_of p q ys)
     by_test false rest = rest
 
 prepared_of_it : IsOf as_prepared (λ p. p.txn)
-prepared_of_it (Opened e) y is = cc
-prepared_of_it (Ceiling a) y is = cc
-prepared_of_it (Horizon a) y is = cc
-prepared_of_it (Base e f h) y is = cc
-prepared_of_it (Version v) y is = cc
-prepared_of_it (Settled u s ps) y is = cc
 prepared_of_it (Closed u k o) y is = ap (option_map (λ q. q.txn)) is
 prepared_of_it (Prepare p) y is = ap (option_map (λ q. q.txn)) is
-prepared_of_it (Commit p) y is = cc
-prepared_of_it (Abort u) y is = cc
-prepared_of_it (Outcome u o) y is = cc
+prepared_of_it _ y is = cc
 
 committed_of_it : IsOf as_committed (λ c. c.txn)
-committed_of_it (Opened e) y is = cc
-committed_of_it (Ceiling a) y is = cc
-committed_of_it (Horizon a) y is = cc
-committed_of_it (Base e f h) y is = cc
-committed_of_it (Version v) y is = cc
 committed_of_it (Settled u s ps) y is = ap (option_map (λ q. q.txn)) is
-committed_of_it (Closed u k o) y is = cc
-committed_of_it (Prepare p) y is = cc
 committed_of_it (Commit p) y is = ap (option_map (λ q. q.txn)) is
-committed_of_it (Abort u) y is = cc
-committed_of_it (Outcome u o) y is = cc
+committed_of_it _ y is = cc
 
 aborted_of_it : IsOf as_aborted (λ u. u)
-aborted_of_it (Opened e) y is = cc
-aborted_of_it (Ceiling a) y is = cc
-aborted_of_it (Horizon a) y is = cc
-aborted_of_it (Base e f h) y is = cc
-aborted_of_it (Version v) y is = cc
-aborted_of_it (Settled u s ps) y is = cc
-aborted_of_it (Closed u k o) y is = cc
-aborted_of_it (Prepare p) y is = cc
-aborted_of_it (Commit p) y is = cc
 aborted_of_it (Abort u) y is = is
-aborted_of_it (Outcome u o) y is = cc
+aborted_of_it _ y is = cc
 
 ended_of_it : IsOf as_ended (λ e. e.txn)
-ended_of_it (Opened e) y is = cc
-ended_of_it (Ceiling a) y is = cc
-ended_of_it (Horizon a) y is = cc
-ended_of_it (Base e f h) y is = cc
-ended_of_it (Version v) y is = cc
 ended_of_it (Settled u s ps) y is = ap (option_map (λ q. q.txn)) is
 ended_of_it (Closed u k o) y is = ap (option_map (λ q. q.txn)) is
-ended_of_it (Prepare p) y is = cc
-ended_of_it (Commit p) y is = cc
-ended_of_it (Abort u) y is = cc
 ended_of_it (Outcome u o) y is = ap (option_map (λ q. q.txn)) is
+ended_of_it _ y is = cc
 
 -- the word of a definition that asks of an id which it compares from the other side
 abbrev pub has_right : {B : Type 0} → (B → Id) → Id → B → Bool

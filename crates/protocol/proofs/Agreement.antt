@@ -62,9 +62,7 @@ promise_of b t held c at sound found =
         record { promise = p; is = e; stands_by = a; stamp = stamp }
     by_status (StandsDecided d) e a = let phase : IsPrepared c at ≡ IsDecided d.at d.parts = a.phase in cc
     by_status Unrecorded e a = absurd (false≢true a)
-    by_status HasAborted e a = absurd a
-    by_status (HasSettled s ps) e a = absurd a
-    by_status (HasClosed d o) e a = absurd a
+    by_status _ e a = absurd a
 
 -- the decision by which a row stands
 pub record DecisionOf (b : Before) (t : Id) (held : List Lock) (at : ℕ) (ps : List ℕ) : Type 0 where
@@ -87,9 +85,7 @@ decision_of b t held at ps sound found =
         record { decision = d; is = e; stands_by = a; stamp = stamp }
     by_status (StandsPrepared p) e a = let phase : IsDecided at ps ≡ IsPrepared p.coordinator p.at = a.phase in cc
     by_status Unrecorded e a = absurd (false≢true a)
-    by_status HasAborted e a = absurd a
-    by_status (HasSettled s qs) e a = absurd a
-    by_status (HasClosed d o) e a = absurd a
+    by_status _ e a = absurd a
 
 -- an outcome that a promise allows is not below it
 pub not_below : (n c at s : ℕ) → is_outcome_for n c at (Some s) ≡ true → at ≤ s

@@ -101,12 +101,7 @@ shaped_give_up b t (HasRow held (WaitsRead k)) e = shaped_end b t [] (ap is_unde
 shaped_give_up b t (HasRow held (WaitsPrepare c rs ws)) e = shaped_end b t _ (ap is_undecided e)
 shaped_give_up b t (HasRow held (WaitsCommit l ps rs ws)) e = shaped_end b t [] (ap is_undecided e)
 shaped_give_up b t (HasRow held (Collecting l ps rs ws votes)) e = shaped_abort b t ps (ap is_undecided e)
-shaped_give_up b t (HasRow held (IsPrepared c p)) e = shaped_idle b
-shaped_give_up b t (HasRow held (IsDecided s ps)) e = shaped_idle b
-shaped_give_up b t WasEnded e = shaped_idle b
-shaped_give_up b t WasAborted e = shaped_idle b
-shaped_give_up b t (WasSettled s ps) e = shaped_idle b
-shaped_give_up b t (WasClosed o) e = shaped_idle b
+shaped_give_up b t _ e = shaped_idle b
 
 shaped_abort_for : (b : Before) (n : ℕ) (t : Id) → is_undecided (stands b t) ≡ true → Shaped b (Ok (plan_abort_for b n t))
 shaped_abort_for b n t fresh = planned b _ (IsAbort t _ fresh refl)

@@ -1,6 +1,6 @@
 -- A plan puts rows and logs records whose writes ascend by key.
 use Rattle.std.proofs.Common.{refl, ap, subst, ◌∙◌}
-use Rattle.std.specs.Prelude.{ℕ, ◌≡◌, Bool, true, false, ◌&&◌, cond, List, [], ◌∷◌, Option, Some, None, Ok}
+use Rattle.std.specs.Prelude.{ℕ, ◌≡◌, Bool, true, false, ◌&&◌, cond, List, [], ◌∷◌, Option, Some, Ok}
 use Rattle.std.proofs.lemmas.Bool.{and_parts}
 use Rattle.std.specs.List.{list_all}
 use Rattle.units.specs.Lists.{ascends}
@@ -10,7 +10,7 @@ use Rattle.units.specs.declared.setup.Setup.{Setup}
 use Rattle.units.specs.declared.writes.Write.{Write}
 use Rattle.truetime.specs.Interval.{Interval}
 use Rattle.record.specs.Facts.{TxnStatus, Facts, recorded, learn, with_status, after_outcome}
-use Rattle.record.specs.Records.{Status, Unrecorded, StandsPrepared, StandsDecided, HasAborted, HasSettled, HasClosed}
+use Rattle.record.specs.Records.{Status, StandsPrepared, StandsDecided, HasAborted, HasSettled, HasClosed}
 use Rattle.record.specs.declared.record.Record.{Record}
 use Rattle.message.specs.declared.message.Input.{Input}
 use Rattle.message.specs.declared.message.Message.{Message}
@@ -53,13 +53,7 @@ ascending_fits = record {
 brought : (m : Message) → WritesAscend (Input.Deliver m) → Brings in_order m
 brought (Message.Prepare p) e = e
 brought (Message.Commit c) e = e
-brought (Message.Read r) e = tt
-brought (Message.GiveUp g) e = tt
-brought (Message.Vote v) e = tt
-brought (Message.Outcome o) e = tt
-brought (Message.Ask a) e = tt
-brought (Message.ReadAnswer a) e = tt
-brought (Message.Done d) e = tt
+brought _ e = tt
 
 -- ---- the records after a step
 
@@ -86,22 +80,12 @@ ascends-with_status (e ∷ es) t status one all = by_tests (same_id e.txn t) (ol
 
 after_outcome_ascends : (s : Status) (outcome : Option ℕ) → ascends_by s ≡ true → ascends_by (after_outcome s outcome) ≡ true
 after_outcome_ascends (StandsPrepared p) outcome h = refl
-after_outcome_ascends (StandsDecided c) outcome h = refl
-after_outcome_ascends Unrecorded outcome h = refl
-after_outcome_ascends HasAborted outcome h = refl
-after_outcome_ascends (HasSettled at ps) outcome h = refl
-after_outcome_ascends (HasClosed c o) outcome h = refl
+after_outcome_ascends _ outcome h = refl
 
 pub entries_after : (facts : Facts) (logged : Option Record) → ((t : Id) → ascends_by (recorded facts t) ≡ true)
     → logged_told in_order ascends_in record_ascends ascending_fits logged ≡ true → each_ascends facts.entries ≡ true
     → each_ascends (facts_after facts logged).entries ≡ true
 unfolding learn
-entries_after facts None known up all = all
-entries_after facts (Some (Record.Opened epoch)) known up all = all
-entries_after facts (Some (Record.Ceiling at)) known up all = all
-entries_after facts (Some (Record.Horizon at)) known up all = all
-entries_after facts (Some (Record.Base epoch floor horizon)) known up all = all
-entries_after facts (Some (Record.Version install)) known up all = all
 entries_after facts (Some (Record.Settled t at parts)) known up all = ascends-with_status facts.entries t (HasSettled at parts) refl all
 entries_after facts (Some (Record.Closed t coordinator outcome)) known up all =
     ascends-with_status facts.entries t (HasClosed coordinator outcome) refl all
@@ -110,6 +94,7 @@ entries_after facts (Some (Record.Commit c)) known up all = ascends-with_status 
 entries_after facts (Some (Record.Abort t)) known up all = ascends-with_status facts.entries t HasAborted refl all
 entries_after facts (Some (Record.Outcome t outcome)) known up all =
     ascends-with_status facts.entries t (after_outcome (recorded facts t) outcome) (after_outcome_ascends (recorded facts t) outcome (known t)) all
+entries_after facts _ known up all = all
 
 module _ (setup : Setup) (rows : ℕ) (facts : Facts) (memory : Memory) (now : Interval) (i : Input) (p : Plan) (orderly : IsShowable facts memory)
     (input : WritesAscend i)

@@ -14,8 +14,8 @@ use Rattle.units.proofs.ByIdLaws.{found_all}
 use Rattle.units.proofs.ListLaws.{all_of_each, all_gives}
 use Rattle.record.specs.Facts.{recorded}
 use Rattle.message.specs.declared.message.Envelope.{Envelope}
-use Rattle.protocol.specs.Rows.{Row, Phase, Idle, WaitsRead, WaitsPrepare, WaitsCommit, Collecting, IsPrepared, IsDecided, Standing, IsUnknown}
-use Rattle.protocol.specs.Rows.{WasEnded, HasRow, WasAborted, WasSettled, WasClosed, claims, find_row, standing, standing_by, held_by, held_in}
+use Rattle.protocol.specs.Rows.{Row, Phase, IsPrepared, IsDecided, Standing, IsUnknown}
+use Rattle.protocol.specs.Rows.{HasRow, WasAborted, WasSettled, WasClosed, claims, find_row, standing, standing_by, held_by, held_in}
 use Rattle.protocol.specs.Rows.{without_rows}
 use Rattle.protocol.specs.Plan.{Plan, Planned, Before, stands, replies, idles, roomed, in_way, opens}
 use Rattle.protocol.specs.Cells.{still_stand}
@@ -67,18 +67,12 @@ shaped_reply b out = Answers out refl
 -- ---- what the standing says
 
 pub undecided_of_loose : (s : Standing) → is_loose s ≡ true → is_undecided s ≡ true
-undecided_of_loose IsUnknown e = refl
-undecided_of_loose WasEnded e = refl
-undecided_of_loose (HasRow held Idle) e = refl
-undecided_of_loose (HasRow held (WaitsRead k)) e = refl
-undecided_of_loose (HasRow held (WaitsPrepare c rs ws)) e = refl
-undecided_of_loose (HasRow held (WaitsCommit l ps rs ws)) e = refl
-undecided_of_loose (HasRow held (Collecting l ps rs ws votes)) e = refl
 undecided_of_loose (HasRow held (IsPrepared c p)) e = absurd (false≢true e)
 undecided_of_loose (HasRow held (IsDecided s ps)) e = absurd (false≢true e)
 undecided_of_loose WasAborted e = absurd (false≢true e)
 undecided_of_loose (WasSettled s ps) e = absurd (false≢true e)
 undecided_of_loose (WasClosed o) e = absurd (false≢true e)
+undecided_of_loose _ e = refl
 
 pub undecided : (b : Before) (t : Id) → is_loose (stands b t) ≡ true → is_undecided (stands b t) ≡ true
 undecided b t e = undecided_of_loose (stands b t) e

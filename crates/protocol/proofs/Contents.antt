@@ -118,13 +118,7 @@ module _ (P : List Bytes → List Write → Bool) (named : Phase → Bool) (note
   walk_read b t k (HasRow held (WaitsRead j)) = walk_read_row b t k held true
   walk_read b t k (HasRow held (WaitsPrepare c rs ws)) = walk_read_row b t k held true
   walk_read b t k (HasRow held (WaitsCommit l ps rs ws)) = walk_read_row b t k held true
-  walk_read b t k (HasRow held (Collecting l ps rs ws votes)) = told _ refl refl
-  walk_read b t k (HasRow held (IsPrepared c p)) = told _ refl refl
-  walk_read b t k (HasRow held (IsDecided s ps)) = told _ refl refl
-  walk_read b t k WasEnded = told _ refl refl
-  walk_read b t k WasAborted = told _ refl refl
-  walk_read b t k (WasSettled s ps) = told _ refl refl
-  walk_read b t k (WasClosed o) = told _ refl refl
+  walk_read b t k _ = told _ refl refl
 
   -- ---- prepare
 

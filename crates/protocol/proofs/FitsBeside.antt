@@ -77,10 +77,7 @@ locks_of_rows (e ∷ es) = by_status e.status (locks_of_rows es)
         map (λ r. r.held) (gather standing_row (record { txn = e.txn; status = s } ∷ es))
     by_status (StandsPrepared p) k = ap (λ l. locks_of p.reads p.writes ∷ l) k
     by_status (StandsDecided c) k = ap (λ l. locks_of c.reads c.writes ∷ l) k
-    by_status Unrecorded k = k
-    by_status HasAborted k = k
-    by_status (HasSettled at ps) k = k
-    by_status (HasClosed c o) k = k
+    by_status _ k = k
 
 pub standing_is : (log : List Record) → locks_standing log ≡ map (λ r. r.held) (log_rows (facts_of log))
 unfolding facts_of
@@ -206,11 +203,7 @@ stands_beside shard log after m later t s at rs ws new sound next room put held 
 
 pub unrecorded_is : (s : Status) → is_unrecorded s ≡ true → s ≡ Unrecorded
 unrecorded_is Unrecorded e = refl
-unrecorded_is (StandsPrepared p) e = absurd (false≢true e)
-unrecorded_is (StandsDecided c) e = absurd (false≢true e)
-unrecorded_is HasAborted e = absurd (false≢true e)
-unrecorded_is (HasSettled at ps) e = absurd (false≢true e)
-unrecorded_is (HasClosed c o) e = absurd (false≢true e)
+unrecorded_is _ e = absurd (false≢true e)
 
 -- what stands is above the versions of what it writes
 above_promise : (installs : List Install) (last : ℕ) (p : Prepared) (o : Option Row) → Agrees installs last (StandsPrepared p) o →
@@ -285,10 +278,7 @@ stamps_of_rows (e ∷ es) = by_status e.status (stamps_of_rows es)
         gather (λ r. held_stamp r.phase) (gather standing_row (record { txn = e.txn; status = s } ∷ es))
     by_status (StandsPrepared p) k = ap (λ l. p.at ∷ l) k
     by_status (StandsDecided c) k = ap (λ l. c.at ∷ l) k
-    by_status Unrecorded k = k
-    by_status HasAborted k = k
-    by_status (HasSettled at ps) k = k
-    by_status (HasClosed c o) k = k
+    by_status _ k = k
 
 pub stamps_are : (log : List Record) → stamps_standing log ≡ gather (λ r. held_stamp r.phase) (log_rows (facts_of log))
 unfolding facts_of
@@ -432,10 +422,7 @@ limit_of rows setup f m now (Input.Advance at) p r e logged k =
     absurd (false≢true (sym k ∙ advance_logs (nat_lt now.latest at) (nat_lt f.floor at) _ _ p r e logged))
 limit_of rows setup f m now (Input.Forget at) p r e logged k =
     absurd (false≢true (sym k ∙ forget_logs (nat_lt (safe m) at) (nat_le at f.horizon) at m.last p r e logged))
-limit_of rows setup f m now (Input.Deliver x) p r e logged k = tt
-limit_of rows setup f m now Input.Resume p r e logged k = tt
-limit_of rows setup f m now (Input.Settle t) p r e logged k = tt
-limit_of rows setup f m now (Input.Nudge t) p r e logged k = tt
+limit_of rows setup f m now _ p r e logged k = tt
 
 pub logged_fits_beside : LoggedFitsBeside
 unfolding fits_beside ForgetsBy

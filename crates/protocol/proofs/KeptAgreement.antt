@@ -18,7 +18,7 @@ use Rattle.record.specs.Records.{Status, Unrecorded, StandsPrepared, StandsDecid
 use Rattle.record.specs.Facts.{TxnStatus, learn, recorded, installs_at, with_status}
 use Rattle.record.specs.declared.record.Record.{Record}
 use Rattle.message.specs.declared.message.Input.{Input}
-use Rattle.protocol.specs.Rows.{Row, Phase, Idle, WaitsRead, WaitsPrepare, WaitsCommit, Collecting, IsPrepared, IsDecided, find_row, is_firm}
+use Rattle.protocol.specs.Rows.{Row, Phase, IsPrepared, IsDecided, find_row, is_firm}
 use Rattle.protocol.specs.Rows.{with_row, without_row, without_rows}
 use Rattle.protocol.specs.Plan.{Plan, Before, carried, after_change, stands, in_way}
 use Rattle.protocol.specs.Step.{facts_after}
@@ -84,10 +84,7 @@ agrees_later old new last later (HasClosed c o) None h stays a = tt
 agrees_gone : (old new : List Install) (last later : ℕ) (s : Status) (r : Row) → is_firm r.phase ≡ false → Agrees old last s (Some r) → Agrees new later s None
 agrees_gone old new last later (StandsPrepared p) r loose a = absurd (false≢true (sym loose ∙ ap is_firm a.phase))
 agrees_gone old new last later (StandsDecided c) r loose a = absurd (false≢true (sym loose ∙ ap is_firm a.phase))
-agrees_gone old new last later Unrecorded r loose a = tt
-agrees_gone old new last later HasAborted r loose a = tt
-agrees_gone old new last later (HasSettled at ps) r loose a = tt
-agrees_gone old new last later (HasClosed c o) r loose a = tt
+agrees_gone old new last later _ r loose a = tt
 
 -- what is left of a transaction once those in the way are gone
 left_agrees : (b : Before) (t v : Id) (ended : List Id) (new : List Install) (later : ℕ) → Sound b → AllByRecursion (IsLooseOther b.memory.rows t) ended
@@ -180,13 +177,9 @@ close_agrees b t outcome later sound made h =
     (subst (λ s. Agrees new later s None) (sym (status_same b.facts.entries t _)) (made.leaves new later))
 
 open_of_slack : (phase : Phase) → is_firm phase ≡ false → is_open phase ≡ true
-open_of_slack Idle e = refl
-open_of_slack (WaitsRead k) e = refl
-open_of_slack (WaitsPrepare c rs ws) e = refl
-open_of_slack (WaitsCommit l ps rs ws) e = refl
-open_of_slack (Collecting l ps rs ws votes) e = refl
 open_of_slack (IsPrepared c p) e = absurd (false≢true (sym e))
 open_of_slack (IsDecided s ps) e = absurd (false≢true (sym e))
+open_of_slack _ e = refl
 
 -- a row without a record is put
 open_agrees : (b : Before) (t : Id) (ended : List Id) (held : List Lock) (phase : Phase) → Sound b → AllByRecursion (IsLooseOther b.memory.rows t) ended

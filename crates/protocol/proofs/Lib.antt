@@ -34,3 +34,4 @@ pub mod Rising
 pub mod Serves
 pub mod Ascending
 pub mod Taken
+pub mod BesideFacts

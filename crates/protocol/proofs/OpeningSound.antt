@@ -123,10 +123,7 @@ left_by facts memory t (StandsDecided c) (Some q) r found a e =
     })
 left_by facts memory t (StandsPrepared p) None r found a e = absurd a
 left_by facts memory t (StandsDecided c) None r found a e = absurd a
-left_by facts memory t Unrecorded o r found a e = cc
-left_by facts memory t HasAborted o r found a e = cc
-left_by facts memory t (HasSettled at ps) o r found a e = cc
-left_by facts memory t (HasClosed c p) o r found a e = cc
+left_by facts memory t _ o r found a e = cc
 
 left_of : (facts : Facts) (memory : Memory) (e : TxnStatus) (r : Row) → standing_row e ≡ Some r → Known facts memory e → Left facts memory e r
 left_of facts memory e r k a = left_by facts memory e.txn e.status (find_row memory.rows e.txn) r refl a k

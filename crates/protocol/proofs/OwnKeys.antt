@@ -7,7 +7,7 @@ use Rattle.units.specs.declared.setup.Setup.{Setup}
 use Rattle.truetime.specs.Interval.{Interval}
 use Rattle.record.specs.Accepted.{belongs, keys_belong}
 use Rattle.record.specs.Facts.{TxnStatus, Facts}
-use Rattle.record.specs.Records.{Status, Unrecorded, StandsPrepared, StandsDecided, HasAborted, HasSettled, HasClosed}
+use Rattle.record.specs.Records.{Status, StandsPrepared}
 use Rattle.message.specs.declared.message.Input.{Input}
 use Rattle.message.specs.declared.message.Message.{Message}
 use Rattle.protocol.specs.OwnKeys.{LoggedBelongs, StepKeepsOwn, all_own, names_own}
@@ -40,13 +40,7 @@ module _ (setup : Setup) where
   unfolding is_for
   brought (Message.Prepare p) e = (and_parts _ _ e).0
   brought (Message.Commit c) e = (and_parts _ _ e).0
-  brought (Message.Read r) e = tt
-  brought (Message.GiveUp g) e = tt
-  brought (Message.Vote v) e = tt
-  brought (Message.Outcome o) e = tt
-  brought (Message.Ask a) e = tt
-  brought (Message.ReadAnswer a) e = tt
-  brought (Message.Done d) e = tt
+  brought _ e = tt
 
   own_input : (b : Before) (now : Interval) (i : Input) → all_own setup b.memory.rows ≡ true
       → Told (keys_belong setup) (names_own setup) (belongs setup) own_fits (plan_input setup b now i)
@@ -61,11 +55,7 @@ module _ (setup : Setup) where
       by_status : (s : Status) → all_own setup (gather standing_row es) ≡ true → all_own setup
           (gather standing_row (record { txn = e.txn; status = s } ∷ es)) ≡ true
       by_status (StandsPrepared p) rest = rest
-      by_status (StandsDecided c) rest = rest
-      by_status Unrecorded rest = rest
-      by_status HasAborted rest = rest
-      by_status (HasSettled at ps) rest = rest
-      by_status (HasClosed c o) rest = rest
+      by_status _ rest = rest
 
   -- the rows that an opening finds wait for nothing
   pub own-rebuilt : (f : Facts) → all_own setup (rebuilt f).rows ≡ true

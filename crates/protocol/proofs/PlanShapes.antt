@@ -17,7 +17,7 @@ use Rattle.truetime.specs.Interval.{Interval}
 use Rattle.record.specs.Facts.{Facts}
 use Rattle.message.specs.declared.message.Message.{Message}
 use Rattle.message.specs.declared.message.Input.{Input}
-use Rattle.protocol.specs.Rows.{Memory, Row, Phase, Idle, WaitsRead, WaitsPrepare, WaitsCommit, Collecting, IsPrepared, IsDecided, Standing, HasRow}
+use Rattle.protocol.specs.Rows.{Memory, Row, Phase, Idle, WaitsRead, WaitsPrepare, WaitsCommit, IsPrepared, IsDecided, Standing, HasRow}
 use Rattle.protocol.specs.Rows.{claims, find_row, needs_of, safe}
 use Rattle.protocol.specs.Plan.{idles, Plan, Planned, Keeps, Before, start_of_step, stands}
 use Rattle.protocol.specs.Cells.{other_parts, ceiling_for, to_read, plan_go_on, plan_resume_row, plan_resume_id, plan_resume, plan_settle}
@@ -56,10 +56,7 @@ shaped_go_on b earliest t held (WaitsCommit l ps rs ws) e free =
     ∙ (and_parts _ _ (fitting f)).1 in
     shaped_granted b [] t l ps rs ws (other_parts b.shard ps) (clear b t (exclusive ws) free) (ap is_undecided e) (λ f. (and_parts _ _ (fitting f)).0) read
     (room_at b t _ (row_at b t held (WaitsCommit l ps rs ws) e))
-shaped_go_on b earliest t held Idle e free = shaped_idle b
-shaped_go_on b earliest t held (Collecting l ps rs ws votes) e free = shaped_idle b
-shaped_go_on b earliest t held (IsPrepared c p) e free = shaped_idle b
-shaped_go_on b earliest t held (IsDecided s ps) e free = shaped_idle b
+shaped_go_on b earliest t held _ e free = shaped_idle b
 
 shaped_resume_row : (b : Before) (earliest : ℕ) (t : Id) (o : Option Row) → Ascends b → ready (claims b.memory.rows) ≡ Some t → find_row b.memory.rows t ≡ o
     → Shaped b (plan_resume_row b earliest o)

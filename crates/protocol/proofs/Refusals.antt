@@ -46,13 +46,7 @@ any_rows (r ∷ rows) = any_rows rows
 brought : (m : Message) → Brings any_reads m
 brought (Message.Prepare p) = refl
 brought (Message.Commit c) = refl
-brought (Message.Read r) = tt
-brought (Message.GiveUp g) = tt
-brought (Message.Vote v) = tt
-brought (Message.Outcome o) = tt
-brought (Message.Ask a) = tt
-brought (Message.ReadAnswer a) = tt
-brought (Message.Done d) = tt
+brought _ = tt
 
 by_walk : (plan : Planned) → Told any_reads any_phase any_record any_fits plan → Owns plan
 unfolding Told

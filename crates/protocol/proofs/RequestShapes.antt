@@ -66,10 +66,7 @@ shaped_read b t k (HasRow held (WaitsCommit l ps rs ws)) up e = shaped_read_row 
 shaped_read b t k (HasRow held (Collecting l ps rs ws votes)) up e = shaped_idle b
 shaped_read b t k (HasRow held (IsPrepared c p)) up e = shaped_idle b
 shaped_read b t k (HasRow held (IsDecided s ps)) up e = shaped_idle b
-shaped_read b t k WasEnded up e = shaped_reply b _
-shaped_read b t k WasAborted up e = shaped_reply b _
-shaped_read b t k (WasSettled s ps) up e = shaped_reply b _
-shaped_read b t k (WasClosed o) up e = shaped_reply b _
+shaped_read b t k _ up e = shaped_reply b _
 
 -- ---- prepare
 

@@ -20,7 +20,7 @@ use Rattle.units.proofs.ByIdLaws.{all-with, found_all}
 use Rattle.record.specs.Facts.{Facts, TxnStatus, or_unrecorded, recorded, learn, installs_at}
 use Rattle.record.specs.declared.record.Record.{Record}
 use Rattle.message.specs.declared.message.Input.{Input}
-use Rattle.protocol.specs.Rows.{Row, Phase, Idle, WaitsRead, WaitsPrepare, WaitsCommit, Collecting, IsPrepared, IsDecided, Memory, held_stamp, safe}
+use Rattle.protocol.specs.Rows.{Row, Phase, Collecting, IsPrepared, IsDecided, Memory, held_stamp, safe}
 use Rattle.protocol.specs.Rows.{find_row, with_row, without_row, without_rows, is_firm}
 use Rattle.protocol.specs.Sound.{is_open, writes_standing}
 use Rattle.protocol.specs.Step.{facts_after}
@@ -130,20 +130,13 @@ rises_by b p up one =
 open_over : (n : ℕ) (phase : Phase) → is_open phase ≡ true → Over n (held_stamp phase)
 open_over n (IsPrepared c p) h = absurd (true≢false (sym h))
 open_over n (IsDecided s ps) h = absurd (true≢false (sym h))
-open_over n Idle h = tt
-open_over n (WaitsRead k) h = tt
-open_over n (WaitsPrepare c rs ws) h = tt
-open_over n (WaitsCommit l ps rs ws) h = tt
-open_over n (Collecting l ps rs ws votes) h = tt
+open_over n _ h = tt
 
 slack_over : (n : ℕ) (phase : Phase) → is_firm phase ≡ false → Over n (held_stamp phase)
 slack_over n (IsPrepared c p) h = absurd (true≢false h)
 slack_over n (IsDecided s ps) h = absurd (true≢false h)
 slack_over n (Collecting l ps rs ws votes) h = absurd (true≢false h)
-slack_over n Idle h = tt
-slack_over n (WaitsRead k) h = tt
-slack_over n (WaitsPrepare c rs ws) h = tt
-slack_over n (WaitsCommit l ps rs ws) h = tt
+slack_over n _ h = tt
 
 pub rises : (b : Before) (p : Plan) → Shape b p → Rises b p
 rises b p (Answers out e) = subst (Rises b) (sym e) (rises_by b _ (omega arith) tt)
@@ -323,18 +316,9 @@ adds_of b i p sound up (IsForget at k low high e) = subst (AddsBy b) (sym e) (ad
 
 pub grows : (facts : Facts) (logged : Option Record) → (facts_after facts logged).installs ≡ facts.installs ++ added facts logged
 unfolding learn
-grows facts None = sym (append-nil facts.installs)
-grows facts (Some (Record.Opened epoch)) = sym (append-nil facts.installs)
-grows facts (Some (Record.Ceiling at)) = sym (append-nil facts.installs)
-grows facts (Some (Record.Horizon at)) = sym (append-nil facts.installs)
-grows facts (Some (Record.Prepare p)) = sym (append-nil facts.installs)
-grows facts (Some (Record.Commit c)) = sym (append-nil facts.installs)
-grows facts (Some (Record.Abort t)) = sym (append-nil facts.installs)
 grows facts (Some (Record.Outcome t outcome)) = refl
-grows facts (Some (Record.Base epoch floor horizon)) = sym (append-nil facts.installs)
 grows facts (Some (Record.Version install)) = refl
-grows facts (Some (Record.Settled t at parts)) = sym (append-nil facts.installs)
-grows facts (Some (Record.Closed t coordinator outcome)) = sym (append-nil facts.installs)
+grows facts _ = sym (append-nil facts.installs)
 
 -- what holds of list_all status holds of that of an id
 abbrev ascends_in : TxnStatus → Bool

@@ -13,7 +13,7 @@ use Rattle.record.specs.Accepted.{Taken, Accepted, DamagedAt, StrangerAt, begins
 use Rattle.record.specs.Computing.{computing}
 use Rattle.record.specs.Facts.{TxnStatus, Facts, facts_of, installs_at, recorded}
 use Rattle.record.specs.Installs.{writes_by}
-use Rattle.record.specs.Records.{Status, Unrecorded, StandsPrepared, StandsDecided, HasAborted, HasSettled, HasClosed, committed_of, ended_of}
+use Rattle.record.specs.Records.{Status, StandsPrepared, committed_of, ended_of}
 use Rattle.record.specs.Records.{is_aborted, prepared_of, status_by, status_of}
 use Rattle.record.specs.declared.record.Record.{Record}
 use Rattle.record.proofs.LearnAgrees.{followed_more, learn_agrees}
@@ -52,19 +52,11 @@ above_standing shard log t s follows fits =
 
 installed_none : (s : Status) → installs_at s None ≡ []
 installed_none (StandsPrepared p) = refl
-installed_none (StandsDecided c) = refl
-installed_none Unrecorded = refl
-installed_none HasAborted = refl
-installed_none (HasSettled at ps) = refl
-installed_none (HasClosed c o) = refl
+installed_none _ = refl
 
 installed_at : (status : Status) (s : ℕ) → installs_at status (Some s) ≡ versions (writes_standing status) s
 installed_at (StandsPrepared p) s = refl
-installed_at (StandsDecided c) s = refl
-installed_at Unrecorded s = refl
-installed_at HasAborted s = refl
-installed_at (HasSettled at ps) s = refl
-installed_at (HasClosed c o) s = refl
+installed_at _ s = refl
 
 rise_one : (installs : List Install) (i : Install) → list_all (λ j. nat_lt j.at i.at) (of_key installs i.key) ≡ true →
     rises_by_key installs (i ∷ []) ≡ true
@@ -74,23 +66,15 @@ rise_one installs i above = and_from _ _ above refl
 added_rises : (shard : ℕ) (log : List Record) (r : Record) → followed shard log ≡ true
     → follows_next shard (stage_of log) (facts_of log) r ≡ true → fits_beside log r ≡ true
     → each_ascends (facts_of log).entries ≡ true → rises_by_key (facts_of log).installs (added (facts_of log) (Some r)) ≡ true
-added_rises shard log (Record.Opened epoch) before follows fits up = rise_none (facts_of log).installs
-added_rises shard log (Record.Ceiling at) before follows fits up = rise_none (facts_of log).installs
-added_rises shard log (Record.Horizon at) before follows fits up = rise_none (facts_of log).installs
-added_rises shard log (Record.Prepare p) before follows fits up = rise_none (facts_of log).installs
-added_rises shard log (Record.Commit c) before follows fits up = rise_none (facts_of log).installs
-added_rises shard log (Record.Abort t) before follows fits up = rise_none (facts_of log).installs
 added_rises shard log (Record.Outcome t None) before follows fits up =
     ap (rises_by_key (facts_of log).installs) (installed_none (recorded (facts_of log) t)) ∙ rise_none (facts_of log).installs
 added_rises shard log (Record.Outcome t (Some s)) before follows fits up =
     ap (rises_by_key (facts_of log).installs) (installed_at (recorded (facts_of log) t) s)
     ∙ versions_follow (facts_of log).installs s (writes_standing (recorded (facts_of log) t)) (ascend_in (facts_of log).entries t up)
     (above_standing shard log t s (outcome_next shard (stage_of log) (facts_of log) t (Some s) follows) fits)
-added_rises shard log (Record.Base epoch floor horizon) before follows fits up = rise_none (facts_of log).installs
 added_rises shard log (Record.Version install) before follows fits up =
     rise_one (facts_of log).installs install (version_above shard log install before follows)
-added_rises shard log (Record.Settled t at parts) before follows fits up = rise_none (facts_of log).installs
-added_rises shard log (Record.Closed t coordinator outcome) before follows fits up = rise_none (facts_of log).installs
+added_rises shard log _ before follows fits up = rise_none (facts_of log).installs
 
 learned : (setup : Setup) (log : List Record) (r : Record) → followed setup.shard log ≡ true → followed setup.shard (log ++ r ∷ []) ≡ true
     → fits_beside log r ≡ true → record_ascends r ≡ true → Along (facts_of log) → Along (facts_of (log ++ r ∷ []))
@@ -132,11 +116,7 @@ rows_left (e ∷ es) = by_status e.status (rows_left es)
     by_status : (s : Status) → all_ascend (gather standing_row es) ≡ true → all_ascend
         (gather standing_row (record { txn = e.txn; status = s } ∷ es)) ≡ true
     by_status (StandsPrepared p) rest = rest
-    by_status (StandsDecided c) rest = rest
-    by_status Unrecorded rest = rest
-    by_status HasAborted rest = rest
-    by_status (HasSettled at ps) rest = rest
-    by_status (HasClosed c o) rest = rest
+    by_status _ rest = rest
 
 rows_rebuilt : (facts : Facts) → all_ascend (rebuilt facts).rows ≡ true
 unfolding rebuilt

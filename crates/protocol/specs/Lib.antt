@@ -1,3 +1,4 @@
+pub mod Beside
 pub mod Cells
 pub mod Computing
 pub mod FitsBeside

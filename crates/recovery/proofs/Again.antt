@@ -131,15 +131,11 @@ pub id_rules : (shard : ℕ) (facts : Facts) (r : Record) → follows_facts shar
 unfolding follows_facts
 id_rules shard facts (Record.Opened epoch) follows = refl
 id_rules shard facts (Record.Ceiling at) follows = refl
-id_rules shard facts (Record.Horizon at) follows = (and_parts _ _ follows).1
-id_rules shard facts (Record.Prepare p) follows = (and_parts _ _ follows).1
-id_rules shard facts (Record.Commit c) follows = (and_parts _ _ follows).1
-id_rules shard facts (Record.Abort t) follows = (and_parts _ _ follows).1
-id_rules shard facts (Record.Outcome t o) follows = (and_parts _ _ follows).1
 id_rules shard facts (Record.Base e f n) follows = absurd (false≢true follows)
 id_rules shard facts (Record.Version i) follows = absurd (false≢true follows)
 id_rules shard facts (Record.Settled u at parts) follows = absurd (false≢true follows)
 id_rules shard facts (Record.Closed u coordinator q) follows = absurd (false≢true follows)
+id_rules shard facts _ follows = (and_parts _ _ follows).1
 
 -- of a promise, a decision or an abort nothing was recorded before
 fresh_before : (shard : ℕ) (facts : Facts) (r : Record) (t : Id) → follows_facts shard facts r ≡ true → names r ≡ Some t → recorded facts t ≡ Unrecorded
@@ -268,17 +264,13 @@ may_close_again k shard t o recovered follows = (
 
 pub learn_order : (f : Facts) (r : Record) → IsById (λ e. e.txn) f.entries → IsById (λ e. e.txn) (learn f r).entries
 unfolding learn
-learn_order f (Record.Opened epoch) up = up
-learn_order f (Record.Ceiling at) up = up
-learn_order f (Record.Horizon at) up = up
 learn_order f (Record.Prepare p) up = by_id-status f.entries p.txn (StandsPrepared p) up
 learn_order f (Record.Commit c) up = by_id-status f.entries c.txn (StandsDecided c) up
 learn_order f (Record.Abort t) up = by_id-status f.entries t HasAborted up
 learn_order f (Record.Outcome t o) up = by_id-status f.entries t (after_outcome (recorded f t) o) up
-learn_order f (Record.Base e floor n) up = up
-learn_order f (Record.Version i) up = up
 learn_order f (Record.Settled t at parts) up = by_id-status f.entries t (HasSettled at parts) up
 learn_order f (Record.Closed t coordinator o) up = by_id-status f.entries t (HasClosed coordinator o) up
+learn_order f _ up = up
 
 pub learn_own : (shard : ℕ) (f : Facts) (r : Record) → follows_facts shard f r ≡ true → AllByRecursion IsOwn f.entries →
     AllByRecursion IsOwn (learn f r).entries
@@ -286,12 +278,9 @@ unfolding learn follows_facts
 learn_own shard f (Record.Opened epoch) follows own = own
 learn_own shard f (Record.Ceiling at) follows own = own
 learn_own shard f (Record.Horizon at) follows own = own
-learn_own shard f (Record.Base e floor n) follows own = absurd (false≢true follows)
-learn_own shard f (Record.Version i) follows own = absurd (false≢true follows)
-learn_own shard f (Record.Settled u at parts) follows own = absurd (false≢true follows)
-learn_own shard f (Record.Closed u coordinator q) follows own = absurd (false≢true follows)
 learn_own shard f (Record.Prepare p) follows own = own-status f.entries p.txn (StandsPrepared p) refl own
 learn_own shard f (Record.Commit c) follows own = own-status f.entries c.txn (StandsDecided c) refl own
 learn_own shard f (Record.Abort t) follows own = own-status f.entries t HasAborted tt own
 learn_own shard f (Record.Outcome t o) follows own =
     own-status f.entries t (after_outcome (recorded f t) o) (ended_own t (recorded f t) o (id_rules shard f (Record.Outcome t o) follows)) own
+learn_own shard f _ follows own = absurd (false≢true follows)

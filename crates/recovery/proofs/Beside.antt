@@ -26,7 +26,8 @@ use Rattle.protocol.specs.Plan.{is_crowded, opens}
 use Rattle.memory.specs.Carry.{Asks}
 use Rattle.memory.specs.Kept.{Kept, start_of}
 use Rattle.rows.specs.CodeRows.{is_reading}
-use Rattle.recovery.specs.Recovered.{IsRecovered, stands_in, standing_rows}
+use Rattle.protocol.specs.Beside.{standing_rows, stands_in}
+use Rattle.recovery.specs.Recovered.{IsRecovered}
 use Rattle.recovery.proofs.Locking.{all_still, locks_free, none_wounded}
 use Rattle.recovery.proofs.StandingRows.{no_row}
 

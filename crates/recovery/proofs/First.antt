@@ -1,6 +1,6 @@
 -- The first record of a log.
 use Rattle.std.proofs.Common.{◌≡◌, ◌≤◌, ℕ, true, false, not, cond, ◌&&◌, ◌<◌, nat_le, [], ◌∷◌, Option, Some, None, refl, sym, ap, subst, ◌∙◌, arith}
-use Rattle.std.specs.Prelude.{max, Bool}
+use Rattle.std.specs.Prelude.{max}
 use Rattle.std.proofs.Math.Bool.{or-false}
 use Rattle.std.proofs.lemmas.Bool.{and_parts, false≢true, ltb-true, leb-true}
 use Rattle.std.proofs.lemmas.Bool.Decides.{nat_tests}
@@ -21,49 +21,25 @@ use Rattle.gatelog.specs.Placed.{Placed}
 use Rattle.protocol.specs.Rows.{rebuilt}
 use Rattle.protocol.proofs.StepSound.{fresh_is_sound}
 use Rattle.memory.specs.Kept.{Kept}
-use Rattle.recovery.specs.Recovered.{IsGood, IsOwn, IsRecovered, fault_next, fits_facts, base_in, head_is_bare, is_first}
+use Rattle.protocol.specs.Beside.{fits_facts}
+use Rattle.recovery.specs.Recovered.{IsGood, IsOwn, IsRecovered, fault_next, base_in, head_is_bare, is_first}
 
 -- only the first opening or a base may come first
 first_follows : (shard : ℕ) (r : Record) → follows_next shard (stage_of []) (facts_of []) r ≡ is_first r
 unfolding follows_next follows_facts follows_head facts_of stage_of
 first_follows shard (Record.Opened epoch) = or-false _
-first_follows shard (Record.Ceiling at) = refl
-first_follows shard (Record.Horizon at) = refl
-first_follows shard (Record.Prepare p) = refl
-first_follows shard (Record.Commit c) = refl
-first_follows shard (Record.Abort t) = refl
-first_follows shard (Record.Outcome t o) = refl
-first_follows shard (Record.Base e f n) = refl
-first_follows shard (Record.Version i) = refl
-first_follows shard (Record.Settled t at parts) = refl
-first_follows shard (Record.Closed t coordinator o) = refl
+first_follows shard _ = refl
 
 fits_first : (r : Record) → is_first r ≡ true → fits_facts (facts_of []) r ≡ true
 fits_first (Record.Opened epoch) h = refl
-fits_first (Record.Ceiling at) h = absurd (false≢true h)
-fits_first (Record.Horizon at) h = absurd (false≢true h)
-fits_first (Record.Prepare p) h = absurd (false≢true h)
-fits_first (Record.Commit c) h = absurd (false≢true h)
-fits_first (Record.Abort t) h = absurd (false≢true h)
-fits_first (Record.Outcome t o) h = absurd (false≢true h)
 fits_first (Record.Base e f n) h = refl
-fits_first (Record.Version i) h = absurd (false≢true h)
-fits_first (Record.Settled t at parts) h = absurd (false≢true h)
-fits_first (Record.Closed t coordinator o) h = absurd (false≢true h)
+fits_first _ h = absurd (false≢true h)
 
 -- what is first and no base is the first opening
 pub first_is : (r : Record) → is_first r ≡ true → base_in r ≡ None → r ≡ Record.Opened 1
 first_is (Record.Opened epoch) h other = let one : epoch ≡ 1 = grind (arith, nat_tests) in ap Record.Opened one
-first_is (Record.Ceiling at) h other = absurd (false≢true h)
-first_is (Record.Horizon at) h other = absurd (false≢true h)
-first_is (Record.Prepare p) h other = absurd (false≢true h)
-first_is (Record.Commit c) h other = absurd (false≢true h)
-first_is (Record.Abort t) h other = absurd (false≢true h)
-first_is (Record.Outcome t o) h other = absurd (false≢true h)
 first_is (Record.Base e f n) h other = cc
-first_is (Record.Version i) h other = absurd (false≢true h)
-first_is (Record.Settled t at parts) h other = absurd (false≢true h)
-first_is (Record.Closed t coordinator o) h other = absurd (false≢true h)
+first_is _ h other = absurd (false≢true h)
 
 pub first_facts : facts_of (Record.Opened 1 ∷ []) ≡ learn (facts_of []) (Record.Opened 1)
 unfolding facts_of installs_of learn
@@ -71,9 +47,6 @@ first_facts = refl
 
 pub learnt_first : (r : Record) → is_first r ≡ true → base_in r ≡ None → facts_of (Record.Opened 1 ∷ []) ≡ learn (facts_of []) r
 learnt_first r h other = first_facts ∙ ap (learn (facts_of [])) (sym (first_is r h other))
-
-pub stage_first : (r : Record) → is_first r ≡ true → base_in r ≡ None → Open ≡ stage_after (stage_of []) r
-stage_first r h other = ap (stage_after (stage_of [])) (sym (first_is r h other))
 
 -- one of this shard, by its place
 own_next : (setup : Setup) (stage : Stage) (facts : Facts) (e : Placed) → belongs setup e.item ≡ true
@@ -125,9 +98,6 @@ first_recovered k facts stage memory = record {
 
 -- ---- a base
 
-based : ℕ → ℕ → ℕ → Facts
-based e f n = learn (facts_of []) (Record.Base e f n)
-
 none_last : (f : ℕ) → f ≡ max 0 f
 none_last f = omega arith
 
@@ -153,19 +123,7 @@ base_recovered k e f n first facts stage memory =
 
 pub base_is : (r : Record) (e f n : ℕ) → base_in r ≡ Some (e, f, n) → r ≡ Record.Base e f n
 base_is (Record.Base x y z) e f n is = (let same : (x, y, z) ≡ (e, f, n) = cc in ap (λ (q : ℕ × ℕ × ℕ). Record.Base q.0 q.1 q.2) same)
-base_is (Record.Opened epoch) e f n is = cc
-base_is (Record.Ceiling at) e f n is = cc
-base_is (Record.Horizon at) e f n is = cc
-base_is (Record.Prepare p) e f n is = cc
-base_is (Record.Commit c) e f n is = cc
-base_is (Record.Abort t) e f n is = cc
-base_is (Record.Outcome t o) e f n is = cc
-base_is (Record.Version i) e f n is = cc
-base_is (Record.Settled t at parts) e f n is = cc
-base_is (Record.Closed t coordinator o) e f n is = cc
-
-pub base_numbers : (e f n : ℕ) → is_first (Record.Base e f n) ≡ true → (0 < e) × (n ≤ f)
-base_numbers e f n first = let p = and_parts _ _ first in (ltb-true 0 e p.0, leb-true n f p.1)
+base_is _ e f n is = cc
 
 pub base_stage : (e f n : ℕ) → Head ≡ stage_after (stage_of []) (Record.Base e f n)
 unfolding stage_of

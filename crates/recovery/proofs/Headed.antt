@@ -1,5 +1,5 @@
 -- What a record of a renewed log's head leaves: the rows stay, and what is known is that of the log with it.
-use Rattle.std.proofs.Common.{◌≡◌, ◌<◌, ◌≤◌, ℕ, true, false, not, cond, nat_le, List, [], ◌∷◌, Option, Some, None, refl, sym, ap, subst, ◌∙◌}
+use Rattle.std.proofs.Common.{◌≡◌, ◌<◌, ◌≤◌, ℕ, true, false, not, cond, nat_le, List, [], ◌∷◌, None, refl, sym, ap, subst, ◌∙◌}
 use Rattle.std.specs.Prelude.{IsTrue}
 use Rattle.std.specs.List.{AllByRecursion, list_all}
 use Rattle.std.proofs.lemmas.Bool.{false≢true, and_parts}
@@ -8,16 +8,17 @@ use Rattle.units.specs.Ids.{Id, same_id}
 use Rattle.units.specs.ById.{IsById}
 use Rattle.units.proofs.ByIdLaws.{first_none}
 use Rattle.record.specs.Facts.{TxnStatus, Facts, learn, or_floor, recorded, with_status}
-use Rattle.record.specs.Records.{Status, Unrecorded, HasSettled, HasClosed, stamp_in}
+use Rattle.record.specs.Records.{Status, HasSettled, HasClosed, stamp_in}
 use Rattle.record.specs.declared.record.Record.{Record}
 use Rattle.facts.specs.Rules.{is_unrecorded}
-use Rattle.facts.specs.Stages.{follows_head, is_head, is_open, past_head, stage_after}
+use Rattle.facts.specs.Stages.{follows_head, past_head, stage_after}
 use Rattle.facts.specs.declared.stage.Stage.{Stage}
 use Rattle.facts.specs.declared.stage.Stage.TheVariants.{Head, Early, Open}
 use Rattle.protocol.specs.Rows.{Memory, Row, find_row, rebuilt, standing_row, without_row}
 use Rattle.protocol.proofs.FitsBeside.{unrecorded_is}
 use Rattle.memory.specs.Kept.{Kept}
-use Rattle.recovery.specs.Recovered.{IsGood, IsOwn, IsRecovered, head_is_bare, standing_rows}
+use Rattle.protocol.specs.Beside.{standing_rows}
+use Rattle.recovery.specs.Recovered.{IsGood, IsOwn, IsRecovered, head_is_bare}
 use Rattle.recovery.proofs.Again.{learn_order}
 use Rattle.recovery.proofs.Beside.{fresh_absent, rows_are}
 use Rattle.recovery.proofs.Soundness.{headed_more}
@@ -42,19 +43,13 @@ ended_rows k t s recovered fresh own none =
 headed_rows : (k : Kept) (shard : ℕ) (r : Record) → IsRecovered k → follows_head shard k.stage k.facts r ≡ true
     → standing_rows k.facts ≡ gather standing_row (learn k.facts r).entries
 unfolding learn follows_head
-headed_rows k shard (Record.Opened e) recovered follows = absurd (false≢true follows)
-headed_rows k shard (Record.Ceiling at) recovered follows = absurd (false≢true follows)
-headed_rows k shard (Record.Horizon at) recovered follows = absurd (false≢true follows)
-headed_rows k shard (Record.Prepare p) recovered follows = absurd (false≢true follows)
-headed_rows k shard (Record.Commit c) recovered follows = absurd (false≢true follows)
-headed_rows k shard (Record.Abort t) recovered follows = absurd (false≢true follows)
-headed_rows k shard (Record.Outcome t o) recovered follows = absurd (false≢true follows)
 headed_rows k shard (Record.Base e f n) recovered follows = refl
 headed_rows k shard (Record.Version i) recovered follows = refl
 headed_rows k shard (Record.Settled t at parts) recovered follows =
     ended_rows k t (HasSettled at parts) recovered ((and_parts _ _ ((and_parts _ _ follows).0)).1) tt refl
 headed_rows k shard (Record.Closed t c o) recovered follows =
     ended_rows k t (HasClosed c o) recovered ((and_parts _ _ ((and_parts _ _ follows).0)).1) tt refl
+headed_rows k shard _ recovered follows = absurd (false≢true follows)
 
 headed_floor : (f : Facts) (r : Record) → (learn f r).floor ≡ or_floor f.floor (stamp_in r)
 unfolding learn
@@ -63,17 +58,11 @@ headed_floor f r = refl
 headed_own : (shard : ℕ) (s : Stage) (f : Facts) (r : Record) → follows_head shard s f r ≡ true → AllByRecursion IsOwn f.entries
     → AllByRecursion IsOwn (learn f r).entries
 unfolding learn follows_head
-headed_own shard s f (Record.Opened e) follows own = absurd (false≢true follows)
-headed_own shard s f (Record.Ceiling at) follows own = absurd (false≢true follows)
-headed_own shard s f (Record.Horizon at) follows own = absurd (false≢true follows)
-headed_own shard s f (Record.Prepare p) follows own = absurd (false≢true follows)
-headed_own shard s f (Record.Commit c) follows own = absurd (false≢true follows)
-headed_own shard s f (Record.Abort t) follows own = absurd (false≢true follows)
-headed_own shard s f (Record.Outcome t o) follows own = absurd (false≢true follows)
 headed_own shard s f (Record.Base e floor n) follows own = own
 headed_own shard s f (Record.Version i) follows own = own
 headed_own shard s f (Record.Settled t at parts) follows own = own-status f.entries t (HasSettled at parts) tt own
 headed_own shard s f (Record.Closed t c o) follows own = own-status f.entries t (HasClosed c o) tt own
+headed_own shard s f _ follows own = absurd (false≢true follows)
 
 -- ---- where no transaction has a record
 
@@ -86,17 +75,11 @@ past_is_bare (e ∷ es) Open = refl
 headed_bare : (shard : ℕ) (s : Stage) (f : Facts) (r : Record) → follows_head shard s f r ≡ true → head_is_bare s f.entries ≡ true
     → head_is_bare (stage_after s r) (learn f r).entries ≡ true
 unfolding learn follows_head
-headed_bare shard s f (Record.Opened e) follows bare = absurd (false≢true follows)
-headed_bare shard s f (Record.Ceiling at) follows bare = absurd (false≢true follows)
-headed_bare shard s f (Record.Horizon at) follows bare = absurd (false≢true follows)
-headed_bare shard s f (Record.Prepare p) follows bare = absurd (false≢true follows)
-headed_bare shard s f (Record.Commit c) follows bare = absurd (false≢true follows)
-headed_bare shard s f (Record.Abort t) follows bare = absurd (false≢true follows)
-headed_bare shard s f (Record.Outcome t o) follows bare = absurd (false≢true follows)
 headed_bare shard s f (Record.Base e floor n) follows bare = bare
 headed_bare shard s f (Record.Version i) follows bare = bare
 headed_bare shard s f (Record.Settled t at parts) follows bare = past_is_bare (learn f (Record.Settled t at parts)).entries s
 headed_bare shard s f (Record.Closed t c o) follows bare = past_is_bare (learn f (Record.Closed t c o)).entries s
+headed_bare shard s f _ follows bare = absurd (false≢true follows)
 
 -- ---- all of it
 

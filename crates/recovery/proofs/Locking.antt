@@ -17,7 +17,7 @@ use Rattle.protocol.specs.Rows.{Row, claim_of, claims, find_row, is_firm, needs_
 use Rattle.protocol.proofs.InWay.{holds_exclusive}
 use Rattle.protocol.proofs.OpenedRows.{all-gather}
 use Rattle.protocol.proofs.RecordLocks.{holds_reads, reads_free, writes_free}
-use Rattle.recovery.specs.Recovered.{standing_rows}
+use Rattle.protocol.specs.Beside.{standing_rows}
 
 -- ---- the locks of a record
 

@@ -173,10 +173,6 @@ module _ (setup : Setup) (ts ts' : List Placed) (e : Placed) (more : ts' ≡ ts 
 pub newest_last : (e : Placed) (es now : List Placed) → now ≡ e ∷ es → reverse now ≡ reverse es ++ e ∷ []
 newest_last e es now is = ap reverse is ∙ reverse-append (e ∷ []) es
 
--- what is there in the end
-pub all_taken : (setup : Setup) (ts : List Placed) (state : Option Kept) → Goes setup ts state → taken setup (items ts) ≡ Accepted
-all_taken setup ts state goes = goes.stands.verdict
-
 -- it is for memory, or it is not
 abbrev is_memory : Fault → Bool
 is_memory Memory = true

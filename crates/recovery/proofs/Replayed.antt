@@ -1,29 +1,28 @@
 -- A record that has its place can be made once more, and leaves what the log with it leaves.
-use Rattle.std.proofs.Common.{◌≡◌, ℕ, ◌≤◌, ◌<◌, nat_le, true, false, not, refl, List, [], ◌∷◌, Option, Some, None, sym, ap, subst, ◌∙◌}
+use Rattle.std.proofs.Common.{◌≡◌, ℕ, ◌≤◌, ◌<◌, nat_le, true, false, not, refl, List, [], ◌∷◌, Some, sym, ap, subst, ◌∙◌}
 use Rattle.std.specs.Prelude.{IsTrue}
 use Rattle.std.proofs.lemmas.Bool.{false≢true}
 use Rattle.units.specs.LockLaws.{IsLawfulTable}
 use Rattle.std.specs.List.{AllByRecursion, list_all}
 use Rattle.units.specs.ById.{IsById}
-use Rattle.units.specs.Versions.{above_versions}
-use Rattle.units.specs.declared.writes.Write.{Write}
 use Rattle.record.specs.Facts.{TxnStatus, Facts, learn}
 use Rattle.record.specs.declared.record.Record.{Record}
 use Rattle.facts.specs.Rules.{follows_facts}
 use Rattle.facts.specs.Stages.{is_head, past_head, stage_after}
 use Rattle.facts.specs.declared.stage.Stage.{Stage}
-use Rattle.facts.specs.declared.stage.Stage.TheVariants.{Head, Early, Open}
+use Rattle.facts.specs.declared.stage.Stage.TheVariants.{Head}
 use Rattle.protocol.specs.Rows.{Memory, Row, claims, rebuilt}
 use Rattle.protocol.specs.Plan.{carried}
 use Rattle.protocol.specs.Step.{facts_after}
 use Rattle.protocol.proofs.OpenedRows.{by_id-gather}
-use Rattle.memory.specs.Carry.{AdmissionIsUnseen, IsCarriable, IsFit, HasMemoryFor, MayFollow, MayInstall, ReadyIsCarriable, stage_behind}
+use Rattle.memory.specs.Carry.{AdmissionIsUnseen, IsCarriable, IsFit, HasMemoryFor, ReadyIsCarriable, stage_behind}
 use Rattle.memory.specs.Kept.{Kept}
 use Rattle.ledger.specs.Ledger.{CanInstall}
 use Rattle.memory.specs.Plans.{plan_of}
 use Rattle.memory.specs.declared.plan.Plan.{Plan}
 use Rattle.memory.specs.declared.plan.Step.{Step}
-use Rattle.recovery.specs.Recovered.{IsGood, IsOwn, IsRecovered, fits_facts, head_is_bare}
+use Rattle.protocol.specs.Beside.{fits_facts}
+use Rattle.recovery.specs.Recovered.{IsGood, IsOwn, IsRecovered, head_is_bare}
 use Rattle.recovery.proofs.Again.{learn_order, learn_own}
 use Rattle.recovery.proofs.Beside.{rows_are}
 use Rattle.recovery.proofs.Soundness.{taken_more}
@@ -36,17 +35,7 @@ rows_by_id k recovered =
 -- what it installs is above the versions of its keys
 installs_again : (facts : Facts) (item : Record) → fits_facts facts item ≡ true → CanInstall facts item
 installs_again facts (Record.Outcome t (Some s)) fits = fits
-installs_again facts (Record.Outcome t None) fits = tt
-installs_again facts (Record.Opened epoch) fits = tt
-installs_again facts (Record.Ceiling at) fits = tt
-installs_again facts (Record.Horizon at) fits = tt
-installs_again facts (Record.Prepare p) fits = tt
-installs_again facts (Record.Commit c) fits = tt
-installs_again facts (Record.Abort t) fits = tt
-installs_again facts (Record.Base e f n) fits = tt
-installs_again facts (Record.Version i) fits = tt
-installs_again facts (Record.Settled u at parts) fits = tt
-installs_again facts (Record.Closed u coordinator q) fits = tt
+installs_again facts _ fits = tt
 
 -- a plan with a record beside it
 abbrev pub with_record : Plan → Record → Step
@@ -70,23 +59,17 @@ none_in_head (e ∷ es) s out = ap (λ b. not b) out
 
 past_is_none : (s : Stage) → is_head (past_head s) ≡ false
 past_is_none Head = refl
-past_is_none Early = refl
-past_is_none Open = refl
+past_is_none _ = refl
 
 -- behind a record that a step may log one is past the head
 behind_step : (shard : ℕ) (facts : Facts) (r : Record) (s : Stage) → follows_facts shard facts r ≡ true → is_head (stage_after s r) ≡ false
 unfolding follows_facts
 behind_step shard facts (Record.Opened e) s follows = refl
-behind_step shard facts (Record.Ceiling at) s follows = past_is_none s
-behind_step shard facts (Record.Horizon at) s follows = past_is_none s
-behind_step shard facts (Record.Prepare p) s follows = past_is_none s
-behind_step shard facts (Record.Commit c) s follows = past_is_none s
-behind_step shard facts (Record.Abort t) s follows = past_is_none s
-behind_step shard facts (Record.Outcome t o) s follows = past_is_none s
 behind_step shard facts (Record.Base e f n) s follows = absurd (false≢true follows)
 behind_step shard facts (Record.Version i) s follows = absurd (false≢true follows)
 behind_step shard facts (Record.Settled t at parts) s follows = absurd (false≢true follows)
 behind_step shard facts (Record.Closed t coordinator o) s follows = absurd (false≢true follows)
+behind_step shard facts _ s follows = past_is_none s
 
 pub recovered_again : (old new later : Kept) (p : Plan) (item : Record) → IsRecovered old → IsLawfulTable (claims old.memory.rows) →
     follows_facts old.setup.shard old.facts item ≡ true → fits_facts old.facts item ≡ true

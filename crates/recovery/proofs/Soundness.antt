@@ -35,7 +35,8 @@ use Rattle.protocol.proofs.RowChanges.{find_members}
 use Rattle.protocol.proofs.Serves.{AllOver, Over, under_safe}
 use Rattle.protocol.proofs.StatusChanges.{by_id-status, entry_other, entry_same}
 use Rattle.memory.specs.Kept.{Kept}
-use Rattle.recovery.specs.Recovered.{MayStandNext, IsGood, IsGoodPart, IsOwn, IsRecovered, Part, fits_facts, head_is_bare, part_of, standing_rows}
+use Rattle.protocol.specs.Beside.{fits_facts, standing_rows}
+use Rattle.recovery.specs.Recovered.{MayStandNext, IsGood, IsGoodPart, IsOwn, IsRecovered, Part, head_is_bare, part_of}
 use Rattle.recovery.proofs.Again.{id_rules}
 use Rattle.recovery.proofs.StandingRows.{found}
 
@@ -235,10 +236,7 @@ standing_entry f t o allowed = by_entry (find_member (λ (e : TxnStatus). e.txn)
       installs = λ s. ap (λ r. installs_at r (Some s)) (ap or_unrecorded found ∙ k);
       none = ap (λ r. installs_at r None) (ap or_unrecorded found ∙ k);
     }
-    by_status d Unrecorded k found h = absurd (false≢true h)
-    by_status d HasAborted k found h = absurd (false≢true h)
-    by_status d (HasSettled at ps) k found h = absurd (false≢true h)
-    by_status d (HasClosed c q) k found h = absurd (false≢true h)
+    by_status d _ k found h = absurd (false≢true h)
 
     by_entry : (e : Option TxnStatus) → find_member (λ (e : TxnStatus). e.txn) f.entries t ≡ e → allows (or_unrecorded e) o ≡ true → Outcomes f t
     by_entry None k h = absurd (false≢true h)
@@ -281,10 +279,7 @@ forgotten_good f at below good = each f.entries below good
             → IsGoodPart after (part_of s) × AllByRecursion (IsGood after) es
         by_status (StandsPrepared p) k due rest = (one _ (and_parts _ _ k).0 due, rest (and_parts _ _ k).1 all.1)
         by_status (StandsDecided c) k due rest = (one _ (and_parts _ _ k).0 due, rest (and_parts _ _ k).1 all.1)
-        by_status Unrecorded k due rest = (tt, rest k all.1)
-        by_status HasAborted k due rest = (tt, rest k all.1)
-        by_status (HasSettled at ps) k due rest = (tt, rest k all.1)
-        by_status (HasClosed c o) k due rest = (tt, rest k all.1)
+        by_status _ k due rest = (tt, rest k all.1)
 
 pub taken_more : (shard : ℕ) (f : Facts) (r : Record) → IsById (λ e. e.txn) f.entries → AllByRecursion IsOwn f.entries →
     IsLawfulTable (claims (standing_rows f))
@@ -361,10 +356,7 @@ taken_more shard f (Record.Horizon at) up own lawful follows fit taken = record 
       let before : f.horizon ≤ f.floor = taken.horizon in
       (let l : at ≤ f.floor = grind (arith, nat_tests) in omega (arith, l, before));
 }
-taken_more shard f (Record.Base e floor n) up own lawful follows fit taken = absurd (false≢true follows)
-taken_more shard f (Record.Version i) up own lawful follows fit taken = absurd (false≢true follows)
-taken_more shard f (Record.Settled u at parts) up own lawful follows fit taken = absurd (false≢true follows)
-taken_more shard f (Record.Closed u coordinator q) up own lawful follows fit taken = absurd (false≢true follows)
+taken_more shard f _ up own lawful follows fit taken = absurd (false≢true follows)
 
 -- ---- a record of a head
 
@@ -379,13 +371,6 @@ base_first n above none = omega (arith, above, eqb-true n 0 none)
 pub headed_more : (shard : ℕ) (s : Stage) (f : Facts) (r : Record) → IsById (λ e. e.txn) f.entries → head_is_bare s f.entries ≡ true
     → follows_head shard s f r ≡ true → IsTaken f → IsTaken (learn f r)
 unfolding learn follows_head
-headed_more shard s f (Record.Opened e) up bare follows taken = absurd (false≢true follows)
-headed_more shard s f (Record.Ceiling at) up bare follows taken = absurd (false≢true follows)
-headed_more shard s f (Record.Horizon at) up bare follows taken = absurd (false≢true follows)
-headed_more shard s f (Record.Prepare p) up bare follows taken = absurd (false≢true follows)
-headed_more shard s f (Record.Commit c) up bare follows taken = absurd (false≢true follows)
-headed_more shard s f (Record.Abort t) up bare follows taken = absurd (false≢true follows)
-headed_more shard s f (Record.Outcome t o) up bare follows taken = absurd (false≢true follows)
 headed_more shard s f (Record.Base e floor n) up bare follows taken =
     absurd (base_first f.epoch taken.opened ((and_parts _ _ ((and_parts _ _ follows).0)).0))
 headed_more shard s f (Record.Version i) up bare follows taken =
@@ -417,6 +402,7 @@ headed_more shard s f (Record.Closed t c (Some at)) up bare follows taken = reco
   covered = covered_later f.floor (max f.floor at) f.installs (up_left f.floor at) taken.covered;
   horizon = under_later f.horizon f.floor at taken.horizon;
 }
+headed_more shard s f _ up bare follows taken = absurd (false≢true follows)
 
 -- ---- so it is sound
 

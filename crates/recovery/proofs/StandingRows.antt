@@ -60,56 +60,42 @@ no_row es t up own none = found es t up own ∙ by_entry (find_member (λ (e : T
     by_entry None k = refl
     by_entry (Some e) k = none e k
 
+module _ (es : List TxnStatus) (t : Id) (s : Status) (up : IsById (λ e. e.txn) es) (own : AllByRecursion IsOwn es) (new : IsOwn (record { txn = t; status = s })) where
+  up_after : IsById (λ e. e.txn) (with_status es t s)
+  up_after = by_id-status es t s up
+
+  own_after : AllByRecursion IsOwn (with_status es t s)
+  own_after = own-status es t s new own
+
+  -- rows stand after it that are as before for every other id, and for this one what the status says
+  rows_after : (rows : List Row) → IsById (λ q. q.txn) rows → find_row rows t ≡ standing_row (record { txn = t; status = s })
+      → ((u : Id) → same_id t u ≡ false → find_row rows u ≡ find_row (gather standing_row es) u) → rows ≡ gather standing_row (with_status es t s)
+  rows_after rows ascend here others =
+      same_members (λ (q : Row). q.txn) rows (gather standing_row (with_status es t s)) ascend
+      (opened.by_id-gather (with_status es t s) up_after (own_rows (with_status es t s) own_after)) (λ u. by_id u (same_id t u) refl)
+    where
+      by_id : (u : Id) (b : Bool) → same_id t u ≡ b → find_row rows u ≡ find_row (gather standing_row (with_status es t s)) u
+      by_id u true k =
+          subst (λ v. find_row rows v ≡ find_row (gather standing_row (with_status es t s)) v) (same_id-is t u k)
+          (here ∙ sym (found (with_status es t s) t up_after own_after ∙ ap (λ o. follow o standing_row) (entry_same es t s)))
+      by_id u false k =
+          others u k ∙ found es u up own ∙ ap (λ o. follow o standing_row) (sym (entry_other es t u s k))
+          ∙ sym (found (with_status es t s) u up_after own_after)
+
 -- with a status under which a row stands, the row is put
 pub row_put : (es : List TxnStatus) (t : Id) (s : Status) (r : Row) → IsById (λ e. e.txn) es → AllByRecursion IsOwn es → IsOwn (record { txn = t; status = s })
     → standing_row (record { txn = t; status = s }) ≡ Some r → r.txn ≡ t → with_row (gather standing_row es) r ≡ gather standing_row (with_status es t s)
 row_put es t s r up own new stands its =
-    same_members (λ (q : Row). q.txn) (with_row (gather standing_row es) r) (gather standing_row (with_status es t s))
+    rows_after es t s up own new (with_row (gather standing_row es) r)
     (by_id-with_row (gather standing_row es) r (opened.by_id-gather es up (own_rows es own)))
-    (opened.by_id-gather (with_status es t s) up_after (own_rows (with_status es t s) own_after))
-    (λ u. by_id u (same_id t u) refl)
-  where
-    up_after : IsById (λ e. e.txn) (with_status es t s)
-    up_after = by_id-status es t s up
-
-    own_after : AllByRecursion IsOwn (with_status es t s)
-    own_after = own-status es t s new own
-
-    by_id : (u : Id) (b : Bool) → same_id t u ≡ b → find_row (with_row (gather standing_row es) r) u ≡ find_row (gather standing_row (with_status es t s)) u
-    by_id u true k =
-        let is : t ≡ u = same_id-is t u k in
-        subst (λ v. find_row (with_row (gather standing_row es) r) v ≡ find_row (gather standing_row (with_status es t s)) v) is
-        (subst (λ v. find_row (with_row (gather standing_row es) r) v ≡ Some r) its (find-with_row_same (gather standing_row es) r)
-        ∙ sym (found (with_status es t s) t up_after own_after ∙ ap (λ o. follow o standing_row) (entry_same es t s) ∙ stands))
-    by_id u false k =
-        find-with_row_other (gather standing_row es) r u (ap (λ v. same_id v u) its ∙ k)
-        ∙ found es u up own
-        ∙ ap (λ o. follow o standing_row) (sym (entry_other es t u s k))
-        ∙ sym (found (with_status es t s) u up_after own_after)
+    (subst (λ v. find_row (with_row (gather standing_row es) r) v ≡ Some r) its (find-with_row_same (gather standing_row es) r) ∙ sym stands)
+    (λ u k. find-with_row_other (gather standing_row es) r u (ap (λ v. same_id v u) its ∙ k))
 
 -- with any other, the row goes
 pub row_gone : (es : List TxnStatus) (t : Id) (s : Status) → IsById (λ e. e.txn) es → AllByRecursion IsOwn es → IsOwn (record { txn = t; status = s })
     → standing_row (record { txn = t; status = s }) ≡ None → without_row (gather standing_row es) t ≡ gather standing_row (with_status es t s)
 row_gone es t s up own new stands =
-    same_members (λ (q : Row). q.txn) (without_row (gather standing_row es) t) (gather standing_row (with_status es t s))
+    rows_after es t s up own new (without_row (gather standing_row es) t)
     (by_id-without_rows (gather standing_row es) (t ∷ []) (opened.by_id-gather es up (own_rows es own)))
-    (opened.by_id-gather (with_status es t s) up_after (own_rows (with_status es t s) own_after))
-    (λ u. by_id u (same_id t u) refl)
-  where
-    up_after : IsById (λ e. e.txn) (with_status es t s)
-    up_after = by_id-status es t s up
-
-    own_after : AllByRecursion IsOwn (with_status es t s)
-    own_after = own-status es t s new own
-
-    by_id : (u : Id) (b : Bool) → same_id t u ≡ b → find_row (without_row (gather standing_row es) t) u ≡ find_row (gather standing_row (with_status es t s)) u
-    by_id u true k =
-        let is : t ≡ u = same_id-is t u k in
-        subst (λ v. find_row (without_row (gather standing_row es) t) v ≡ find_row (gather standing_row (with_status es t s)) v) is
-        (find-without_row_same (gather standing_row es) t
-        ∙ sym (found (with_status es t s) t up_after own_after ∙ ap (λ o. follow o standing_row) (entry_same es t s) ∙ stands))
-    by_id u false k =
-        find-without_row_other (gather standing_row es) u t k
-        ∙ found es u up own
-        ∙ ap (λ o. follow o standing_row) (sym (entry_other es t u s k))
-        ∙ sym (found (with_status es t s) u up_after own_after)
+    (find-without_row_same (gather standing_row es) t ∙ sym stands)
+    (λ u k. find-without_row_other (gather standing_row es) u t k)

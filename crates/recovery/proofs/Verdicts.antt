@@ -1,90 +1,26 @@
 -- The verdict on a whole log, told record by record from the facts.
-use Rattle.std.specs.List.{list_all, list_any}
-use Rattle.std.proofs.Common.{◌≡◌, ℕ, suc, ◌+◌, ◌<◌, Bool, true, false, not, cond, ◌&&◌, nat_lt, List, [], ◌∷◌, ◌++◌, map, length, take, drop, get_or}
-use Rattle.std.proofs.Common.{Some, None, refl, sym, ap, subst, ◌∙◌, ◌⊎◌, inl, inr, arith}
+use Rattle.std.proofs.Common.{◌≡◌, ℕ, suc, ◌+◌, ◌<◌, Bool, true, false, not, cond, ◌&&◌, List, [], ◌∷◌, ◌++◌, length, take, drop, get_or}
+use Rattle.std.proofs.Common.{Some, None, refl, sym, ap, subst, ◌∙◌, arith}
 use Rattle.std.specs.Prelude.{slice_get}
-use Rattle.std.proofs.lemmas.Bool.{and_parts}
 use Rattle.std.proofs.lemmas.List.{append_assoc, drop_more, length-append, take_more}
-use Rattle.units.specs.Limits.{most_rows}
 use Rattle.units.specs.Lists.{follow}
-use Rattle.units.specs.Ids.{Id}
-use Rattle.units.specs.Keys.{Bytes}
-use Rattle.units.specs.Locks.{clash, locks_of}
-use Rattle.units.specs.Versions.{above_versions}
 use Rattle.units.specs.declared.fault.Fault.{Fault}
 use Rattle.units.specs.declared.setup.Setup.{Setup}
-use Rattle.units.specs.declared.writes.Write.{Write}
-use Rattle.record.specs.Accepted.{Taken, Accepted, DamagedAt, StrangerAt, begins, belongs, fits_beside, followed, follows, locks_standing, may_stand}
+use Rattle.record.specs.Accepted.{Taken, Accepted, DamagedAt, StrangerAt, begins, belongs, fits_beside, followed, follows, may_stand}
 use Rattle.record.specs.Accepted.{taken, taken_from}
-use Rattle.record.specs.Facts.{Facts, facts_of, learn, recorded}
-use Rattle.record.specs.Installs.{installs_of, writes_by}
-use Rattle.record.specs.Records.{committed_of, ended_of, horizon_of, is_aborted, prepared_of, status_by, status_of}
+use Rattle.record.specs.Facts.{Facts, facts_of, learn}
 use Rattle.record.specs.declared.record.Record.{Record}
-use Rattle.record.proofs.LearnAgrees.{followed_more, learn_agrees}
-use Rattle.record.proofs.Statuses.{recorded_is}
-use Rattle.facts.specs.Rules.{allows, follows_facts}
+use Rattle.record.proofs.LearnAgrees.{learn_agrees}
 use Rattle.facts.specs.Stages.{follows_next, stage_after, stage_of}
 use Rattle.facts.specs.declared.stage.Stage.{Stage}
 use Rattle.facts.proofs.Known.{follows_as_known, stage_agrees}
-use Rattle.facts.proofs.Nexts.{outcome_next}
 use Rattle.gatelog.specs.Placed.{Placed}
-use Rattle.protocol.specs.Sound.{writes_standing}
-use Rattle.protocol.proofs.FitsBeside.{horizon_is, installs_are, length-held, stamps_are, standing_is, writes_are}
 pub use Rattle.recovery.specs.Rebuilding.{Stands}
-use Rattle.recovery.specs.Recovered.{fault_in, fault_next, fits_facts, items, standing_rows, stands_in}
+use Rattle.protocol.specs.Beside.{fits_facts}
+use Rattle.protocol.proofs.BesideFacts.{beside_is, follows_is}
+use Rattle.recovery.specs.Recovered.{fault_in, fault_next, items}
 
--- ---- a record has its place by the log where it has by the facts
-
-stands_is : (log : List Record) (at : ℕ) (rs : List Bytes) (ws : List Write) → may_stand log at rs ws ≡ stands_in (facts_of log) at rs ws
-stands_is log at rs ws =
-    ap (λ n. nat_lt n most_rows && not (list_any (clash (locks_of rs ws)) (locks_standing log)) && nat_lt (horizon_of log) at
-    && above_versions (installs_of log) at ws)
-    (ap length (standing_is log) ∙ length-held (standing_rows (facts_of log)))
-    ∙ ap (λ hs. nat_lt (length (standing_rows (facts_of log))) most_rows && not (list_any (clash (locks_of rs ws)) hs) && nat_lt (horizon_of log) at
-    && above_versions (installs_of log) at ws) (standing_is log)
-    ∙ ap (λ h. nat_lt (length (standing_rows (facts_of log))) most_rows && not (list_any (clash (locks_of rs ws))
-    (map (λ r. r.held) (standing_rows (facts_of log)))) && nat_lt h at && above_versions (installs_of log) at ws)
-    (sym (horizon_is log))
-    ∙ ap (λ is. nat_lt (length (standing_rows (facts_of log))) most_rows && not (list_any (clash (locks_of rs ws))
-    (map (λ r. r.held) (standing_rows (facts_of log)))) && nat_lt (facts_of log).horizon at && above_versions is at ws)
-    (sym (installs_are log))
-
-installs_is : (shard : ℕ) (log : List Record) (t : Id) (s : ℕ) → follows_facts shard (facts_of log) (Record.Outcome t (Some s)) ≡ true
-    → above_versions (installs_of log) s (writes_by (committed_of log t) (prepared_of log t)) ≡
-    above_versions (facts_of log).installs s (writes_standing (recorded (facts_of log) t))
-unfolding follows_facts status_of
-installs_is shard log t s follows =
-    let allowed : allows (status_by (is_aborted log t) (committed_of log t) (prepared_of log t) (ended_of log t)) (Some s) ≡ true =
-    subst (λ q. allows q (Some s) ≡ true) (recorded_is log t) (and_parts _ _ follows).1 in
-    let same : writes_standing (recorded (facts_of log) t) ≡ writes_by (committed_of log t) (prepared_of log t) =
-    ap writes_standing (recorded_is log t) ∙ writes_are (is_aborted log t) (committed_of log t) (prepared_of log t) (ended_of log t) s allowed in
-    ap (λ is. above_versions is s (writes_by (committed_of log t) (prepared_of log t))) (sym (installs_are log))
-    ∙ ap (above_versions (facts_of log).installs s) (sym same)
-
-beside_is : (shard : ℕ) (log : List Record) (r : Record) → follows_next shard (stage_of log) (facts_of log) r ≡ true → fits_beside log r
-    ≡ fits_facts (facts_of log) r
-unfolding fits_beside
-beside_is shard log (Record.Opened epoch) follows = refl
-beside_is shard log (Record.Ceiling at) follows = refl
-beside_is shard log (Record.Horizon at) follows = ap (list_all (nat_lt at)) (stamps_are log)
-beside_is shard log (Record.Prepare p) follows = stands_is log p.at p.reads p.writes
-beside_is shard log (Record.Commit c) follows = stands_is log c.at c.reads c.writes
-beside_is shard log (Record.Abort t) follows = refl
-beside_is shard log (Record.Outcome t None) follows = refl
-beside_is shard log (Record.Outcome t (Some s)) follows =
-    installs_is shard log t s (outcome_next shard (stage_of log) (facts_of log) t (Some s) follows)
-beside_is shard log (Record.Base e f n) follows = refl
-beside_is shard log (Record.Version i) follows = refl
-beside_is shard log (Record.Settled t at parts) follows = refl
-beside_is shard log (Record.Closed t coordinator outcome) follows = refl
-
--- and it follows by the log where it does by the facts
-follows_is : (shard : ℕ) (log : List Record) (r : Record) → followed shard log ≡ true → (begins log r && follows shard log r) ≡
-    follows_next shard (stage_of log) (facts_of log) r
-follows_is shard log r before =
-    sym (ap (λ b. b && (begins log r && follows shard log r)) before) ∙ sym (followed_more shard log r) ∙ follows_as_known shard log r before
-
--- so both
+-- a record follows and has its place by the log where it does by the facts
 place_is : (shard : ℕ) (log : List Record) (r : Record) → followed shard log ≡ true
     → (begins log r && follows shard log r && fits_beside log r) ≡ (follows_next shard (stage_of log) (facts_of log) r && fits_facts (facts_of log) r)
 place_is shard log r before = ap (λ b. b && fits_beside log r) (follows_is shard log r before)
@@ -218,13 +154,6 @@ after_first setup entries first rest stage facts whole none staged learnt =
     (at_next setup entries [] first rest (stage_of []) (facts_of [])
     (subst (λ left. Stands setup entries [] left (stage_of []) (facts_of [])) whole (at_start setup entries)) none))
 
--- or it is refused
-pub fault_first : (setup : Setup) (entries : List Placed) (first : Placed) (rest : List Placed) (fault : Fault) → entries ≡ first ∷ rest
-    → fault_next setup (stage_of []) (facts_of []) first ≡ Some fault → fault_in (taken setup (items entries)) entries ≡ Some fault
-fault_first setup entries first rest fault whole refused =
-    at_fault setup entries [] first rest (stage_of []) (facts_of []) fault
-    (subst (λ left. Stands setup entries [] left (stage_of []) (facts_of [])) whole (at_start setup entries)) refused
-
 module _ (setup : Setup) (entries : List Placed) (first : Placed) (rest : List Placed) (i : ℕ) (e : Placed) (stage : Stage) (facts : Facts)
     (whole : entries ≡ first ∷ rest) (lt : i < length rest) (is : e ≡ get_or rest i e) (may_stand : Stands setup entries (take (i + 1) entries)
     (drop i rest) stage facts) where
@@ -260,8 +189,3 @@ module _ (setup : Setup) (entries : List Placed) (first : Placed) (rest : List P
 pub none_taken : (setup : Setup) (entries : List Placed) → length entries ≡ 0 → taken setup (items entries) ≡ Accepted
 none_taken setup [] none = at_end setup [] [] (stage_of []) (facts_of []) (at_start setup [])
 none_taken setup (e ∷ es) none = absurd (omega (arith, none))
-
--- for want of memory, or for the verdict
-pub or_fault : (P Q R : Type 0) → (Q → R) → P ⊎ Q → P ⊎ R
-or_fault P Q R h (inl p) = inl p
-or_fault P Q R h (inr q) = inr (h q)

@@ -1,59 +1,29 @@
 -- What a log leaves of its shard, told record by record from the facts alone.
-use Rattle.std.specs.Prelude.{◌≡◌, ℕ, ◌<◌, ◌≤◌, IsTrue, nat_le, Bool, true, false, not, cond, ◌&&◌, nat_eq, nat_lt, List, [], ◌∷◌, map, length, Option, Some}
+use Rattle.std.specs.Prelude.{◌≡◌, ℕ, ◌<◌, ◌≤◌, IsTrue, nat_le, Bool, true, false, not, cond, ◌&&◌, nat_eq, nat_lt, List, [], ◌∷◌, map, Option, Some}
 use Rattle.std.specs.Prelude.{None, slice_get}
-use Rattle.std.specs.List.{AllByRecursion, list_any, list_all}
-use Rattle.units.specs.Limits.{most_rows}
-use Rattle.units.specs.Lists.{follow, gather}
+use Rattle.std.specs.List.{AllByRecursion, list_all}
+use Rattle.units.specs.Lists.{follow}
 use Rattle.units.specs.ById.{IsById}
 use Rattle.units.specs.Keys.{Bytes}
-use Rattle.units.specs.Locks.{clash, locks_of}
 use Rattle.units.specs.Versions.{above_versions}
 use Rattle.units.specs.declared.fault.Fault.{Fault}
 use Rattle.units.specs.declared.setup.Setup.{Setup}
 use Rattle.units.specs.declared.writes.Write.{Write}
 use Rattle.record.specs.Accepted.{Taken, Accepted, DamagedAt, StrangerAt, belongs}
-use Rattle.record.specs.Facts.{TxnStatus, Facts, facts_of, recorded}
+use Rattle.record.specs.Facts.{TxnStatus, Facts, facts_of}
 use Rattle.record.specs.Records.{Status, StandsPrepared, StandsDecided}
 use Rattle.record.specs.declared.record.Record.{Record}
 use Rattle.facts.specs.Stages.{follows_next, is_head}
 use Rattle.facts.specs.declared.stage.Stage.{Stage}
 use Rattle.gatelog.specs.Placed.{Placed}
-use Rattle.protocol.specs.Rows.{Row, held_stamp, rebuilt, standing_row}
+use Rattle.protocol.specs.Beside.{fits_facts}
+use Rattle.protocol.specs.Rows.{rebuilt}
 use Rattle.protocol.specs.Sound.{IsSound}
 use Rattle.memory.specs.Kept.{Kept}
-use Rattle.protocol.specs.Sound.{writes_standing}
 
 -- the records of some entries
 abbrev pub items : List Placed → List Record
 items entries = map (λ e. e.item) entries
-
--- the rows that some facts hold
-abbrev pub standing_rows : Facts → List Row
-standing_rows facts = gather standing_row facts.entries
-
--- a promise or a decision has its place: room for its row, its locks in nobody's way, above the horizon, and above the versions of
--- what it writes
-abbrev pub stands_in : Facts → ℕ → List Bytes → List Write → Bool
-stands_in facts at reads writes =
-    nat_lt (length (standing_rows facts)) most_rows
-    && not (list_any (clash (locks_of reads writes)) (map (λ r. r.held) (standing_rows facts)))
-    && nat_lt facts.horizon at
-    && above_versions facts.installs at writes
-
--- a record has its place beside what stands; a horizon is below all of it
-abbrev pub fits_facts : Facts → Record → Bool
-fits_facts facts (Record.Opened epoch) = true
-fits_facts facts (Record.Ceiling at) = true
-fits_facts facts (Record.Horizon at) = list_all (nat_lt at) (gather (λ r. held_stamp r.phase) (standing_rows facts))
-fits_facts facts (Record.Prepare p) = stands_in facts p.at p.reads p.writes
-fits_facts facts (Record.Commit c) = stands_in facts c.at c.reads c.writes
-fits_facts facts (Record.Abort t) = true
-fits_facts facts (Record.Outcome t None) = true
-fits_facts facts (Record.Outcome t (Some at)) = above_versions facts.installs at (writes_standing (recorded facts t))
-fits_facts facts (Record.Base epoch floor horizon) = true
-fits_facts facts (Record.Version install) = true
-fits_facts facts (Record.Settled t at parts) = true
-fits_facts facts (Record.Closed t coordinator outcome) = true
 
 -- the first opening, or the base of a renewed log
 abbrev pub is_first : Record → Bool

@@ -4,7 +4,8 @@ ghost use Rattle.recovery.specs.Rebuilding.{Progresses, IsStateOf, known_of, sta
 ghost use Rattle.record.specs.Accepted.{Accepted, taken};
 ghost use Rattle.record.specs.Facts.{facts_of, learn};
 ghost use Rattle.facts.specs.Stages.{follows_next, stage_after, stage_of};
-ghost use Rattle.recovery.specs.Recovered.{IsRebuilt, IsSoundlyRebuilt, IsRecovered, fault_next, fault_in, fits_facts, base_in, is_first, items};
+ghost use Rattle.protocol.specs.Beside.{fits_facts};
+ghost use Rattle.recovery.specs.Recovered.{IsRebuilt, IsSoundlyRebuilt, IsRecovered, fault_next, fault_in, base_in, is_first, items};
 
 use crate::belonging::belongs;
 use crate::replaying::{fits_beside, keep, replay};

@@ -7,7 +7,8 @@ ghost use Rattle.protocol.specs.Rows.{rebuilt, find_row};
 ghost use Rattle.protocol.specs.Plan.{carried};
 ghost use Rattle.memory.specs.Carry.{IsFit};
 ghost use Rattle.memory.specs.Plans.{plan_of};
-ghost use Rattle.recovery.specs.Recovered.{IsRecovered, fits_facts, stands_in};
+ghost use Rattle.protocol.specs.Beside.{fits_facts, stands_in};
+ghost use Rattle.recovery.specs.Recovered.{IsRecovered};
 
 use gatelog::Logged;
 use locks::shared_and_exclusive;

@@ -12,7 +12,7 @@ use Rattle.units.specs.declared.writes.Install.{Install}
 use Rattle.units.proofs.ListLaws.{all-keep}
 use Rattle.record.specs.Accepted.{belongs}
 use Rattle.record.specs.Facts.{Facts, TxnStatus}
-use Rattle.record.specs.Records.{Status, Unrecorded, StandsPrepared, StandsDecided, HasAborted, HasSettled, HasClosed}
+use Rattle.record.specs.Records.{Status, Unrecorded, StandsPrepared, StandsDecided}
 use Rattle.record.specs.declared.record.Record.TheVariants.{Version}
 use Rattle.versions.specs.Pruned.{pruned}
 use Rattle.renewal.specs.Keeps.{NamesOwn}
@@ -42,11 +42,7 @@ ended-own setup (x ∷ es) = by_status x.txn x.status (ended-own setup es)
     by_status : (t : Id) (s : Status) → list_all (belongs setup) (gather ended_item es) ≡ true
         → list_all (belongs setup) (gather ended_item (entry t s ∷ es)) ≡ true
     by_status t Unrecorded rest = rest
-    by_status t (StandsPrepared p) rest = rest
-    by_status t (StandsDecided c) rest = rest
-    by_status t HasAborted rest = rest
-    by_status t (HasSettled at ps) rest = rest
-    by_status t (HasClosed c o) rest = rest
+    by_status t _ rest = rest
 
 standing-own : (setup : Setup) (es : List TxnStatus) → AllByRecursion (NamesOwn setup) es → list_all (belongs setup) (gather standing_item es) ≡ true
 unfolding belongs
@@ -55,12 +51,9 @@ standing-own setup (x ∷ es) all = by_status x.txn x.status all.0 (standing-own
   where
     by_status : (t : Id) (s : Status) → NamesOwn setup (entry t s) → list_all (belongs setup) (gather standing_item es) ≡ true
         → list_all (belongs setup) (gather standing_item (entry t s ∷ es)) ≡ true
-    by_status t Unrecorded own rest = rest
     by_status t (StandsPrepared p) own rest = and_from _ _ own rest
     by_status t (StandsDecided c) own rest = and_from _ _ own rest
-    by_status t HasAborted own rest = rest
-    by_status t (HasSettled at ps) own rest = rest
-    by_status t (HasClosed c o) own rest = rest
+    by_status t _ own rest = rest
 
 pub turned-belongs : TurnedBelongs
 unfolding turned belongs

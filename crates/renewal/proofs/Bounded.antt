@@ -105,16 +105,11 @@ module _ (facts : Facts) (b : IsBounded facts) (floor : ℕ) (le : facts.floor �
 pub step-of : (shard : ℕ) (f : Facts) (r : Record) → follows_facts shard f r ≡ true → id_follows shard f r ≡ true
 unfolding follows_facts
 step-of shard f (Opened e) h = refl
-step-of shard f (Ceiling at) h = (and_parts _ _ h).1
-step-of shard f (Horizon at) h = (and_parts _ _ h).1
-step-of shard f (Prepare p) h = (and_parts _ _ h).1
-step-of shard f (Commit c) h = (and_parts _ _ h).1
-step-of shard f (Abort t) h = (and_parts _ _ h).1
-step-of shard f (Outcome t o) h = (and_parts _ _ h).1
 step-of shard f (Base e floor n) h = absurd (false≢true h)
 step-of shard f (Version i) h = absurd (false≢true h)
 step-of shard f (Settled t at parts) h = absurd (false≢true h)
 step-of shard f (Closed t c o) h = absurd (false≢true h)
+step-of shard f _ h = (and_parts _ _ h).1
 
 -- what it installs is what stood
 ended-bounded : (facts : Facts) (t : Id) (s : Status) (at : ℕ) → IsBounded facts → allows s (Some at) ≡ true
@@ -124,7 +119,6 @@ ended-bounded : (facts : Facts) (t : Id) (s : Status) (at : ℕ) → IsBounded f
       entries = with_status facts.entries t (after_outcome s (Some at));
       installs = facts.installs ++ installs_at s (Some at);
     })
-ended-bounded facts t Unrecorded at b a = cc
 ended-bounded facts t (StandsPrepared p) at b a =
     both-bounded facts b (max facts.floor at) (omega arith) t (HasClosed p.coordinator (Some at)) (versions p.writes at) (omega arith)
     (new-covered (max facts.floor at) at p.writes (omega arith))
@@ -132,19 +126,13 @@ ended-bounded facts t (StandsDecided c) at b a =
     let same : c.at ≡ at = grind (arith, nat_tests) in
     both-bounded facts b (max facts.floor at) (omega arith) t (HasSettled c.at c.parts) (versions c.writes at) (omega (arith, same))
     (new-covered (max facts.floor at) at c.writes (omega arith))
-ended-bounded facts t HasAborted at b a = cc
-ended-bounded facts t (HasSettled s ps) at b a = cc
-ended-bounded facts t (HasClosed c o) at b a = cc
+ended-bounded facts t _ at b a = cc
 
 aborted-bounded : (facts : Facts) (t : Id) (s : Status) → IsBounded facts → allows s None ≡ true
     → IsBounded (record facts { entries = with_status facts.entries t (after_outcome s None); installs = facts.installs ++ installs_at s None })
-aborted-bounded facts t Unrecorded b a = cc
 aborted-bounded facts t (StandsPrepared p) b a =
     both-bounded facts b facts.floor (omega arith) t (HasClosed p.coordinator None) [] tt tt
-aborted-bounded facts t (StandsDecided c) b a = cc
-aborted-bounded facts t HasAborted b a = cc
-aborted-bounded facts t (HasSettled s ps) b a = cc
-aborted-bounded facts t (HasClosed c o) b a = cc
+aborted-bounded facts t _ b a = cc
 
 -- ---- by the kind of the record
 
@@ -168,7 +156,4 @@ bounded-stays shard facts (Commit c) b f =
 bounded-stays shard facts (Abort t) b f = put-bounded facts b facts.floor (omega arith) t HasAborted tt
 bounded-stays shard facts (Outcome t None) b f = aborted-bounded facts t (recorded facts t) b f
 bounded-stays shard facts (Outcome t (Some at)) b f = ended-bounded facts t (recorded facts t) at b f
-bounded-stays shard facts (Base e floor n) b f = absurd (false≢true f)
-bounded-stays shard facts (Version i) b f = absurd (false≢true f)
-bounded-stays shard facts (Settled t at parts) b f = absurd (false≢true f)
-bounded-stays shard facts (Closed t c o) b f = absurd (false≢true f)
+bounded-stays shard facts _ b f = absurd (false≢true f)

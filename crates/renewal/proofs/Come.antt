@@ -231,9 +231,7 @@ standing-come shard f (x ∷ es) before acc p fresh up placed mine =
         (StandsDecided c)) pl.0 ∙ put-entries shard before acc t (StandsDecided c) p))
         (still-fresh acc (filter (λ x. not (is_ended x)) es) t (StandsDecided c) (all-keep _ (λ x. not (is_ended x)) es y) fr.1)
         )
-    by_status t HasAborted fr pl m y on = on acc before p fr
-    by_status t (HasSettled at ps) fr pl m y on = on acc before p fr
-    by_status t (HasClosed c o) fr pl m y on = on acc before p fr
+    by_status t _ fr pl m y on = on acc before p fr
 
 -- ---- the versions
 

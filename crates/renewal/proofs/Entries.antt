@@ -6,11 +6,9 @@ use Rattle.units.specs.ById.{IsById, find_member, with_member}
 use Rattle.units.proofs.Folds.{or_else}
 use Rattle.units.proofs.IdLaws.{same_id-is}
 use Rattle.units.proofs.ByIdLaws.{AllYounger, later_are_younger, by_id-keep, by_id-with, find-with_same, find-with_other, find_before, same_members}
-use Rattle.units.proofs.ByIdTwice.{with-with_same}
 use Rattle.units.proofs.ListLaws.{all-keep}
 use Rattle.record.specs.Records.{Status, Unrecorded, StandsPrepared, StandsDecided, HasAborted, HasSettled, HasClosed}
-use Rattle.record.specs.Facts.{TxnStatus, or_unrecorded, with_status}
-use Rattle.facts.specs.Shown.{status_in}
+use Rattle.record.specs.Facts.{TxnStatus, with_status}
 
 abbrev pub id_of : TxnStatus → Id
 id_of x = x.txn
@@ -27,17 +25,6 @@ with_status-is (e ∷ es) t s =
       status =
           s;
     } in x ∷ es) (cond (older e.txn t) (e ∷ l) (let x : TxnStatus = record { txn = t; status = s } in x ∷ e ∷ es))) (with_status-is es t s)
-
-pub status-twice : (es : List TxnStatus) (t : Id) (r s : Status) → with_status (with_status es t r) t s ≡ with_status es t s
-status-twice es t r s =
-    with_status-is (with_status es t r) t s
-    ∙ ap (λ l. with_member (λ x. x.txn) l (record { txn = t; status = s })) (with_status-is es t r)
-    ∙ with-with_same (λ x. x.txn) es (record { txn = t; status = r }) (record { txn = t; status = s }) refl
-    ∙ sym (with_status-is es t s)
-
-pub status-put : (es : List TxnStatus) (t : Id) (s : Status) → status_in (with_status es t s) t ≡ s
-status-put es t s =
-    ap (λ l. status_in l t) (with_status-is es t s) ∙ ap or_unrecorded (find-with_same (λ (x : TxnStatus). x.txn) es (record { txn = t; status = s }))
 
 -- it has ended
 abbrev pub is_ended : TxnStatus → Bool

@@ -34,7 +34,8 @@ use Rattle.protocol.proofs.RowCounts.{has_row, no_more, shorter-without_row}
 use Rattle.protocol.proofs.Serves.{Over}
 use Rattle.renewal.specs.Keeps.{Alike, IsPlaced, IsRegular}
 use Rattle.renewal.specs.Laws.{TurnedFits}
-use Rattle.renewal.specs.Rules.{AllFit, stands_in}
+use Rattle.protocol.specs.Beside.{stands_in}
+use Rattle.renewal.specs.Rules.{AllFit}
 use Rattle.renewal.specs.Turned.{turned, versions_held, ended_item, standing_item}
 use Rattle.renewal.proofs.Come.{Fresh, not-among, still-fresh}
 use Rattle.renewal.proofs.Entries.{entry, id_of, is_ended, put_all, with_status-is}
@@ -180,12 +181,10 @@ ended-fit x [] = tt
 ended-fit x (e ∷ es) = by_status e.txn e.status (λ y. ended-fit y es)
   where
     by_status : (t : Id) (s : Status) → ((y : Facts) → AllFit y (gather ended_item es)) → AllFit x (gather ended_item (entry t s ∷ es))
-    by_status t Unrecorded rest = rest x
-    by_status t (StandsPrepared p) rest = rest x
-    by_status t (StandsDecided c) rest = rest x
     by_status t HasAborted rest = (refl, rest _)
     by_status t (HasSettled at ps) rest = (refl, rest _)
     by_status t (HasClosed c o) rest = (refl, rest _)
+    by_status t _ rest = rest x
 
 put-parts : (e f : ℕ) (acc : List TxnStatus) (vs : List Install) (h : ℕ) (t u : Id) (s : Status) (at : ℕ) → u ≡ t → at ≤ f
     → facts_with e f (with_member id_of acc (entry t s)) vs h ≡ facts_with e (max f at) (with_status acc u s) vs h
@@ -224,9 +223,7 @@ standing-fit shard facts memory sound room regular (x ∷ es) acc here placed or
           (all-with (IsIn facts) id_of acc (entry t (StandsDecided c)) there mine)
           (still-fresh acc (filter (λ x. not (is_ended x)) es) t (StandsDecided c) (all-keep _ (λ x. not (is_ended x)) es young) fr.1)),
     )
-    by_status t HasAborted there p young fr rest = rest acc up mine fr
-    by_status t (HasSettled at ps) there p young fr rest = rest acc up mine fr
-    by_status t (HasClosed c o) there p young fr rest = rest acc up mine fr
+    by_status t _ there p young fr rest = rest acc up mine fr
 
 put-keeps : (P : TxnStatus → Type 0) (acc es : List TxnStatus) → IsById id_of acc → AllByRecursion P acc → AllByRecursion P es
     → IsById id_of (put_all acc es) × AllByRecursion P (put_all acc es)

@@ -23,7 +23,8 @@ use Rattle.protocol.proofs.Rising.{below, installs_rise, rise_none, rise_one}
 use Rattle.protocol.proofs.Taken.{taken_is_showable}
 use Rattle.renewal.specs.Keeps.{IsLasting, IsOfShard, IsPlaced, writes_ascend}
 use Rattle.renewal.specs.Laws.{LogIsOfShard, LogLasts, TakenLasts}
-use Rattle.renewal.specs.Rules.{AllFit, fits_facts}
+use Rattle.protocol.specs.Beside.{fits_facts}
+use Rattle.renewal.specs.Rules.{AllFit}
 use Rattle.renewal.proofs.Entries.{entry, id_of, with_status-is}
 use Rattle.renewal.proofs.Shards.{put, step-of-shard}
 use Rattle.renewal.proofs.Bounded.{IsBounded, at-most, bounded, bounded-stays, more-bounded, put-bounded, regular, step-of}
@@ -221,9 +222,6 @@ taken-lasts setup log accepted up =
 shard-item : (shard : ℕ) (log : List Record) (r : Record) → follows_next shard (stage_of log) (facts_of log) r ≡ true
     → AllByRecursion (IsOfShard shard) (facts_of log).entries → AllByRecursion (IsOfShard shard) (learn (facts_of log) r).entries
 unfolding follows_next follows_facts follows_head learn
-shard-item shard log (Opened e) known all = all
-shard-item shard log (Ceiling at) known all = all
-shard-item shard log (Horizon at) known all = all
 shard-item shard log (Prepare p) known all =
     step-of-shard shard (facts_of log) (Prepare p) all ((and_parts _ _ (by-step _ _ refl known)).1)
 shard-item shard log (Commit c) known all =
@@ -232,14 +230,13 @@ shard-item shard log (Abort t) known all =
     step-of-shard shard (facts_of log) (Abort t) all ((and_parts _ _ (by-step _ _ refl known)).1)
 shard-item shard log (Outcome t o) known all =
     step-of-shard shard (facts_of log) (Outcome t o) all ((and_parts _ _ (by-step _ _ refl known)).1)
-shard-item shard log (Base e f n) known all = all
-shard-item shard log (Version v) known all = all
 shard-item shard log (Settled t at ps) known all =
     let p = and_parts _ _ known in
     put shard (facts_of log).entries t (HasSettled at ps) ((and_parts _ _ ((and_parts _ _ p.0).0)).1, p.1) all
 shard-item shard log (Closed t c o) known all =
     let p = and_parts _ _ known in
     put shard (facts_of log).entries t (HasClosed c o) ((and_parts _ _ ((and_parts _ _ p.0).0)).1, p.1) all
+shard-item shard log _ known all = all
 
 shard-all : (shard : ℕ) (before log : List Record) → followed shard before ≡ true → followed_from shard before log ≡ true
     → AllByRecursion (IsOfShard shard) (facts_of before).entries → AllByRecursion (IsOfShard shard) (facts_of (before ++ log)).entries

@@ -117,9 +117,7 @@ standing-all e f acc is h (x ∷ es) all = by_status x.txn x.status all.0 (λ mo
         ap (λ u. learnt (facts_with e (max f c.at) (with_status acc u (StandsDecided c)) is h) (gather standing_item es)) p.0
         ∙ put-one e f acc is h t (StandsDecided c) (max f c.at) (gather standing_item es) (filter (λ x. not (is_ended x)) es) (max-covers f c.at p.1) (rest
         (with_member (λ x. x.txn) acc (entry t (StandsDecided c))))
-    by_status t HasAborted p rest = rest acc
-    by_status t (HasSettled at ps) p rest = rest acc
-    by_status t (HasClosed c o) p rest = rest acc
+    by_status t _ p rest = rest acc
 
 -- ---- all of it
 

@@ -6,10 +6,10 @@ use Rattle.std.proofs.lemmas.Bool.Decides.{nat_tests}
 use Rattle.units.specs.Lists.{first}
 use Rattle.units.specs.Ids.{Id, same_id}
 use Rattle.units.proofs.ByIdLaws.{all-with, first_all}
-use Rattle.record.specs.Records.{Status, Unrecorded, StandsPrepared, StandsDecided, HasAborted, HasSettled, HasClosed}
+use Rattle.record.specs.Records.{Status, Unrecorded, StandsPrepared, StandsDecided, HasAborted}
 use Rattle.record.specs.Facts.{Facts, TxnStatus, learn, recorded, or_unrecorded, with_status, after_outcome}
 use Rattle.record.specs.declared.record.Record.{Record}
-use Rattle.record.specs.declared.record.Record.TheVariants.{Opened, Ceiling, Prepare, Commit, Abort, Outcome, Horizon, Base, Version, Settled, Closed}
+use Rattle.record.specs.declared.record.Record.TheVariants.{Opened, Ceiling, Prepare, Commit, Abort, Outcome, Horizon}
 use Rattle.facts.specs.Rules.{allows, id_follows}
 use Rattle.renewal.specs.Keeps.{IsOfShard}
 use Rattle.renewal.specs.Laws.{OfShardStays}
@@ -32,12 +32,8 @@ module _ (shard : ℕ) where
   known f t all = by_found (first (λ e. same_id e.txn t) f.entries) refl
     where
       by_status : (s : Status) (u : Id) → IsOfShard shard (entry u s) → (v : Id) → IsOfShard shard (entry v s)
-      by_status Unrecorded u p v = p
-      by_status (StandsPrepared q) u p v = p
-      by_status (StandsDecided c) u p v = p
       by_status HasAborted u p v = tt
-      by_status (HasSettled at ps) u p v = p
-      by_status (HasClosed c o) u p v = p
+      by_status _ u p v = p
 
       by_found : (found : Option TxnStatus) → first (λ e. same_id e.txn t) f.entries ≡ found
           → (or_unrecorded found ≡ Unrecorded) ⊎ ((u : Id) → IsOfShard shard (entry u (or_unrecorded found)))
@@ -46,7 +42,6 @@ module _ (shard : ℕ) where
 
   ended : (t : Id) (s : Status) (o : Option ℕ) → (s ≡ Unrecorded) ⊎ ((u : Id) → IsOfShard shard (entry u s)) → allows s o ≡ true
       → IsOfShard shard (entry t (after_outcome s o))
-  ended t Unrecorded o k a = cc
   ended t (StandsPrepared p) None (inl e) a = cc
   ended t (StandsPrepared p) None (inr k) a = (refl, (k t).1)
   ended t (StandsPrepared p) (Some at) (inl e) a = cc
@@ -54,9 +49,7 @@ module _ (shard : ℕ) where
   ended t (StandsDecided c) None k a = cc
   ended t (StandsDecided c) (Some at) (inl e) a = cc
   ended t (StandsDecided c) (Some at) (inr k) a = k t
-  ended t HasAborted o k a = cc
-  ended t (HasSettled s ps) o k a = cc
-  ended t (HasClosed c q) o k a = cc
+  ended t _ o k a = cc
 
 pub step-of-shard : (shard : ℕ) (facts : Facts) (r : Record) → AllByRecursion (IsOfShard shard) facts.entries → id_follows shard facts r ≡ true
     → AllByRecursion (IsOfShard shard) (learn facts r).entries
@@ -71,10 +64,7 @@ step-of-shard shard facts (Commit c) all f =
 step-of-shard shard facts (Abort t) all f = put shard facts.entries t HasAborted tt all
 step-of-shard shard facts (Outcome t o) all f =
     put shard facts.entries t (after_outcome (recorded facts t) o) (ended shard t (recorded facts t) o (known shard facts t all) f) all
-step-of-shard shard facts (Base e floor n) all f = absurd (false≢true f)
-step-of-shard shard facts (Version i) all f = absurd (false≢true f)
-step-of-shard shard facts (Settled t at parts) all f = absurd (false≢true f)
-step-of-shard shard facts (Closed t c o) all f = absurd (false≢true f)
+step-of-shard shard facts _ all f = absurd (false≢true f)
 
 pub of-shard-stays : OfShardStays
 unfolding takes

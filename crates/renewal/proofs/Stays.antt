@@ -3,10 +3,10 @@ use Rattle.std.proofs.Common.{◌≡◌, ℕ, true, List, [], ◌++◌, Some, No
 use Rattle.std.proofs.lemmas.Bool.{and_parts, false≢true}
 use Rattle.units.specs.Versions.{versions}
 use Rattle.units.specs.declared.writes.Install.{Install}
-use Rattle.record.specs.Records.{Status, Unrecorded, StandsPrepared, StandsDecided, HasAborted, HasSettled, HasClosed}
+use Rattle.record.specs.Records.{Status, StandsPrepared, StandsDecided}
 use Rattle.record.specs.Facts.{Facts, learn, recorded, installs_at}
 use Rattle.record.specs.declared.record.Record.{Record}
-use Rattle.record.specs.declared.record.Record.TheVariants.{Opened, Ceiling, Prepare, Commit, Abort, Outcome, Horizon, Base, Version, Settled, Closed}
+use Rattle.record.specs.declared.record.Record.TheVariants.{Outcome, Base, Version, Settled, Closed}
 use Rattle.facts.specs.Rules.{id_follows, allows}
 use Rattle.protocol.specs.Showable.{record_ascends, rises_by_key}
 use Rattle.protocol.specs.Sound.{writes_standing}
@@ -14,7 +14,8 @@ use Rattle.protocol.proofs.Ascending.{entries_after}
 use Rattle.protocol.proofs.Rising.{installs_rise, rise_none}
 use Rattle.protocol.proofs.Serves.{ascend_in, versions_follow}
 use Rattle.renewal.specs.Keeps.{IsLasting}
-use Rattle.renewal.specs.Rules.{fits_facts, takes}
+use Rattle.protocol.specs.Beside.{fits_facts}
+use Rattle.renewal.specs.Rules.{takes}
 use Rattle.renewal.specs.Laws.{LastingFollows, LastingStays}
 use Rattle.renewal.proofs.Bounded.{bounded, bounded-stays, regular, step-of}
 
@@ -23,31 +24,18 @@ use Rattle.renewal.proofs.Bounded.{bounded, bounded-stays, regular, step-of}
 -- behind an outcome: what it installs is what stood
 ended-rises : (installs : List Install) (s : Status) (at : ℕ) → rises_by_key [] installs ≡ true → allows s (Some at) ≡ true
     → rises_by_key installs (versions (writes_standing s) at) ≡ true → rises_by_key [] (installs ++ installs_at s (Some at)) ≡ true
-ended-rises installs Unrecorded at rise a up = cc
 ended-rises installs (StandsPrepared p) at rise a up = installs_rise installs (versions p.writes at) rise up
 ended-rises installs (StandsDecided c) at rise a up = installs_rise installs (versions c.writes at) rise up
-ended-rises installs HasAborted at rise a up = cc
-ended-rises installs (HasSettled s ps) at rise a up = cc
-ended-rises installs (HasClosed c o) at rise a up = cc
+ended-rises installs _ at rise a up = cc
 
 aborted-rises : (installs : List Install) (s : Status) → rises_by_key [] installs ≡ true → allows s None ≡ true
     → rises_by_key [] (installs ++ installs_at s None) ≡ true
-aborted-rises installs Unrecorded rise a = cc
 aborted-rises installs (StandsPrepared p) rise a = installs_rise installs [] rise (rise_none installs)
-aborted-rises installs (StandsDecided c) rise a = cc
-aborted-rises installs HasAborted rise a = cc
-aborted-rises installs (HasSettled s ps) rise a = cc
-aborted-rises installs (HasClosed c o) rise a = cc
+aborted-rises installs _ rise a = cc
 
 rising-stays : (shard : ℕ) (facts : Facts) (r : Record) → IsLasting facts → id_follows shard facts r ≡ true → fits_facts facts r ≡ true
     → rises_by_key [] (learn facts r).installs ≡ true
 unfolding learn
-rising-stays shard facts (Opened e) l f fits = l.regular.rising
-rising-stays shard facts (Ceiling at) l f fits = l.regular.rising
-rising-stays shard facts (Horizon at) l f fits = l.regular.rising
-rising-stays shard facts (Prepare p) l f fits = l.regular.rising
-rising-stays shard facts (Commit c) l f fits = l.regular.rising
-rising-stays shard facts (Abort t) l f fits = l.regular.rising
 rising-stays shard facts (Outcome t None) l f fits = aborted-rises facts.installs (recorded facts t) l.regular.rising f
 rising-stays shard facts (Outcome t (Some at)) l f fits =
     ended-rises facts.installs (recorded facts t) at l.regular.rising f
@@ -56,6 +44,7 @@ rising-stays shard facts (Base e floor n) l f fits = absurd (false≢true f)
 rising-stays shard facts (Version i) l f fits = absurd (false≢true f)
 rising-stays shard facts (Settled t at parts) l f fits = absurd (false≢true f)
 rising-stays shard facts (Closed t c o) l f fits = absurd (false≢true f)
+rising-stays shard facts _ l f fits = l.regular.rising
 
 -- ---- one more record
 

@@ -16,8 +16,8 @@ use Rattle.message.specs.declared.message.Answer.TheVariants.{Holds}
 use Rattle.message.specs.declared.message.Envelope.{Envelope}
 use Rattle.message.specs.declared.message.Input.{Input}
 use Rattle.message.specs.declared.message.Message.{Message}
-use Rattle.protocol.specs.Rows.{Memory, Row, Phase, Idle, WaitsRead, WaitsPrepare, WaitsCommit, Collecting, IsPrepared, IsDecided, Standing}
-use Rattle.protocol.specs.Rows.{IsUnknown, WasEnded, HasRow, WasAborted, WasSettled, WasClosed, claims, find_row, standing}
+use Rattle.protocol.specs.Rows.{Memory, Row, Phase, Idle, WaitsRead, WaitsPrepare, WaitsCommit, Standing}
+use Rattle.protocol.specs.Rows.{IsUnknown, HasRow, claims, find_row, standing}
 use Rattle.protocol.specs.Outputs.{answer_to}
 use Rattle.protocol.specs.Step.{is_for, stepped, step_within, plan_message, plan_input}
 use Rattle.protocol.specs.Plan.{Before, start_of_step, in_way, opens, is_crowded, roomed, puts, replies, idles, stands}
@@ -57,27 +57,16 @@ module _ (rows shard epoch floor : ℕ) (es : List TxnStatus) (is js : List Inst
   same-read : (t : Id) (k : Bytes) (s : Standing) → plan_read one t k s ≡ plan_read other t k s
   unfolding plan_read
   same-read t k IsUnknown = same-read_now t k
-  same-read t k WasEnded = refl
   same-read t k (HasRow held Idle) = same-read_row t k held false
   same-read t k (HasRow held (WaitsRead j)) = same-read_row t k held true
   same-read t k (HasRow held (WaitsPrepare c rs ws)) = same-read_row t k held true
   same-read t k (HasRow held (WaitsCommit l ps rs ws)) = same-read_row t k held true
-  same-read t k (HasRow held (Collecting l ps rs ws vs)) = refl
-  same-read t k (HasRow held (IsPrepared c p)) = refl
-  same-read t k (HasRow held (IsDecided s ps)) = refl
-  same-read t k WasAborted = refl
-  same-read t k (WasSettled s ps) = refl
-  same-read t k (WasClosed o) = refl
+  same-read t k _ = refl
 
   same-go_on : (earliest : ℕ) (t : Id) (p : Phase) → plan_go_on one earliest t p ≡ plan_go_on other earliest t p
   unfolding plan_go_on plan_promise plan_commit_granted plan_decide
   same-go_on earliest t (WaitsRead k) = λ i. Ok (puts one [] t (to_read k) Idle None memory.last (same-answer t k i ∷ []))
-  same-go_on earliest t (WaitsPrepare c rs ws) = refl
-  same-go_on earliest t (WaitsCommit l ps rs ws) = refl
-  same-go_on earliest t Idle = refl
-  same-go_on earliest t (Collecting l ps rs ws vs) = refl
-  same-go_on earliest t (IsPrepared c p) = refl
-  same-go_on earliest t (IsDecided s ps) = refl
+  same-go_on earliest t _ = refl
 
   same-resume_row : (earliest : ℕ) (r : Option Row) → plan_resume_row one earliest r ≡ plan_resume_row other earliest r
   same-resume_row earliest None = refl
@@ -91,23 +80,13 @@ module _ (rows shard epoch floor : ℕ) (es : List TxnStatus) (is js : List Inst
   unfolding plan_message standing plan_prepare plan_prepare_fresh plan_prepare_now plan_promise plan_commit plan_commit_fresh plan_commit_now
       plan_commit_granted plan_decide plan_abort plan_vote plan_count plan_tell plan_outcome plan_give_up plan_ask
   same-message now (Message.Read r) = same-read r.txn r.key (stands one r.txn)
-  same-message now (Message.Prepare p) = refl
-  same-message now (Message.Commit c) = refl
-  same-message now (Message.GiveUp g) = refl
-  same-message now (Message.Vote v) = refl
-  same-message now (Message.Outcome o) = refl
-  same-message now (Message.Ask a) = refl
-  same-message now (Message.ReadAnswer a) = refl
-  same-message now (Message.Done d) = refl
+  same-message now _ = refl
 
   same-input : (setup : Setup) (now : Interval) (i : Input) → plan_input setup one now i ≡ plan_input setup other now i
   unfolding plan_input plan_resume plan_settle plan_advance plan_nudge plan_forget standing
   same-input setup now (Input.Deliver m) = λ i. cond (is_for setup m) (same-message now m i) (Err Stranger)
   same-input setup now Input.Resume = same-resume_id now.earliest (ready (claims memory.rows))
-  same-input setup now (Input.Settle t) = refl
-  same-input setup now (Input.Advance at) = refl
-  same-input setup now (Input.Nudge t) = refl
-  same-input setup now (Input.Forget at) = refl
+  same-input setup now _ = refl
 
 same-latest : (h : ℕ) (a b : List Install) → SameVersions h a b → (k : Bytes) → latest a k ≡ latest b k
 same-latest h a b same k = latest_is k a ∙ ap (λ found. follow found (λ i. i.value)) (same.now k) ∙ sym (latest_is k b)

@@ -1,6 +1,6 @@
 -- Logs that are alike take the same records.
 use Rattle.std.specs.List.{list_all, list_any}
-use Rattle.std.proofs.Common.{◌≡◌, ℕ, not, ◌&&◌, nat_lt, List, length, map, Some, None, refl, sym, ap, ◌∙◌}
+use Rattle.std.proofs.Common.{◌≡◌, ℕ, not, ◌&&◌, nat_lt, List, length, map, Some, refl, sym, ap, ◌∙◌}
 use Rattle.units.specs.Limits.{most_rows}
 use Rattle.units.specs.Lists.{gather}
 use Rattle.units.specs.Keys.{Bytes}
@@ -12,7 +12,7 @@ use Rattle.units.proofs.ListLaws.{each-alike}
 use Rattle.record.specs.Accepted.{belongs}
 use Rattle.record.specs.Facts.{Facts, TxnStatus, facts_with, recorded}
 use Rattle.record.specs.declared.record.Record.{Record}
-use Rattle.record.specs.declared.record.Record.TheVariants.{Opened, Ceiling, Prepare, Commit, Abort, Outcome, Horizon, Base, Version, Settled, Closed}
+use Rattle.record.specs.declared.record.Record.TheVariants.{Opened, Prepare, Commit, Outcome, Horizon}
 use Rattle.facts.specs.Rules.{follows_facts}
 use Rattle.facts.specs.Shown.{status_in}
 use Rattle.protocol.specs.Rows.{held_stamp, standing_row}
@@ -21,23 +21,15 @@ use Rattle.versions.proofs.Newest.{above_newest, was_before}
 use Rattle.versions.specs.Places.{SameVersions}
 use Rattle.renewal.specs.Keeps.{Alike}
 use Rattle.renewal.specs.Laws.{AlikeTakes}
-use Rattle.renewal.specs.Rules.{stands_in, fits_facts, takes}
+use Rattle.protocol.specs.Beside.{fits_facts, stands_in}
+use Rattle.renewal.specs.Rules.{takes}
 
 -- the rules of one id, of openings and of a horizon read no versions
 no-versions : (shard : ℕ) (e f : ℕ) (es : List TxnStatus) (is js : List Install) (n : ℕ) (r : Record)
     → follows_facts shard (facts_with e f es is n) r ≡ follows_facts shard (facts_with e f es js n) r
 unfolding follows_facts
 no-versions shard e f es is js n (Opened epoch) = refl
-no-versions shard e f es is js n (Ceiling at) = refl
-no-versions shard e f es is js n (Horizon at) = refl
-no-versions shard e f es is js n (Prepare p) = refl
-no-versions shard e f es is js n (Commit c) = refl
-no-versions shard e f es is js n (Abort t) = refl
-no-versions shard e f es is js n (Outcome t o) = refl
-no-versions shard e f es is js n (Base epoch floor horizon) = refl
-no-versions shard e f es is js n (Version i) = refl
-no-versions shard e f es is js n (Settled t at parts) = refl
-no-versions shard e f es is js n (Closed t c o) = refl
+no-versions shard e f es is js n _ = refl
 
 follows-alike : (shard : ℕ) (a b : Facts) (r : Record) → Alike a b → follows_facts shard a r ≡ follows_facts shard b r
 follows-alike shard a b r h =
@@ -57,20 +49,13 @@ stands-alike a b at rs ws h =
     && above-alike a.horizon a.installs b.installs at ws h.versions i
 
 fits-alike : (a b : Facts) (r : Record) → Alike a b → fits_facts a r ≡ fits_facts b r
-fits-alike a b (Opened n) h = refl
-fits-alike a b (Ceiling at) h = refl
 fits-alike a b (Horizon at) h = ap (λ es. list_all (nat_lt at) (gather (λ r. held_stamp r.phase) (gather standing_row es))) h.entries
 fits-alike a b (Prepare p) h = stands-alike a b p.at p.reads p.writes h
 fits-alike a b (Commit c) h = stands-alike a b c.at c.reads c.writes h
-fits-alike a b (Abort t) h = refl
-fits-alike a b (Outcome t None) h = refl
-fits-alike a b (Base epoch floor horizon) h = refl
-fits-alike a b (Version i) h = refl
-fits-alike a b (Settled t at parts) h = refl
-fits-alike a b (Closed t c o) h = refl
 fits-alike a b (Outcome t (Some at)) h =
     above-alike a.horizon a.installs b.installs at (writes_standing (recorded a t)) h.versions
     ∙ ap (λ es. above_versions b.installs at (writes_standing (status_in es t))) h.entries
+fits-alike a b _ h = refl
 
 pub takes-alike : AlikeTakes
 unfolding takes

@@ -14,13 +14,13 @@ use Rattle.units.proofs.ByIdLaws.{all-without, found_has, without-map}
 use Rattle.units.proofs.ListLaws.{find-is}
 use Rattle.units.proofs.Folds.{there_first}
 use Rattle.record.specs.declared.record.Record.{Record}
-use Rattle.protocol.specs.Rows.{Row, Phase, Idle, WaitsRead, WaitsPrepare, WaitsCommit, Collecting as CollectsVotes, IsPrepared, IsDecided, claim_of}
+use Rattle.protocol.specs.Rows.{Row, Phase, Idle, claim_of}
 use Rattle.protocol.specs.Rows.{claims, find_row, without_row, needs_of, is_firm, held_in, without_rows}
 use Rattle.protocol.proofs.RowTable.{claims-find_row, claims-without_row}
 use Rattle.locks.specs.Table.{Token, has_claim, without_claim, without_claims, change_claim, made_firm}
 use Rattle.rows.specs.States.{is_prepare_of, is_commit_of, prepared_by, decided_by}
-use Rattle.rows.specs.CodeRows.{token_of, txn_of, phase_of, row_of, has_txn, passes, put_in, without_txn, is_reading, is_idle, IsRowList}
-use Rattle.rows.specs.RowTable.{paired, has_phase, put_row, without_token, phase_by}
+use Rattle.rows.specs.CodeRows.{token_of, txn_of, phase_of, row_of, has_txn, passes, put_in, without_txn, is_reading, is_idle, IsOut}
+use Rattle.rows.specs.RowTable.{RowTable, table_of, paired, has_phase, put_row, without_token, phase_by}
 use Rattle.rows.specs.declared.row.Row.{Row as CodeRow}
 use Rattle.rows.specs.declared.row.Row.TheVariants.{Prepared, Decided}
 use Rattle.rows.proofs.Lists.{length-keep}
@@ -46,31 +46,45 @@ pub record IsTaken (rows : List CodeRow) (t : Id) : Type 0 where
   pub absent : has_txn rows t ≡ false
   pub space : length rows < most_rows
 
-pub taken : (rows mid : List CodeRow) (t : Id) (y : CodeRow) → IsRowList rows → row_of rows t ≡ Some y → mid ≡ without_txn rows t → IsTaken mid t
-taken rows mid t y laws found is = record {
-  absent = ap (λ l. has_txn l t) is ∙ gone_of txn_of t (without_txn rows t) (all-without txn_of rows t);
-  space = subst (λ (l : List CodeRow). length l < most_rows) (sym is) (omega (arith, fewer txn_of t rows (found_has txn_of rows t y found), laws.few));
+pub taken : {rows mid : List CodeRow} {t : Id} {y : CodeRow} → IsOut rows mid t y → IsTaken mid t
+taken {rows = rows} {t = t} {y = y} out = record {
+  absent = ap (λ l. has_txn l t) out.rest ∙ gone_of txn_of t (without_txn rows t) (all-without txn_of rows t);
+  space = subst (λ (l : List CodeRow). length l < most_rows) (sym out.rest)
+      (omega (arith, fewer txn_of t rows (found_has txn_of rows t y out.row), out.laws.few));
 }
 
+-- it is the transaction's, which is absent then also by the name that the row gives it
+pub out_txn : {rows mid : List CodeRow} {t : Id} {y : CodeRow} → IsOut rows mid t y → txn_of y ≡ t
+out_txn {rows = rows} {t = t} {y = y} out = found_txn rows t y out.row
+
+pub absent_out : {rows mid : List CodeRow} {t : Id} {y : CodeRow} (i : Id) → IsOut rows mid t y → i ≡ txn_of y → has_txn mid i ≡ false
+absent_out {mid = mid} i out same = ap (has_txn mid) (same ∙ out_txn out) ∙ (taken out).absent
+
+-- what is asked of the lock table and of the row's transaction is asked of what a contract sees
+pub asked : {rows mid : List CodeRow} {t : Id} {y : CodeRow} {seen : RowTable} {A : Type 0} (f : List Claim → Id → A) (table : List Claim)
+    → IsOut rows mid t y → claims (paired rows table) ≡ table → table_of rows table ≡ seen → f table (txn_of y) ≡ f (claims seen.rows) t
+asked {t = t} f table out tied view =
+    ap (f table) (out_txn out) ∙ ap (λ (s : List Claim). f s t) (sym tied) ∙ ap (λ (s : RowTable). f (claims s.rows) t) view
+
 -- the row of a transaction is taken out and another put in, and its claim is changed
-pub stepped : (rows mid new : List CodeRow) (table next : List Claim) (t : Id) (y z : CodeRow) (held : List Lock) (f : Claim → Claim)
-    → IsRowList rows → claims (paired rows table) ≡ table → row_of rows t ≡ Some y
-    → mid ≡ without_txn rows t → new ≡ put_in mid z → txn_of z ≡ t → next ≡ change_claim table (txn_of y) f
+pub stepped : {rows mid : List CodeRow} {t : Id} {y : CodeRow} (new : List CodeRow) (table next : List Claim) (z : CodeRow) (held : List Lock)
+    (f : Claim → Claim) → IsOut rows mid t y → claims (paired rows table) ≡ table
+    → new ≡ put_in mid z → txn_of z ≡ txn_of y → next ≡ change_claim table (txn_of y) f
     → claim_of (record { txn = t; held = held; phase = phase_of z }) ≡
     f (claim_of (record { txn = t; held = held_in (paired rows table) t; phase = phase_of y }))
     → IsMoved new next (put_row (paired rows table) t held (phase_of z))
-stepped rows mid new table next t y z held f laws tied found mid_is new_is same next_is claim =
-    changed rows new table next t y z held f laws.order tied found same
-    (new_is ∙ ap (λ l. put_in l z) mid_is)
-    (next_is ∙ ap (λ i. change_claim table i f) (found_txn rows t y found)) claim
+stepped {rows = rows} {t = t} {y = y} new table next z held f out tied new_is same next_is claim =
+    changed rows new table next t y z held f out.laws.order tied out.row (same ∙ out_txn out)
+    (new_is ∙ ap (λ l. put_in l z) out.rest)
+    (next_is ∙ ap (λ i. change_claim table i f) (out_txn out)) claim
 
 -- where its claim stays, as the table does
-pub kept : (rows mid new : List CodeRow) (table : List Claim) (t : Id) (y z : CodeRow)
-    → IsRowList rows → claims (paired rows table) ≡ table → row_of rows t ≡ Some y
-    → mid ≡ without_txn rows t → new ≡ put_in mid z → txn_of z ≡ t → needs_of (phase_of z) ≡ needs_of (phase_of y) → is_firm (phase_of z) ≡ is_firm (phase_of y)
+pub kept : {rows mid : List CodeRow} {t : Id} {y : CodeRow} (new : List CodeRow) (table : List Claim) (z : CodeRow)
+    → IsOut rows mid t y → claims (paired rows table) ≡ table
+    → new ≡ put_in mid z → txn_of z ≡ txn_of y → needs_of (phase_of z) ≡ needs_of (phase_of y) → is_firm (phase_of z) ≡ is_firm (phase_of y)
     → IsMoved new table (put_row (paired rows table) t (held_in (paired rows table) t) (phase_of z))
-kept rows mid new table t y z laws tied found mid_is new_is same needs firm =
-    stepped rows mid new table table t y z (held_in (paired rows table) t) (λ c. c) laws tied found mid_is new_is same
+kept {rows = rows} {t = t} {y = y} new table z out tied new_is same needs firm =
+    stepped new table table z (held_in (paired rows table) t) (λ c. c) out tied new_is same
     (sym (unchanged table))
     (ap (λ (n : List Lock). record { txn = t; held = held_in (paired rows table) t; needs = n; firm = is_firm (phase_of z) }) needs
     ∙ ap (λ (b : Bool). record { txn = t; held = held_in (paired rows table) t; needs = needs_of (phase_of y); firm = b }) firm)
@@ -84,26 +98,22 @@ kept rows mid new table t y z laws tied found mid_is new_is same needs firm =
         by_test false e = ap (λ l. c ∷ l) e
 
 -- the row of a transaction is taken out, and its claim goes
-pub left : (rows new : List CodeRow) (table next : List Claim) (t : Id) (y : CodeRow)
-    → claims (paired rows table) ≡ table → row_of rows t ≡ Some y → new ≡ without_txn rows t → next ≡ without_claim table (txn_of y)
-    → IsMoved new next (without_row (paired rows table) t)
-left rows new table next t y tied found new_is next_is =
-    gone rows new table next t tied new_is (next_is ∙ ap (without_claim table) (found_txn rows t y found))
+pub left : {rows mid : List CodeRow} {t : Id} {y : CodeRow} {seen : RowTable} (table next : List Claim)
+    → IsOut rows mid t y → claims (paired rows table) ≡ table → table_of rows table ≡ seen → next ≡ without_claim table (txn_of y)
+    → IsMoved mid next (without_row seen.rows t)
+left {rows = rows} {mid = mid} {t = t} table next out tied view next_is =
+    let moved = gone rows mid table next t tied out.rest (next_is ∙ ap (without_claim table) (out_txn out)) in
+    record { tied = moved.tied; rows_are = moved.rows_are ∙ ap (λ (s : RowTable). without_row s.rows t) view }
 
 -- the table has a claim of the token of the row that was taken out
-pub has_its_claim : (rows : List CodeRow) (table : List Claim) (t : Id) (y : CodeRow) → claims (paired rows table) ≡ table → row_of rows t ≡ Some y →
-    has_claim table (txn_of y) ≡ true
-has_its_claim rows table t y tied found = ap (has_claim table) (found_txn rows t y found) ∙ claim_there rows table t y tied found
+pub has_its_claim : {rows mid : List CodeRow} {t : Id} {y : CodeRow} (table : List Claim) → IsOut rows mid t y → claims (paired rows table) ≡ table
+    → has_claim table (txn_of y) ≡ true
+has_its_claim {rows = rows} {t = t} {y = y} table out tied = ap (has_claim table) (out_txn out) ∙ claim_there rows table t y tied out.row
 
 -- an idle row needs nothing
 pub idle_is : (p : Phase) → is_idle p ≡ true → p ≡ Idle
 idle_is Idle e = refl
-idle_is (WaitsRead k) e = absurd (false≢true e)
-idle_is (WaitsPrepare c rs ws) e = absurd (false≢true e)
-idle_is (WaitsCommit l ps rs ws) e = absurd (false≢true e)
-idle_is (CollectsVotes l ps rs ws vs) e = absurd (false≢true e)
-idle_is (IsPrepared c p) e = absurd (false≢true e)
-idle_is (IsDecided s ps) e = absurd (false≢true e)
+idle_is _ e = absurd (false≢true e)
 
 -- a transaction whose row passes a test passes a weaker one
 pub passes_more : (p q : Phase → Bool) → ((x : Phase) → p x ≡ true → q x ≡ true) → (rows : List CodeRow) (t : Id) → passes p rows t ≡ true →
@@ -128,55 +138,19 @@ firm_claim t held p q idle needs firm =
 -- the states after a promise and a decision
 pub prepared_token : (k : Token) (r : Record) → (prepared_by k r).token ≡ k
 prepared_token k (Record.Prepare p) = refl
-prepared_token k (Record.Opened e) = refl
-prepared_token k (Record.Ceiling s) = refl
-prepared_token k (Record.Horizon s) = refl
-prepared_token k (Record.Base epoch floor horizon) = refl
-prepared_token k (Record.Version install) = refl
-prepared_token k (Record.Settled t at parts) = refl
-prepared_token k (Record.Closed t coordinator outcome) = refl
-prepared_token k (Record.Commit c) = refl
-prepared_token k (Record.Abort t) = refl
-prepared_token k (Record.Outcome t o) = refl
+prepared_token k _ = refl
 
 pub prepared_phase : (t : Id) (k : Token) (r : Record) → is_prepare_of t r ≡ true → phase_of (Prepared (prepared_by k r)) ≡ phase_by r
 prepared_phase t k (Record.Prepare p) e = refl
-prepared_phase t k (Record.Opened n) e = absurd (false≢true e)
-prepared_phase t k (Record.Ceiling s) e = absurd (false≢true e)
-prepared_phase t k (Record.Horizon s) e = absurd (false≢true e)
-prepared_phase t k (Record.Base epoch floor horizon) e = absurd (false≢true e)
-prepared_phase t k (Record.Version install) e = absurd (false≢true e)
-prepared_phase t k (Record.Settled u at parts) e = absurd (false≢true e)
-prepared_phase t k (Record.Closed u coordinator outcome) e = absurd (false≢true e)
-prepared_phase t k (Record.Commit c) e = absurd (false≢true e)
-prepared_phase t k (Record.Abort u) e = absurd (false≢true e)
-prepared_phase t k (Record.Outcome u o) e = absurd (false≢true e)
+prepared_phase t k _ e = absurd (false≢true e)
 
 pub decided_token : (k : Token) (r : Record) → (decided_by k r).token ≡ k
 decided_token k (Record.Prepare p) = refl
-decided_token k (Record.Opened e) = refl
-decided_token k (Record.Ceiling s) = refl
-decided_token k (Record.Horizon s) = refl
-decided_token k (Record.Base epoch floor horizon) = refl
-decided_token k (Record.Version install) = refl
-decided_token k (Record.Settled t at parts) = refl
-decided_token k (Record.Closed t coordinator outcome) = refl
-decided_token k (Record.Commit c) = refl
-decided_token k (Record.Abort t) = refl
-decided_token k (Record.Outcome t o) = refl
+decided_token k _ = refl
 
 pub decided_phase : (t : Id) (k : Token) (r : Record) → is_commit_of t r ≡ true → phase_of (Decided (decided_by k r)) ≡ phase_by r
-decided_phase t k (Record.Prepare p) e = absurd (false≢true e)
-decided_phase t k (Record.Opened n) e = absurd (false≢true e)
-decided_phase t k (Record.Ceiling s) e = absurd (false≢true e)
-decided_phase t k (Record.Horizon s) e = absurd (false≢true e)
-decided_phase t k (Record.Base epoch floor horizon) e = absurd (false≢true e)
-decided_phase t k (Record.Version install) e = absurd (false≢true e)
-decided_phase t k (Record.Settled u at parts) e = absurd (false≢true e)
-decided_phase t k (Record.Closed u coordinator outcome) e = absurd (false≢true e)
 decided_phase t k (Record.Commit c) e = refl
-decided_phase t k (Record.Abort u) e = absurd (false≢true e)
-decided_phase t k (Record.Outcome u o) e = absurd (false≢true e)
+decided_phase t k _ e = absurd (false≢true e)
 
 -- as many rows are seen as the code has
 pub length-paired : (rows : List CodeRow) (table : List Claim) → length (paired rows table) ≡ length rows

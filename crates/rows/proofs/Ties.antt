@@ -13,7 +13,7 @@ use Rattle.protocol.specs.Rows.{Row, Phase, Idle, claim_of, claims, find_row, wi
 use Rattle.protocol.proofs.RowTable.{with_row-is, claims-find_row, claims-without_row, claims-with_row, claims-changed_row}
 use Rattle.locks.specs.Table.{has_claim, with_claim, without_claim, change_claim, entrant, held_in_table, held_by_claim}
 use Rattle.rows.specs.CodeRows.{txn_of, phase_of, row_of, has_txn, passes, put_in, without_txn}
-use Rattle.rows.specs.RowTable.{paired, held_first, put_row, has_phase}
+use Rattle.rows.specs.RowTable.{RowTable, table_of, paired, held_first, put_row, has_phase}
 use Rattle.rows.specs.declared.row.Row.{Row as CodeRow}
 
 -- what a row of the code says without its claim, and the same of a row that a contract sees
@@ -97,6 +97,11 @@ has_phase-is test rows table t = by_row (row_of rows t) refl
     by_row : (o : Option CodeRow) → row_of rows t ≡ o → has_phase test (paired rows table) t ≡ when (λ (r : CodeRow). test (phase_of r)) o
     by_row None e = ap tested (found_no_row rows table t e)
     by_row (Some y) e = ap tested (found_row rows table t y e)
+
+-- so one that a contract sees to pass a test passes it
+pub passes_seen : {seen : RowTable} (test : Phase → Bool) (rows : List CodeRow) (table : List Claim) (t : Id)
+    → table_of rows table ≡ seen → has_phase test seen.rows t ≡ true → passes test rows t ≡ true
+passes_seen test rows table t view h = sym (has_phase-is test rows table t) ∙ ap (λ (s : RowTable). has_phase test s.rows t) view ∙ h
 
 -- a transaction whose row passes a test has a row
 pub passes_there : (test : Phase → Bool) (rows : List CodeRow) (t : Id) → passes test rows t ≡ true → has_txn rows t ≡ true

@@ -1,20 +1,21 @@
 -- Those whom a request ends may be ended one by one, and the requester stays as it is.
-use Rattle.std.proofs.Common.{◌≡◌, Bool, true, false, ◌&&◌, cond, List, [], ◌∷◌, map, refl, sym, ap, subst, ◌∙◌, filter}
+use Rattle.std.proofs.Common.{◌≡◌, ◌+◌, ◌≤◌, ℕ, length, Option, Bool, true, false, ◌&&◌, cond, List, [], ◌∷◌, map, refl, sym, ap, subst, ◌∙◌, filter}
 use Rattle.std.proofs.lemmas.Bool.{false≢true}
 use Rattle.std.specs.List.{AllByRecursion}
+use Rattle.units.specs.Lists.{when}
 use Rattle.units.specs.Ids.{Id, same_id}
 use Rattle.units.specs.ById.{IsById, find_member}
 use Rattle.units.specs.Locks.{Claim, wounded}
 use Rattle.units.specs.declared.lock.Lock.{Lock}
 use Rattle.units.proofs.IdLaws.{same_id-refl, older_not_same}
 use Rattle.units.proofs.ByIdLaws.{AllYounger, later_are_younger, later_differ, without_none, find-without_other}
-use Rattle.protocol.specs.Rows.{Row, claim_of, claims, find_row, without_row, without_rows}
+use Rattle.protocol.specs.Rows.{Row, Phase, claim_of, claims, find_row, without_row, without_rows, held_by, held_in}
 use Rattle.locks.specs.Table.{Token, without_claims}
 use Rattle.locks.specs.Ways.{gives_way}
 use Rattle.locks.proofs.WayLaws.{wounded-is}
 use Rattle.locks.proofs.Release.{wounded_differ, release_makes_way}
 use Rattle.rows.specs.CodeRows.{is_reading}
-use Rattle.rows.specs.RowTable.{has_phase, without_token, without_tokens, MayEnd}
+use Rattle.rows.specs.RowTable.{RowTable, has_phase, room, room_by, put_row, without_token, without_tokens, MayEnd}
 use Rattle.rows.proofs.Steps.{claims-without_rows}
 
 -- a row of another id in front changes nothing
@@ -101,3 +102,28 @@ pub then_quiet : (rows : List Row) (t : Id) (needs : List Lock) (ts : List Id) �
     wounded (claims (without_rows rows ts)) t needs ≡ []
 then_quiet rows t needs ts is =
     ap (λ s. wounded s t needs) (claims-without_rows rows ts ∙ ap (without_claims (claims rows)) is) ∙ (release_makes_way (claims rows) t needs).quiet
+
+-- once those are gone whom a request ends, the requester reads as before, with the same room, and is given anew in the rows that are left
+pub record HasMadeWay (old new : RowTable) (t : Id) (ts : List Id) : Type 0 where
+  pub reading : has_phase is_reading old.rows t ≡ true → has_phase is_reading new.rows t ≡ true
+  pub fits : (n : ℕ) → length (held_in old.rows t) + n ≤ room old t → length (held_in new.rows t) + n ≤ room new t
+  pub given : (f : List Lock → List Lock) (p : Phase) → put_row new.rows t (f (held_in new.rows t)) p ≡
+      put_row (without_rows old.rows ts) t (f (held_in old.rows t)) p
+
+pub made_way : (old new : RowTable) (t : Id) (needs : List Lock) (ts : List Id) → ts ≡ wounded (claims old.rows) t needs
+    → new.rows ≡ without_rows old.rows ts → new.tokens ≡ without_tokens old.tokens ts → HasMadeWay old new t ts
+made_way old new t needs ts are rows_are tokens_are = record {
+  reading = λ h. ap (when (λ (r : Row). is_reading r.phase)) same ∙ h;
+  fits = λ n h. subst (λ (r : ℕ). length (held_in new.rows t) + n ≤ r) (sym spare)
+      (subst (λ (m : ℕ). m + n ≤ room old t) (sym (ap (λ (o : Option Row). length (held_by o)) same)) h);
+  given = λ f p. ap (λ (o : Option Row). put_row new.rows t (f (held_by o)) p) same ∙ ap (λ (l : List Row). put_row l t (f (held_in old.rows t)) p) rows_are;
+}
+  where
+    differ : AllByRecursion (λ u. same_id u t ≡ false) ts
+    differ = others_end old.rows t needs ts are
+
+    same : find_row new.rows t ≡ find_row old.rows t
+    same = ap (λ (l : List Row). find_row l t) rows_are ∙ row_stays old.rows t ts differ
+
+    spare : room new t ≡ room old t
+    spare = ap room_by (ap (λ (l : List Token). find_member (λ k. k.txn) l t) tokens_are ∙ token_stays old.tokens t ts differ)

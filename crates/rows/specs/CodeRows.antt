@@ -1,5 +1,5 @@
 -- The rows as the code keeps them: typed states, by ascending id.
-use Rattle.std.specs.Prelude.{◌≤◌, ℕ, Bool, true, false, not, List, length, Option, None, Some}
+use Rattle.std.specs.Prelude.{◌≡◌, ◌≤◌, ℕ, Bool, true, false, not, List, length, Option, None, Some}
 use Rattle.units.specs.Lists.{when}
 use Rattle.units.specs.Limits.{most_rows}
 use Rattle.units.specs.Ids.{Id}
@@ -98,3 +98,9 @@ put_in rows r = with_member txn_of rows r
 pub record IsRowList (rows : List Row) : Type 0 where
   pub order : IsById txn_of rows
   pub few : length rows ≤ most_rows
+
+-- the row of a transaction was taken out of the rows, which leaves the others
+pub record IsOut (rows others : List Row) (t : Id) (r : Row) : Type 0 where
+  pub laws : IsRowList rows
+  pub row : row_of rows t ≡ Some r
+  pub rest : others ≡ without_txn rows t

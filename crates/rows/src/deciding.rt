@@ -82,11 +82,9 @@ impl Rows {
         ensures rows { self.new.rows ≡ without_row self.old.rows txn }
         ensures record { result ≡ logged }
     {
-        match self.rows.take(txn) {
-            Row::Reading(reading) => reading.abort(logged, &mut self.locks),
-            Row::Collecting(collecting) => collecting.abort(logged, &mut self.locks),
-            _ => unreachable!(),
-        }
+        let row = self.rows.take(txn);
+        row.release(&mut self.locks);
+        logged.spend()
     }
 
     /// A logged outcome is spent, and the transaction that was prepared or decided is done. It takes no memory.
@@ -96,10 +94,8 @@ impl Rows {
         ensures rows { self.new.rows ≡ without_row self.old.rows txn }
         ensures record { result ≡ logged }
     {
-        match self.rows.take(txn) {
-            Row::Prepared(prepared) => prepared.close(logged, &mut self.locks),
-            Row::Decided(decided) => decided.close(logged, &mut self.locks),
-            _ => unreachable!(),
-        }
+        let row = self.rows.take(txn);
+        row.release(&mut self.locks);
+        logged.spend()
     }
 }

@@ -1,12 +1,12 @@
 //! The rows by ascending id, with the space for all that there may be.
-ghost use Rattle.std.specs.Prelude.{◌≡◌, ◌+◌, ◌<◌, ◌≤◌, [], true, false, Some, IfOk, IfErr, length, slice_get, vec_capacity};
+ghost use Rattle.std.specs.Prelude.{◌≡◌, ◌+◌, ◌<◌, ◌≤◌, [], true, false, IfOk, IfErr, length, slice_get, vec_capacity};
 ghost use Rattle.std.specs.List.{find, position_or_len};
 ghost use Rattle.std.specs.Option.{option_copied};
 ghost use Rattle.std.specs.List.Sorted.{IsPartitionPoint};
 ghost use Rattle.units.specs.ById.{IsById};
 ghost use Rattle.units.specs.Ids.{same_id, older};
 ghost use Rattle.units.specs.Lists.{gather};
-ghost use Rattle.rows.specs.CodeRows.{txn_of, has_txn, row_of, passes, is_reading, stamp_if_prepared, stamp_if_decided, without_txn, put_in, IsRowList};
+ghost use Rattle.rows.specs.CodeRows.{txn_of, has_txn, passes, is_reading, stamp_if_prepared, stamp_if_decided, put_in, IsRowList, IsOut};
 ghost use Rattle.rows.specs.RowTable.{IsEarliest, earlier};
 
 use crate::row::Row;
@@ -101,9 +101,7 @@ impl RowList {
     /// Takes out the row of a transaction that reads.
     pub fn take_reading(&mut self, txn: TxnId) -> RowReading
         requires { passes is_reading self.old txn ≡ true }
-        ensures row { row_of self.old txn ≡ Some (Row.Reading result) }
-        ensures rest { self.new ≡ without_txn self.old txn }
-        ensures laws { IsRowList self.old }
+        ensures { IsOut self.old self.new txn (Row.Reading result) }
     {
         match self.take(txn) {
             Row::Reading(state) => state,
@@ -114,9 +112,7 @@ impl RowList {
     /// Takes out the row of a transaction.
     pub fn take(&mut self, txn: TxnId) -> Row
         requires { has_txn self.old txn ≡ true }
-        ensures row { row_of self.old txn ≡ Some result }
-        ensures rest { self.new ≡ without_txn self.old txn }
-        ensures laws { IsRowList self.old }
+        ensures { IsOut self.old self.new txn result }
     {
         let at = place(&self.rows, txn);
         self.rows.remove(at)

@@ -3,7 +3,7 @@
 ghost use Rattle.std.specs.Prelude.{◌≡◌, ◌≤◌, ◌+◌, [], Some, None, true, false, length, OnOk, IfErr};
 ghost use Rattle.std.specs.Option.{option_copied};
 ghost use Rattle.units.specs.Locks.{is_free, wounded};
-ghost use Rattle.rows.specs.States.{reading_state, collecting_of, collecting_with_yes, is_prepare_of, is_commit_of, is_abort_of, is_outcome_of};
+ghost use Rattle.rows.specs.States.{reading_state, collecting_of, collecting_with_yes, is_prepare_of, is_commit_of};
 ghost use Rattle.rows.specs.States.{prepared_by, decided_by};
 ghost use Rattle.locks.specs.Table.{has_claim, without_claim, change_claim, granted, waiting, made_firm, held_in_table, most_held};
 
@@ -193,16 +193,6 @@ impl RowReading {
         decide(held, logged)
     }
 
-    // A logged abort is spent, and the token with it.
-    pub(crate) fn abort(self, logged: Logged, table: &mut Table) -> Record
-        requires { is_abort_of self.token.txn logged ≡ true }
-        ensures record { result ≡ logged }
-        ensures table { table.new ≡ without_claim table.old self.token.txn }
-    {
-        self.end(table);
-        logged.spend()
-    }
-
     // It ends, with nothing logged.
     pub(crate) fn end(self, table: &mut Table)
         ensures { table.new ≡ without_claim table.old self.token.txn }
@@ -265,16 +255,6 @@ impl RowCollecting {
         decide(held, logged)
     }
 
-    // A logged abort is spent, and the token with it.
-    pub(crate) fn abort(self, logged: Logged, table: &mut Table) -> Record
-        requires { is_abort_of self.token.txn logged ≡ true }
-        ensures record { result ≡ logged }
-        ensures table { table.new ≡ without_claim table.old self.token.txn }
-    {
-        self.release(table);
-        logged.spend()
-    }
-
     // The token goes, at the end of the table.
     pub(crate) fn release(self, table: &mut Table)
         ensures { table.new ≡ without_claim table.old self.token.txn }
@@ -310,16 +290,6 @@ impl RowPrepared {
         self.at
     }
 
-    // A logged outcome is spent, and the token with it.
-    pub(crate) fn close(self, logged: Logged, table: &mut Table) -> Record
-        requires { is_outcome_of self.token.txn logged ≡ true }
-        ensures record { result ≡ logged }
-        ensures table { table.new ≡ without_claim table.old self.token.txn }
-    {
-        self.release(table);
-        logged.spend()
-    }
-
     // The token goes, at the end of the table.
     pub(crate) fn release(self, table: &mut Table)
         ensures { table.new ≡ without_claim table.old self.token.txn }
@@ -353,16 +323,6 @@ impl RowDecided {
         ensures { result ≡ self.now.parts }
     {
         self.parts
-    }
-
-    // A logged outcome is spent, and the token with it.
-    pub(crate) fn close(self, logged: Logged, table: &mut Table) -> Record
-        requires { is_outcome_of self.token.txn logged ≡ true }
-        ensures record { result ≡ logged }
-        ensures table { table.new ≡ without_claim table.old self.token.txn }
-    {
-        self.release(table);
-        logged.spend()
     }
 
     // The token goes, at the end of the table.

@@ -1,5 +1,5 @@
 -- The steps of a session, by the tests that they make.
-use Rattle.std.proofs.Common.{◌≡◌, ◌≢◌, ℕ, ◌≤◌, ◌<◌, Bool, true, false, cond, not, ◌&&◌, nat_le, List, [], ◌∷◌, ◌++◌, length, Option, refl, sym, ◌∙◌}
+use Rattle.std.proofs.Common.{◌≡◌, ℕ, ◌≤◌, ◌<◌, Bool, true, false, cond, not, ◌&&◌, nat_le, List, [], ◌∷◌, ◌++◌, length, Option, refl, sym, ◌∙◌}
 use Rattle.std.proofs.Common.{subst, arith}
 use Rattle.std.proofs.lemmas.Bool.Decides.{nat_tests}
 use Rattle.units.specs.Keys.{Bytes, has_key, shard_of, writes_key}
@@ -174,12 +174,3 @@ pub told_open : (splits : List Bytes) (c : Client) (stage : Stage) → c.stage �
 told_open splits c IsOpen e f = sym (λ i. elim (e i) as (λ _. List ℕ) [ IsClosing ↦ parts_of splits c | _ ↦ asked_shards splits c ])
 told_open splits c IsClosing e f = cc
 told_open splits c IsOver e f = sym (λ i. elim (e i) as (λ _. List ℕ) [ IsClosing ↦ parts_of splits c | _ ↦ asked_shards splits c ])
-
--- lists without a member
-pub none_at : {A : Type 0} (xs : List A) → length xs ≡ 0 → is_none xs ≡ true
-none_at [] e = refl
-none_at (x ∷ xs) e = absurd (omega (arith, e))
-
-pub some_at : {A : Type 0} (xs : List A) → length xs ≢ 0 → is_none xs ≡ false
-some_at [] e = absurd (e refl)
-some_at (x ∷ xs) e = refl

@@ -160,14 +160,7 @@ limits w time (Act.CrashIn n call fate named doing) may =
 limits w time (Act.FailIn n call named doing) may = doing_limit (setup_of w.config n) w time n doing
     (and_parts (nat_lt n (length w.shards) && nat_eq n named) (may_do w time n doing) may).1
 limits w time (Act.Deliver m now) may = λ e n is goes. message_limit (setup_of w.config n) w.bag m now
-limits w time (Act.Begin t) may = tt
-limits w time (Act.Read t k) may = tt
-limits w time (Act.Write t k x) may = tt
-limits w time (Act.Close t) may = tt
-limits w time (Act.Quit t) may = tt
-limits w time (Act.Look n k at) may = tt
-limits w time (Act.View n v k at) may = tt
-limits w time (Act.Crash n) may = tt
+limits w time _ may = tt
 
 -- so is what each event gives
 pub in_limit : (w : World) (e : Event) → may_happen w e ≡ true → ActAllowed InLimit w e.act

@@ -1,7 +1,7 @@
 -- The session of an id, by its place in the code.
 use Rattle.std.proofs.Common.{◌≡◌, inl, inr, ℕ, zero, suc, ◌+◌, ◌<◌, ◌≤◌, Bool, true, false, not, ◌&&◌, ◌||◌, cond, nat_lt, List, [], ◌∷◌, ◌++◌, length, map}
 use Rattle.std.proofs.Common.{get_or, set, Option, Some, None, Result, Ok, Err, refl, sym, ap, ◌∙◌, subst, arith, filter}
-use Rattle.std.proofs.lemmas.Bool.{and_parts, or_right, or_parts, and_from}
+use Rattle.std.proofs.lemmas.Bool.{and_parts, or_parts, and_from}
 use Rattle.std.specs.HashSet.{HashSet}
 use Rattle.std.specs.List.{position, position_or_len, list_any}
 use Rattle.std.proofs.lemmas.List.{get_or-map, length-map}
@@ -61,14 +61,6 @@ absent splits (x ∷ bs) [] t h none = absurd h
 absent splits (x ∷ bs) (c ∷ cs) t h none =
     let other : same_id x.txn t ≡ false = grind (arith, nat_tests) in
     ap (Tested c cs t) (same_txn splits x c t h.0 ∙ other) ∙ absent splits bs cs t h.1 (grind (arith, nat_tests))
-
-one_of : (bs : List Begun) (t : Id) (i : ℕ) (d : Begun) → i < length bs → same_id (get_or bs i d).txn t ≡ true → list_any (λ c. same_id c.txn t) bs ≡ true
-one_of [] t i d lt is = absurd (omega arith)
-one_of (x ∷ bs) t zero d lt is = ap (λ b. b || list_any (λ c. same_id c.txn t) bs) is
-one_of (x ∷ bs) t (suc i) d lt is = or_right (same_id x.txn t) (list_any (λ c. same_id c.txn t) bs) (one_of bs t i d (omega arith) is)
-
-differ : true ≡ false → ⊥
-differ e = cc
 
 -- another in its place leaves the rest
 not_is : (a : Bool) → not a ≡ true → a ≡ false

@@ -1,4 +1,3 @@
-pub mod Among
 pub mod Decides
 pub mod EveryRun
 pub mod HeldSteps

@@ -40,14 +40,7 @@ told_alike t e = by_message e.message
     by_message : (m : Message) → is_among (elim m as (λ x. List Id) [ Message.Done d ↦ option_to_list (option_map (λ s. d.txn) d.outcome) | _ ↦ [] ]) t
         ≡ when (λ x. true) (elim m as (λ x. Option ℕ) [ Message.Done d ↦ cond (same_id d.txn t) d.outcome None | _ ↦ None ])
     by_message (Message.Done d) = by_value d d.outcome
-    by_message (Message.Read x) = refl
-    by_message (Message.Prepare x) = refl
-    by_message (Message.Commit x) = refl
-    by_message (Message.GiveUp x) = refl
-    by_message (Message.Vote x) = refl
-    by_message (Message.Outcome x) = refl
-    by_message (Message.Ask x) = refl
-    by_message (Message.ReadAnswer x) = refl
+    by_message _ = refl
 
 told_by_bag : (t : Id) (bag : List Envelope) → is_among (flat_map told_in bag) t ≡ list_any (λ e. when (λ x. true) (commit_told t e)) bag
 told_by_bag t [] = refl
@@ -68,14 +61,7 @@ module _ (w : World) (ids : List Id) (told : (t : Id) → is_among ids t ≡ is_
 
   by_message : (m : Message) → acks_with m ≡ acks_by m
   by_message (Message.Done d) = by_outcome d.txn d.outcome
-  by_message (Message.Read x) = refl
-  by_message (Message.Prepare x) = refl
-  by_message (Message.Commit x) = refl
-  by_message (Message.GiveUp x) = refl
-  by_message (Message.Vote x) = refl
-  by_message (Message.Outcome x) = refl
-  by_message (Message.Ask x) = refl
-  by_message (Message.ReadAnswer x) = refl
+  by_message _ = refl
 
   acks_same : (es : List Envelope) → flat_map (ack_in ids w.event) es ≡ flat_map (acks_of w) es
   acks_same [] = refl

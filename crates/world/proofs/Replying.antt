@@ -34,8 +34,7 @@ open_moves w (Some c) f = by_stage c.stage
     by_stage : (s : Stage) → elim s as (λ x. After) [ IsOpen ↦ moved w (f c) | _ ↦ refused w Stranger ] ≡
         moved w (elim s as (λ x. Moved) [ IsOpen ↦ f c | _ ↦ Denies Stranger ])
     by_stage IsOpen = refl
-    by_stage IsClosing = refl
-    by_stage IsOver = refl
+    by_stage _ = refl
 
 pub not_over_moves : (w : World) (o : Option Client) (f : Client → Moved) → if_not_over w o f ≡ moved w (session_step (when_not_over f) o)
 not_over_moves w None f = refl
@@ -44,8 +43,7 @@ not_over_moves w (Some c) f = by_stage c.stage
     by_stage : (s : Stage) → elim s as (λ x. After) [ IsOver ↦ refused w Stranger | _ ↦ moved w (f c) ] ≡
         moved w (elim s as (λ x. Moved) [ IsOver ↦ Denies Stranger | _ ↦ f c ])
     by_stage IsOpen = refl
-    by_stage IsClosing = refl
-    by_stage IsOver = refl
+    by_stage _ = refl
 
 pub closing_moves : (w : World) (o : Option Client) → if_closing w o ≡ moved w (session_step when_closing o)
 closing_moves w None = refl
@@ -54,8 +52,7 @@ closing_moves w (Some c) = by_stage c.stage
     by_stage : (s : Stage) → elim s as (λ x. After) [ IsClosing ↦ moved w (finishes c) | _ ↦ refused w Stranger ] ≡
         moved w (elim s as (λ x. Moved) [ IsClosing ↦ finishes c | _ ↦ Denies Stranger ])
     by_stage IsOpen = refl
-    by_stage IsClosing = refl
-    by_stage IsOver = refl
+    by_stage _ = refl
 
 -- an open session hears the answer
 pub open_hears : (w : World) (c : Client) (a : ReadAnswer) → c.stage ≡ IsOpen → if_hearing w (Some c) a ≡ answered w c a
@@ -136,13 +133,7 @@ module _ (w : World) (new : Sessions) where
   unfolding to_session
   no_others (Message.ReadAnswer x) answer end = absurd (answer x refl)
   no_others (Message.Done x) answer end = absurd (end x refl)
-  no_others (Message.Read x) answer end = refl
-  no_others (Message.Prepare x) answer end = refl
-  no_others (Message.Commit x) answer end = refl
-  no_others (Message.GiveUp x) answer end = refl
-  no_others (Message.Vote x) answer end = refl
-  no_others (Message.Outcome x) answer end = refl
-  no_others (Message.Ask x) answer end = refl
+  no_others _ answer end = refl
 
 -- ---- acts of sessions
 
@@ -185,10 +176,4 @@ no_session (Act.Read t k) is begin read write close quit = read t k refl
 no_session (Act.Write t k x) is begin read write close quit = write t k x refl
 no_session (Act.Close t) is begin read write close quit = close t refl
 no_session (Act.Quit t) is begin read write close quit = quit t refl
-no_session (Act.Deliver m now) is begin read write close quit = cc
-no_session (Act.At n doing) is begin read write close quit = cc
-no_session (Act.Look n k at) is begin read write close quit = cc
-no_session (Act.View n v k at) is begin read write close quit = cc
-no_session (Act.Crash n) is begin read write close quit = cc
-no_session (Act.CrashIn n call fate named doing) is begin read write close quit = cc
-no_session (Act.FailIn n call named doing) is begin read write close quit = cc
+no_session _ is begin read write close quit = cc

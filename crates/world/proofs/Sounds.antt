@@ -122,11 +122,8 @@ module _ (Allowed : Setup → Input → Type 0) (Sound : Setup → Facts → Mem
     read_left = by_unsure s.unsure refl
       where
         by_unsure : (u : Unsure) → s.unsure ≡ u → MayLeaveLog s (s.log ++ shown_records u)
-        by_unsure Nothing is = inl (append-nil s.log)
         by_unsure (Shown r) is = inr (r, subst (λ u. IsUnsure u r) (sym is) refl, refl)
-        by_unsure (Hidden r) is = inl (append-nil s.log)
-        by_unsure (TurnShown other) is = inl (append-nil s.log)
-        by_unsure (TurnHidden other) is = inl (append-nil s.log)
+        by_unsure _ is = inl (append-nil s.log)
 
     running : (L : Type 0) (o : Option (Interval × Input)) → ((p : Interval × Input) → o ≡ Some p → L → Allowed (setup_of config n) p.1) →
         (st : State) → s.state ≡ st →
@@ -240,11 +237,9 @@ module _ (Allowed : Setup → Input → Type 0) (Sound : Setup → Facts → Mem
         by_gate r is false = inl (append-nil s.log)
 
         by_unsure : (u : Unsure) → s.unsure ≡ u → MayLeaveLog s (s.log ++ left_of fate u)
-        by_unsure Nothing is = inl (append-nil s.log)
         by_unsure (Shown r) is = by_gate r (subst (λ u. IsUnsure u r) (sym is) refl) (opens_gate fate)
         by_unsure (Hidden r) is = by_gate r (subst (λ u. IsUnsure u r) (sym is) refl) (opens_gate fate)
-        by_unsure (TurnShown other) is = inl (append-nil s.log)
-        by_unsure (TurnHidden other) is = inl (append-nil s.log)
+        by_unsure _ is = inl (append-nil s.log)
 
     with_listed : (o : Option Record) → with_record (read_log s) o ≡ read_log s ++ option_to_list o
     with_listed None = sym (append-nil (read_log s))
@@ -259,13 +254,7 @@ module _ (Allowed : Setup → Input → Type 0) (Sound : Setup → Facts → Mem
 
     pub refused_left_sound : (fate : Fate) (doing : Doing) → SoundShard (setup_of config n) (left_by_refused s fate doing)
     refused_left_sound fate Doing.Open = crashed_sound (read_log s) (read_area s) (sound.left (read_log s) read_left)
-    refused_left_sound fate (Doing.Take m now) = crashed_sound _ _ (left_sound fate)
-    refused_left_sound fate (Doing.Resume now) = crashed_sound _ _ (left_sound fate)
-    refused_left_sound fate (Doing.Settle t now) = crashed_sound _ _ (left_sound fate)
-    refused_left_sound fate (Doing.Advance at now) = crashed_sound _ _ (left_sound fate)
-    refused_left_sound fate (Doing.Forget at now) = crashed_sound _ _ (left_sound fate)
-    refused_left_sound fate (Doing.Nudge t now) = crashed_sound _ _ (left_sound fate)
-    refused_left_sound fate Doing.Turn = crashed_sound _ _ (left_sound fate)
+    refused_left_sound fate _ = crashed_sound _ _ (left_sound fate)
 
     pub crashed_in_sound : (L : Type 0) → L → (call : ℕ) (fate : Fate) (doing : Doing) (st : Stepped) →
         SteppedSound L (setup_of config n) (read_log s) st → SoundShard (setup_of config n) (crashed_in s call fate doing st)
@@ -289,8 +278,7 @@ module _ (Allowed : Setup → Input → Type 0) (Sound : Setup → Facts → Mem
       where
         by_state : (st : State) → SoundState (setup_of config n) (failed_in s call r) (stopped st)
         by_state (Runs m) = tt
-        by_state (IsStopped m) = tt
-        by_state IsDown = tt
+        by_state _ = tt
 
         unsure_is : (a b : Bool) (q : Record) → IsUnsure (cond a (Shown r) (cond b (Hidden r) Nothing)) q → r ≡ q
         unsure_is true b q k = k
@@ -310,8 +298,7 @@ module _ (Allowed : Setup → Input → Type 0) (Sound : Setup → Facts → Mem
       where
         by_state : (st : State) → SoundState (setup_of config n) (failed_turn s call) (stopped st)
         by_state (Runs m) = tt
-        by_state (IsStopped m) = tt
-        by_state IsDown = tt
+        by_state _ = tt
 
         no_record : (a b : Bool) (q : Record) → IsUnsure (cond a (TurnShown (new_area s)) (cond b (TurnHidden (new_area s)) Nothing)) q → ⊥
         no_record true b q k = k

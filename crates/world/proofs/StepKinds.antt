@@ -27,17 +27,11 @@ are_logged log = list_all is_logged log
 -- what a step logs is
 pub follows_logged : (shard : ℕ) (f : Facts) (r : Record) → follows_facts shard f r ≡ true → is_logged r ≡ true
 unfolding follows_facts
-follows_logged shard f (Opened epoch) h = refl
-follows_logged shard f (Ceiling at) h = refl
-follows_logged shard f (Horizon at) h = refl
-follows_logged shard f (Prepare p) h = refl
-follows_logged shard f (Commit c) h = refl
-follows_logged shard f (Abort t) h = refl
-follows_logged shard f (Outcome t outcome) h = refl
 follows_logged shard f (Base epoch floor horizon) h = h
 follows_logged shard f (Version install) h = h
 follows_logged shard f (Settled t at parts) h = h
 follows_logged shard f (Closed t coordinator outcome) h = h
+follows_logged shard f _ h = refl
 
 pub logged_more : (log : List Record) (r : Record) → are_logged log ≡ true → is_logged r ≡ true → are_logged (log ++ r ∷ []) ≡ true
 logged_more [] r all one = ap (λ b. b && true) one

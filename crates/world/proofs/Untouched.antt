@@ -69,26 +69,17 @@ module _ (w : World) where
     where
       by_stage : (s : Stage) → Kept w ((elim s as (λ x. After) [ IsOpen ↦ answered w c a | _ ↦ refused w Stranger ]).0)
       by_stage IsOpen = (refl, refl, refl)
-      by_stage IsClosing = (refl, refl, refl)
-      by_stage IsOver = (refl, refl, refl)
+      by_stage _ = (refl, refl, refl)
 
   pub to_session_keeps : (m : Message) → Kept w ((to_session w m).0)
   unfolding to_session
   to_session_keeps (Message.ReadAnswer a) = if_hearing_keeps (client_of w a.txn) a
   to_session_keeps (Message.Done d) = if_closing_keeps (client_of w d.txn)
-  to_session_keeps (Message.Read r) = (refl, refl, refl)
-  to_session_keeps (Message.Prepare p) = (refl, refl, refl)
-  to_session_keeps (Message.Commit c) = (refl, refl, refl)
-  to_session_keeps (Message.GiveUp g) = (refl, refl, refl)
-  to_session_keeps (Message.Vote v) = (refl, refl, refl)
-  to_session_keeps (Message.Outcome o) = (refl, refl, refl)
-  to_session_keeps (Message.Ask a) = (refl, refl, refl)
+  to_session_keeps _ = (refl, refl, refl)
 
   pub noted_keeps : (k : Bytes) (at : ℕ) (r : Reply) → Kept w ((look_noted w k at r).0)
   noted_keeps k at (Reply.Shows x) = (refl, refl, refl)
-  noted_keeps k at Reply.Done = (refl, refl, refl)
-  noted_keeps k at (Reply.Refused f) = (refl, refl, refl)
-  noted_keeps k at Reply.Crashed = (refl, refl, refl)
+  noted_keeps k at _ = (refl, refl, refl)
 
   -- ---- no act touches the settings or the number
 

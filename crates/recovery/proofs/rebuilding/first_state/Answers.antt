@@ -1,4 +1,4 @@
-use Rattle.std.proofs.Common.{◌≡◌, ◌∙◌, ℕ, [], ◌∷◌, true, Some, None, sym, ap, subst}
+use Rattle.std.proofs.Common.{◌≡◌, ◌∙◌, [], ◌∷◌, true, sym, ap, subst}
 use Rattle.std.proofs.lemmas.Result.{IfOk-weaker}
 use Rattle.std.specs.Prelude.{Result, Ok, Err, IfOk}
 use Rattle.units.specs.declared.fault.Fault.{Fault}
@@ -8,7 +8,7 @@ use Rattle.facts.specs.Stages.{stage_after, stage_of}
 use Rattle.facts.specs.declared.stage.Stage.TheVariants.{Head, Open}
 use Rattle.memory.specs.Kept.{Kept}
 use Rattle.recovery.specs.Recovered.{IsRecovered, base_in, is_first}
-use Rattle.recovery.proofs.First.{base_is, base_numbers, base_recovered, base_stage, first_recovered, learnt_first, stage_first}
+use Rattle.recovery.proofs.First.{base_is, base_recovered, base_stage, first_recovered, learnt_first}
 use Rattle.recovery.proofs.rebuilding.first_state.Goals as goal
 
 pub returns-in-Some-clause-stage : goal.returns-in-Some-clause-stage

@@ -1,7 +1,7 @@
 use Rattle.std.proofs.Common.{rules, ◌≡◌, ◌∙◌, true, nat_le, refl, sym, ap, subst}
 use Rattle.record.specs.declared.record.Record.{Record}
 use Rattle.facts.specs.Stages.{follows_next}
-use Rattle.recovery.specs.Recovered.{fits_facts}
+use Rattle.protocol.specs.Beside.{fits_facts}
 use Rattle.recovery.proofs.Again.{absent_before}
 use Rattle.recovery.proofs.Beside.{below_rows, decision_steps, horizon_rules, horizon_steps, promise_steps}
 use Rattle.recovery.proofs.replaying.fits_beside.Goals as goal

@@ -12,14 +12,13 @@ invariant_of-self c =
       omega (arith, c.remove.ensures.capacity, c.self.invariant.1),
     )
 
-pub returns-clause-row : goal.returns-clause-row
-returns-clause-row c =
+pub returns : goal.returns
+returns c =
     let items = c.self.inside.rows.items in
-    ap (λ rows. row_of rows c.args.txn) (sym c.self.view_is) ∙ find_at_place txn_of items c.args.txn c.place-at.result c.remove.result (cc)
-    (omega arith) c.remove.ensures.value
-
-pub returns-clause-rest : goal.returns-clause-rest
-returns-clause-rest c =
-    let items = c.self.inside.rows.items in
-    c.remove.ensures.items ∙ remove_is_without txn_of items c.args.txn c.place-at.result c.self.invariant.0.order (cc) (omega arith)
-    ∙ ap (λ rows. without_txn rows c.args.txn) c.self.view_is
+    record {
+      laws = subst IsRowList c.self.view_is c.self.invariant.0;
+      row = ap (λ rows. row_of rows c.args.txn) (sym c.self.view_is)
+          ∙ find_at_place txn_of items c.args.txn c.place-at.result c.remove.result (cc) (omega arith) c.remove.ensures.value;
+      rest = c.remove.ensures.items ∙ remove_is_without txn_of items c.args.txn c.place-at.result c.self.invariant.0.order (cc) (omega arith)
+          ∙ ap (λ rows. without_txn rows c.args.txn) c.self.view_is;
+    }
