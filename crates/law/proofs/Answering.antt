@@ -15,7 +15,7 @@ use Rattle.units.specs.declared.setup.Setup.{Setup}
 use Rattle.units.specs.declared.writes.Write.{Write}
 use Rattle.units.proofs.KeyLaws.{same_key-refl}
 use Rattle.record.specs.Facts.{Facts, facts_of, recorded}
-use Rattle.record.specs.Records.{Ended, Status, Unrecorded, StandsPrepared, StandsDecided, HasAborted, HasSettled, HasClosed, is_aborted}
+use Rattle.record.specs.Records.{Ended, Status, Unrecorded, StandsPrepared, StandsDecided, is_aborted}
 use Rattle.record.specs.Records.{committed_of, prepared_of, ended_of, status_by, status_of}
 use Rattle.record.specs.declared.record.Committed.{Committed}
 use Rattle.record.specs.declared.record.Prepared.{Prepared}
@@ -148,9 +148,7 @@ open_unrecorded shard f m t row sound found opened = by_status (recorded f t) re
     by_status Unrecorded e a = e
     by_status (StandsPrepared p) e a = absurd (not_open row.phase _ a.phase opened refl)
     by_status (StandsDecided c) e a = absurd (not_open row.phase _ a.phase opened refl)
-    by_status HasAborted e a = absurd a
-    by_status (HasSettled s ps) e a = absurd a
-    by_status (HasClosed c o) e a = absurd a
+    by_status _ e a = absurd a
 
 module _ (n : ℕ) (t : Id) (k : Bytes) (e : ℕ) (x : Option Bytes) where
   abbrev ToldShard : Setup → ShardNow → Type 0

@@ -85,13 +85,7 @@ pub logs_no_turn : (setup : Setup) (bag : List Envelope) (s : ShardNow) (doing :
 unfolding effect
 logs_no_turn setup bag s Doing.Turn r memory out e =
     absurd (turn_logs_none setup bag s r memory out (done_wanted (gate_of (read_area s)) (wanted setup bag s Doing.Turn) (Some r) memory out e))
-logs_no_turn setup bag s Doing.Open r memory out e = refl
-logs_no_turn setup bag s (Doing.Take m now) r memory out e = refl
-logs_no_turn setup bag s (Doing.Resume now) r memory out e = refl
-logs_no_turn setup bag s (Doing.Settle t now) r memory out e = refl
-logs_no_turn setup bag s (Doing.Advance at now) r memory out e = refl
-logs_no_turn setup bag s (Doing.Nudge t now) r memory out e = refl
-logs_no_turn setup bag s (Doing.Forget at now) r memory out e = refl
+logs_no_turn setup bag s _ r memory out e = refl
 
 module _ (w : World) (n : ℕ) (s : ShardNow) (doing : Doing) where
   -- it is done

@@ -54,14 +54,11 @@ module _ (setup : Setup) where
 
   -- what an outcome installs
   own_installed : (t : Id) (s : Status) (outcome : Option ℕ) → NamesOwn setup (entry t s) → AllByRecursion (IsOwn setup) (installs_at s outcome)
-  own_installed t Unrecorded outcome own = tt
   own_installed t (StandsPrepared p) None own = tt
   own_installed t (StandsPrepared p) (Some at) own = own_writes p.writes at (and_parts _ _ own).1
   own_installed t (StandsDecided c) None own = tt
   own_installed t (StandsDecided c) (Some at) own = own_writes c.writes at (and_parts _ _ own).1
-  own_installed t HasAborted outcome own = tt
-  own_installed t (HasSettled at parts) outcome own = tt
-  own_installed t (HasClosed coordinator o) outcome own = tt
+  own_installed t _ outcome own = tt
 
   own_recorded : (f : Facts) (t : Id) → AllByRecursion (NamesOwn setup) f.entries → NamesOwn setup (entry t (recorded f t))
   own_recorded f t all = by_found (first (λ e. same_id e.txn t) f.entries) refl

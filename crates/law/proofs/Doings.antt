@@ -24,7 +24,7 @@ use Rattle.protocol.specs.Rows.{Memory, Row, rebuilt, without_row, without_rows}
 use Rattle.protocol.specs.Plan.{time_limit, start_of_step, Plan, Planned, Change, Keeps, Ends, Drops, Puts, carried, after_change}
 use Rattle.protocol.specs.Step.{step_within, Stepped, Refuses, Does, plan_input, stepped}
 use Rattle.protocol.proofs.RowTable.{with_row-is}
-use Rattle.world.specs.World.{ShardNow, Runs, Unsure, Nothing, Shown, Hidden, TurnShown, TurnHidden, read_log, shown_records, setup_of}
+use Rattle.world.specs.World.{ShardNow, Runs, Unsure, Nothing, Shown, read_log, shown_records, setup_of}
 use Rattle.world.specs.World.{step_of_opening, input_of, step_with}
 use Rattle.world.specs.Lawful.{goes_to, may_do}
 use Rattle.world.specs.declared.event.Doing.{Doing}
@@ -179,9 +179,7 @@ module _ (sc : Scene) (h : Holds sc) (n : ℕ) (s : ShardNow) (there : slice_get
       is_unsure Nothing none = none
       is_unsure (Shown q) (inl same) = same
       is_unsure (Shown q) (inr none) = absurd none
-      is_unsure (Hidden q) none = absurd none
-      is_unsure (TurnShown other) none = absurd none
-      is_unsure (TurnHidden other) none = absurd none
+      is_unsure _ none = absurd none
 
   -- an opening
   pub opening_evidence : SteppedEvidence sc n (read_log s) (step_of_opening (facts_of (read_log s)))

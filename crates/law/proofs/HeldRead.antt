@@ -27,7 +27,7 @@ use Rattle.record.specs.declared.record.Committed.{Committed}
 use Rattle.record.specs.declared.record.Prepared.{Prepared}
 use Rattle.record.specs.declared.record.Record.{Record}
 use Rattle.message.specs.declared.message.Input.{Input}
-use Rattle.protocol.specs.Rows.{Memory, Row, Phase, Idle, WaitsRead, WaitsPrepare, WaitsCommit, Collecting, IsPrepared, IsDecided, WasEnded, find_row}
+use Rattle.protocol.specs.Rows.{Memory, Row, Phase, IsPrepared, IsDecided, WasEnded, find_row}
 use Rattle.protocol.specs.Rows.{standing, standing_by, without_row, with_row, is_firm, held_by, held_in, without_rows}
 use Rattle.protocol.specs.Plan.{time_limit, Plan, Before, start_of_step, carried, after_change, ended_by, in_way, stands, with_ids}
 use Rattle.protocol.specs.Sound.{IsSound, holds_alone, is_open}
@@ -288,13 +288,9 @@ module _ (t : Id) (k : Bytes) (e : ℕ) (x : Option Bytes) where
       by_test false differ = others_fate b u ended (row_as u held phase) f last refl differ (others differ) values
 
   slack_open : (phase : Phase) → is_firm phase ≡ false → is_open phase ≡ true
-  slack_open Idle q = refl
-  slack_open (WaitsRead j) q = refl
-  slack_open (WaitsPrepare c rs ws) q = refl
-  slack_open (WaitsCommit l ps rs ws) q = refl
-  slack_open (Collecting l ps rs ws votes) q = refl
   slack_open (IsPrepared c p) q = cc
   slack_open (IsDecided s ps) q = cc
+  slack_open _ q = refl
 
   closed_some : (p : Prepared) (o : Option ℕ) → after_outcome (StandsPrepared p) o ≡ Unrecorded → ⊥
   closed_some p o q = cc

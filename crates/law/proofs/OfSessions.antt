@@ -14,7 +14,7 @@ use Rattle.record.specs.Records.{as_prepared}
 use Rattle.record.specs.Accepted.{belongs}
 use Rattle.record.specs.declared.record.Prepared.{Prepared}
 use Rattle.record.specs.declared.record.Record.{Record}
-use Rattle.record.specs.declared.record.Record.TheVariants.{Opened, Ceiling, Prepare, Commit, Abort, Outcome, Horizon, Base, Version, Settled, Closed}
+use Rattle.record.specs.declared.record.Record.TheVariants.{Prepare, Commit}
 use Rattle.message.specs.declared.message.Address.TheVariants.{Shard}
 use Rattle.message.specs.declared.message.Envelope.{Envelope}
 use Rattle.message.specs.declared.message.Message.{Message}
@@ -31,7 +31,7 @@ use Rattle.law.proofs.Members.{among_left, among_right}
 use Rattle.law.proofs.Picked.{any_of, gather_among, join_among, keep_among, map_among}
 use Rattle.law.proofs.Recorded.{among_first, among_keep}
 use Rattle.law.proofs.Accepts.{WritesOnce}
-use Rattle.law.proofs.Changed.{AllOnce}
+use Rattle.law.proofs.AreasAscend.{AllAscend, always_ascend, writes_once}
 use Rattle.law.proofs.LooksHold.{always_kept, owns}
 use Rattle.law.proofs.Serial.{put_untouched, put_written}
 use Rattle.law.proofs.SortedParts.{has_of, once_has, shard_in, some_number, sorted_has}
@@ -102,7 +102,7 @@ same_puts us ws m k one into from = by_some (find ws)
 
 module _ (sc : Scene) (h : Holds sc) (logs : List (List Record)) (left : AreLeft sc logs)
     (own : (n : ℕ) (r : Record) → IsAmong (log_in logs n) r → belongs (setup_of sc.world.config n) r ≡ true)
-    (one : AllOnce sc.world) (u : Txn) (there : IsAmong (history logs) u) where
+    (all : AllAscend sc.world) (u : Txn) (there : IsAmong (history logs) u) where
   abbrev splits : List Bytes
   splits = sc.world.config.splits
 
@@ -154,15 +154,7 @@ module _ (sc : Scene) (h : Holds sc) (logs : List (List Record)) (left : AreLeft
       let sent = (evidence sc h logs left n (Commit q) k).asked in
       among_keep (λ (v : Write). nat_eq (shard_of splits v.key) n) c.writes w (subst (λ l. IsAmong l w)
       (closing_set q.txn n _ _ wrote.0 (h.messages _ sent.sent) refl) wrote.2)
-  at_home n (Opened e) w k wrote = absurd wrote
-  at_home n (Ceiling e) w k wrote = absurd wrote
-  at_home n (Horizon e) w k wrote = absurd wrote
-  at_home n (Base _ _ _) w k wrote = absurd wrote
-  at_home n (Version _) w k wrote = absurd wrote
-  at_home n (Settled _ _ _) w k wrote = absurd wrote
-  at_home n (Closed _ _ _) w k wrote = absurd wrote
-  at_home n (Abort e) w k wrote = absurd wrote
-  at_home n (Outcome e q) w k wrote = absurd wrote
+  at_home n _ w k wrote = absurd wrote
 
   -- nothing else is written
   into : (w : Write) → IsAmong u.writes w → IsAmong c.writes w
@@ -228,14 +220,14 @@ module _ (sc : Scene) (h : Holds sc) (logs : List (List Record)) (left : AreLeft
     there = c_there;
     closed = any_of (asks_to_commit u.txn) sc.world.bag (record { to = Shard d.shard; message = message }) request.sent
         (subst (λ t. same_id d.commit.txn t ≡ true) txn_is (same_id-refl d.commit.txn));
-    same = λ m k. same_puts u.writes c.writes m k (one c (among_first (λ (z : Client). same_id z.txn u.txn) sc.world.clients c c_there)) into from;
+    same = λ m k. same_puts u.writes c.writes m k (writes_once c.writes (all c (among_first (λ (z : Client). same_id z.txn u.txn) sc.world.clients c c_there))) into from;
   }
 
 pub written_by_sessions : WrittenBySessions
 written_by_sessions config es ls fair may u there =
     let m : Moment (run config es) ls = moment config es ls fair may in
-    let once : AllOnce m.scene.world = subst AllOnce (sym m.same) (always_kept config es fair).once in
+    let all : AllAscend m.scene.world = subst AllAscend (sym m.same) (always_ascend config es fair) in
     let is_config : m.scene.world.config ≡ config = ap (λ (w : World). w.config) m.same ∙ (always_kept config es fair).settings in
     subst (λ (w : World). IsOfSession w u) m.same
     (of_session m.scene m.holds ls m.left (λ n r k. subst (λ g. belongs (setup_of g n) r ≡ true) (sym is_config) (owns config es ls fair may n r k))
-    once u there)
+    all u there)

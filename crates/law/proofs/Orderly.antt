@@ -22,14 +22,9 @@ abbrev pub is_claim : Id → Record → Bool
 is_claim t (Prepare p) = same_id p.txn t
 is_claim t (Commit c) = same_id c.txn t
 is_claim t (Abort u) = same_id t u
-is_claim t (Record.Opened epoch) = false
-is_claim t (Record.Ceiling s) = false
-is_claim t (Record.Horizon s) = false
-is_claim t (Record.Base _ _ _) = false
-is_claim t (Record.Version _) = false
 is_claim t (Settled u at parts) = same_id u t
 is_claim t (Closed u coordinator outcome) = same_id u t
-is_claim t (Record.Outcome u o) = false
+is_claim t _ = false
 
 -- those of an id
 abbrev pub claims_of : List Record → Id → List Record
@@ -108,16 +103,11 @@ unfolding follows
 claims_new shard before (Prepare p) t h k = subst (λ u. is_new before u ≡ true) (same_id-is p.txn t k) (and_parts _ _ (and_parts _ _ h).0).1
 claims_new shard before (Commit c) t h k = subst (λ u. is_new before u ≡ true) (same_id-is c.txn t k) (and_parts _ _ (and_parts _ _ h).0).1
 claims_new shard before (Abort u) t h k = subst (λ v. is_new before v ≡ true) (sym (same_id-is t u k)) h
-claims_new shard before (Opened epoch) t h k = cc
-claims_new shard before (Ceiling at) t h k = cc
-claims_new shard before (Horizon at) t h k = cc
-claims_new shard before (Base _ _ _) t h k = cc
-claims_new shard before (Version _) t h k = cc
 claims_new shard before (Settled u at parts) t h k =
     subst (λ v. is_new before v ≡ true) (same_id-is u t k) (and_parts _ _ (and_parts _ _ h).0).1
 claims_new shard before (Closed u coordinator outcome) t h k =
     subst (λ v. is_new before v ≡ true) (same_id-is u t k) (and_parts _ _ (and_parts _ _ h).0).1
-claims_new shard before (Outcome u o) t h k = cc
+claims_new shard before _ t h k = cc
 
 one_more : (shard : ℕ) (before : List Record) (r : Record) (t : Id) → follows shard before r ≡ true → IsOne (claims_of before t) →
     IsOne (claims_of (before ++ r ∷ []) t)

@@ -44,28 +44,18 @@ pub record IsQuiet (log : List Record) (at : ℕ) : Type 0 where
 abbrev pub IsAbove : ℕ → Record → Type 0
 IsAbove at (Prepare p) = at < p.at
 IsAbove at (Commit c) = at < c.at
-IsAbove at (Record.Opened epoch) = Unit {0}
-IsAbove at (Record.Ceiling s) = Unit {0}
-IsAbove at (Record.Horizon s) = Unit {0}
 IsAbove at (Record.Base _ _ _) = ⊥
 IsAbove at (Record.Version _) = ⊥
 IsAbove at (Record.Settled _ _ _) = ⊥
 IsAbove at (Record.Closed _ _ _) = ⊥
-IsAbove at (Record.Abort u) = Unit {0}
-IsAbove at (Record.Outcome u o) = Unit {0}
+IsAbove at _ = Unit {0}
 
 pub above_logged : (at : ℕ) (r : Record) → IsAbove at r → is_logged r ≡ true
-above_logged at (Prepare p) h = refl
-above_logged at (Commit c) h = refl
-above_logged at (Opened epoch) h = refl
-above_logged at (Ceiling s) h = refl
-above_logged at (Horizon s) h = refl
-above_logged at (Abort u) h = refl
-above_logged at (Outcome u o) h = refl
 above_logged at (Base _ _ _) h = absurd h
 above_logged at (Version _) h = absurd h
 above_logged at (Settled _ _ _) h = absurd h
 above_logged at (Closed _ _ _) h = absurd h
+above_logged at _ h = refl
 
 -- ---- one more record keeps the quiet
 
@@ -138,10 +128,7 @@ unseen (w ∷ ws) at s h = ap (λ b. cond b (record { key = w.key; at = s; value
 installed_unseen : (st : Status) (at s : ℕ) → at < s → filter (λ (i : Install). nat_le i.at at) (installs_at st (Some s)) ≡ []
 installed_unseen (StandsPrepared p) at s h = unseen p.writes at s h
 installed_unseen (StandsDecided c) at s h = unseen c.writes at s h
-installed_unseen Unrecorded at s h = refl
-installed_unseen HasAborted at s h = refl
-installed_unseen (HasSettled x ps) at s h = refl
-installed_unseen (HasClosed c o) at s h = refl
+installed_unseen _ at s h = refl
 
 same_answer : (is more : List Install) (k : Bytes) (at : ℕ) → filter (λ (i : Install). nat_le i.at at) more ≡ [] → at_time (is ++ more) k at ≡ at_time is k at
 unfolding at_time

@@ -178,14 +178,7 @@ module _ (to : Address) (a : ReadAnswer) (x : Option Bytes) (holds : a.answer �
   act_allowed w time (Act.FailIn n call named doing) within may = doing_allowed w time n doing within
       (and_parts (nat_lt n (length w.shards) && nat_eq n named) (may_do w time n doing) may).1
   act_allowed w time (Act.Deliver m now) within may = λ e n is goes. took_message w n m now within e is goes
-  act_allowed w time (Act.Begin t) within may = tt
-  act_allowed w time (Act.Read t k) within may = tt
-  act_allowed w time (Act.Write t k y) within may = tt
-  act_allowed w time (Act.Close t) within may = tt
-  act_allowed w time (Act.Quit t) within may = tt
-  act_allowed w time (Act.Look n k at) within may = tt
-  act_allowed w time (Act.View n v k at) within may = tt
-  act_allowed w time (Act.Crash n) within may = tt
+  act_allowed w time _ within may = tt
 
   on_event : (w : World) (e : Event) → ((z : Envelope) → IsAmong w.bag z → IsAmong all z) → may_happen w e ≡ true →
       KeptRead a.from a.txn a.key a.epoch x w → KeptRead a.from a.txn a.key a.epoch x (happens w e).0

@@ -5,7 +5,7 @@ use Rattle.units.specs.Ids.{Id, same_id}
 use Rattle.units.proofs.IdLaws.{same_id-is}
 use Rattle.units.proofs.ByIdLaws.{first_passes}
 use Rattle.record.specs.Facts.{facts_of, recorded}
-use Rattle.record.specs.Records.{Ended, Status, Unrecorded, StandsPrepared, StandsDecided, HasAborted, HasSettled, HasClosed, as_committed}
+use Rattle.record.specs.Records.{Ended, Status, StandsPrepared, StandsDecided, HasAborted, HasSettled, as_committed}
 use Rattle.record.specs.Records.{as_prepared, as_aborted, as_ended, as_version, status_by, status_of, is_aborted, committed_of, prepared_of, ended_of, ids_of}
 use Rattle.record.proofs.Statuses.{recorded_is}
 use Rattle.units.specs.declared.writes.Install.{Install}
@@ -105,16 +105,7 @@ outcome_is (Outcome u o) x l e = let same : record { txn = u; outcome = o } ≡ 
   where
     some_is : (a b : Ended) → Some a ≡ Some b → a ≡ b
     some_is a b l = cc
-outcome_is (Opened q) x l e = cc
-outcome_is (Ceiling q) x l e = cc
-outcome_is (Horizon q) x l e = cc
-outcome_is (Base _ _ _) x l e = cc
-outcome_is (Version _) x l e = cc
-outcome_is (Settled _ _ _) x l e = cc
-outcome_is (Closed _ _ _) x l e = cc
-outcome_is (Prepare q) x l e = cc
-outcome_is (Commit q) x l e = cc
-outcome_is (Abort q) x l e = cc
+outcome_is _ x l e = cc
 
 module _ (log : List Record) where
   abort_among : (t : Id) → IsAmong (gather as_aborted log) t → IsAmong log (Abort t)
@@ -206,10 +197,7 @@ module _ (log : List Record) (logged : AreLogged log) where
     where
       some_is : (a b : Row) → Some a ≡ Some b → a ≡ b
       some_is a b l = cc
-  standing_evidence sc n t HasAborted r h e = cc
-  standing_evidence sc n t (HasSettled s ps) r h e = cc
-  standing_evidence sc n t (HasClosed c o) r h e = cc
-  standing_evidence sc n t Unrecorded r h e = cc
+  standing_evidence sc n t _ r h e = cc
 
   found_rows : (sc : Scene) (n : ℕ) (ts : List Id) → RowsEvidence sc log n (gather standing_row (map (λ t. record { txn = t; status = status_of log t }) ts))
   found_rows sc n [] = tt
@@ -257,10 +245,7 @@ module _ (sc : Scene) (log : List Record) (n : ℕ) (orderly : IsOrderly log) (r
   by_status t (HasSettled s ps) h =
       let e : IsAmong log (Outcome h.commit.txn h.outcome) = subst (λ u. IsAmong log (Outcome u h.outcome)) (sym h.named) h.ended in
       subst (λ u. HasOutcome log sc.now u s) h.named (subst (λ x. HasOutcome log sc.now h.commit.txn x) h.stamp (settled h.commit h.outcome h.among e))
-  by_status t Unrecorded h = tt
-  by_status t (StandsPrepared p) h = tt
-  by_status t (StandsDecided c) h = tt
-  by_status t (HasClosed c o) h = tt
+  by_status t _ h = tt
 
   pub statuses : (t : Id) → StatusEvidence log sc.now t (recorded (facts_of log) t)
   statuses t = subst (λ st. StatusEvidence log sc.now t st) (sym (recorded_is log t)) (by_status t (status_of log t) (rests log orderly.1 t))

@@ -57,17 +57,11 @@ module _ (sc : Scene) (h : Holds sc) (steady : IsSteady sc.world) (present : sli
   -- ---- what a read of the disk gives
 
   shown_unsure : (u : Unsure) (r : Record) → IsAmong (shown_records u) r → IsUnsure u r
-  shown_unsure Nothing r k = absurd k
   shown_unsure (Shown q) r (inl same) = same
   shown_unsure (Shown q) r (inr none) = absurd none
-  shown_unsure (Hidden q) r k = absurd k
-  shown_unsure (TurnShown other) r k = absurd k
-  shown_unsure (TurnHidden other) r k = absurd k
+  shown_unsure _ r k = absurd k
 
   left_is_unsure : (fate : Fate) (u : Unsure) (r : Record) → IsAmong (left_of fate u) r → IsUnsure u r
-  left_is_unsure fate Nothing r k = absurd k
-  left_is_unsure fate (TurnShown other) r k = absurd k
-  left_is_unsure fate (TurnHidden other) r k = absurd k
   left_is_unsure fate (Shown q) r k = by_test (opens_gate fate) k
     where
       by_test : (b : Bool) → IsAmong (cond b (q ∷ []) []) r → q ≡ r
@@ -80,6 +74,7 @@ module _ (sc : Scene) (h : Holds sc) (steady : IsSteady sc.world) (present : sli
       by_test true (inl same) = same
       by_test true (inr none) = absurd none
       by_test false none = absurd none
+  left_is_unsure fate _ r k = absurd k
 
   -- the records of the log with some unsure ones behind them
   known : (more : List Record) → ((r : Record) → IsAmong more r → IsUnsure s.unsure r) → (r : Record) → IsAmong (s.log ++ more) r → RecordEvidence sc s.log n r
@@ -246,13 +241,7 @@ module _ (sc : Scene) (h : Holds sc) (steady : IsSteady sc.world) (present : sli
       by_state (Runs m) = h
       by_state (IsStopped m) = read_crash_holds (read_area s)
       by_state IsDown = read_crash_holds (read_area s)
-  refused_holds (Doing.Take m now) f = h
-  refused_holds (Doing.Resume now) f = h
-  refused_holds (Doing.Settle t now) f = h
-  refused_holds (Doing.Advance at now) f = h
-  refused_holds (Doing.Forget at now) f = h
-  refused_holds (Doing.Nudge t now) f = h
-  refused_holds Doing.Turn f = h
+  refused_holds _ f = h
 
   did_holds : (doing : Doing) (stepped : Stepped) → SteppedEvidence sc n (read_log s) stepped → AfterHolds sc (did sc.world n s doing stepped)
   unfolding did

@@ -18,7 +18,7 @@ use Rattle.record.specs.Facts.{Facts, facts_of, learn, recorded, after_outcome}
 use Rattle.record.specs.Installs.{installs_of}
 use Rattle.record.specs.Records.{Status, StandsPrepared, StandsDecided, HasAborted}
 use Rattle.record.specs.declared.record.Record.{Record}
-use Rattle.record.specs.declared.record.Record.TheVariants.{Opened, Ceiling, Prepare, Commit, Abort, Outcome, Horizon, Base, Version, Settled, Closed}
+use Rattle.record.specs.declared.record.Record.TheVariants.{Opened, Ceiling, Prepare, Commit, Abort, Outcome}
 use Rattle.record.proofs.LearnAgrees.{accepted_follows}
 use Rattle.record.proofs.Statuses.{recorded_is}
 use Rattle.message.specs.declared.message.Input.{Input}
@@ -175,15 +175,7 @@ stamped_follows setup log s = accepted_follows setup log s.accepted.0
 claim_above : (r : Record) (t : Id) (at : ℕ) (ks : List Bytes) (ws : List Write) (low : ℕ) → Claims r t at ks ws → IsAbove low r → low < at
 claim_above (Prepare p) t at ks ws low c h = let e = c.1 in omega (arith, e, h)
 claim_above (Commit p) t at ks ws low c h = let e = c.1 in omega (arith, e, h)
-claim_above (Opened x) t at ks ws low c h = absurd c
-claim_above (Ceiling x) t at ks ws low c h = absurd c
-claim_above (Horizon x) t at ks ws low c h = absurd c
-claim_above (Base _ _ _) t at ks ws low c h = absurd c
-claim_above (Version _) t at ks ws low c h = absurd c
-claim_above (Settled _ _ _) t at ks ws low c h = absurd c
-claim_above (Closed _ _ _) t at ks ws low c h = absurd c
-claim_above (Abort x) t at ks ws low c h = absurd c
-claim_above (Outcome x y) t at ks ws low c h = absurd c
+claim_above _ t at ks ws low c h = absurd c
 
 pub stamped_logs : (setup : Setup) (log : List Record) (m : Memory) (now : Interval) (i : Input) (p : Plan) (r : Record) → IsInLimit i →
     Stamped setup log → Stamps setup (facts_of log) m →

@@ -58,9 +58,7 @@ noted_line w k at (Reply.Shows y) x e = subst (λ z. IsAmong (w.lines ++ Line.Lo
   where
     shows_is : (a b : Option Bytes) → Reply.Shows a ≡ Reply.Shows b → a ≡ b
     shows_is a b f = cc
-noted_line w k at Reply.Done x e = cc
-noted_line w k at (Reply.Refused f) x e = cc
-noted_line w k at Reply.Crashed x e = cc
+noted_line w k at _ x e = cc
 
 at_shard_line : (w : World) (n : ℕ) (k : Bytes) (at : ℕ) (look : Setup → ShardNow → Reply) (x : Option Bytes) →
     (at_shard w n (λ setup s. look_noted w k at (look setup s))).1 ≡ Reply.Shows x →
@@ -91,16 +89,7 @@ look_line w (Act.Look n j z) k at x e shows =
     of_look (acts w (Act.Look n j z)).0 j z k at x e (at_shard_line w n j z (λ setup s. look_shard setup s j z) x shows)
 look_line w (Act.View n v j z) k at x e shows =
     of_look (acts w (Act.View n v j z)).0 j z k at x e (at_shard_line w n j z (λ setup s. look_at_view setup (slice_get s.views v) j z) x shows)
-look_line w (Act.Begin t) k at x e shows = cc
-look_line w (Act.Read t j) k at x e shows = cc
-look_line w (Act.Write t j y) k at x e shows = cc
-look_line w (Act.Close t) k at x e shows = cc
-look_line w (Act.Quit t) k at x e shows = cc
-look_line w (Act.Deliver m now) k at x e shows = cc
-look_line w (Act.At n doing) k at x e shows = cc
-look_line w (Act.Crash n) k at x e shows = cc
-look_line w (Act.CrashIn n call fate named doing) k at x e shows = cc
-look_line w (Act.FailIn n call named doing) k at x e shows = cc
+look_line w _ k at x e shows = cc
 
 -- more events go on from the world of the first
 pub run_on : (w : World) (es more : List Event) → run_from w (es ++ more) ≡ run_from (run_from w es) more
