@@ -151,13 +151,7 @@ module _ (w : World) (C : World → Type 0) (same : C w)
 
     refused_left_goes : (fate : Fate) (doing : Doing) → C (set_shard n (left_by_refused s fate doing) w)
     refused_left_goes fate Doing.Open = crashes n s is (read_log s) (read_area s) (inl (read_may_leave s))
-    refused_left_goes fate (Doing.Take m now) = crashes n s is (left_log fate s) (left_area fate s) (inl (left_may_leave s fate))
-    refused_left_goes fate (Doing.Resume now) = crashes n s is (left_log fate s) (left_area fate s) (inl (left_may_leave s fate))
-    refused_left_goes fate (Doing.Settle t now) = crashes n s is (left_log fate s) (left_area fate s) (inl (left_may_leave s fate))
-    refused_left_goes fate (Doing.Advance at now) = crashes n s is (left_log fate s) (left_area fate s) (inl (left_may_leave s fate))
-    refused_left_goes fate (Doing.Forget at now) = crashes n s is (left_log fate s) (left_area fate s) (inl (left_may_leave s fate))
-    refused_left_goes fate (Doing.Nudge t now) = crashes n s is (left_log fate s) (left_area fate s) (inl (left_may_leave s fate))
-    refused_left_goes fate Doing.Turn = crashes n s is (left_log fate s) (left_area fate s) (inl (left_may_leave s fate))
+    refused_left_goes fate _ = crashes n s is (left_log fate s) (left_area fate s) (inl (left_may_leave s fate))
 
     crash_within_goes : (call : ℕ) (fate : Fate) (doing : Doing) (st : Stepped) → effect (setup_of w.config n) w.bag s doing ≡ st →
         C (set_shard n (crashed_in s call fate doing st) w)

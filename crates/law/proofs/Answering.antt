@@ -37,6 +37,7 @@ use Rattle.law.proofs.Fair.{AnswerFair, Answered, OfRow, OfLock}
 use Rattle.world.proofs.Sounds.{SoundLog, SoundShard}
 use Rattle.law.proofs.HeldRead.{Held, Reads}
 use Rattle.law.proofs.KeptRead.{IsAllowed, KeptRead, Tells, Told, tells_keeps, tells_opens, told_follows, told_logs, told_opens}
+use Rattle.law.proofs.Picked.{some_same}
 use Rattle.law.proofs.ReadBefore.{Claims}
 use Rattle.law.proofs.Resolved.{not_committed, not_prepared}
 
@@ -218,12 +219,9 @@ module _ (n : ℕ) (t : Id) (k : Bytes) (e : ℕ) (x : Option Bytes) where
     | inr other ↦ apart_told (setup_of w.config j) z.log z.area z.unsure z.state z.views other (well j z at)
   ]
     where
-      some_shard : (a b : ShardNow) → Some a ≡ Some b → a ≡ b
-      some_shard a b q = cc
-
       by_place : j ≡ n → ToldShard (setup_of w.config j) z
       by_place same =
-          let is : s ≡ z = some_shard s z (sym there ∙ subst (λ i. slice_get w.shards i ≡ Some z) same at) in
+          let is : s ≡ z = some_same s z (sym there ∙ subst (λ i. slice_get w.shards i ≡ Some z) same at) in
           subst (ToldShard (setup_of w.config j)) is (by_state s.state runs (subst (WellShard (setup_of w.config j)) (sym is) (well j z at)))
         where
           by_state : (st : State) → st ≡ Runs m → WellShard (setup_of w.config j) (shard_with s.log s.area s.unsure st s.views) →

@@ -36,11 +36,9 @@ module _ (s : ShardNow) where
   read_may_leave = by_unsure s.unsure refl
     where
       by_unsure : (u : Unsure) → s.unsure ≡ u → MayLeaveArea s (s.log ++ shown_records u) (shown_area s.area u)
-      by_unsure Nothing is = inl (append-nil s.log, refl)
       by_unsure (Shown r) is = beside (Shown r) _ _ is (refl, refl)
-      by_unsure (Hidden r) is = inl (append-nil s.log, refl)
       by_unsure (TurnShown other) is = beside (TurnShown other) _ _ is (append-nil s.log, refl)
-      by_unsure (TurnHidden other) is = inl (append-nil s.log, refl)
+      by_unsure _ is = inl (append-nil s.log, refl)
 
   -- so does a crash without a call
   pub left_may_leave : (fate : Fate) → MayLeaveArea s (left_log fate s) (left_area fate s)

@@ -17,7 +17,7 @@ use Rattle.record.specs.Facts.{Facts, TxnStatus, after_outcome, facts_of, instal
 use Rattle.record.specs.Installs.{installs_of}
 use Rattle.record.specs.Records.{Status, Unrecorded, StandsPrepared, StandsDecided, HasAborted, HasSettled, HasClosed}
 use Rattle.record.specs.declared.record.Record.{Record}
-use Rattle.record.specs.declared.record.Record.TheVariants.{Opened, Ceiling, Prepare, Commit, Abort, Outcome, Horizon, Base, Version, Settled, Closed}
+use Rattle.record.specs.declared.record.Record.TheVariants.{Prepare, Commit, Abort, Outcome, Base, Version, Settled, Closed}
 use Rattle.record.proofs.LearnAgrees.{followed_more, learn_agrees}
 use Rattle.renewal.specs.Keeps.{NamesOwn}
 use Rattle.renewal.proofs.Entries.{entry, id_of, with_status-is}
@@ -83,9 +83,6 @@ module _ (setup : Setup) where
 
   learn_own : (f : Facts) (r : Record) → belongs setup r ≡ true → NamesOwnKeys setup f → NamesOwnKeys setup (learn f r)
   unfolding learn belongs
-  learn_own f (Opened epoch) own h = record { installs = h.installs; entries = h.entries }
-  learn_own f (Ceiling at) own h = record { installs = h.installs; entries = h.entries }
-  learn_own f (Horizon at) own h = record { installs = h.installs; entries = h.entries }
   learn_own f (Prepare p) own h = record { installs = h.installs; entries = put f.entries p.txn (StandsPrepared p) own h.entries }
   learn_own f (Commit c) own h = record { installs = h.installs; entries = put f.entries c.txn (StandsDecided c) own h.entries }
   learn_own f (Abort t) own h = record { installs = h.installs; entries = put f.entries t HasAborted tt h.entries }
@@ -98,6 +95,7 @@ module _ (setup : Setup) where
   learn_own f (Version install) own h = record { installs = both (IsOwn setup) f.installs (install ∷ []) h.installs (own, tt); entries = h.entries }
   learn_own f (Settled t at parts) own h = record { installs = h.installs; entries = put f.entries t (HasSettled at parts) tt h.entries }
   learn_own f (Closed t coordinator outcome) own h = record { installs = h.installs; entries = put f.entries t (HasClosed coordinator outcome) tt h.entries }
+  learn_own f _ own h = record { installs = h.installs; entries = h.entries }
 
   -- ---- a whole log
 

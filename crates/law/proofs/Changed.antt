@@ -38,7 +38,7 @@ use Rattle.world.specs.declared.event.Doing.{Doing}
 use Rattle.world.specs.declared.event.Reply.{Reply}
 use Rattle.law.proofs.Doings.{get_among}
 use Rattle.law.proofs.Members.{among_cases, among_left, among_right, some_passes}
-use Rattle.law.proofs.Picked.{join_among}
+use Rattle.law.proofs.Picked.{join_among, some_same}
 use Rattle.law.proofs.Acts.{acts_go, step_of}
 use Rattle.law.proofs.Kept.{IsPresent}
 
@@ -248,9 +248,6 @@ begin_changes w t = record {
 
 -- ---- shards
 
-some_shard : (a b : ShardNow) → Some a ≡ Some b → a ≡ b
-some_shard a b e = cc
-
 set_changes : (w : World) (n : ℕ) (old new : ShardNow) → slice_get w.shards n ≡ Some old →
     ((v : View) → ShowsView new v → ShowsView old v ⊎ RunsWith new v) → Changes w (set_shard n new w)
 set_changes w n old new there shows = record {
@@ -272,14 +269,11 @@ set_changes w n old new there shows = record {
     here m view same o =
         let there_now : slice_get (replaced w.shards n new) m ≡ Some new = subst (λ j. slice_get (replaced w.shards n new) j ≡ Some new) same
         (get-replaced_same w.shards n old new there) in
-        let is : o.shard ≡ new = some_shard o.shard new (sym o.there ∙ there_now) in
+        let is : o.shard ≡ new = some_same o.shard new (sym o.there ∙ there_now) in
         elim (shows view (subst (λ (s : ShardNow). ShowsView s view) is o.shows)) [
           | inl before ↦ inl (record { shard = old; there = subst (λ j. slice_get w.shards j ≡ Some old) same there; shows = before })
           | inr now ↦ inr (record { shard = new; there = there_now; memory = now.memory; runs = now.runs; is = now.is })
         ]
-
-some_view : (a b : View) → Some a ≡ Some b → a ≡ b
-some_view a b e = cc
 
 crashed_shows : (s : ShardNow) (log : List Record) (area : Area) (v : View) → ShowsView (crashed s log area) v → ShowsView s v ⊎ RunsWith (crashed s log area) v
 crashed_shows s log area v (inl h) = inl (inl h)
@@ -288,7 +282,7 @@ crashed_shows s log area v (inr e) = cc
 finished_shows : (s : ShardNow) (doing : Doing) (logged : Option Record) (m : Memory) (v : View) → ShowsView (finished s doing logged m) v →
     ShowsView s v ⊎ RunsWith (finished s doing logged m) v
 unfolding finished
-finished_shows s doing logged m v (inr e) = inr (record { memory = m; runs = refl; is = some_view _ v e })
+finished_shows s doing logged m v (inr e) = inr (record { memory = m; runs = refl; is = some_same _ v e })
 finished_shows s doing logged m v (inl h) = elim (among_cases s.views (new_view doing (read_log s ++ option_to_list logged) m) v h) [
   | inl old ↦ inl (inl old)
   | inr new ↦ by_test (makes_view doing) new
@@ -348,9 +342,7 @@ module _ (w : World) (well : WellWorld w) (n : ℕ) (s : ShardNow) (there : slic
         where
           parts : (a b : Bytes) (c d : ℕ) (e f : Option Bytes) → Line.Look a c e ≡ Line.Look b d f → (a ≡ b) × (c ≡ d) × (e ≡ f)
           parts a b c d e f g = (cc, cc, cc)
-  noted_changes k at Reply.Done answer = unchanged w
-  noted_changes k at (Reply.Refused f) answer = unchanged w
-  noted_changes k at Reply.Crashed answer = unchanged w
+  noted_changes k at _ answer = unchanged w
 
   look_answers : (v : View) (k : Bytes) (at : ℕ) (x : Option Bytes) → ShowsView s v → look_view (setup_of w.config n) v k at ≡ Reply.Shows x → Looked w k at x
   look_answers v k at x shows e = by_tests (nat_eq (shard_of w.config.splits k) n) refl (nat_lt at v.horizon) (nat_le at v.safe) refl e

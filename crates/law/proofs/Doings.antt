@@ -35,6 +35,7 @@ use Rattle.law.proofs.Logged.{AreLogged, rests_logged}
 use Rattle.law.proofs.Members.{among_cases, among_left}
 use Rattle.world.proofs.Places.{with_record}
 use Rattle.law.proofs.Moves.{LoggedEvidence, ChangeEvidence, PlannedEvidence}
+use Rattle.law.proofs.Picked.{some_same}
 use Rattle.law.proofs.Steps.{Knows, Heard, planned}
 use Rattle.law.proofs.Grows.{Within, Grows, rows_stay}
 use Rattle.law.proofs.Orderly.{IsOrderly}
@@ -96,10 +97,7 @@ stepped_evidence sc log n m rows (Ok p) e = record {
 
 pub get_among : {A : Type 0} (xs : List A) (i : ℕ) (x : A) → slice_get xs i ≡ Some x → IsAmong xs x
 get_among [] i x e = cc
-get_among (y ∷ ys) zero x e = inl (some_is y x e)
-  where
-    some_is : {A : Type 0} (a b : A) → Some a ≡ Some b → a ≡ b
-    some_is a b k = cc
+get_among (y ∷ ys) zero x e = inl (some_same y x e)
 get_among (y ∷ ys) (suc i) x e = inr (get_among ys i x e)
 
 -- a reading and an input were honestly given

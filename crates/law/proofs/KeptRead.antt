@@ -23,6 +23,7 @@ use Rattle.protocol.specs.Step.{plan_input, facts_after, IsInLimit}
 use Rattle.protocol.proofs.InWay.{row_at}
 use Rattle.law.specs.Among.{IsAmong}
 use Rattle.world.specs.World.{World}
+use Rattle.law.proofs.Picked.{some_same}
 use Rattle.law.proofs.Recorded.{among_first, among_gather}
 use Rattle.law.proofs.Fair.{Fair, IsFairInput, PlanFair, fairly, reads_of}
 use Rattle.world.proofs.Sounds.{SoundWorld}
@@ -38,12 +39,9 @@ no_reads entries t k row found there =
     let s = among_gather standing_row entries row (among_first (λ (r : Row). same_id r.txn t) (gather standing_row entries) row found) in
     by_status s.from.txn s.from.status s.gives
   where
-    some_row : (a b : Row) → Some a ≡ Some b → a ≡ b
-    some_row a b q = cc
-
     by_status : (u : Id) (st : Status) → standing_row (record { txn = u; status = st }) ≡ Some row → ⊥
-    by_status u (StandsPrepared p) e = subst (λ (r : Row). IsAmong (reads_of r.phase) k) (sym (some_row _ row e)) there
-    by_status u (StandsDecided c) e = subst (λ (r : Row). IsAmong (reads_of r.phase) k) (sym (some_row _ row e)) there
+    by_status u (StandsPrepared p) e = subst (λ (r : Row). IsAmong (reads_of r.phase) k) (sym (some_same _ row e)) there
+    by_status u (StandsDecided c) e = subst (λ (r : Row). IsAmong (reads_of r.phase) k) (sym (some_same _ row e)) there
     by_status u _ e = cc
 
 module _ (n : ℕ) (t : Id) (k : Bytes) (e : ℕ) (x : Option Bytes) where

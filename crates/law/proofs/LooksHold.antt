@@ -37,6 +37,7 @@ use Rattle.law.proofs.Kept.{shows_logs, shows_opens}
 use Rattle.law.proofs.LookedAt.{shows_serially}
 use Rattle.world.proofs.EveryRun.{WellWorld, InLimit, IsWell, IsTaken, keeps, opening_keeps, opens, logs, always_well, in_limit, taken_follows}
 use Rattle.law.proofs.LeftGood.{left_is_good, recovered}
+use Rattle.law.proofs.Picked.{some_same}
 
 -- ---- what holds at every moment
 
@@ -142,16 +143,13 @@ start_well : (config : Config) → WellWorld (start config)
 unfolding run lawful
 start_well config = always_well config [] refl
 
-some_view : (a b : View) → Some a ≡ Some b → a ≡ b
-some_view a b e = cc
-
 fresh_runs : (v : View) → ShowsView fresh_shard v → RunsWith fresh_shard v
 fresh_runs v (inl (inl same)) = record { memory = rebuilt (facts_of fresh_log); runs = refl; is = same }
 fresh_runs v (inl (inr none)) = absurd none
 fresh_runs v (inr e) = record {
   memory = rebuilt (facts_of fresh_log);
   runs = refl;
-  is = some_view
+  is = some_same
       (view_of (facts_of fresh_log) (rebuilt (facts_of fresh_log))) v e;
 }
 

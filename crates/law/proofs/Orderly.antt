@@ -13,9 +13,10 @@ use Rattle.record.specs.Records.{Ended, Status, Unrecorded, as_committed, as_pre
 use Rattle.record.specs.declared.record.Committed.{Committed}
 use Rattle.record.specs.declared.record.Prepared.{Prepared}
 use Rattle.record.specs.declared.record.Record.{Record}
-use Rattle.record.specs.declared.record.Record.TheVariants.{Opened, Ceiling, Prepare, Commit, Abort, Outcome, Horizon, Base, Version, Settled, Closed}
+use Rattle.record.specs.declared.record.Record.TheVariants.{Prepare, Commit, Abort, Settled, Closed}
 use Rattle.law.specs.Among.{IsAmong}
 use Rattle.law.proofs.Logged.{AreLogged}
+use Rattle.law.proofs.Picked.{some_same}
 
 -- the record is a promise, a decision or an abort of the id, or what is left of one
 abbrev pub is_claim : Id → Record → Bool
@@ -52,11 +53,6 @@ dropped false r rest e f = f
 none_of : (t : Id) (log : List Record) → is_aborted log t ≡ false → list_any (λ c. same_id c.txn t) (gather as_committed log) ≡ false →
     list_any (λ p. same_id p.txn t) (gather as_prepared log) ≡ false → claims_of log t ≡ []
 none_of t [] a c p = refl
-none_of t (Opened epoch ∷ rs) a c p = none_of t rs a c p
-none_of t (Ceiling at ∷ rs) a c p = none_of t rs a c p
-none_of t (Horizon at ∷ rs) a c p = none_of t rs a c p
-none_of t (Base _ _ _ ∷ rs) a c p = none_of t rs a c p
-none_of t (Version _ ∷ rs) a c p = none_of t rs a c p
 none_of t (Settled u at parts ∷ rs) a c p =
     dropped (same_id u t) (Settled u at parts) (claims_of rs t) (or_parts _ _ c).0 (none_of t rs a (or_parts _ _ c).1 p)
 none_of t (Closed u k outcome ∷ rs) a c p =
@@ -64,7 +60,7 @@ none_of t (Closed u k outcome ∷ rs) a c p =
 none_of t (Prepare q ∷ rs) a c p = dropped (same_id q.txn t) (Prepare q) (claims_of rs t) (or_parts _ _ p).0 (none_of t rs a c (or_parts _ _ p).1)
 none_of t (Commit q ∷ rs) a c p = dropped (same_id q.txn t) (Commit q) (claims_of rs t) (or_parts _ _ c).0 (none_of t rs a (or_parts _ _ c).1 p)
 none_of t (Abort u ∷ rs) a c p = dropped (same_id t u) (Abort u) (claims_of rs t) (or_parts _ _ a).0 (none_of t rs (or_parts _ _ a).1 c p)
-none_of t (Outcome u o ∷ rs) a c p = none_of t rs a c p
+none_of t (_ ∷ rs) a c p = none_of t rs a c p
 
 abbrev unrecorded : Status → Bool
 unrecorded s = elim s [ Unrecorded ↦ true | _ ↦ false ]
@@ -152,9 +148,6 @@ one_same (x ∷ y ∷ rest) a b o h k = absurd o
 pub same_claim : (log : List Record) → IsOrderly log → (t : Id) (a b : Record) → IsAmong log a → IsAmong log b → is_claim t a ≡ true →
     is_claim t b ≡ true → a ≡ b
 same_claim log o t a b h k p q = one_same (claims_of log t) a b (o.0 t) (among_kept t log a h p) (among_kept t log b k q)
-
-some_same : {A : Type 0} (a b : A) → Some a ≡ Some b → a ≡ b
-some_same a b e = cc
 
 module _ (log : List Record) (o : IsOrderly log) where
   pub one_decision : (c d : Committed) → IsAmong log (Commit c) → IsAmong log (Commit d) → d.txn ≡ c.txn → c ≡ d

@@ -40,7 +40,7 @@ use Rattle.law.specs.Evidence.{Scene, Holds}
 use Rattle.law.specs.Left.{AreLeft}
 use Rattle.law.proofs.Members.{among_left, among_right, some_passes}
 use Rattle.law.proofs.Orderly.{IsOrderly, orderly, same_claim, one_decision, one_promise, decided_not_promised}
-use Rattle.law.proofs.Picked.{any_of, gather_among}
+use Rattle.law.proofs.Picked.{any_of, gather_among, some_same}
 use Rattle.law.proofs.Logged.{AreLogged}
 use Rattle.law.proofs.Recorded.{among_first, is_aborted_among, outcome_among}
 use Rattle.law.proofs.Resolved.{committed_is, prepared_is, not_committed, not_prepared}
@@ -220,10 +220,7 @@ stamp_of_end log o (Prepare p) t at ks ws s h c x is own = by_parts (is_aborted 
         (subst (λ u. same_id u t ≡ true) (sym c.0) (same_id-refl t)) (same_id-refl t) in cc)
     by_parts false ha (Some d) hd q hq (Some e) he = let i = committed_is log o.1 t d hd in absurd (decided_not_promised log o d p i.0 h (c.0 ∙ sym i.1))
     by_parts false ha None hd None hq (Some e) he = absurd (not_prepared log t p hq h c.0)
-    by_parts false ha None hd (Some q) hq (Some e) he = ap (λ (z : Ended). z.outcome) (same_end e x.ended he) ∙ is
-      where
-        same_end : (a b : Ended) → Some a ≡ Some b → a ≡ b
-        same_end a b k = cc
+    by_parts false ha None hd (Some q) hq (Some e) he = ap (λ (z : Ended). z.outcome) (some_same e x.ended he) ∙ is
 stamp_of_end log o (Commit p) t at ks ws s h c x is own = by_parts (is_aborted log t) refl (committed_of log t) refl (prepared_of log t) refl
     (ended_of log t) x.is
   where

@@ -37,7 +37,7 @@ use Rattle.law.proofs.Doings.{get_among}
 use Rattle.law.proofs.Homes.{log_in, evidence, decision_home, promised}
 use Rattle.law.proofs.Instants.{Moment, moment}
 use Rattle.law.proofs.Members.{among_left}
-use Rattle.law.proofs.Picked.{any_of, keep_among, map_among}
+use Rattle.law.proofs.Picked.{any_of, keep_among, map_among, some_same}
 use Rattle.law.proofs.Recorded.{among_first}
 use Rattle.law.proofs.Accepts.{each_at, place_of}
 use Rattle.law.proofs.AreasAscend.{AllAscend, always_ascend}
@@ -48,7 +48,7 @@ use Rattle.law.proofs.ReadBefore.{Claims, read_serially}
 use Rattle.law.proofs.ReadsHold.{act_allowed, always_spoken, run_keeps_read}
 use Rattle.law.proofs.Said.{AllOneEpoch, OneEpoch, OwnIds, ReadOf, Took, answer_env}
 use Rattle.law.proofs.LeftGood.{left_is_good, recovered}
-use Rattle.law.proofs.SortedParts.{has_of, once_has, shard_in, some_number, sorted_has}
+use Rattle.law.proofs.SortedParts.{has_of, once_has, shard_in, sorted_has}
 use Rattle.law.proofs.Stamps.{left_stamped}
 use Rattle.law.proofs.InHistory.{InHistory, from_history}
 
@@ -91,23 +91,20 @@ reads_in (Message.Prepare p) = Some p.reads
 reads_in (Message.Commit c) = Some c.reads
 reads_in _ = None
 
-some_set : (a b : ReadSet) → Some a ≡ Some b → a ≡ b
-some_set a b e = cc
-
 prepares_read : (splits : List Bytes) (c : Client) (k : ℕ) (ns : List ℕ) (n : ℕ) (e : Envelope) (s : ReadSet) →
     IsAmong (map (prepare_for splits c k) ns) e → shard_in e.to ≡ Some n → reads_in e.message ≡ Some s → s ≡ read_set c n
 prepares_read splits c k [] n e s h to is = absurd h
 prepares_read splits c k (m ∷ ms) n e s (inl same) to is =
-    some_set s (read_set c n) (sym is ∙ ap (λ (z : Envelope). reads_in z.message) (sym same)
-    ∙ ap (λ j. Some (read_set c j)) (some_number m n (ap (λ (z : Envelope). shard_in z.to) same ∙ to)))
+    some_same s (read_set c n) (sym is ∙ ap (λ (z : Envelope). reads_in z.message) (sym same)
+    ∙ ap (λ j. Some (read_set c j)) (some_same m n (ap (λ (z : Envelope). shard_in z.to) same ∙ to)))
 prepares_read splits c k (m ∷ ms) n e s (inr later) to is = prepares_read splits c k ms n e s later to is
 
 closing_reads : (splits : List Bytes) (c : Client) (ns : List ℕ) (n : ℕ) (e : Envelope) (s : ReadSet) → IsAmong (messages_for splits c ns) e →
     shard_in e.to ≡ Some n → reads_in e.message ≡ Some s → s ≡ read_set c n
 closing_reads splits c [] n e s h to is = absurd h
 closing_reads splits c (m ∷ ms) n e s (inl same) to is =
-    some_set s (read_set c n) (sym is ∙ ap (λ (z : Envelope). reads_in z.message) (sym same)
-    ∙ ap (λ j. Some (read_set c j)) (some_number m n (ap (λ (z : Envelope). shard_in z.to) same ∙ to)))
+    some_same s (read_set c n) (sym is ∙ ap (λ (z : Envelope). reads_in z.message) (sym same)
+    ∙ ap (λ j. Some (read_set c j)) (some_same m n (ap (λ (z : Envelope). shard_in z.to) same ∙ to)))
 closing_reads splits c (m ∷ ms) n e s (inr later) to is = prepares_read splits c m ms n e s later to is
 
 module _ (sc : Scene) (h : Holds sc) (own : OwnIds sc.world) (epochs : AllOneEpoch sc.world) (a : ReadAnswer) (x : Option Bytes)

@@ -511,9 +511,7 @@ noted_says w k at (Reply.Shows y) = record {
     apart : (u : Id) (j : Bytes) (x : Option Bytes) → IsAmong (Line.Look k at y ∷ []) (Line.Read u j x) → ⊥
     apart u j x (inl same) = cc
     apart u j x (inr none) = none
-noted_says w k at Reply.Done = silent w
-noted_says w k at (Reply.Refused f) = silent w
-noted_says w k at Reply.Crashed = silent w
+noted_says w k at _ = silent w
 
 pub acts_say : (w : World) → WellWorld w → (time : ℕ) (a : Act) → may_act w time a ≡ true → Says w (acts w a).0
 acts_say w well =

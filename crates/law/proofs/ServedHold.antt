@@ -37,6 +37,7 @@ use Rattle.law.proofs.LooksHold.{IsKept, always_kept, changes, event_keeps, star
 use Rattle.law.proofs.Members.{among_cases, among_right}
 use Rattle.law.proofs.OfLogs.{of_its_log}
 use Rattle.law.proofs.Logged.{AreLogged, each_logged}
+use Rattle.law.proofs.Picked.{some_same}
 use Rattle.law.proofs.Quiet.{IsAbove, IsQuiet, outcome_above}
 use Rattle.law.proofs.Rising.{LoggedAbove}
 use Rattle.law.proofs.WholeLaw.{lawful_on, run_on}
@@ -155,9 +156,6 @@ with_grown n v base setup log area unsure IsDown views kept grown = record {
   state = tt;
 }
 
-some_shard : (a b : ShardNow) → Some a ≡ Some b → a ≡ b
-some_shard a b e = cc
-
 -- ---- what a running shard shows now stays
 
 module _ (w : World) (n : ℕ) (v : View) (well : WellWorld w) (p : IsPresent w n v) where
@@ -174,7 +172,7 @@ module _ (w : World) (n : ℕ) (v : View) (well : WellWorld w) (p : IsPresent w 
   ]
     where
       mine : s ≡ p.shard
-      mine = some_shard s p.shard (sym there ∙ subst (λ z. slice_get w.shards z ≡ Some p.shard) (sym here) p.there)
+      mine = some_same s p.shard (sym there ∙ subst (λ z. slice_get w.shards z ≡ Some p.shard) (sym here) p.there)
 
       own : IsOfItsLog k s p.memory
       own = of_its_log w well k s p.memory there (ap (λ (z : ShardNow). z.state) mine ∙ p.runs)
@@ -254,7 +252,7 @@ module _ (w : World) (n : ℕ) (v : View) (base : List Record) (kept : KeptView 
     (there : slice_get w.shards n ≡ Some s) where
   grown_on : (k : ℕ) (x : ShardNow) → slice_get w.shards k ≡ Some x → (l : List Record) → MayLeaveLog x l → k ≡ n → IsAboveServed s.log l v.safe
   grown_on k x at l may here =
-      subst (λ (z : ShardNow). IsAboveServed z.log l v.safe) (some_shard x s (sym at ∙ subst (λ z. slice_get w.shards z ≡ Some s) (sym here) there))
+      subst (λ (z : ShardNow). IsAboveServed z.log l v.safe) (some_same x s (sym at ∙ subst (λ z. slice_get w.shards z ≡ Some s) (sym here) there))
       (elim may [
         | inl same ↦ subst (λ z. IsAboveServed x.log z v.safe) (sym same) (itself base x.log v.safe (((stays k x at).left x.log (inl refl)).good.grown here))
         | inr more ↦ subst (λ z. IsAboveServed x.log z v.safe) (sym more.2) (rebased base x.log more.0 v.safe

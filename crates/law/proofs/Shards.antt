@@ -46,11 +46,7 @@ told_backed sc n to (Message.Read r) h = tt
 told_backed sc n to (Message.GiveUp g) h = tt
 told_backed sc n to (Message.Prepare p) h = absurd h
 told_backed sc n to (Message.Commit c) h = absurd h
-told_backed sc n to (Message.Vote v) h = record { shard = n; told = h }
-told_backed sc n to (Message.Outcome o) h = record { shard = n; told = h }
-told_backed sc n to (Message.Ask a) h = record { shard = n; told = h }
-told_backed sc n to (Message.ReadAnswer a) h = record { shard = n; told = h }
-told_backed sc n to (Message.Done d) h = record { shard = n; told = h }
+told_backed sc n to _ h = record { shard = n; told = h }
 
 module _ (sc : Scene) (h : Holds sc) (steady : IsSteady sc.world) (present : slice_get sc.times sc.world.event ≡ Some sc.now)
     (n : ℕ) (s : ShardNow) (there : slice_get sc.world.shards n ≡ Some s) where
@@ -256,13 +252,7 @@ module _ (sc : Scene) (h : Holds sc) (steady : IsSteady sc.world) (present : sli
 
   refused_left_holds : (fate : Fate) (doing : Doing) → Holds (with_world sc (set_shard n (left_by_refused s fate doing) sc.world))
   refused_left_holds fate Doing.Open = read_crash_holds (read_area s)
-  refused_left_holds fate (Doing.Take m now) = left_holds fate
-  refused_left_holds fate (Doing.Resume now) = left_holds fate
-  refused_left_holds fate (Doing.Settle t now) = left_holds fate
-  refused_left_holds fate (Doing.Advance at now) = left_holds fate
-  refused_left_holds fate (Doing.Forget at now) = left_holds fate
-  refused_left_holds fate (Doing.Nudge t now) = left_holds fate
-  refused_left_holds fate Doing.Turn = left_holds fate
+  refused_left_holds fate _ = left_holds fate
 
   crashed_in_holds : (call : ℕ) (fate : Fate) (doing : Doing) (stepped : Stepped) → SteppedEvidence sc n (read_log s) stepped →
       Holds (with_world sc (set_shard n (crashed_in s call fate doing stepped) sc.world))

@@ -30,6 +30,7 @@ use Rattle.protocol.proofs.PlanShapes.{shape_of}
 use Rattle.protocol.proofs.RowChanges.{by_id-claims}
 use Rattle.protocol.proofs.Shapes.{Shape, Answers, IsEnd, IsAbort, IsClose, IsSettle, IsLock, IsWait, IsPromise, IsDecision, ShapeOf, Acts, IsAdvance, IsForget}
 use Rattle.protocol.proofs.StatusChanges.{status_same, status_other}
+use Rattle.law.proofs.Picked.{some_same}
 use Rattle.law.proofs.Quiet.{IsAbove}
 use Rattle.law.proofs.Rising.{LoggedAbove, rising}
 use Rattle.law.proofs.Accepts.{each_at}
@@ -73,9 +74,6 @@ EndsBelow f last = (u : Id) (s : ℕ) → end_stamp (recorded f u) ≡ Some s �
 unfoldable EndsNext : Before → Plan → Type 0
 EndsNext b p = EndsBelow b.facts b.memory.last → EndsBelow (facts_after b.facts p.logged) p.last
 
-some_is : (a b : ℕ) → Some a ≡ Some b → a ≡ b
-some_is a b e = cc
-
 -- one id has another status
 changed_ends : (b : Before) (f : Facts) (u : Id) (st : Status) (last : ℕ) → recorded f u ≡ st →
     ((v : Id) → same_id u v ≡ false → recorded f v ≡ recorded b.facts v) → b.memory.last ≤ last → ((s : ℕ) → end_stamp st ≡ Some s → s ≤ last) →
@@ -105,14 +103,14 @@ next b p sound (IsClose u n c at held outcome out found allowed is) = subst (End
 
     own : (o : Option ℕ) (s : ℕ) → o ≡ Some s → s ≤ raised b.memory.last o
     own None s e = cc
-    own (Some q) s e = let same = some_is q s e in omega (arith, same)
+    own (Some q) s e = let same = some_same q s e in omega (arith, same)
 next b p sound (IsSettle u at ps held out found is) = subst (EndsNext b) (sym is)
     (changed_ends b (facts_after b.facts (Some (Record.Outcome u (Some at)))) u (after_outcome (recorded b.facts u) (Some at)) b.memory.last
     (status_same b.facts.entries u (after_outcome (recorded b.facts u) (Some at)))
     (λ v d. status_other b.facts.entries u v (after_outcome (recorded b.facts u) (Some at)) d) (omega arith)
     (λ s e.
     let made = decision_of b u held at ps sound found in
-    let same : made.decision.at ≡ s = some_is made.decision.at s (ap (λ st. end_stamp (after_outcome st (Some at))) (sym made.is) ∙ e) in
+    let same : made.decision.at ≡ s = some_same made.decision.at s (ap (λ st. end_stamp (after_outcome st (Some at))) (sym made.is) ∙ e) in
     let low = made.stands_by.assigned in
     omega (arith, same, low)))
 next b p sound (IsLock u ended needs phase out l is) = subst (EndsNext b) (sym is) (λ h. h)

@@ -26,6 +26,7 @@ use Rattle.law.proofs.Accepts.{IsNew, Place, each_taken, front_taken, installs_b
 use Rattle.law.proofs.Members.{among_cases, among_left, among_right}
 use Rattle.law.proofs.Logged.{AreLogged}
 use Rattle.law.proofs.Orderly.{IsOrderly, orderly, decided_not_promised}
+use Rattle.law.proofs.Picked.{some_same}
 use Rattle.law.proofs.Quiet.{not_ended}
 use Rattle.law.proofs.ReadBefore.{Claims, EndIs, IsStamped, Order, IsSame, IsEarlier, IsLater, ended_between, order, read_clashes, same_claim_id}
 use Rattle.law.proofs.ReadBefore.{stamp_of_end}
@@ -126,11 +127,8 @@ module _ (setup : Setup) (log : List Record) (accepted : taken setup log ≡ Acc
     itself e = record {
       outcome = Some new.stamp;
       among = subst (λ u. IsAmong log (Outcome u (Some new.stamp))) e logged;
-      below = λ s is. let stamp = new.at in let one = some_is new.stamp s is in omega (arith, stamp, one);
+      below = λ s is. let stamp = new.at in let one = some_same new.stamp s is in omega (arith, stamp, one);
     }
-      where
-        some_is : (a b : ℕ) → Some a ≡ Some b → a ≡ b
-        some_is a b z = cc
 
     -- one that had been logged before it had ended before it
     earlier : (m : List Record) → front ≡ p.front ++ c.claim ∷ m → ⊥

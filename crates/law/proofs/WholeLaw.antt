@@ -27,6 +27,7 @@ use Rattle.law.proofs.Instants.{Moment, acknowledged_before, all_or_nothing, ins
 use Rattle.law.proofs.LeftGood.{recovered}
 use Rattle.law.proofs.LooksHold.{always_kept, event_keeps, lines_stay, looks_serially}
 use Rattle.law.proofs.Members.{among_last}
+use Rattle.law.proofs.Picked.{some_same}
 use Rattle.law.proofs.ReadsEqual.{reads_serially}
 
 pub externally_consistent : ExternalConsistency
@@ -166,9 +167,6 @@ pub as_they_are : (ss : List ShardNow) → MayLeaveLogs ss (map (λ s. s.log) ss
 as_they_are [] = tt
 as_they_are (s ∷ ss) = (inl refl, as_they_are ss)
 
-some_txn : (a b : Txn) → Some a ≡ Some b → a ≡ b
-some_txn a b e = cc
-
 pub commits_are_lines : CommitsAreLines
 commits_are_lines config es fair to t s there =
     let k = (always_kept config es fair).acks to t s there in
@@ -182,7 +180,7 @@ commits_are_lines config es fair to t s there =
     (sym m.same) line) in
     let first = told_txn m.scene m.holds logs m.left ack.to t k.stamp ack.sent in
     let same : first.txn ≡ told.txn =
-    some_txn first.txn told.txn
+    some_same first.txn told.txn
     (sym (found (history logs) first.txn one first.among) ∙ ap (find_txn (history logs)) (first.named ∙ sym told.named)
     ∙ found (history logs) told.txn one told.among) in
     let stamp : k.stamp ≡ s = sym first.stamp ∙ ap (λ (x : Txn). x.at) same ∙ told.stamp in
