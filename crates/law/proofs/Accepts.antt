@@ -20,7 +20,7 @@ use Rattle.record.specs.Records.{Ended, as_ended, as_version, as_committed, as_p
 use Rattle.record.specs.declared.record.Committed.{Committed}
 use Rattle.record.specs.declared.record.Prepared.{Prepared}
 use Rattle.record.specs.declared.record.Record.{Record}
-use Rattle.record.specs.declared.record.Record.TheVariants.{Opened, Ceiling, Prepare, Commit, Abort, Outcome, Horizon, Base, Version, Settled, Closed}
+use Rattle.record.specs.declared.record.Record.TheVariants.{Prepare, Commit, Outcome, Version}
 use Rattle.record.proofs.LearnAgrees.{learn_agrees, followed_more}
 use Rattle.record.proofs.Statuses.{recorded_is}
 use Rattle.law.specs.Among.{IsAmong}
@@ -186,17 +186,9 @@ unfolding facts_of learn
 installs_more shard log r h = ap (λ (f : Facts). f.installs) (learn_agrees shard log r h) ∙ by_kind r
   where
     by_kind : (q : Record) → (learn (facts_of log) q).installs ≡ installs_of log ++ installs_by log q
-    by_kind (Opened epoch) = sym (append-nil (installs_of log))
-    by_kind (Ceiling at) = sym (append-nil (installs_of log))
-    by_kind (Horizon at) = sym (append-nil (installs_of log))
-    by_kind (Base _ _ _) = sym (append-nil (installs_of log))
     by_kind (Version install) = refl
-    by_kind (Settled _ _ _) = sym (append-nil (installs_of log))
-    by_kind (Closed _ _ _) = sym (append-nil (installs_of log))
-    by_kind (Prepare p) = sym (append-nil (installs_of log))
-    by_kind (Commit c) = sym (append-nil (installs_of log))
-    by_kind (Abort t) = sym (append-nil (installs_of log))
     by_kind (Outcome t o) = refl
+    by_kind _ = sym (append-nil (installs_of log))
 
 -- a new version is of the writes of its id
 pub record IsNew (log : List Record) (r : Record) (i : Install) : Type 0 where

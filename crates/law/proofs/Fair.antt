@@ -94,13 +94,8 @@ refused_mute n None = tt
 refused_mute n (Some r) = by_phase r.phase
   where
     by_phase : (phase : Phase) → AllMute (refused_vote n (Some (record r { phase = phase })))
-    by_phase Idle = tt
-    by_phase (WaitsRead k) = tt
     by_phase (WaitsPrepare c rs ws) = (tt, tt)
-    by_phase (WaitsCommit l ps rs ws) = tt
-    by_phase (Collecting l ps rs ws votes) = tt
-    by_phase (IsPrepared c p) = tt
-    by_phase (IsDecided s ps) = tt
+    by_phase _ = tt
 
 votes_mute : (n : ℕ) (rows : List Row) (ts : List Id) → AllMute (votes_of n rows ts)
 votes_mute n rows [] = tt

@@ -32,6 +32,7 @@ use Rattle.world.specs.Headline.{IsUnsure}
 use Rattle.world.specs.World.{World, ShardNow, View, State, Runs, IsStopped, IsDown, Area, Unsure, setup_of, view_of}
 use Rattle.world.proofs.Openings.{opening_follows}
 use Rattle.protocol.proofs.RowChanges.{by_id-claims}
+use Rattle.law.proofs.OfLogs.{memory_is}
 use Rattle.law.proofs.Orderly.{IsOrderly, orderly, same_claim, one_decision, one_promise, decided_not_promised}
 use Rattle.law.proofs.Picked.{gather_among, map_among, some_same}
 use Rattle.law.proofs.Logged.{AreLogged, each_logged}
@@ -262,9 +263,6 @@ apart_kept n v setup log area unsure IsDown views other h = record {
   };
   state = tt;
 }
-
-memory_is : (a b : Memory) → Runs a ≡ Runs b → a ≡ b
-memory_is a b e = cc
 
 -- it is this one, and runs
 shown_now : (setup : Setup) (log : List Record) (m : Memory) → IsWell setup (facts_of log) m → IsTaken setup log →

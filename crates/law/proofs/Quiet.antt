@@ -22,7 +22,7 @@ use Rattle.record.proofs.LearnAgrees.{learn_agrees, followed_more}
 use Rattle.record.specs.declared.record.Committed.{Committed}
 use Rattle.record.specs.declared.record.Prepared.{Prepared}
 use Rattle.record.specs.declared.record.Record.{Record}
-use Rattle.record.specs.declared.record.Record.TheVariants.{Opened, Ceiling, Prepare, Commit, Abort, Outcome, Horizon, Base, Version, Settled, Closed}
+use Rattle.record.specs.declared.record.Record.TheVariants.{Prepare, Commit, Outcome, Base, Version, Settled, Closed}
 use Rattle.law.specs.Among.{IsAmong}
 use Rattle.law.proofs.Members.{among_left, among_cases}
 use Rattle.law.proofs.Picked.{any_of, gather_among}
@@ -146,16 +146,10 @@ answer_stays shard log r k at logged of_step h q =
     ∙ by_kind r of_step (and_parts _ _ (and_parts _ _ (sym (followed_more shard log r) ∙ h)).1).1
   where
     by_kind : (x : Record) → is_logged x ≡ true → follows shard log x ≡ true → at_time (learn (facts_of log) x).installs k at ≡ at_time (installs_of log) k at
-    by_kind (Opened epoch) l e = refl
-    by_kind (Ceiling s) l e = refl
-    by_kind (Horizon s) l e = refl
     by_kind (Base _ _ _) l e = cc
     by_kind (Version _) l e = cc
     by_kind (Settled _ _ _) l e = cc
     by_kind (Closed _ _ _) l e = cc
-    by_kind (Prepare p) l e = refl
-    by_kind (Commit c) l e = refl
-    by_kind (Abort t) l e = refl
     by_kind (Outcome t None) l e = same_answer (installs_of log) (installs_at (recorded (facts_of log) t) None) k at
         (none_installed (recorded (facts_of log) t))
       where
@@ -173,3 +167,4 @@ answer_stays shard log r k at logged of_step h q =
         (outcome_fits (prepared_of log t) (committed_of log t) (Some s)) e).0
         (prepared_of log t) refl (committed_of log t) refl (and_parts (not (when (λ x. true) (ended_of log t)))
         (outcome_fits (prepared_of log t) (committed_of log t) (Some s)) e).1))
+    by_kind _ l e = refl

@@ -29,6 +29,7 @@ use Rattle.world.specs.declared.event.Act.{Act}
 use Rattle.world.specs.declared.event.Config.{Config}
 use Rattle.world.specs.declared.event.Doing.{Doing}
 use Rattle.world.specs.declared.event.Event.{Event}
+use Rattle.law.proofs.OfLogs.{memory_is}
 use Rattle.law.proofs.Doings.{get_among}
 use Rattle.law.proofs.Answering.{held_is_kept, open_unrecorded}
 use Rattle.law.proofs.Fair.{IsFairInput}
@@ -200,9 +201,6 @@ module _ (to : Address) (a : ReadAnswer) (x : Option Bytes) (holds : a.answer �
           WellShard (setup_of w.config a.from) (shard_with log area unsure st views) → recorded (facts_of log) a.txn ≡ Unrecorded
       by_state log area unsure (Runs m) views is h = open_unrecorded a.from (facts_of log) m a.txn now.holds.row h.state.0.sound
           (ap (λ (z : Memory). find_row z.rows a.txn) (memory_is m now.holds.memory is) ∙ now.holds.found) now.holds.opened
-        where
-          memory_is : (p q : Memory) → Runs p ≡ Runs q → p ≡ q
-          memory_is p q r = cc
       by_state log area unsure (IsStopped m) views is h = cc
       by_state log area unsure IsDown views is h = cc
 

@@ -1,5 +1,5 @@
 -- What was served stays below all that is logged later.
-use Rattle.std.proofs.Common.{◌≡◌, inl, inr, ℕ, ◌+◌, ◌≤◌, true, not, List, [], ◌∷◌, ◌++◌, Some, None, slice_get, refl, sym, ap, subst}
+use Rattle.std.proofs.Common.{◌≡◌, inl, inr, ℕ, ◌+◌, ◌≤◌, true, not, List, [], ◌∷◌, ◌++◌, Some, slice_get, refl, sym, ap, subst}
 use Rattle.std.proofs.Common.{◌∙◌, arith, append_assoc}
 use Rattle.std.specs.Prelude.{Ok}
 use Rattle.std.proofs.lemmas.Bool.{and_parts}
@@ -12,7 +12,7 @@ use Rattle.record.specs.Accepted.{follows, followed, outcome_fits}
 use Rattle.record.specs.Facts.{Facts, facts_of, learn}
 use Rattle.record.specs.Records.{committed_of, prepared_of, ended_of}
 use Rattle.record.specs.declared.record.Record.{Record}
-use Rattle.record.specs.declared.record.Record.TheVariants.{Opened, Ceiling, Prepare, Commit, Abort, Outcome, Horizon, Base, Version, Settled, Closed}
+use Rattle.record.specs.declared.record.Record.TheVariants.{Opened, Prepare, Commit, Outcome, Base, Version, Settled, Closed}
 use Rattle.record.proofs.LearnAgrees.{learn_agrees, followed_more}
 use Rattle.message.specs.declared.message.Input.{Input}
 use Rattle.protocol.specs.Plan.{Plan, start_of_step}
@@ -51,18 +51,14 @@ comes_above shard log r at logged h q above = by_kind r (and_parts _ _ (and_part
     by_kind : (x : Record) → follows shard log x ≡ true → IsAbove at x → ComesAbove at x
     by_kind (Prepare p) e high = high
     by_kind (Commit c) e high = high
-    by_kind (Opened epoch) e high = tt
-    by_kind (Ceiling s) e high = tt
-    by_kind (Horizon s) e high = tt
     by_kind (Base _ _ _) e high = absurd high
     by_kind (Version _) e high = absurd high
     by_kind (Settled _ _ _) e high = absurd high
     by_kind (Closed _ _ _) e high = absurd high
-    by_kind (Abort t) e high = tt
-    by_kind (Outcome t None) e high = tt
     by_kind (Outcome t (Some s)) e high =
         let p = and_parts (not (when (λ x. true) (ended_of log t))) (outcome_fits (prepared_of log t) (committed_of log t) (Some s)) e in
         outcome_above log logged at t s q p.0 (prepared_of log t) refl (committed_of log t) refl p.1
+    by_kind _ e high = tt
 
 grown_more : (base log : List Record) (r : Record) (at : ℕ) → IsAboveServed base log at → ComesAbove at r → at ≤ (facts_of (log ++ r ∷ [])).floor →
     IsAboveServed base (log ++ r ∷ []) at

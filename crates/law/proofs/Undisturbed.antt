@@ -17,7 +17,7 @@ use Rattle.record.specs.Records.{committed_of, prepared_of, ended_of}
 use Rattle.record.specs.declared.record.Committed.{Committed}
 use Rattle.record.specs.declared.record.Prepared.{Prepared}
 use Rattle.record.specs.declared.record.Record.{Record}
-use Rattle.record.specs.declared.record.Record.TheVariants.{Opened, Ceiling, Prepare, Commit, Abort, Outcome, Horizon, Base, Version, Settled, Closed}
+use Rattle.record.specs.declared.record.Record.TheVariants.{Prepare, Commit, Outcome}
 use Rattle.record.proofs.LearnAgrees.{accepted_follows}
 use Rattle.locks.proofs.Clashes.{clash_comm}
 use Rattle.law.specs.Among.{IsAmong}
@@ -212,15 +212,7 @@ module _ (setup : Setup) (log : List Record) (accepted : taken setup log ≡ Acc
       nothing : (q : Record) → Claims q t at ks ws → IsAmong (installs_by front q) i → ⊥
       nothing (Prepare x) c h2 = h2
       nothing (Commit x) c h2 = h2
-      nothing (Opened x) c h2 = absurd c
-      nothing (Ceiling x) c h2 = absurd c
-      nothing (Horizon x) c h2 = absurd c
-      nothing (Base _ _ _) c h2 = absurd c
-      nothing (Version _) c h2 = absurd c
-      nothing (Settled _ _ _) c h2 = absurd c
-      nothing (Closed _ _ _) c h2 = absurd c
-      nothing (Abort x) c h2 = absurd c
-      nothing (Outcome x y) c h2 = absurd c
+      nothing _ c h2 = absurd c
 
   all_more : (mid rest : List Record) → log ≡ (front ++ r ∷ mid) ++ rest → SoFar (front ++ r ∷ mid) → SoFar log
   all_more mid [] e old = subst SoFar (sym (e ∙ append-nil (front ++ r ∷ mid))) old
