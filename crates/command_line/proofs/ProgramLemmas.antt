@@ -1,6 +1,6 @@
 -- The parser's walk over a command line of the program: its first word names a command.
 use Rattle.std.proofs.Common.{◌≡◌, ◌∙◌, ◌||◌, Bool, true, false, refl, sym, ap, ap₂, subst, List, [], ◌∷◌, Option, Some, None, codes}
-use Rattle.std.proofs.Common.{true≢false, inl, inr, ◌⊎◌}
+use Rattle.std.proofs.Common.{true≢false}
 use Rattle.std.specs.Prelude.{find, option_map, cond, fold, is_some, if◌then◌else◌}
 use Rattle.std.specs.Option.{option_map_or}
 use Rattle.std.specs.Str.{bytes_eq}
@@ -152,10 +152,10 @@ words_agree (name ∷ rest) e =
     choose (bytes_eq (codes "get") name) (λ q. named name (codes "get") get_leaf rest q refl refl refl (get_agrees rest plain.1)) (λ q.
     choose (bytes_eq (codes "put") name) (λ r. named name (codes "put") put_leaf rest r refl refl refl (put_agrees rest plain.1)) (λ r.
     choose (bytes_eq (codes "stats") name) (λ s. named name (codes "stats") stats_leaf rest s refl refl refl (stats_agrees rest plain.1)) (λ s.
-    choose (bytes_eq (codes "migrate") name)
-    (λ t. named name (codes "migrate") (pair_leaf (codes "migrate")) rest t refl refl refl (pair_agrees (codes "migrate") migrate (λ _ _. refl) rest plain.1)) (λ t.
-    choose (bytes_eq (codes "compact") name)
-    (λ u. named name (codes "compact") (pair_leaf (codes "compact")) rest u refl refl refl (pair_agrees (codes "compact") compact (λ _ _. refl) rest plain.1)) (λ u.
+    choose (bytes_eq (codes "migrate") name) (λ t. named name (codes "migrate") (pair_leaf (codes "migrate")) rest t refl refl refl
+    (pair_agrees (codes "migrate") migrate (λ _ _. refl) rest plain.1)) (λ t.
+    choose (bytes_eq (codes "compact") name) (λ u. named name (codes "compact") (pair_leaf (codes "compact")) rest u refl refl refl
+    (pair_agrees (codes "compact") compact (λ _ _. refl) rest plain.1)) (λ u.
     other_agrees name rest plain.0 a b c d f h p q r s t u))))))))))))
 
 -- ---- what the parse answers

@@ -1,4 +1,3 @@
-use Rattle.std.proofs.Common.{◌≡◌}
 use Rattle.clap.specs.Words.{found_of}
 use Rattle.command_line.proofs.FoundLemmas.{named_as, rows_are}
 use Rattle.command_line.proofs.parsing.found_line.Goals as goal
