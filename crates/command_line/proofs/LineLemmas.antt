@@ -1,5 +1,5 @@
 -- The parser's walk over the words of one command.
-use Rattle.std.proofs.Common.{◌≡◌, ◌∙◌, ◌&&◌, ℕ, true, false, refl, sym, ap, ap₂, subst, List, [], ◌∷◌, ◌++◌, Option, Some, None, codes}
+use Rattle.std.proofs.Common.{◌≡◌, ◌∙◌, ◌&&◌, ℕ, suc, true, false, refl, sym, ap, ap₂, subst, List, [], ◌∷◌, ◌++◌, Option, Some, None, codes}
 use Rattle.std.proofs.Common.{true≢false, append-nil, append_assoc}
 use Rattle.std.specs.Prelude.{fold, if◌then◌else◌, option_and_then}
 use Rattle.std.specs.Option.{option_map_or}
@@ -15,8 +15,8 @@ use Rattle.clap.specs.Walk.{walked}
 use Rattle.clap.specs.Simple.{rows_at, built_leaf, inherited}
 use Rattle.clap.specs.Faults.{other_fault, bundle_fault, flag_word_fault, word_fault, check_fault, defaults_fault}
 use Rattle.clap.specs.Faults.{level_fault, settle_fault, step_fault, walk_fault}
-use Rattle.command_line.specs.Lines.{CommandLine, Word, are_plain, one_file, is_plain, once_of}
-use Rattle.command_line.specs.Parser.{bare_app, entry_of, file_app, once_app, row}
+use Rattle.command_line.specs.Lines.{CommandLine, Word, are_plain, get, get_of, history, history_of, is_plain, once, once_of, one_file, put, put_of, two_files}
+use Rattle.command_line.specs.Parser.{bare_app, entry_of, file_app, get_app, history_app, once_app, pair_app, put_app, row}
 
 -- ---- one word that is no flag
 
@@ -149,115 +149,153 @@ reach_stray s words h p word rest e stray there =
     ap is_empty (there.0 ∙ fault_step s h p word rest e) ∙ refused_first (step_fault s p h value) _ stray in
     refused_first (walk_fault s [] (walk_from nothing_held) words) _ walks
 
+-- ---- words of which each takes a place of its own
+
+-- where they leave a walk, and at which place
+abbrev pub held_after : Shape → Held → ℕ → List Word → Held
+held_after s h p [] = h
+held_after s h p (word ∷ words) = held_after s (placed s.rules h p word).held (suc p) words
+
+abbrev pub place_after : ℕ → List Word → ℕ
+place_after p [] = p
+place_after p (word ∷ words) = place_after (suc p) words
+
+-- none is a fault, and each takes the next place
+abbrev pub TakePlaces : Shape → Held → ℕ → List Word → Type 0
+TakePlaces s h p [] = Unit {0}
+TakePlaces s h p (word ∷ words) =
+    ((step_fault s p h value ≡ []) × (placed s.rules h p word ≡ at (placed s.rules h p word).held (suc p)))
+    × TakePlaces s (placed s.rules h p word).held (suc p) words
+
+reach_all : (s : Shape) (all : List Word) (h : Held) (p : ℕ) (words rest : List Word) → TakePlaces s h p words → are_plain words ≡ true
+    → Reaches s all h p (words ++ rest) → Reaches s all (held_after s h p words) (place_after p words) rest
+reach_all s all h p [] rest takes e so_far = so_far
+reach_all s all h p (word ∷ words) rest takes e so_far =
+    let plain = both (is_plain word) (are_plain words) e in
+    reach_all s all (placed s.rules h p word).held (suc p) words rest takes.1 plain.1
+    (reach_more s all h (placed s.rules h p word).held p (suc p) word (words ++ rest) plain.0 takes.0.0 takes.0.1 so_far)
+
+plain_parts : (words rest : List Word) → are_plain (words ++ rest) ≡ true → (are_plain words ≡ true) × (are_plain rest ≡ true)
+plain_parts [] rest e = (refl, e)
+plain_parts (word ∷ words) rest e =
+    let first = both (is_plain word) (are_plain (words ++ rest)) e in
+    let others = plain_parts words rest first.1 in
+    (ap₂ (λ a b. a && b) first.0 others.0, others.1)
+
+module _ (s : Shape) (words : List Word) (takes : TakePlaces s nothing_held 1 words) where
+  abbrev end_held : Held
+  end_held = held_after s nothing_held 1 words
+
+  reached : are_plain words ≡ true → Reaches s words end_held (place_after 1 words) []
+  reached e = reach_all s words nothing_held 1 words [] takes e (subst (λ ws. Reaches s words nothing_held 1 ws) (sym (append-nil words)) (refl, refl))
+
+  -- fewer words than the command wants
+  pub too_few : are_plain words ≡ true → is_empty (end_fault s end_held) ≡ false → is_empty (level_fault s [] nothing_held words false []) ≡ false
+  too_few e left = ap is_empty (reach_end s words end_held (place_after 1 words) (reached e)) ∙ left
+
+  -- the words of a line
+  pub all_taken : (line : CommandLine) → are_plain words ≡ true → end_fault s end_held ≡ [] → (s.name, finished s.rules end_held) ≡ entry_of line
+      → Agrees (Some line) (level_fault s [] nothing_held words false []) (Some (rows_at s words))
+  all_taken line e quiet is = (
+    reach_end s words end_held (place_after 1 words) (reached e) ∙ quiet,
+    ap (λ (w : Walk). Some (s.name, finished s.rules w.held)) (reached e).1 ∙ ap (λ (r : Text × List Row). Some r) is,
+  )
+
+  -- and one that it has no place for
+  pub too_many : (word : Word) (rest : List Word) → are_plain (words ++ word ∷ rest) ≡ true
+      → is_empty (step_fault s (place_after 1 words) end_held value) ≡ false
+      → is_empty (level_fault s [] nothing_held (words ++ word ∷ rest) false []) ≡ false
+  too_many word rest e stray =
+      let plain = plain_parts words (word ∷ rest) e in
+      reach_stray s (words ++ word ∷ rest) end_held (place_after 1 words) word rest (both (is_plain word) (are_plain rest) plain.1).0 stray
+      (reach_all s (words ++ word ∷ rest) nothing_held 1 words (word ∷ rest) takes plain.0 (refl, refl))
+
 -- ---- FILE
-
-abbrev pub file_held : Word → Word → Held
-file_held name file = (placed (file_leaf name).rules nothing_held 1 file).held
-
-pub file_reached : (name file : Word) (rest : List Word) → is_plain file ≡ true → Reaches (file_leaf name) (file ∷ rest) (file_held name file) 2 rest
-file_reached name file rest e = reach_more (file_leaf name) (file ∷ rest) nothing_held (file_held name file) 1 2 file rest e refl refl (refl, refl)
 
 pub file_agrees : (name : Word) (make : Word → CommandLine) → ((file : Word) → (name, row (codes "file") file ∷ []) ≡ entry_of (make file))
     → (words : List Word) → are_plain words ≡ true
     → Agrees (one_file make words) (level_fault (file_leaf name) [] nothing_held words false []) (Some (rows_at (file_leaf name) words))
 unfolding defaults_fault
-file_agrees name make is [] e = ap is_empty (reach_end (file_leaf name) [] nothing_held 1 (refl, refl))
-file_agrees name make is (file ∷ []) e =
-    let there = file_reached name file [] (both _ _ e).0 in (
-      reach_end (file_leaf name) (file ∷ []) (file_held name file) 2 there,
-      ap (λ (w : Walk). Some (name, finished (file_leaf name).rules w.held)) there.1 ∙ ap (λ (r : Text × List Row). Some r) (is file),
-    )
-file_agrees name make is (file ∷ word ∷ rest) e =
-    reach_stray (file_leaf name) (file ∷ word ∷ rest) (file_held name file) 2 word rest (both _ _ (both _ _ e).1).0 refl
-    (file_reached name file (word ∷ rest) (both _ _ e).0)
+file_agrees name make is [] e = too_few (file_leaf name) [] tt e refl
+file_agrees name make is (file ∷ []) e = all_taken (file_leaf name) (file ∷ []) ((refl, refl), tt) (make file) e refl (is file)
+file_agrees name make is (file ∷ word ∷ rest) e = too_many (file_leaf name) (file ∷ []) ((refl, refl), tt) word rest e refl
+
+-- ---- OLD NEW
+
+abbrev pub pair_leaf : Word → Shape
+pair_leaf name = leaf (pair_app name).top
+
+pub pair_agrees : (name : Word) (make : Word → Word → CommandLine)
+    → ((old new : Word) → (name, row (codes "old") old ∷ row (codes "new") new ∷ []) ≡ entry_of (make old new))
+    → (words : List Word) → are_plain words ≡ true
+    → Agrees (two_files make words) (level_fault (pair_leaf name) [] nothing_held words false []) (Some (rows_at (pair_leaf name) words))
+unfolding defaults_fault
+pair_agrees name make is [] e = too_few (pair_leaf name) [] tt e refl
+pair_agrees name make is (old ∷ []) e = too_few (pair_leaf name) (old ∷ []) ((refl, refl), tt) e refl
+pair_agrees name make is (old ∷ new ∷ []) e =
+    all_taken (pair_leaf name) (old ∷ new ∷ []) ((refl, refl), ((refl, refl), tt)) (make old new) e refl (is old new)
+pair_agrees name make is (old ∷ new ∷ word ∷ rest) e =
+    too_many (pair_leaf name) (old ∷ new ∷ []) ((refl, refl), ((refl, refl), tt)) word rest e refl
 
 -- ---- KEY VALUE E1 L1 E2 L2
-
-abbrev pub once_held : Held → ℕ → Word → Held
-once_held h p word = (placed once_leaf.rules h p word).held
-
-abbrev pub held1 : Word → Held
-held1 a = once_held nothing_held 1 a
-
-abbrev pub held2 : Word → Word → Held
-held2 a b = once_held (held1 a) 2 b
-
-abbrev pub held3 : Word → Word → Word → Held
-held3 a b c = once_held (held2 a b) 3 c
-
-abbrev pub held4 : Word → Word → Word → Word → Held
-held4 a b c d = once_held (held3 a b c) 4 d
-
-abbrev pub held5 : Word → Word → Word → Word → Word → Held
-held5 a b c d f = once_held (held4 a b c d) 5 f
-
-abbrev pub held6 : Word → Word → Word → Word → Word → Word → Held
-held6 a b c d f g = once_held (held5 a b c d f) 6 g
-
-reach1 : (a : Word) (rest : List Word) → is_plain a ≡ true → Reaches once_leaf (a ∷ rest) (held1 a) 2 rest
-reach1 a rest ea = reach_more once_leaf (a ∷ rest) nothing_held (held1 a) 1 2 a rest ea refl refl (refl, refl)
-
-reach2 : (a b : Word) (rest : List Word) → is_plain a ≡ true → is_plain b ≡ true → Reaches once_leaf (a ∷ b ∷ rest) (held2 a b) 3 rest
-reach2 a b rest ea eb = reach_more once_leaf (a ∷ b ∷ rest) (held1 a) (held2 a b) 2 3 b rest eb refl refl (reach1 a (b ∷ rest) ea)
-
-reach3 : (a b c : Word) (rest : List Word) → is_plain a ≡ true → is_plain b ≡ true → is_plain c ≡ true
-    → Reaches once_leaf (a ∷ b ∷ c ∷ rest) (held3 a b c) 4 rest
-reach3 a b c rest ea eb ec = reach_more once_leaf (a ∷ b ∷ c ∷ rest) (held2 a b) (held3 a b c) 3 4 c rest ec refl refl (reach2 a b (c ∷ rest) ea eb)
-
-reach4 : (a b c d : Word) (rest : List Word) → is_plain a ≡ true → is_plain b ≡ true → is_plain c ≡ true → is_plain d ≡ true
-    → Reaches once_leaf (a ∷ b ∷ c ∷ d ∷ rest) (held4 a b c d) 5 rest
-reach4 a b c d rest ea eb ec ed =
-    reach_more once_leaf (a ∷ b ∷ c ∷ d ∷ rest) (held3 a b c) (held4 a b c d) 4 5 d rest ed refl refl (reach3 a b c (d ∷ rest) ea eb ec)
-
-reach5 : (a b c d f : Word) (rest : List Word) → is_plain a ≡ true → is_plain b ≡ true → is_plain c ≡ true → is_plain d ≡ true → is_plain f ≡ true
-    → Reaches once_leaf (a ∷ b ∷ c ∷ d ∷ f ∷ rest) (held5 a b c d f) 6 rest
-reach5 a b c d f rest ea eb ec ed ef =
-    reach_more once_leaf (a ∷ b ∷ c ∷ d ∷ f ∷ rest) (held4 a b c d) (held5 a b c d f) 5 6 f rest ef refl refl (reach4 a b c d (f ∷ rest) ea eb ec ed)
-
-pub reach6 : (a b c d f g : Word) (rest : List Word) → are_plain (a ∷ b ∷ c ∷ d ∷ f ∷ g ∷ []) ≡ true
-    → Reaches once_leaf (a ∷ b ∷ c ∷ d ∷ f ∷ g ∷ rest) (held6 a b c d f g) 7 rest
-reach6 a b c d f g rest e =
-    let e1 = both (is_plain a) _ e in
-    let e2 = both (is_plain b) _ e1.1 in
-    let e3 = both (is_plain c) _ e2.1 in
-    let e4 = both (is_plain d) _ e3.1 in
-    let e5 = both (is_plain f) _ e4.1 in
-    let e6 = both (is_plain g) _ e5.1 in
-    reach_more once_leaf (a ∷ b ∷ c ∷ d ∷ f ∷ g ∷ rest) (held5 a b c d f) (held6 a b c d f g) 6 7 g rest e6.0 refl refl
-    (reach5 a b c d f (g ∷ rest) e1.0 e2.0 e3.0 e4.0 e5.0)
-
--- the words are plain up to the last that is named
-abbrev pub plain2 : (a b : Word) (rest : List Word) → are_plain (a ∷ b ∷ rest) ≡ true → (is_plain a ≡ true) × (is_plain b ≡ true) × (are_plain rest ≡ true)
-plain2 a b rest e = let p = both (is_plain a) _ e in let q = both (is_plain b) (are_plain rest) p.1 in (p.0, q.0, q.1)
 
 pub once_agrees : (words : List Word) → are_plain words ≡ true
     → Agrees (once_of words) (level_fault once_leaf [] nothing_held words false []) (Some (rows_at once_leaf words))
 unfolding defaults_fault
-once_agrees [] e = ap is_empty (reach_end once_leaf [] nothing_held 1 (refl, refl))
-once_agrees (a ∷ []) e = ap is_empty (reach_end once_leaf (a ∷ []) (held1 a) 2 (reach1 a [] (both _ _ e).0))
-once_agrees (a ∷ b ∷ []) e =
-    let p = plain2 a b [] e in
-    ap is_empty (reach_end once_leaf (a ∷ b ∷ []) (held2 a b) 3 (reach2 a b [] p.0 p.1))
-once_agrees (a ∷ b ∷ c ∷ []) e =
-    let p = plain2 a b (c ∷ []) e in
-    ap is_empty (reach_end once_leaf (a ∷ b ∷ c ∷ []) (held3 a b c) 4 (reach3 a b c [] p.0 p.1 (both _ _ p.2).0))
-once_agrees (a ∷ b ∷ c ∷ d ∷ []) e =
-    let p = plain2 a b (c ∷ d ∷ []) e in
-    let q = plain2 c d [] p.2 in
-    ap is_empty (reach_end once_leaf (a ∷ b ∷ c ∷ d ∷ []) (held4 a b c d) 5 (reach4 a b c d [] p.0 p.1 q.0 q.1))
-once_agrees (a ∷ b ∷ c ∷ d ∷ f ∷ []) e =
-    let p = plain2 a b (c ∷ d ∷ f ∷ []) e in
-    let q = plain2 c d (f ∷ []) p.2 in
-    ap is_empty (reach_end once_leaf (a ∷ b ∷ c ∷ d ∷ f ∷ []) (held5 a b c d f) 6 (reach5 a b c d f [] p.0 p.1 q.0 q.1 (both _ _ q.2).0))
-once_agrees (a ∷ b ∷ c ∷ d ∷ f ∷ g ∷ []) e =
-    let there = reach6 a b c d f g [] e in (
-      reach_end once_leaf (a ∷ b ∷ c ∷ d ∷ f ∷ g ∷ []) (held6 a b c d f g) 7 there,
-      ap (λ (w : Walk). Some (once_leaf.name, finished once_leaf.rules w.held)) there.1,
-    )
-once_agrees (a ∷ b ∷ c ∷ d ∷ f ∷ g ∷ word ∷ rest) e =
-    let p = plain2 a b (c ∷ d ∷ f ∷ g ∷ word ∷ rest) e in
-    let q = plain2 c d (f ∷ g ∷ word ∷ rest) p.2 in
-    let r = plain2 f g (word ∷ rest) q.2 in
-    let six : are_plain (a ∷ b ∷ c ∷ d ∷ f ∷ g ∷ []) ≡ true = rw (p.0, p.1, q.0, q.1, r.0, r.1) refl in
-    reach_stray once_leaf (a ∷ b ∷ c ∷ d ∷ f ∷ g ∷ word ∷ rest) (held6 a b c d f g) 7 word rest (both _ _ r.2).0 refl
-    (reach6 a b c d f g (word ∷ rest) six)
+once_agrees [] e = too_few once_leaf [] tt e refl
+once_agrees (key ∷ []) e = too_few once_leaf (key ∷ []) ((refl, refl), tt) e refl
+once_agrees (key ∷ text ∷ []) e = too_few once_leaf (key ∷ text ∷ []) ((refl, refl), ((refl, refl), tt)) e refl
+once_agrees (key ∷ text ∷ e1 ∷ []) e = too_few once_leaf (key ∷ text ∷ e1 ∷ []) ((refl, refl), ((refl, refl), ((refl, refl), tt))) e refl
+once_agrees (key ∷ text ∷ e1 ∷ l1 ∷ []) e =
+    too_few once_leaf (key ∷ text ∷ e1 ∷ l1 ∷ []) ((refl, refl), ((refl, refl), ((refl, refl), ((refl, refl), tt)))) e refl
+once_agrees (key ∷ text ∷ e1 ∷ l1 ∷ e2 ∷ []) e =
+    too_few once_leaf (key ∷ text ∷ e1 ∷ l1 ∷ e2 ∷ []) ((refl, refl), ((refl, refl), ((refl, refl), ((refl, refl), ((refl, refl), tt))))) e refl
+once_agrees (key ∷ text ∷ e1 ∷ l1 ∷ e2 ∷ l2 ∷ []) e =
+    all_taken once_leaf (key ∷ text ∷ e1 ∷ l1 ∷ e2 ∷ l2 ∷ []) ((refl, refl), ((refl, refl), ((refl, refl), ((refl, refl), ((refl, refl), ((refl, refl), tt))))))
+    (once key text e1 l1 e2 l2) e refl refl
+once_agrees (key ∷ text ∷ e1 ∷ l1 ∷ e2 ∷ l2 ∷ word ∷ rest) e =
+    too_many once_leaf (key ∷ text ∷ e1 ∷ l1 ∷ e2 ∷ l2 ∷ []) ((refl, refl), ((refl, refl), ((refl, refl), ((refl, refl), ((refl, refl), ((refl, refl), tt))))))
+    word rest e refl
+
+-- ---- DIR KEY
+
+abbrev pub history_leaf : Shape
+history_leaf = leaf history_app.top
+
+pub history_agrees : (words : List Word) → are_plain words ≡ true
+    → Agrees (history_of words) (level_fault history_leaf [] nothing_held words false []) (Some (rows_at history_leaf words))
+unfolding defaults_fault
+history_agrees [] e = too_few history_leaf [] tt e refl
+history_agrees (dir ∷ []) e = too_few history_leaf (dir ∷ []) ((refl, refl), tt) e refl
+history_agrees (dir ∷ key ∷ []) e = all_taken history_leaf (dir ∷ key ∷ []) ((refl, refl), ((refl, refl), tt)) (history dir key) e refl refl
+history_agrees (dir ∷ key ∷ word ∷ rest) e = too_many history_leaf (dir ∷ key ∷ []) ((refl, refl), ((refl, refl), tt)) word rest e refl
+
+-- ---- DIR KEY, and AT or nothing
+
+abbrev pub get_leaf : Shape
+get_leaf = leaf get_app.top
+
+pub get_agrees : (words : List Word) → are_plain words ≡ true
+    → Agrees (get_of words) (level_fault get_leaf [] nothing_held words false []) (Some (rows_at get_leaf words))
+unfolding defaults_fault
+get_agrees [] e = too_few get_leaf [] tt e refl
+get_agrees (dir ∷ []) e = too_few get_leaf (dir ∷ []) ((refl, refl), tt) e refl
+get_agrees (dir ∷ key ∷ []) e = all_taken get_leaf (dir ∷ key ∷ []) ((refl, refl), ((refl, refl), tt)) (get dir key None) e refl refl
+get_agrees (dir ∷ key ∷ time ∷ []) e =
+    all_taken get_leaf (dir ∷ key ∷ time ∷ []) ((refl, refl), ((refl, refl), ((refl, refl), tt))) (get dir key (Some time)) e refl refl
+get_agrees (dir ∷ key ∷ time ∷ word ∷ rest) e = too_many get_leaf (dir ∷ key ∷ time ∷ []) ((refl, refl), ((refl, refl), ((refl, refl), tt))) word rest e refl
+
+-- ---- DIR KEY VALUE
+
+abbrev pub put_leaf : Shape
+put_leaf = leaf put_app.top
+
+pub put_agrees : (words : List Word) → are_plain words ≡ true
+    → Agrees (put_of words) (level_fault put_leaf [] nothing_held words false []) (Some (rows_at put_leaf words))
+unfolding defaults_fault
+put_agrees [] e = too_few put_leaf [] tt e refl
+put_agrees (dir ∷ []) e = too_few put_leaf (dir ∷ []) ((refl, refl), tt) e refl
+put_agrees (dir ∷ key ∷ []) e = too_few put_leaf (dir ∷ key ∷ []) ((refl, refl), ((refl, refl), tt)) e refl
+put_agrees (dir ∷ key ∷ text ∷ []) e =
+    all_taken put_leaf (dir ∷ key ∷ text ∷ []) ((refl, refl), ((refl, refl), ((refl, refl), tt))) (put dir key text) e refl refl
+put_agrees (dir ∷ key ∷ text ∷ word ∷ rest) e = too_many put_leaf (dir ∷ key ∷ text ∷ []) ((refl, refl), ((refl, refl), ((refl, refl), tt))) word rest e refl

@@ -1,6 +1,6 @@
 -- The parser's walk over a command line of the program: its first word names a command.
 use Rattle.std.proofs.Common.{◌≡◌, ◌∙◌, ◌||◌, Bool, true, false, refl, sym, ap, ap₂, subst, List, [], ◌∷◌, Option, Some, None, codes}
-use Rattle.std.proofs.Common.{true≢false, inl, inr, ◌⊎◌}
+use Rattle.std.proofs.Common.{true≢false}
 use Rattle.std.specs.Prelude.{find, option_map, cond, fold, is_some, if◌then◌else◌}
 use Rattle.std.specs.Option.{option_map_or}
 use Rattle.std.specs.Str.{bytes_eq}
@@ -18,11 +18,10 @@ use Rattle.clap.specs.Faults.{level_fault, settle_fault, step_fault, walk_fault}
 use Rattle.command_line.specs.Lines.{CommandLine, Word, are_plain, one_file, is_plain, line_of, once_of, inspect_of, history_of, get_of, put_of}
 use Rattle.command_line.specs.Lines.{stats_of, two_files, format, play, drive, dump, migrate, compact}
 use Rattle.command_line.specs.Parser.{entry_of, shards_app}
-use Rattle.command_line.proofs.LineLemmas.{Agrees, agrees_as, file_agrees, file_leaf, once_agrees, once_leaf, refused_first, stopped_walk}
+use Rattle.command_line.proofs.LineLemmas.{Agrees, agrees_as, file_agrees, file_leaf, get_agrees, get_leaf, history_agrees, history_leaf}
+use Rattle.command_line.proofs.LineLemmas.{once_agrees, once_leaf, pair_agrees, pair_leaf, put_agrees, put_leaf, refused_first, stopped_walk}
 use Rattle.command_line.proofs.LineLemmas.{word_is_fine, word_is_value}
-use Rattle.command_line.proofs.KeyLemmas.{get_agrees, get_leaf, history_agrees, history_leaf, put_agrees, put_leaf}
 use Rattle.command_line.proofs.ManyLemmas.{inspect_agrees, inspect_leaf, stats_agrees, stats_leaf}
-use Rattle.command_line.proofs.PairLemmas.{pair_agrees, pair_leaf}
 
 -- ---- the level above
 
@@ -116,119 +115,48 @@ other_agrees name rest e a b c d f h p q r s t u =
 
 -- ---- any plain words
 
-bool_cases : (b : Bool) → (b ≡ true) ⊎ (b ≡ false)
-bool_cases true = inl refl
-bool_cases false = inr refl
+-- by a test
+choose : {A : Type 0} (b : Bool) → (b ≡ true → A) → (b ≡ false → A) → A
+choose true is_true is_false = is_true refl
+choose false is_true is_false = is_false refl
 
 abbrev pub AgreesAt : List Word → Type 0
 AgreesAt words = Agrees (line_of words) (fault_of shards_app words) (subcommand_of shards_app words)
 
-once_line : (rest : List Word) → are_plain rest ≡ true → AgreesAt (codes "once" ∷ rest)
-unfolding walked
-once_line rest e = agrees_as (once_of rest) _ _ _ _ (enters (codes "once") once_leaf rest refl refl refl)
-    (enters_with (codes "once") once_leaf rest refl refl) (once_agrees rest e)
-
-format_line : (rest : List Word) → are_plain rest ≡ true → AgreesAt (codes "format" ∷ rest)
-unfolding walked
-format_line rest e = agrees_as (one_file format rest) _ _ _ _ (enters (codes "format") (file_leaf (codes "format")) rest refl refl refl)
-    (enters_with (codes "format") (file_leaf (codes "format")) rest refl refl) (file_agrees (codes "format") format (λ _. refl) rest e)
-
-play_line : (rest : List Word) → are_plain rest ≡ true → AgreesAt (codes "play" ∷ rest)
-unfolding walked
-play_line rest e = agrees_as (one_file play rest) _ _ _ _ (enters (codes "play") (file_leaf (codes "play")) rest refl refl refl)
-    (enters_with (codes "play") (file_leaf (codes "play")) rest refl refl) (file_agrees (codes "play") play (λ _. refl) rest e)
-
-inspect_line : (rest : List Word) → are_plain rest ≡ true → AgreesAt (codes "inspect" ∷ rest)
-unfolding walked
-inspect_line rest e = agrees_as (inspect_of rest) _ _ _ _ (enters (codes "inspect") inspect_leaf rest refl refl refl)
-    (enters_with (codes "inspect") inspect_leaf rest refl refl) (inspect_agrees rest e)
-
-drive_line : (rest : List Word) → are_plain rest ≡ true → AgreesAt (codes "drive" ∷ rest)
-unfolding walked
-drive_line rest e = agrees_as (one_file drive rest) _ _ _ _ (enters (codes "drive") (file_leaf (codes "drive")) rest refl refl refl)
-    (enters_with (codes "drive") (file_leaf (codes "drive")) rest refl refl) (file_agrees (codes "drive") drive (λ _. refl) rest e)
-
-dump_line : (rest : List Word) → are_plain rest ≡ true → AgreesAt (codes "dump" ∷ rest)
-unfolding walked
-dump_line rest e = agrees_as (one_file dump rest) _ _ _ _ (enters (codes "dump") (file_leaf (codes "dump")) rest refl refl refl)
-    (enters_with (codes "dump") (file_leaf (codes "dump")) rest refl refl) (file_agrees (codes "dump") dump (λ _. refl) rest e)
-
-history_line : (rest : List Word) → are_plain rest ≡ true → AgreesAt (codes "history" ∷ rest)
-unfolding walked
-history_line rest e = agrees_as (history_of rest) _ _ _ _ (enters (codes "history") history_leaf rest refl refl refl)
-    (enters_with (codes "history") history_leaf rest refl refl) (history_agrees rest e)
-
-get_line : (rest : List Word) → are_plain rest ≡ true → AgreesAt (codes "get" ∷ rest)
-unfolding walked
-get_line rest e = agrees_as (get_of rest) _ _ _ _ (enters (codes "get") get_leaf rest refl refl refl)
-    (enters_with (codes "get") get_leaf rest refl refl) (get_agrees rest e)
-
-put_line : (rest : List Word) → are_plain rest ≡ true → AgreesAt (codes "put" ∷ rest)
-unfolding walked
-put_line rest e = agrees_as (put_of rest) _ _ _ _ (enters (codes "put") put_leaf rest refl refl refl)
-    (enters_with (codes "put") put_leaf rest refl refl) (put_agrees rest e)
-
-stats_line : (rest : List Word) → are_plain rest ≡ true → AgreesAt (codes "stats" ∷ rest)
-unfolding walked
-stats_line rest e = agrees_as (stats_of rest) _ _ _ _ (enters (codes "stats") stats_leaf rest refl refl refl)
-    (enters_with (codes "stats") stats_leaf rest refl refl) (stats_agrees rest e)
-
-migrate_line : (rest : List Word) → are_plain rest ≡ true → AgreesAt (codes "migrate" ∷ rest)
-unfolding walked
-migrate_line rest e = agrees_as (two_files migrate rest) _ _ _ _ (enters (codes "migrate") (pair_leaf (codes "migrate")) rest refl refl refl)
-    (enters_with (codes "migrate") (pair_leaf (codes "migrate")) rest refl refl) (pair_agrees (codes "migrate") migrate (λ _ _. refl) rest e)
-
-compact_line : (rest : List Word) → are_plain rest ≡ true → AgreesAt (codes "compact" ∷ rest)
-unfolding walked
-compact_line rest e = agrees_as (two_files compact rest) _ _ _ _ (enters (codes "compact") (pair_leaf (codes "compact")) rest refl refl refl)
-    (enters_with (codes "compact") (pair_leaf (codes "compact")) rest refl refl) (pair_agrees (codes "compact") compact (λ _ _. refl) rest e)
-
--- where the first word is this command's name
-named : (name known : Word) (rest : List Word) → bytes_eq known name ≡ true → AgreesAt (known ∷ rest) → AgreesAt (name ∷ rest)
-named name known rest e h = subst (λ n. AgreesAt (n ∷ rest)) ((bytes_eq-Decides known name).0 e) h
+-- where the first word is a command's name, by the walk over the others
+named : (name known : Word) (s : Shape) (rest : List Word) → bytes_eq known name ≡ true
+    → walked program.top.rules program_names (walk_from nothing_held) known ≡ stopped_at known []
+    → turn_fault program.top program_names (walk_from nothing_held) known ≡ []
+    → find (λ x. answers_to known (label_of x)) program.subs ≡ Some s
+    → Agrees (line_of (known ∷ rest)) (level_fault s [] nothing_held rest false []) (Some (rows_at s rest)) → AgreesAt (name ∷ rest)
+named name known s rest same starts fine found agrees =
+    subst (λ n. AgreesAt (n ∷ rest)) ((bytes_eq-Decides known name).0 same)
+    (agrees_as (line_of (known ∷ rest)) _ _ _ _ (enters known s rest starts fine found) (enters_with known s rest starts found) agrees)
 
 pub words_agree : (words : List Word) → are_plain words ≡ true → AgreesAt words
 unfolding walk_fault walked defaults_fault
 words_agree [] e = refl
 words_agree (name ∷ rest) e =
     let plain = both (is_plain name) (are_plain rest) e in
-    elim (bool_cases (bytes_eq (codes "once") name)) [
-      | inl a ↦ named name (codes "once") rest a (once_line rest plain.1)
-      | inr a ↦ elim (bool_cases (bytes_eq (codes "format") name)) [
-        | inl b ↦ named name (codes "format") rest b (format_line rest plain.1)
-        | inr b ↦ elim (bool_cases (bytes_eq (codes "play") name)) [
-          | inl c ↦ named name (codes "play") rest c (play_line rest plain.1)
-          | inr c ↦ elim (bool_cases (bytes_eq (codes "inspect") name)) [
-            | inl d ↦ named name (codes "inspect") rest d (inspect_line rest plain.1)
-            | inr d ↦ elim (bool_cases (bytes_eq (codes "drive") name)) [
-              | inl f ↦ named name (codes "drive") rest f (drive_line rest plain.1)
-              | inr f ↦ elim (bool_cases (bytes_eq (codes "dump") name)) [
-                | inl h ↦ named name (codes "dump") rest h (dump_line rest plain.1)
-                | inr h ↦ elim (bool_cases (bytes_eq (codes "history") name)) [
-                  | inl p ↦ named name (codes "history") rest p (history_line rest plain.1)
-                  | inr p ↦ elim (bool_cases (bytes_eq (codes "get") name)) [
-                    | inl q ↦ named name (codes "get") rest q (get_line rest plain.1)
-                    | inr q ↦ elim (bool_cases (bytes_eq (codes "put") name)) [
-                      | inl r ↦ named name (codes "put") rest r (put_line rest plain.1)
-                      | inr r ↦ elim (bool_cases (bytes_eq (codes "stats") name)) [
-                        | inl s ↦ named name (codes "stats") rest s (stats_line rest plain.1)
-                        | inr s ↦ elim (bool_cases (bytes_eq (codes "migrate") name)) [
-                          | inl t ↦ named name (codes "migrate") rest t (migrate_line rest plain.1)
-                          | inr t ↦ elim (bool_cases (bytes_eq (codes "compact") name)) [
-                            | inl u ↦ named name (codes "compact") rest u (compact_line rest plain.1)
-                            | inr u ↦ other_agrees name rest plain.0 a b c d f h p q r s t u
-                          ]
-                        ]
-                      ]
-                    ]
-                  ]
-                ]
-              ]
-            ]
-          ]
-        ]
-      ]
-    ]
+    choose (bytes_eq (codes "once") name) (λ a. named name (codes "once") once_leaf rest a refl refl refl (once_agrees rest plain.1)) (λ a.
+    choose (bytes_eq (codes "format") name)
+    (λ b. named name (codes "format") (file_leaf (codes "format")) rest b refl refl refl (file_agrees (codes "format") format (λ _. refl) rest plain.1)) (λ b.
+    choose (bytes_eq (codes "play") name)
+    (λ c. named name (codes "play") (file_leaf (codes "play")) rest c refl refl refl (file_agrees (codes "play") play (λ _. refl) rest plain.1)) (λ c.
+    choose (bytes_eq (codes "inspect") name) (λ d. named name (codes "inspect") inspect_leaf rest d refl refl refl (inspect_agrees rest plain.1)) (λ d.
+    choose (bytes_eq (codes "drive") name)
+    (λ f. named name (codes "drive") (file_leaf (codes "drive")) rest f refl refl refl (file_agrees (codes "drive") drive (λ _. refl) rest plain.1)) (λ f.
+    choose (bytes_eq (codes "dump") name)
+    (λ h. named name (codes "dump") (file_leaf (codes "dump")) rest h refl refl refl (file_agrees (codes "dump") dump (λ _. refl) rest plain.1)) (λ h.
+    choose (bytes_eq (codes "history") name) (λ p. named name (codes "history") history_leaf rest p refl refl refl (history_agrees rest plain.1)) (λ p.
+    choose (bytes_eq (codes "get") name) (λ q. named name (codes "get") get_leaf rest q refl refl refl (get_agrees rest plain.1)) (λ q.
+    choose (bytes_eq (codes "put") name) (λ r. named name (codes "put") put_leaf rest r refl refl refl (put_agrees rest plain.1)) (λ r.
+    choose (bytes_eq (codes "stats") name) (λ s. named name (codes "stats") stats_leaf rest s refl refl refl (stats_agrees rest plain.1)) (λ s.
+    choose (bytes_eq (codes "migrate") name) (λ t. named name (codes "migrate") (pair_leaf (codes "migrate")) rest t refl refl refl
+    (pair_agrees (codes "migrate") migrate (λ _ _. refl) rest plain.1)) (λ t.
+    choose (bytes_eq (codes "compact") name) (λ u. named name (codes "compact") (pair_leaf (codes "compact")) rest u refl refl refl
+    (pair_agrees (codes "compact") compact (λ _ _. refl) rest plain.1)) (λ u.
+    other_agrees name rest plain.0 a b c d f h p q r s t u))))))))))))
 
 -- ---- what the parse answers
 

@@ -118,47 +118,46 @@ fn found_line<'a>(alloc: Global, matches: &ArgMatches<'a>) -> Result<Line<'a>, F
         → MatchResult result (λ l. line_view l ≡ line) (λ f. f ≡ Memory) }
     ensures faults { IfErr result (λ f. (f ≡ Memory) ⊎ (f ≡ BadRequest command_reason)) }
 {
-    if let Some(given) = matches.subcommand_matches("once") {
-        return Ok(once_line(given));
+    match matches.subcommand() {
+        Some((name, given)) => named_line(alloc, name, given),
+        None => Err(Fault::BadRequest(Reason::Command)),
     }
-    if let Some(given) = matches.subcommand_matches("format") {
-        let file = word(given, "file");
-        return Ok(Line::Format { file });
+}
+
+// The line of the command with this name, by its words.
+fn named_line<'a>(alloc: Global, name: &str, given: &ArgMatches<'a>) -> Result<Line<'a>, Fault>
+    ensures found { (line : CommandLine) → (entry_of line).0 ≡ name.now
+        → rows_of (found_of given.now) ≡ (entry_of line).1
+        → MatchResult result (λ l. line_view l ≡ line) (λ f. f ≡ Memory) }
+    ensures faults { IfErr result (λ f. (f ≡ Memory) ⊎ (f ≡ BadRequest command_reason)) }
+{
+    match name {
+        "once" => Ok(once_line(given)),
+        "format" => {
+            let file = word(given, "file");
+            Ok(Line::Format { file })
+        }
+        "play" => {
+            let file = word(given, "file");
+            Ok(Line::Play { file })
+        }
+        "inspect" => inspect_line(alloc, given),
+        "drive" => {
+            let file = word(given, "file");
+            Ok(Line::Drive { file })
+        }
+        "dump" => {
+            let file = word(given, "file");
+            Ok(Line::Dump { file })
+        }
+        "history" => Ok(history_line(given)),
+        "get" => Ok(get_line(given)),
+        "put" => Ok(put_line(given)),
+        "stats" => stats_line(alloc, given),
+        "migrate" => Ok(migrate_line(given)),
+        "compact" => Ok(compact_line(given)),
+        _ => Err(Fault::BadRequest(Reason::Command)),
     }
-    if let Some(given) = matches.subcommand_matches("play") {
-        let file = word(given, "file");
-        return Ok(Line::Play { file });
-    }
-    if let Some(given) = matches.subcommand_matches("inspect") {
-        return inspect_line(alloc, given);
-    }
-    if let Some(given) = matches.subcommand_matches("drive") {
-        let file = word(given, "file");
-        return Ok(Line::Drive { file });
-    }
-    if let Some(given) = matches.subcommand_matches("dump") {
-        let file = word(given, "file");
-        return Ok(Line::Dump { file });
-    }
-    if let Some(given) = matches.subcommand_matches("history") {
-        return Ok(history_line(given));
-    }
-    if let Some(given) = matches.subcommand_matches("get") {
-        return Ok(get_line(given));
-    }
-    if let Some(given) = matches.subcommand_matches("put") {
-        return Ok(put_line(given));
-    }
-    if let Some(given) = matches.subcommand_matches("stats") {
-        return stats_line(alloc, given);
-    }
-    if let Some(given) = matches.subcommand_matches("migrate") {
-        return Ok(migrate_line(given));
-    }
-    if let Some(given) = matches.subcommand_matches("compact") {
-        return Ok(compact_line(given));
-    }
-    Err(Fault::BadRequest(Reason::Command))
 }
 
 // The words of `once`.

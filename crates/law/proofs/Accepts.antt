@@ -20,7 +20,7 @@ use Rattle.record.specs.Records.{Ended, as_ended, as_version, as_committed, as_p
 use Rattle.record.specs.declared.record.Committed.{Committed}
 use Rattle.record.specs.declared.record.Prepared.{Prepared}
 use Rattle.record.specs.declared.record.Record.{Record}
-use Rattle.record.specs.declared.record.Record.TheVariants.{Opened, Ceiling, Prepare, Commit, Abort, Outcome, Horizon, Base, Version, Settled, Closed}
+use Rattle.record.specs.declared.record.Record.TheVariants.{Prepare, Commit, Outcome, Version}
 use Rattle.record.proofs.LearnAgrees.{learn_agrees, followed_more}
 use Rattle.record.proofs.Statuses.{recorded_is}
 use Rattle.law.specs.Among.{IsAmong}
@@ -177,16 +177,8 @@ OneValue is = (i j : Install) → IsAmong is i → IsAmong is j → i.key ≡ j.
 -- what one more record installs
 abbrev pub installs_by : List Record → Record → List Install
 installs_by log (Outcome t o) = installs_at (recorded (facts_of log) t) o
-installs_by log (Record.Opened epoch) = []
-installs_by log (Record.Ceiling s) = []
-installs_by log (Record.Horizon s) = []
-installs_by log (Record.Base _ _ _) = []
 installs_by log (Record.Version install) = install ∷ []
-installs_by log (Record.Settled _ _ _) = []
-installs_by log (Record.Closed _ _ _) = []
-installs_by log (Record.Prepare p) = []
-installs_by log (Record.Commit c) = []
-installs_by log (Record.Abort u) = []
+installs_by log _ = []
 
 pub installs_more : (shard : ℕ) (log : List Record) (r : Record) → followed shard (log ++ r ∷ []) ≡ true →
     installs_of (log ++ r ∷ []) ≡ installs_of log ++ installs_by log r
@@ -194,17 +186,9 @@ unfolding facts_of learn
 installs_more shard log r h = ap (λ (f : Facts). f.installs) (learn_agrees shard log r h) ∙ by_kind r
   where
     by_kind : (q : Record) → (learn (facts_of log) q).installs ≡ installs_of log ++ installs_by log q
-    by_kind (Opened epoch) = sym (append-nil (installs_of log))
-    by_kind (Ceiling at) = sym (append-nil (installs_of log))
-    by_kind (Horizon at) = sym (append-nil (installs_of log))
-    by_kind (Base _ _ _) = sym (append-nil (installs_of log))
     by_kind (Version install) = refl
-    by_kind (Settled _ _ _) = sym (append-nil (installs_of log))
-    by_kind (Closed _ _ _) = sym (append-nil (installs_of log))
-    by_kind (Prepare p) = sym (append-nil (installs_of log))
-    by_kind (Commit c) = sym (append-nil (installs_of log))
-    by_kind (Abort t) = sym (append-nil (installs_of log))
     by_kind (Outcome t o) = refl
+    by_kind _ = sym (append-nil (installs_of log))
 
 -- a new version is of the writes of its id
 pub record IsNew (log : List Record) (r : Record) (i : Install) : Type 0 where
@@ -219,16 +203,7 @@ pub record IsNew (log : List Record) (r : Record) (i : Install) : Type 0 where
 
 pub new_from : (log : List Record) (r : Record) (i : Install) → is_logged r ≡ true → IsAmong (installs_by log r) i → IsNew log r i
 unfolding status_of
-new_from log (Opened epoch) i l h = absurd h
-new_from log (Ceiling at) i l h = absurd h
-new_from log (Horizon at) i l h = absurd h
-new_from log (Base _ _ _) i l h = absurd h
 new_from log (Version _) i l h = cc
-new_from log (Settled _ _ _) i l h = absurd h
-new_from log (Closed _ _ _) i l h = absurd h
-new_from log (Prepare p) i l h = absurd h
-new_from log (Commit c) i l h = absurd h
-new_from log (Abort t) i l h = absurd h
 new_from log (Outcome t o) i l h =
     by_outcome o (subst (λ st. IsAmong (installs_at st o) i) (recorded_is log t) h)
   where
@@ -266,6 +241,7 @@ new_from log (Outcome t o) i l h =
     by_outcome : (q : Option ℕ) → IsAmong (installs_at (status_of log t) q) i → IsNew log (Outcome t q) i
     by_outcome None k = absurd (none_installed (is_aborted log t) (committed_of log t) (prepared_of log t) (ended_of log t) k)
     by_outcome (Some s) k = of_versions s (to_versions (is_aborted log t) (committed_of log t) (prepared_of log t) (ended_of log t) s k)
+new_from log _ i l h = absurd h
 
 -- the writes of an id have one value of each key
 once_by : (log : List Record) (t : Id) → AllWriteOnce log → WritesOnce (writes_by (committed_of log t) (prepared_of log t))

@@ -112,13 +112,7 @@ module _ (w : World) (C : World → Type 0) (same : C w)
   unfolding to_session
   session_goes to (Message.ReadAnswer a) told = hearing_goes (client_of w a.txn) to a refl told
   session_goes to (Message.Done d) told = closing_goes (client_of w d.txn) (there d.txn)
-  session_goes to (Message.Read r) told = same
-  session_goes to (Message.Prepare p) told = same
-  session_goes to (Message.Commit c) told = same
-  session_goes to (Message.GiveUp g) told = same
-  session_goes to (Message.Vote v) told = same
-  session_goes to (Message.Outcome o) told = same
-  session_goes to (Message.Ask a) told = same
+  session_goes to _ told = same
 
   -- ---- shards
 
@@ -131,13 +125,7 @@ module _ (w : World) (C : World → Type 0) (same : C w)
         by_state (Runs m) = same
         by_state (IsStopped m) = crashes n s is (read_log s) (read_area s) (inl (read_may_leave s))
         by_state IsDown = crashes n s is (read_log s) (read_area s) (inl (read_may_leave s))
-    refused_goes (Doing.Take m now) f = same
-    refused_goes (Doing.Resume now) f = same
-    refused_goes (Doing.Settle t now) f = same
-    refused_goes (Doing.Advance at now) f = same
-    refused_goes (Doing.Forget at now) f = same
-    refused_goes (Doing.Nudge t now) f = same
-    refused_goes Doing.Turn f = same
+    refused_goes _ f = same
 
     did_goes : (doing : Doing) (st : Stepped) → effect (setup_of w.config n) w.bag s doing ≡ st → C (did w n s doing st).0
     unfolding did
@@ -163,13 +151,7 @@ module _ (w : World) (C : World → Type 0) (same : C w)
 
     refused_left_goes : (fate : Fate) (doing : Doing) → C (set_shard n (left_by_refused s fate doing) w)
     refused_left_goes fate Doing.Open = crashes n s is (read_log s) (read_area s) (inl (read_may_leave s))
-    refused_left_goes fate (Doing.Take m now) = crashes n s is (left_log fate s) (left_area fate s) (inl (left_may_leave s fate))
-    refused_left_goes fate (Doing.Resume now) = crashes n s is (left_log fate s) (left_area fate s) (inl (left_may_leave s fate))
-    refused_left_goes fate (Doing.Settle t now) = crashes n s is (left_log fate s) (left_area fate s) (inl (left_may_leave s fate))
-    refused_left_goes fate (Doing.Advance at now) = crashes n s is (left_log fate s) (left_area fate s) (inl (left_may_leave s fate))
-    refused_left_goes fate (Doing.Forget at now) = crashes n s is (left_log fate s) (left_area fate s) (inl (left_may_leave s fate))
-    refused_left_goes fate (Doing.Nudge t now) = crashes n s is (left_log fate s) (left_area fate s) (inl (left_may_leave s fate))
-    refused_left_goes fate Doing.Turn = crashes n s is (left_log fate s) (left_area fate s) (inl (left_may_leave s fate))
+    refused_left_goes fate _ = crashes n s is (left_log fate s) (left_area fate s) (inl (left_may_leave s fate))
 
     crash_within_goes : (call : ℕ) (fate : Fate) (doing : Doing) (st : Stepped) → effect (setup_of w.config n) w.bag s doing ≡ st →
         C (set_shard n (crashed_in s call fate doing st) w)

@@ -20,7 +20,7 @@ use Rattle.law.proofs.Recorded.{among_keep, promise_among, outcome_among, is_abo
 use Rattle.law.proofs.Logged.{AreLogged}
 use Rattle.law.proofs.Homes.{log_in, log_logged, decision_home, not_both, no_aborted, outcome_decided, outcome_stamp, promised, promise_of_part, is_orderly}
 use Rattle.law.proofs.Decisions.{decision_stands, left_logged, stands_decided, one_decided, one_promise_in, log_of_number, log_in-is, there_in}
-use Rattle.law.proofs.Picked.{each_of, keep_among, kept_passes, gather_among, AtMostOne, is_none, is_single}
+use Rattle.law.proofs.Picked.{each_of, keep_among, kept_passes, gather_among, AtMostOne, is_none, is_single, some_same}
 
 place_within : {A : Type 0} (xs : List A) (n : ℕ) (x : A) → slice_get xs n ≡ Some x → n < length xs
 place_within [] n x e = cc
@@ -29,10 +29,7 @@ place_within (y ∷ ys) (suc n) x e = let ih = place_within ys n x e in omega ar
 
 pub has_head : (xs : List ℕ) (n : ℕ) → head xs ≡ Some n → has xs n ≡ true
 has_head [] n e = cc
-has_head (x ∷ xs) n e = let same : x ≡ n = some_is x n e in grind (arith, nat_tests)
-  where
-    some_is : (a b : ℕ) → Some a ≡ Some b → a ≡ b
-    some_is a b k = cc
+has_head (x ∷ xs) n e = let same : x ≡ n = some_same x n e in grind (arith, nat_tests)
 
 pub when_head : (xs : List ℕ) (n : ℕ) → head xs ≡ Some n → when (nat_eq n) (head xs) ≡ true
 when_head xs n e = ap (when (nat_eq n)) e ∙ same_number n

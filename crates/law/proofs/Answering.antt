@@ -15,12 +15,12 @@ use Rattle.units.specs.declared.setup.Setup.{Setup}
 use Rattle.units.specs.declared.writes.Write.{Write}
 use Rattle.units.proofs.KeyLaws.{same_key-refl}
 use Rattle.record.specs.Facts.{Facts, facts_of, recorded}
-use Rattle.record.specs.Records.{Ended, Status, Unrecorded, StandsPrepared, StandsDecided, HasAborted, HasSettled, HasClosed, is_aborted}
+use Rattle.record.specs.Records.{Ended, Status, Unrecorded, StandsPrepared, StandsDecided, is_aborted}
 use Rattle.record.specs.Records.{committed_of, prepared_of, ended_of, status_by, status_of}
 use Rattle.record.specs.declared.record.Committed.{Committed}
 use Rattle.record.specs.declared.record.Prepared.{Prepared}
 use Rattle.record.specs.declared.record.Record.{Record}
-use Rattle.record.specs.declared.record.Record.TheVariants.{Opened, Ceiling, Prepare, Commit, Abort, Outcome, Horizon, Base, Version, Settled, Closed}
+use Rattle.record.specs.declared.record.Record.TheVariants.{Prepare, Commit}
 use Rattle.record.proofs.Statuses.{recorded_is}
 use Rattle.message.specs.declared.message.ReadAnswer.{ReadAnswer}
 use Rattle.protocol.specs.Plan.{Plan, Before, start_of_step, carried, after_change}
@@ -32,11 +32,13 @@ use Rattle.protocol.proofs.RowChanges.{row_as, find-with_row_same}
 use Rattle.law.specs.Among.{IsAmong}
 use Rattle.world.specs.Headline.{IsUnsure}
 use Rattle.world.specs.World.{World, ShardNow, View, State, Runs, IsStopped, IsDown, Area, Unsure, setup_of}
+use Rattle.law.proofs.OfLogs.{memory_is}
 use Rattle.law.proofs.Members.{among_right}
 use Rattle.law.proofs.Fair.{AnswerFair, Answered, OfRow, OfLock}
 use Rattle.world.proofs.Sounds.{SoundLog, SoundShard}
 use Rattle.law.proofs.HeldRead.{Held, Reads}
 use Rattle.law.proofs.KeptRead.{IsAllowed, KeptRead, Tells, Told, tells_keeps, tells_opens, told_follows, told_logs, told_opens}
+use Rattle.law.proofs.Picked.{some_same}
 use Rattle.law.proofs.ReadBefore.{Claims}
 use Rattle.law.proofs.Resolved.{not_committed, not_prepared}
 
@@ -117,15 +119,7 @@ claimed_recorded log r t at ks ws h c e = by_parts (is_aborted log t) (committed
     none_logged : (q : Record) → IsAmong log q → Claims q t at ks ws → committed_of log t ≡ None → prepared_of log t ≡ None → ⊥
     none_logged (Prepare p) j d hc hp = not_prepared log t p hp j d.0
     none_logged (Commit p) j d hc hp = not_committed log t p hc j d.0
-    none_logged (Opened y) j d hc hp = d
-    none_logged (Ceiling y) j d hc hp = d
-    none_logged (Horizon y) j d hc hp = d
-    none_logged (Base _ _ _) j d hc hp = d
-    none_logged (Version _) j d hc hp = d
-    none_logged (Settled _ _ _) j d hc hp = d
-    none_logged (Closed _ _ _) j d hc hp = d
-    none_logged (Abort y) j d hc hp = d
-    none_logged (Outcome y z) j d hc hp = d
+    none_logged _ j d hc hp = d
 
     by_parts : (a : Bool) (d : Option Committed) → committed_of log t ≡ d → (q : Option Prepared) → prepared_of log t ≡ q → (z : Option Ended) →
         status_by a d q z ≡ Unrecorded → ⊥
@@ -148,9 +142,7 @@ open_unrecorded shard f m t row sound found opened = by_status (recorded f t) re
     by_status Unrecorded e a = e
     by_status (StandsPrepared p) e a = absurd (not_open row.phase _ a.phase opened refl)
     by_status (StandsDecided c) e a = absurd (not_open row.phase _ a.phase opened refl)
-    by_status HasAborted e a = absurd a
-    by_status (HasSettled s ps) e a = absurd a
-    by_status (HasClosed c o) e a = absurd a
+    by_status _ e a = absurd a
 
 module _ (n : ℕ) (t : Id) (k : Bytes) (e : ℕ) (x : Option Bytes) where
   abbrev ToldShard : Setup → ShardNow → Type 0
@@ -220,20 +212,14 @@ module _ (n : ℕ) (t : Id) (k : Bytes) (e : ℕ) (x : Option Bytes) where
     | inr other ↦ apart_told (setup_of w.config j) z.log z.area z.unsure z.state z.views other (well j z at)
   ]
     where
-      some_shard : (a b : ShardNow) → Some a ≡ Some b → a ≡ b
-      some_shard a b q = cc
-
       by_place : j ≡ n → ToldShard (setup_of w.config j) z
       by_place same =
-          let is : s ≡ z = some_shard s z (sym there ∙ subst (λ i. slice_get w.shards i ≡ Some z) same at) in
+          let is : s ≡ z = some_same s z (sym there ∙ subst (λ i. slice_get w.shards i ≡ Some z) same at) in
           subst (ToldShard (setup_of w.config j)) is (by_state s.state runs (subst (WellShard (setup_of w.config j)) (sym is) (well j z at)))
         where
           by_state : (st : State) → st ≡ Runs m → WellShard (setup_of w.config j) (shard_with s.log s.area s.unsure st s.views) →
               ToldShard (setup_of w.config j) (shard_with s.log s.area s.unsure st s.views)
           by_state (Runs q) q_is h = here_told (setup_of w.config j) s.log s.area s.unsure q s.views h
               (subst (Held t k e x (facts_of s.log)) (sym (memory_is q m q_is)) held) none
-            where
-              memory_is : (a b : Memory) → Runs a ≡ Runs b → a ≡ b
-              memory_is a b r = cc
           by_state (IsStopped q) q_is h = cc
           by_state IsDown q_is h = cc

@@ -36,11 +36,9 @@ module _ (s : ShardNow) where
   read_may_leave = by_unsure s.unsure refl
     where
       by_unsure : (u : Unsure) → s.unsure ≡ u → MayLeaveArea s (s.log ++ shown_records u) (shown_area s.area u)
-      by_unsure Nothing is = inl (append-nil s.log, refl)
       by_unsure (Shown r) is = beside (Shown r) _ _ is (refl, refl)
-      by_unsure (Hidden r) is = inl (append-nil s.log, refl)
       by_unsure (TurnShown other) is = beside (TurnShown other) _ _ is (append-nil s.log, refl)
-      by_unsure (TurnHidden other) is = inl (append-nil s.log, refl)
+      by_unsure _ is = inl (append-nil s.log, refl)
 
   -- so does a crash without a call
   pub left_may_leave : (fate : Fate) → MayLeaveArea s (left_log fate s) (left_area fate s)
@@ -85,13 +83,7 @@ pub logs_no_turn : (setup : Setup) (bag : List Envelope) (s : ShardNow) (doing :
 unfolding effect
 logs_no_turn setup bag s Doing.Turn r memory out e =
     absurd (turn_logs_none setup bag s r memory out (done_wanted (gate_of (read_area s)) (wanted setup bag s Doing.Turn) (Some r) memory out e))
-logs_no_turn setup bag s Doing.Open r memory out e = refl
-logs_no_turn setup bag s (Doing.Take m now) r memory out e = refl
-logs_no_turn setup bag s (Doing.Resume now) r memory out e = refl
-logs_no_turn setup bag s (Doing.Settle t now) r memory out e = refl
-logs_no_turn setup bag s (Doing.Advance at now) r memory out e = refl
-logs_no_turn setup bag s (Doing.Nudge t now) r memory out e = refl
-logs_no_turn setup bag s (Doing.Forget at now) r memory out e = refl
+logs_no_turn setup bag s _ r memory out e = refl
 
 module _ (w : World) (n : ℕ) (s : ShardNow) (doing : Doing) where
   -- it is done

@@ -1,15 +1,16 @@
 -- The writes of each session ascend by key, so those of each record of a run do.
 use Rattle.std.specs.List.{list_all}
 use Rattle.std.proofs.Common.{◌≡◌, inl, inr, ℕ, Bool, true, false, cond, not, ◌&&◌, nat_le, List, [], ◌∷◌, ◌++◌, length, map, slice_get, Some, filter}
-use Rattle.std.proofs.Common.{refl, sym, subst}
+use Rattle.std.proofs.Common.{refl, sym, subst, ap, ◌∙◌, true≢false}
 use Rattle.std.proofs.lemmas.Bool.{and_from, and_parts}
 use Rattle.units.specs.Lists.{ascends}
 use Rattle.units.specs.Ids.{Id, same_id}
-use Rattle.units.specs.Keys.{Bytes, same_key, shard_of, write_before, has_key, writes_key}
+use Rattle.units.specs.Keys.{Bytes, key_before, same_key, shard_of, write_before, has_key, writes_key}
 use Rattle.units.specs.declared.fault.Fault.{Fault}
 use Rattle.units.specs.declared.fault.Reason.{Reason}
 use Rattle.units.specs.declared.fault.Reason.TheVariants.{Many, Nothing, Again, Awaited, Doomed}
 use Rattle.units.specs.declared.writes.Write.{Write}
+use Rattle.units.proofs.KeyLaws.{key_before-irreflexive, key_before-trans}
 use Rattle.record.specs.declared.record.Record.{Record}
 use Rattle.message.specs.declared.message.Address.TheVariants.{Shard}
 use Rattle.message.specs.declared.message.Envelope.{Envelope}
@@ -19,7 +20,7 @@ use Rattle.session.proofs.Kept.{ascends_insert, ascends_keep, keyed_others}
 use Rattle.session.specs.Sessions.{Client, IsClosing, Moved, Denies, Goes, asked_keys, begun, buffers, closes, closing_messages, gives_up, hears, is_doomed}
 use Rattle.session.specs.Sessions.{is_none, messages_for, parts_of, prepare_for, reads, unless, was_answered, with_write}
 use Rattle.world.specs.Lawful.{lawful, lawful_from, may_act, may_happen}
-use Rattle.world.specs.World.{World, ShardNow, Unsure, Nothing, Shown, Hidden, TurnShown, TurnHidden, acts, begin, happens, look_at_view, look_noted}
+use Rattle.world.specs.World.{World, ShardNow, Unsure, Nothing, Shown, acts, begin, happens, look_at_view, look_noted}
 use Rattle.world.specs.World.{look_shard, moved, put_out, read_log, run, run_from, set_client, setup_of, shown_records, start}
 use Rattle.world.specs.Headline.{IsUnsure}
 use Rattle.world.specs.declared.event.Act.{Act}
@@ -28,6 +29,7 @@ use Rattle.world.specs.declared.event.Event.{Event}
 use Rattle.world.specs.declared.event.Reply.{Reply}
 use Rattle.law.specs.Among.{IsAmong}
 use Rattle.law.specs.Evidence.{Scene, Holds, IsOfClosing, RecordEvidence}
+use Rattle.law.proofs.Accepts.{WritesOnce}
 use Rattle.law.proofs.Acts.{Step, Reads, Buffers, Closes, GivesUp, Finishes, acts_go, step_of}
 use Rattle.law.proofs.Changed.{heard_writes}
 use Rattle.law.proofs.Members.{among_cases}
@@ -37,6 +39,28 @@ use Rattle.law.proofs.Recorded.{among_first}
 -- they ascend by key
 abbrev pub Ascend : List Write → Type 0
 Ascend ws = ascends write_before ws ≡ true
+
+-- a key before another is not that one
+not_before : (a b : Bytes) → key_before a b ≡ true → a ≡ b → ⊥
+not_before a b first same = true≢false (sym first ∙ ap (λ z. key_before z b) same ∙ key_before-irreflexive b)
+
+later_keys : (w : Write) (ws : List Write) → Ascend (w ∷ ws) → (v : Write) → IsAmong ws v → key_before w.key v.key ≡ true
+later_keys w [] up v none = absurd none
+later_keys w (u ∷ us) up v (inl same) = subst (λ (z : Write). key_before w.key z.key ≡ true) same (and_parts _ _ up).0
+later_keys w (u ∷ us) up v (inr later) =
+    key_before-trans w.key u.key v.key (and_parts _ _ up).0 (later_keys u us (and_parts _ _ up).1 v later)
+
+rest_ascends : (w : Write) (ws : List Write) → Ascend (w ∷ ws) → Ascend ws
+rest_ascends w [] up = refl
+rest_ascends w (v ∷ vs) up = (and_parts _ _ up).1
+
+-- so a key is written once
+pub writes_once : (ws : List Write) → Ascend ws → WritesOnce ws
+writes_once [] up a b ha hb key = absurd ha
+writes_once (w ∷ ws) up a b (inl x) (inl y) key = ap (λ (z : Write). z.value) (sym x ∙ y)
+writes_once (w ∷ ws) up a b (inl x) (inr y) key = absurd (not_before w.key b.key (later_keys w ws up b y) (ap (λ (z : Write). z.key) x ∙ key))
+writes_once (w ∷ ws) up a b (inr x) (inl y) key = absurd (not_before w.key a.key (later_keys w ws up a x) (ap (λ (z : Write). z.key) y ∙ sym key))
+writes_once (w ∷ ws) up a b (inr x) (inr y) key = writes_once ws (rest_ascends w ws up) a b x y key
 
 -- so do those of each session
 abbrev pub AllAscend : World → Type 0
@@ -150,7 +174,7 @@ always_ascend config es fair = run_ascends (start config) es fair (λ c none. ab
 
 -- ---- the records
 
-abbrev MessageAscends : Message → Type 0
+abbrev pub MessageAscends : Message → Type 0
 MessageAscends (Message.Prepare p) = Ascend p.writes
 MessageAscends (Message.Commit c) = Ascend c.writes
 MessageAscends _ = Unit {0}
@@ -170,26 +194,19 @@ messages_ascend splits c [] e up h = absurd h
 messages_ascend splits c (n ∷ ns) e up (inl same) = subst (λ (z : Envelope). MessageAscends z.message) same (keep_ascends _ c.writes up)
 messages_ascend splits c (n ∷ ns) e up (inr later) = prepares_ascend splits c n ns e up later
 
-module _ (sc : Scene) (h : Holds sc) (all : AllAscend sc.world) (n : ℕ) (s : ShardNow) (there : slice_get sc.world.shards n ≡ Some s) where
-  sent_ascends : (t : Id) (e : Envelope) → IsOfClosing sc.world t e → MessageAscends e.message
+module _ (sc : Scene) (h : Holds sc) (all : AllAscend sc.world) where
+  pub sent_ascends : (t : Id) (e : Envelope) → IsOfClosing sc.world t e → MessageAscends e.message
   unfolding closing_messages
   sent_ascends t e c =
       messages_ascend sc.world.config.splits c.over.client (parts_of sc.world.config.splits c.over.client) e
       (all c.over.client (among_first (λ (d : Client). same_id d.txn t) sc.world.clients c.over.client c.over.there))
       (subst (λ l. IsAmong l e) (sym c.over.same) c.among)
 
+module _ (sc : Scene) (h : Holds sc) (all : AllAscend sc.world) (n : ℕ) (s : ShardNow) (there : slice_get sc.world.shards n ≡ Some s) where
   backed_ascends : (r : Record) → RecordEvidence sc s.log n r → record_ascends r ≡ true
-  backed_ascends (Record.Prepare p) e = sent_ascends p.txn _ (h.messages _ e.sent)
-  backed_ascends (Record.Commit c) e = sent_ascends c.txn _ (h.messages _ e.asked.sent)
-  backed_ascends (Record.Opened epoch) e = refl
-  backed_ascends (Record.Ceiling at) e = refl
-  backed_ascends (Record.Horizon at) e = refl
-  backed_ascends (Record.Abort t) e = refl
-  backed_ascends (Record.Outcome t outcome) e = refl
-  backed_ascends (Record.Base epoch floor horizon) e = refl
-  backed_ascends (Record.Version install) e = refl
-  backed_ascends (Record.Settled t at parts) e = refl
-  backed_ascends (Record.Closed t coordinator outcome) e = refl
+  backed_ascends (Record.Prepare p) e = sent_ascends sc h all p.txn _ (h.messages _ e.sent)
+  backed_ascends (Record.Commit c) e = sent_ascends sc h all c.txn _ (h.messages _ e.asked.sent)
+  backed_ascends _ e = refl
 
   each_ascends : (log : List Record) → ((r : Record) → IsAmong log r → record_ascends r ≡ true) → list_all record_ascends log ≡ true
   each_ascends [] each = refl
@@ -199,9 +216,7 @@ module _ (sc : Scene) (h : Holds sc) (all : AllAscend sc.world) (n : ℕ) (s : S
   is_unsure Nothing r none = none
   is_unsure (Shown q) r (inl same) = same
   is_unsure (Shown q) r (inr none) = absurd none
-  is_unsure (Hidden q) r none = absurd none
-  is_unsure (TurnShown other) r none = absurd none
-  is_unsure (TurnHidden other) r none = absurd none
+  is_unsure _ r none = absurd none
 
   -- of each record that a read of the disk gives
   pub read_ascends : list_all record_ascends (read_log s) ≡ true

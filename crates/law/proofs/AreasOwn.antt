@@ -17,10 +17,11 @@ use Rattle.record.specs.Facts.{Facts, TxnStatus, after_outcome, facts_of, instal
 use Rattle.record.specs.Installs.{installs_of}
 use Rattle.record.specs.Records.{Status, Unrecorded, StandsPrepared, StandsDecided, HasAborted, HasSettled, HasClosed}
 use Rattle.record.specs.declared.record.Record.{Record}
-use Rattle.record.specs.declared.record.Record.TheVariants.{Opened, Ceiling, Prepare, Commit, Abort, Outcome, Horizon, Base, Version, Settled, Closed}
+use Rattle.record.specs.declared.record.Record.TheVariants.{Prepare, Commit, Abort, Outcome, Base, Version, Settled, Closed}
 use Rattle.record.proofs.LearnAgrees.{followed_more, learn_agrees}
 use Rattle.renewal.specs.Keeps.{NamesOwn}
 use Rattle.renewal.proofs.Entries.{entry, id_of, with_status-is}
+use Rattle.law.proofs.Members.{all_append}
 
 -- a version of a key of the shard
 abbrev pub IsOwn : Setup → Install → Type 0
@@ -54,53 +55,41 @@ module _ (setup : Setup) where
 
   -- what an outcome installs
   own_installed : (t : Id) (s : Status) (outcome : Option ℕ) → NamesOwn setup (entry t s) → AllByRecursion (IsOwn setup) (installs_at s outcome)
-  own_installed t Unrecorded outcome own = tt
   own_installed t (StandsPrepared p) None own = tt
   own_installed t (StandsPrepared p) (Some at) own = own_writes p.writes at (and_parts _ _ own).1
   own_installed t (StandsDecided c) None own = tt
   own_installed t (StandsDecided c) (Some at) own = own_writes c.writes at (and_parts _ _ own).1
-  own_installed t HasAborted outcome own = tt
-  own_installed t (HasSettled at parts) outcome own = tt
-  own_installed t (HasClosed coordinator o) outcome own = tt
+  own_installed t _ outcome own = tt
 
   own_recorded : (f : Facts) (t : Id) → AllByRecursion (NamesOwn setup) f.entries → NamesOwn setup (entry t (recorded f t))
   own_recorded f t all = by_found (first (λ e. same_id e.txn t) f.entries) refl
     where
       by_status : (u : Id) (s : Status) → NamesOwn setup (entry u s) → NamesOwn setup (entry t s)
-      by_status u Unrecorded own = tt
       by_status u (StandsPrepared p) own = own
       by_status u (StandsDecided c) own = own
-      by_status u HasAborted own = tt
-      by_status u (HasSettled at parts) own = tt
-      by_status u (HasClosed coordinator o) own = tt
+      by_status u _ own = tt
 
       by_found : (found : Option TxnStatus) → first (λ e. same_id e.txn t) f.entries ≡ found → NamesOwn setup (entry t (or_unrecorded found))
       by_found None is = tt
       by_found (Some x) is = by_status x.txn x.status (first_all (NamesOwn setup) (λ e. same_id e.txn t) f.entries x all is)
 
-  both : {A : Type 0} (P : A → Type 0) (xs ys : List A) → AllByRecursion P xs → AllByRecursion P ys → AllByRecursion P (xs ++ ys)
-  both P [] ys h k = k
-  both P (x ∷ xs) ys h k = (h.0, both P xs ys h.1 k)
-
   -- ---- one more record
 
   learn_own : (f : Facts) (r : Record) → belongs setup r ≡ true → NamesOwnKeys setup f → NamesOwnKeys setup (learn f r)
   unfolding learn belongs
-  learn_own f (Opened epoch) own h = record { installs = h.installs; entries = h.entries }
-  learn_own f (Ceiling at) own h = record { installs = h.installs; entries = h.entries }
-  learn_own f (Horizon at) own h = record { installs = h.installs; entries = h.entries }
   learn_own f (Prepare p) own h = record { installs = h.installs; entries = put f.entries p.txn (StandsPrepared p) own h.entries }
   learn_own f (Commit c) own h = record { installs = h.installs; entries = put f.entries c.txn (StandsDecided c) own h.entries }
   learn_own f (Abort t) own h = record { installs = h.installs; entries = put f.entries t HasAborted tt h.entries }
   learn_own f (Outcome t outcome) own h = record {
-    installs = both (IsOwn setup) f.installs (installs_at (recorded f t) outcome) h.installs
+    installs = all_append (IsOwn setup) f.installs (installs_at (recorded f t) outcome) h.installs
         (own_installed t (recorded f t) outcome (own_recorded f t h.entries));
     entries = put f.entries t (after_outcome (recorded f t) outcome) (ended t (recorded f t) outcome) h.entries;
   }
   learn_own f (Base epoch floor horizon) own h = record { installs = h.installs; entries = h.entries }
-  learn_own f (Version install) own h = record { installs = both (IsOwn setup) f.installs (install ∷ []) h.installs (own, tt); entries = h.entries }
+  learn_own f (Version install) own h = record { installs = all_append (IsOwn setup) f.installs (install ∷ []) h.installs (own, tt); entries = h.entries }
   learn_own f (Settled t at parts) own h = record { installs = h.installs; entries = put f.entries t (HasSettled at parts) tt h.entries }
   learn_own f (Closed t coordinator outcome) own h = record { installs = h.installs; entries = put f.entries t (HasClosed coordinator outcome) tt h.entries }
+  learn_own f _ own h = record { installs = h.installs; entries = h.entries }
 
   -- ---- a whole log
 

@@ -1,37 +1,30 @@
--- What one act changes of what shards show and of the lines of looks and of acknowledgements; and that each session writes a
--- key once.
+-- What one act changes of what shards show and of the lines of looks and of acknowledgements.
 use Rattle.std.specs.List.{list_any}
-use Rattle.std.proofs.Common.{◌≡◌, ◌⊎◌, inl, inr, ℕ, ◌≤◌, Bool, true, false, not, cond, ◌&&◌, nat_eq, nat_lt, nat_le, List, [], ◌∷◌, ◌++◌, length, Option}
-use Rattle.std.proofs.Common.{Some, None, slice_get, refl, sym, ap, subst, ◌∙◌, flat_map, filter, option_to_list}
-use Rattle.std.proofs.lemmas.Bool.{cases_eq, eqb-true, leb-true}
+use Rattle.std.proofs.Common.{◌≡◌, ◌⊎◌, inl, inr, ℕ, ◌≤◌, Bool, true, false, not, cond, ◌&&◌, nat_eq, nat_lt, nat_le, List, [], ◌∷◌, ◌++◌, Option}
+use Rattle.std.proofs.Common.{Some, None, slice_get, refl, sym, ap, subst, ◌∙◌, flat_map, option_to_list}
+use Rattle.std.proofs.lemmas.Bool.{cases_eq, false≢true, eqb-true, leb-true}
 use Rattle.std.proofs.lemmas.List.{append-nil}
 use Rattle.units.specs.Ids.{Id, same_id}
 use Rattle.world.proofs.Places.{get-replaced_same, get-replaced_other}
 use Rattle.world.proofs.EveryRun.{WellShard, WellWorld, shard_with}
-use Rattle.units.specs.Keys.{Bytes, same_key, shard_of, has_key, writes_key, write_before}
-use Rattle.units.specs.Lists.{insert, replaced, when}
+use Rattle.units.specs.Keys.{Bytes, shard_of, has_key}
+use Rattle.units.specs.Lists.{replaced, when}
 use Rattle.units.specs.Versions.{at_time}
-use Rattle.units.specs.declared.fault.Fault.{Fault}
 use Rattle.units.specs.declared.fault.Fault.TheVariants.{NotYet, Stopped, Stranger, TooOld}
-use Rattle.units.specs.declared.fault.Reason.{Reason}
-use Rattle.units.specs.declared.fault.Reason.TheVariants.{Many, Nothing, Again, Awaited, Doomed}
 use Rattle.units.specs.declared.line.Line.{Line}
 use Rattle.units.specs.declared.setup.Setup.{Setup}
-use Rattle.units.specs.declared.writes.Write.{Write}
 use Rattle.units.proofs.IdLaws.{same_id-is}
-use Rattle.units.proofs.KeyLaws.{same_key-refl}
 use Rattle.record.specs.Facts.{facts_of}
 use Rattle.record.specs.declared.record.Record.{Record}
 use Rattle.message.specs.declared.message.Address.{Address}
-use Rattle.message.specs.declared.message.Address.TheVariants.{Shard}
 use Rattle.message.specs.declared.message.Answer.{Answer}
 use Rattle.message.specs.declared.message.Answer.TheVariants.{Holds, Refused}
 use Rattle.message.specs.declared.message.Envelope.{Envelope}
 use Rattle.message.specs.declared.message.Message.{Message}
 use Rattle.message.specs.declared.message.ReadAnswer.{ReadAnswer}
 use Rattle.protocol.specs.Rows.{Memory}
-use Rattle.session.specs.Sessions.{Client, IsClosing, Moved, Denies, Goes, unless, reads, buffers, hears, take_answer, epochs_agree, closes, gives_up}
-use Rattle.session.specs.Sessions.{with_write, was_taken, was_answered, asked_keys, is_doomed, is_none, closing_messages, begun}
+use Rattle.session.specs.Sessions.{Client, Moved, Denies, Goes, hears, take_answer, epochs_agree}
+use Rattle.session.specs.Sessions.{was_taken, is_doomed}
 use Rattle.law.specs.Acknowledged.{committed_to}
 use Rattle.law.specs.Among.{IsAmong}
 use Rattle.law.specs.Passes.{ShowsView, view_in}
@@ -45,10 +38,8 @@ use Rattle.world.specs.declared.event.Doing.{Doing}
 use Rattle.world.specs.declared.event.Reply.{Reply}
 use Rattle.law.proofs.Doings.{get_among}
 use Rattle.law.proofs.Members.{among_cases, among_left, among_right, some_passes}
-use Rattle.law.proofs.Picked.{among_map, join_among, kept_passes}
-use Rattle.law.proofs.Recorded.{among_keep}
-use Rattle.law.proofs.Accepts.{WritesOnce}
-use Rattle.law.proofs.Acts.{Step, Reads, Buffers, Closes, GivesUp, Finishes, acts_go, step_of}
+use Rattle.law.proofs.Picked.{join_among, some_same}
+use Rattle.law.proofs.Acts.{acts_go, step_of}
 use Rattle.law.proofs.Kept.{IsPresent}
 
 -- ---- what a shard shows
@@ -77,10 +68,6 @@ pub record Looked (w : World) (k : Bytes) (at : ℕ) (x : Option Bytes) : Type 0
   pub served : at ≤ view.safe
   pub value : at_time view.installs k at ≡ x
 
--- each session writes a key once
-abbrev pub AllOnce : World → Type 0
-AllOnce w = (c : Client) → IsAmong w.clients c → WritesOnce c.writes
-
 -- a line of acknowledgement of an id
 pub record HasAck (lines : List Line) (t : Id) : Type 0 where
   pub stamp : ℕ
@@ -99,40 +86,39 @@ pub record Changes (w v : World) : Type 0 where
   pub has : (n : ℕ) → HasShard w n → HasShard v n
   pub offered : (n : ℕ) (view : View) → Offers v n view → Offers w n view ⊎ IsPresent v n view
   pub looked : (k : Bytes) (at : ℕ) (x : Option Bytes) → IsAmong v.lines (Line.Look k at x) → IsAmong w.lines (Line.Look k at x) ⊎ Looked w k at x
-  pub once : AllOnce w → AllOnce v
 
 unchanged : (w : World) → Changes w w
-unchanged w = record { config = refl; lines = λ l h. h; acked = λ h. h; has = λ n h. h; offered = λ n view o. inl o; looked = λ k at x h. inl h; once = λ h. h }
+unchanged w = record { config = refl; lines = λ l h. h; acked = λ h. h; has = λ n h. h; offered = λ n view o. inl o; looked = λ k at x h. inl h }
 
 -- ---- messages
 
-no_look : (b : Bool) (t : Id) (s event : ℕ) (k : Bytes) (at : ℕ) (x : Option Bytes) → IsAmong (cond b [] (Line.Ack t s event ∷ [])) (Line.Look k at x) → ⊥
-no_look true t s event k at x h = h
-no_look false t s event k at x (inl same) = cc
-no_look false t s event k at x (inr none) = none
+-- what comes with messages is acknowledgements
+abbrev pub is_ack : Line → Bool
+is_ack (Line.Ack t s event) = true
+is_ack _ = false
 
-ack_no_look : (w : World) (t : Id) (o : Option ℕ) (k : Bytes) (at : ℕ) (x : Option Bytes) → IsAmong (ack_of w t o) (Line.Look k at x) → ⊥
-ack_no_look w t None k at x h = h
-ack_no_look w t (Some s) k at x h = no_look (list_any (λ e. when (λ y. true) (commit_told t e)) w.bag) t s w.event k at x h
+one_ack : (b : Bool) (t : Id) (s event : ℕ) (l : Line) → IsAmong (cond b [] (Line.Ack t s event ∷ [])) l → is_ack l ≡ true
+one_ack true t s event l none = absurd none
+one_ack false t s event l (inl same) = ap is_ack (sym same)
+one_ack false t s event l (inr none) = absurd none
 
-message_no_look : (w : World) (to : Address) (m : Message) (k : Bytes) (at : ℕ) (x : Option Bytes) →
-    IsAmong (acks_of w (record { to = to; message = m })) (Line.Look k at x) → ⊥
-message_no_look w to (Message.Done d) k at x h = ack_no_look w d.txn d.outcome k at x h
-message_no_look w to (Message.Read r) k at x h = h
-message_no_look w to (Message.Prepare p) k at x h = h
-message_no_look w to (Message.Commit c) k at x h = h
-message_no_look w to (Message.GiveUp g) k at x h = h
-message_no_look w to (Message.Vote v) k at x h = h
-message_no_look w to (Message.Outcome o) k at x h = h
-message_no_look w to (Message.Ask a) k at x h = h
-message_no_look w to (Message.ReadAnswer a) k at x h = h
+outcome_ack : (w : World) (t : Id) (o : Option ℕ) (l : Line) → IsAmong (ack_of w t o) l → is_ack l ≡ true
+outcome_ack w t None l h = absurd h
+outcome_ack w t (Some s) l h = one_ack (list_any (λ e. when (λ y. true) (commit_told t e)) w.bag) t s w.event l h
+
+message_ack : (w : World) (to : Address) (m : Message) (l : Line) → IsAmong (acks_of w (record { to = to; message = m })) l → is_ack l ≡ true
+message_ack w to (Message.Done d) l h = outcome_ack w d.txn d.outcome l h
+message_ack w to _ l h = absurd h
+
+pub acks_alone : (w : World) (es : List Envelope) (l : Line) → IsAmong (flat_map (acks_of w) es) l → is_ack l ≡ true
+acks_alone w [] l h = absurd h
+acks_alone w (e ∷ es) l h = elim (among_cases (acks_of w e) (flat_map (acks_of w) es) l h) [
+  | inl here ↦ message_ack w e.to e.message l here
+  | inr later ↦ acks_alone w es l later
+]
 
 acks_no_look : (w : World) (es : List Envelope) (k : Bytes) (at : ℕ) (x : Option Bytes) → IsAmong (flat_map (acks_of w) es) (Line.Look k at x) → ⊥
-acks_no_look w [] k at x h = h
-acks_no_look w (e ∷ es) k at x h = elim (among_cases (acks_of w e) (flat_map (acks_of w) es) (Line.Look k at x) h) [
-  | inl here ↦ message_no_look w e.to e.message k at x here
-  | inr later ↦ acks_no_look w es k at x later
-]
+acks_no_look w es k at x h = false≢true (acks_alone w es (Line.Look k at x) h)
 
 has_ack_more : (lines more : List Line) (t : Id) → HasAck lines t → HasAck (lines ++ more) t
 has_ack_more lines more t h = record { stamp = h.stamp; event = h.event; among = among_left lines more (Line.Ack t h.stamp h.event) h.among }
@@ -147,14 +133,7 @@ module _ (v : World) (acked : AcksAreLines v.bag v.lines) (t : Id) where
   told_before : (to : Address) (m : Message) → IsAmong v.bag (record { to = to; message = m }) →
       when (λ s. true) (commit_told t (record { to = to; message = m })) ≡ true → HasAck v.lines t
   told_before to (Message.Done d) k e = told_end to d.txn d.outcome (same_id d.txn t) refl k e
-  told_before to (Message.Read r) k e = cc
-  told_before to (Message.Prepare p) k e = cc
-  told_before to (Message.Commit c) k e = cc
-  told_before to (Message.GiveUp g) k e = cc
-  told_before to (Message.Vote u) k e = cc
-  told_before to (Message.Outcome o) k e = cc
-  told_before to (Message.Ask a) k e = cc
-  told_before to (Message.ReadAnswer a) k e = cc
+  told_before to _ k e = cc
 
   -- who is told now has a line, or had one
   told_now : (to : Address) (s : ℕ) (out : List Envelope) → IsAmong out (committed_to to t s) → HasAck (v.lines ++ flat_map (acks_of v) out) t
@@ -193,44 +172,23 @@ put_changes w v out c = record {
     | inl old ↦ c.looked k at x old
     | inr new ↦ absurd (acks_no_look v out k at x new)
   ];
-  once = λ h. c.once h;
 }
 
 -- ---- sessions
 
--- a step of a session leaves one that writes a key once
-abbrev OnceMoved : Moved → Type 0
-OnceMoved (Denies f) = Unit {0}
-OnceMoved (Goes c out) = WritesOnce c.writes
-
-unless_once : (rs : List (Bool × Reason)) (m : Moved) → OnceMoved m → OnceMoved (unless rs m)
-unless_once [] m h = h
-unless_once (r ∷ rs) m h = by_test r.0 (unless_once rs m h)
-  where
-    by_test : (b : Bool) → OnceMoved (unless rs m) → OnceMoved (cond b (Denies (Fault.BadRequest r.1)) (unless rs m))
-    by_test true k = tt
-    by_test false k = k
-
-set_client_changes : (w : World) (c : Client) → (AllOnce w → WritesOnce c.writes) → Changes w (set_client c w)
-set_client_changes w c new = record {
+set_client_changes : (w : World) (c : Client) → Changes w (set_client c w)
+set_client_changes w c = record {
   config = refl;
   lines = λ l h. h;
   acked = λ h. h;
   has = λ n h. record { shard = h.shard; there = h.there };
   offered = λ n view o. inl (record { shard = o.shard; there = o.there; shows = o.shows });
   looked = λ k at x h. inl h;
-  once = λ all d h.
-      let m = among_map (λ (e : Client). cond (same_id e.txn c.txn) c e) w.clients d h in
-      subst (λ (z : Client). WritesOnce z.writes) m.is (by_test (same_id m.from.txn c.txn) m.from (all m.from m.among) (new all));
 }
-  where
-    by_test : (b : Bool) (d : Client) → WritesOnce d.writes → WritesOnce c.writes → WritesOnce (cond {A = Client} b c d).writes
-    by_test true d h k = k
-    by_test false d h k = h
 
-moved_changes : (w : World) (m : Moved) → (AllOnce w → OnceMoved m) → Changes w (moved w m).0
-moved_changes w (Denies f) h = unchanged w
-moved_changes w (Goes c out) h = put_changes w (set_client c w) out (set_client_changes w c h)
+moved_changes : (w : World) (m : Moved) → Changes w (moved w m).0
+moved_changes w (Denies f) = unchanged w
+moved_changes w (Goes c out) = put_changes w (set_client c w) out (set_client_changes w c)
 
 pub heard_writes : (n : ℕ) (k : Bytes) (epoch : ℕ) (a : Answer) (c : Client) → (hears n k epoch a c).writes ≡ c.writes
 unfolding hears
@@ -257,10 +215,10 @@ read_no_look c d j (Holds y) k at x h = by_test (was_taken d j && not (was_taken
     by_test true (inr none) = none
     by_test false none = none
 
-answered_changes : (w : World) (c : Client) (a : ReadAnswer) → IsAmong w.clients c → Changes w (answered w c a).0
-answered_changes w c a there =
+answered_changes : (w : World) (c : Client) (a : ReadAnswer) → Changes w (answered w c a).0
+answered_changes w c a =
     let d : Client = hears a.from a.key a.epoch a.answer c in
-    let k = set_client_changes w d (λ all. subst WritesOnce (sym (heard_writes a.from a.key a.epoch a.answer c)) (all c there)) in
+    let k = set_client_changes w d in
     record {
       config = k.config;
       lines = λ l h. among_left w.lines (read_lines c d a.key a.answer) l h;
@@ -272,82 +230,7 @@ answered_changes w c a there =
         | inr new ↦
             absurd (read_no_look c d a.key a.answer j at x new)
       ];
-      once = λ h. k.once h;
     }
-
--- a later write of a key replaces the earlier
-inserted : (w : Write) (ws : List Write) (v : Write) → IsAmong (insert write_before w ws) v → (w ≡ v) ⊎ IsAmong ws v
-inserted w [] v (inl same) = inl same
-inserted w [] v (inr none) = absurd none
-inserted w (u ∷ us) v h = by_test (write_before u w) h (λ k. inserted w us v k)
-  where
-    by_test : (b : Bool) → IsAmong (cond b (u ∷ insert write_before w us) (w ∷ u ∷ us)) v →
-        (IsAmong (insert write_before w us) v → (w ≡ v) ⊎ IsAmong us v) → (w ≡ v) ⊎ IsAmong (u ∷ us) v
-    by_test true (inl same) rest = inr (inl same)
-    by_test true (inr later) rest = elim (rest later) [ inl same ↦ inl same | inr old ↦ inr (inr old) ]
-    by_test false (inl same) rest = inl same
-    by_test false (inr later) rest = inr later
-
-with_write_once : (ws : List Write) (w : Write) → WritesOnce ws → WritesOnce (with_write ws w)
-with_write_once ws w once a b ha hb key =
-    elim (cases a ha) [
-      | inl x ↦ elim (cases b hb) [
-        | inl y ↦ ap (λ (z : Write). z.value) (sym x ∙ y)
-        | inr y ↦ absurd (differ b y.1 (ap (λ (z : Write). z.key) x ∙ key))
-      ]
-      | inr x ↦ elim (cases b hb) [
-        | inl y ↦ absurd (differ a x.1 (ap (λ (z : Write). z.key) y ∙ sym key))
-        | inr y ↦ once a b x.0 y.0 key
-      ]
-    ]
-  where
-    others : List Write
-    others = filter (λ v. not (same_key v.key w.key)) ws
-
-    cases : (v : Write) → IsAmong (with_write ws w) v → (w ≡ v) ⊎ (IsAmong ws v × (not (same_key v.key w.key) ≡ true))
-    cases v h = elim (inserted w (filter (λ u. not (same_key u.key w.key)) ws) v h) [
-      | inl same ↦ inl same
-      | inr old ↦ inr (among_keep (λ (u : Write). not (same_key u.key w.key)) ws v old, kept_passes (λ (u : Write). not (same_key u.key w.key)) ws v old)
-    ]
-
-    differ : (v : Write) → not (same_key v.key w.key) ≡ true → w.key ≡ v.key → ⊥
-    differ v e same = not_itself (same_key v.key w.key) (subst (λ k. same_key v.key k ≡ true) (sym same) (same_key-refl v.key)) e
-      where
-        not_itself : (b : Bool) → b ≡ true → not b ≡ true → ⊥
-        not_itself true x y = cc
-        not_itself false x y = cc
-
-reads_once : (splits : List Bytes) (k : Bytes) (c : Client) → WritesOnce c.writes → OnceMoved (reads splits k c)
-unfolding reads
-reads_once splits k c h =
-    unless_once ((nat_le 128 (length (asked_keys c)), Many) ∷ (was_answered c k, Again) ∷ (has_key c.awaited k, Awaited) ∷ (is_doomed c, Doomed) ∷ [])
-    (Goes (record c { awaited = c.awaited ++ k ∷ [] }) (record {
-      to = Shard (shard_of splits k);
-      message =
-          Message.Read (record { txn = c.txn; key = k });
-    } ∷ [])) h
-
-buffers_once : (v : Write) (c : Client) → WritesOnce c.writes → OnceMoved (buffers v c)
-unfolding buffers
-buffers_once v c h = unless_once ((nat_le 128 (length c.writes) && not (writes_key c.writes v.key), Many) ∷ (is_doomed c, Doomed) ∷ [])
-    (Goes (record c { writes = with_write c.writes v }) []) (with_write_once c.writes v h)
-
-closes_once : (splits : List Bytes) (c : Client) → WritesOnce c.writes → OnceMoved (closes splits c)
-unfolding closes
-closes_once splits c h =
-    unless_once ((is_none (asked_keys c) && is_none c.writes, Nothing) ∷ (not (is_none c.awaited), Awaited) ∷ (is_doomed c, Doomed) ∷ [])
-    (Goes (record c { stage = IsClosing }) (closing_messages splits c)) h
-
-gives_up_once : (splits : List Bytes) (c : Client) → WritesOnce c.writes → OnceMoved (gives_up splits c)
-unfolding gives_up
-gives_up_once splits c h = h
-
-stepped_once : (splits : List Bytes) (s : Step) (c : Client) → WritesOnce c.writes → OnceMoved (step_of splits s c)
-stepped_once splits (Reads k) c h = reads_once splits k c h
-stepped_once splits (Buffers v) c h = buffers_once v c h
-stepped_once splits Closes c h = closes_once splits c h
-stepped_once splits GivesUp c h = gives_up_once splits c h
-stepped_once splits Finishes c h = h
 
 begin_changes : (w : World) (t : Id) → Changes w (begin t w)
 begin_changes w t = record {
@@ -357,10 +240,6 @@ begin_changes w t = record {
   has = λ n h. record { shard = h.shard; there = h.there };
   offered = λ n view o. inl (record { shard = o.shard; there = o.there; shows = o.shows });
   looked = λ k at x h. elim (among_cases w.lines (Line.Begin t w.event ∷ []) (Line.Look k at x) h) [ inl old ↦ inl old | inr new ↦ absurd (apart k at x new) ];
-  once = λ all c h. elim (among_cases w.clients (begun t ∷ []) c h) [
-    | inl old ↦ all c old
-    | inr new ↦ elim new [ inl same ↦ subst (λ (z : Client). WritesOnce z.writes) same (λ a b ha hb key. absurd ha) | inr none ↦ absurd none ]
-  ];
 }
   where
     apart : (k : Bytes) (at : ℕ) (x : Option Bytes) → IsAmong (Line.Begin t w.event ∷ []) (Line.Look k at x) → ⊥
@@ -368,9 +247,6 @@ begin_changes w t = record {
     apart k at x (inr none) = none
 
 -- ---- shards
-
-some_shard : (a b : ShardNow) → Some a ≡ Some b → a ≡ b
-some_shard a b e = cc
 
 set_changes : (w : World) (n : ℕ) (old new : ShardNow) → slice_get w.shards n ≡ Some old →
     ((v : View) → ShowsView new v → ShowsView old v ⊎ RunsWith new v) → Changes w (set_shard n new w)
@@ -387,21 +263,17 @@ set_changes w n old new there shows = record {
     | inr other ↦ inl (record { shard = o.shard; there = sym (get-replaced_other w.shards n m new other) ∙ o.there; shows = o.shows })
   ];
   looked = λ k at x h. inl h;
-  once = λ h. h;
 }
   where
     here : (m : ℕ) (view : View) → n ≡ m → Offers (set_shard n new w) m view → Offers w m view ⊎ IsPresent (set_shard n new w) m view
     here m view same o =
         let there_now : slice_get (replaced w.shards n new) m ≡ Some new = subst (λ j. slice_get (replaced w.shards n new) j ≡ Some new) same
         (get-replaced_same w.shards n old new there) in
-        let is : o.shard ≡ new = some_shard o.shard new (sym o.there ∙ there_now) in
+        let is : o.shard ≡ new = some_same o.shard new (sym o.there ∙ there_now) in
         elim (shows view (subst (λ (s : ShardNow). ShowsView s view) is o.shows)) [
           | inl before ↦ inl (record { shard = old; there = subst (λ j. slice_get w.shards j ≡ Some old) same there; shows = before })
           | inr now ↦ inr (record { shard = new; there = there_now; memory = now.memory; runs = now.runs; is = now.is })
         ]
-
-some_view : (a b : View) → Some a ≡ Some b → a ≡ b
-some_view a b e = cc
 
 crashed_shows : (s : ShardNow) (log : List Record) (area : Area) (v : View) → ShowsView (crashed s log area) v → ShowsView s v ⊎ RunsWith (crashed s log area) v
 crashed_shows s log area v (inl h) = inl (inl h)
@@ -410,7 +282,7 @@ crashed_shows s log area v (inr e) = cc
 finished_shows : (s : ShardNow) (doing : Doing) (logged : Option Record) (m : Memory) (v : View) → ShowsView (finished s doing logged m) v →
     ShowsView s v ⊎ RunsWith (finished s doing logged m) v
 unfolding finished
-finished_shows s doing logged m v (inr e) = inr (record { memory = m; runs = refl; is = some_view _ v e })
+finished_shows s doing logged m v (inr e) = inr (record { memory = m; runs = refl; is = some_same _ v e })
 finished_shows s doing logged m v (inl h) = elim (among_cases s.views (new_view doing (read_log s ++ option_to_list logged) m) v h) [
   | inl old ↦ inl (inl old)
   | inr new ↦ by_test (makes_view doing) new
@@ -460,7 +332,6 @@ module _ (w : World) (well : WellWorld w) (n : ℕ) (s : ShardNow) (there : slic
     has = λ m h. record { shard = h.shard; there = h.there };
     offered = λ m view o. inl (record { shard = o.shard; there = o.there; shows = o.shows });
     looked = λ j t x h. elim (among_cases w.lines (Line.Look k at y ∷ []) (Line.Look j t x) h) [ inl old ↦ inl old | inr new ↦ inr (by_line j t x new) ];
-    once = λ h. h;
   }
     where
       by_line : (j : Bytes) (t : ℕ) (x : Option Bytes) → IsAmong (Line.Look k at y ∷ []) (Line.Look j t x) → Looked w j t x
@@ -471,9 +342,7 @@ module _ (w : World) (well : WellWorld w) (n : ℕ) (s : ShardNow) (there : slic
         where
           parts : (a b : Bytes) (c d : ℕ) (e f : Option Bytes) → Line.Look a c e ≡ Line.Look b d f → (a ≡ b) × (c ≡ d) × (e ≡ f)
           parts a b c d e f g = (cc, cc, cc)
-  noted_changes k at Reply.Done answer = unchanged w
-  noted_changes k at (Reply.Refused f) answer = unchanged w
-  noted_changes k at Reply.Crashed answer = unchanged w
+  noted_changes k at _ answer = unchanged w
 
   look_answers : (v : View) (k : Bytes) (at : ℕ) (x : Option Bytes) → ShowsView s v → look_view (setup_of w.config n) v k at ≡ Reply.Shows x → Looked w k at x
   look_answers v k at x shows e = by_tests (nat_eq (shard_of w.config.splits k) n) refl (nat_lt at v.horizon) (nat_le at v.safe) refl e
@@ -523,8 +392,8 @@ module _ (w : World) (well : WellWorld w) (n : ℕ) (s : ShardNow) (there : slic
 pub acts_change : (w : World) → WellWorld w → (time : ℕ) (a : Act) → may_act w time a ≡ true → Changes w (acts w a).0
 acts_change w well =
     acts_go w (Changes w) (unchanged w) (λ t new. begin_changes w t)
-    (λ c s there. moved_changes w (step_of w.config.splits s c) (λ all. stepped_once w.config.splits s c (all c there)))
-    (λ c to a there named told. answered_changes w c a there)
+    (λ c s there. moved_changes w (step_of w.config.splits s c))
+    (λ c to a there named told. answered_changes w c a)
     (λ n s there log area left. set_changes w n s (crashed s log area) there (crashed_shows s log area))
     (λ n s there doing logged memory out is. put_changes w (set_shard n (finished s doing logged memory) w) out
     (set_changes w n s (finished s doing logged memory) there (finished_shows s doing logged memory)))

@@ -8,6 +8,7 @@ use Rattle.world.proofs.Places.{get-replaced_same, get-replaced_other}
 use Rattle.law.specs.Among.{IsAmong}
 use Rattle.law.specs.Evidence.{Scene, log_at, StateEvidence, ShardEvidence, Holds}
 use Rattle.law.proofs.Grows.{Within, Grows, message_stays, line_stays, began_stays, record_stays, rows_stay}
+use Rattle.law.proofs.Picked.{some_same}
 
 -- the scene with another world
 abbrev pub with_world : Scene → World → Scene
@@ -70,9 +71,6 @@ module _ (sc : Scene) (n : ℕ) (old new : ShardNow) (there : slice_get sc.world
     once = λ t event other k l. h.once t event other k l;
   }
     where
-      some_same : (a b : ShardNow) → Some a ≡ Some b → a ≡ b
-      some_same a b e = cc
-
       by_place : (m : ℕ) (s : ShardNow) → n ≡ m → slice_get (replaced sc.world.shards n new) m ≡ Some s →
           ShardEvidence (with_world sc (set_shard n new sc.world)) m s
       by_place m s same e =

@@ -237,19 +237,11 @@ module _ (sc : Scene) (h : Holds sc) (present : slice_get sc.times sc.world.even
   unfolding to_session
   to_session_holds (Message.ReadAnswer a) = if_hearing_holds a.txn a (client_of sc.world a.txn) refl
   to_session_holds (Message.Done d) = if_closing_holds d.txn (client_of sc.world d.txn) refl
-  to_session_holds (Message.Read r) = h
-  to_session_holds (Message.Prepare p) = h
-  to_session_holds (Message.Commit c) = h
-  to_session_holds (Message.GiveUp g) = h
-  to_session_holds (Message.Vote v) = h
-  to_session_holds (Message.Outcome o) = h
-  to_session_holds (Message.Ask a) = h
+  to_session_holds _ = h
 
 -- an answered look is written down
 pub look_holds : (sc : Scene) (k : Bytes) (at : ℕ) (r : Reply) → Holds sc → AfterHolds sc (look_noted sc.world k at r)
 look_holds sc k at (Reply.Shows x) h =
     subst (λ bag. Holds (with_world sc (record (sc.world) { bag = bag; lines = sc.world.lines ++ Line.Look k at x ∷ [] }))) (append-nil sc.world.bag)
     (said_holds sc [] (Line.Look k at x ∷ []) tt ((tt, tt), tt) h)
-look_holds sc k at Reply.Done h = h
-look_holds sc k at (Reply.Refused f) h = h
-look_holds sc k at Reply.Crashed h = h
+look_holds sc k at _ h = h

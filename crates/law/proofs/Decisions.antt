@@ -9,7 +9,7 @@ use Rattle.record.specs.Whole.{Decision, decisions, promises_of}
 use Rattle.record.specs.declared.record.Committed.{Committed}
 use Rattle.record.specs.declared.record.Prepared.{Prepared}
 use Rattle.record.specs.declared.record.Record.{Record}
-use Rattle.record.specs.declared.record.Record.TheVariants.{Opened, Ceiling, Prepare, Commit, Abort, Outcome, Horizon, Base, Version, Settled, Closed}
+use Rattle.record.specs.declared.record.Record.TheVariants.{Prepare, Commit, Abort, Settled, Closed}
 use Rattle.law.specs.Among.{IsAmong}
 use Rattle.law.specs.Evidence.{Scene, Holds}
 use Rattle.law.specs.Left.{AreLeft}
@@ -49,31 +49,21 @@ a_promise t r p rs is rest = taken_in as_prepared (same_id p.txn t) r p (claims_
 -- its decisions of an id are among the claims of that id
 commits_claimed : (t : Id) (log : List Record) → filter (λ c. same_id t c.txn) (gather as_committed log) ≡ gather as_committed (claims_of log t)
 commits_claimed t [] = refl
-commits_claimed t (Opened epoch ∷ rs) = commits_claimed t rs
-commits_claimed t (Ceiling at ∷ rs) = commits_claimed t rs
-commits_claimed t (Horizon at ∷ rs) = commits_claimed t rs
-commits_claimed t (Base _ _ _ ∷ rs) = commits_claimed t rs
-commits_claimed t (Version _ ∷ rs) = commits_claimed t rs
 commits_claimed t (Closed u k o ∷ rs) = commits_claimed t rs ∙ sym (skipped as_committed (same_id u t) (Closed u k o) (claims_of rs t) refl)
 commits_claimed t (Settled u at ps ∷ rs) = a_commit t (Settled u at ps) (settled_decision u at ps) rs refl (commits_claimed t rs)
-commits_claimed t (Outcome u o ∷ rs) = commits_claimed t rs
 commits_claimed t (Prepare p ∷ rs) = commits_claimed t rs ∙ sym (skipped as_committed (same_id p.txn t) (Prepare p) (claims_of rs t) refl)
 commits_claimed t (Abort u ∷ rs) = commits_claimed t rs ∙ sym (skipped as_committed (same_id t u) (Abort u) (claims_of rs t) refl)
 commits_claimed t (Commit c ∷ rs) = a_commit t (Commit c) c rs refl (commits_claimed t rs)
+commits_claimed t (_ ∷ rs) = commits_claimed t rs
 
 promises_claimed : (t : Id) (log : List Record) → promises_of log t ≡ gather as_prepared (claims_of log t)
 promises_claimed t [] = refl
-promises_claimed t (Opened epoch ∷ rs) = promises_claimed t rs
-promises_claimed t (Ceiling at ∷ rs) = promises_claimed t rs
-promises_claimed t (Horizon at ∷ rs) = promises_claimed t rs
-promises_claimed t (Base _ _ _ ∷ rs) = promises_claimed t rs
-promises_claimed t (Version _ ∷ rs) = promises_claimed t rs
 promises_claimed t (Settled u at ps ∷ rs) = promises_claimed t rs ∙ sym (skipped as_prepared (same_id u t) (Settled u at ps) (claims_of rs t) refl)
 promises_claimed t (Closed u k o ∷ rs) = a_promise t (Closed u k o) (closed_promise u k o) rs refl (promises_claimed t rs)
-promises_claimed t (Outcome u o ∷ rs) = promises_claimed t rs
 promises_claimed t (Commit c ∷ rs) = promises_claimed t rs ∙ sym (skipped as_prepared (same_id c.txn t) (Commit c) (claims_of rs t) refl)
 promises_claimed t (Abort u ∷ rs) = promises_claimed t rs ∙ sym (skipped as_prepared (same_id t u) (Abort u) (claims_of rs t) refl)
 promises_claimed t (Prepare p ∷ rs) = a_promise t (Prepare p) p rs refl (promises_claimed t rs)
+promises_claimed t (_ ∷ rs) = promises_claimed t rs
 
 one_gathered : {B : Type 0} (f : Record → Option B) (xs : List Record) → IsOne xs → AtMostOne (gather f xs)
 one_gathered f [] one = tt

@@ -24,7 +24,7 @@ use Rattle.protocol.specs.Rows.{Memory, Row, rebuilt, without_row, without_rows}
 use Rattle.protocol.specs.Plan.{time_limit, start_of_step, Plan, Planned, Change, Keeps, Ends, Drops, Puts, carried, after_change}
 use Rattle.protocol.specs.Step.{step_within, Stepped, Refuses, Does, plan_input, stepped}
 use Rattle.protocol.proofs.RowTable.{with_row-is}
-use Rattle.world.specs.World.{ShardNow, Runs, Unsure, Nothing, Shown, Hidden, TurnShown, TurnHidden, read_log, shown_records, setup_of}
+use Rattle.world.specs.World.{ShardNow, Runs, Unsure, Nothing, Shown, read_log, shown_records, setup_of}
 use Rattle.world.specs.World.{step_of_opening, input_of, step_with}
 use Rattle.world.specs.Lawful.{goes_to, may_do}
 use Rattle.world.specs.declared.event.Doing.{Doing}
@@ -35,6 +35,7 @@ use Rattle.law.proofs.Logged.{AreLogged, rests_logged}
 use Rattle.law.proofs.Members.{among_cases, among_left}
 use Rattle.world.proofs.Places.{with_record}
 use Rattle.law.proofs.Moves.{LoggedEvidence, ChangeEvidence, PlannedEvidence}
+use Rattle.law.proofs.Picked.{some_same}
 use Rattle.law.proofs.Steps.{Knows, Heard, planned}
 use Rattle.law.proofs.Grows.{Within, Grows, rows_stay}
 use Rattle.law.proofs.Orderly.{IsOrderly}
@@ -96,10 +97,7 @@ stepped_evidence sc log n m rows (Ok p) e = record {
 
 pub get_among : {A : Type 0} (xs : List A) (i : ℕ) (x : A) → slice_get xs i ≡ Some x → IsAmong xs x
 get_among [] i x e = cc
-get_among (y ∷ ys) zero x e = inl (some_is y x e)
-  where
-    some_is : {A : Type 0} (a b : A) → Some a ≡ Some b → a ≡ b
-    some_is a b k = cc
+get_among (y ∷ ys) zero x e = inl (some_same y x e)
 get_among (y ∷ ys) (suc i) x e = inr (get_among ys i x e)
 
 -- a reading and an input were honestly given
@@ -179,9 +177,7 @@ module _ (sc : Scene) (h : Holds sc) (n : ℕ) (s : ShardNow) (there : slice_get
       is_unsure Nothing none = none
       is_unsure (Shown q) (inl same) = same
       is_unsure (Shown q) (inr none) = absurd none
-      is_unsure (Hidden q) none = absurd none
-      is_unsure (TurnShown other) none = absurd none
-      is_unsure (TurnHidden other) none = absurd none
+      is_unsure _ none = absurd none
 
   -- an opening
   pub opening_evidence : SteppedEvidence sc n (read_log s) (step_of_opening (facts_of (read_log s)))

@@ -83,14 +83,7 @@ mute_answer b p a Refused is h = tt
 
 mute_message : (b : Before) (p : Plan) (to : Address) (m : Message) → Mute (record { to = to; message = m }) → MessageFair b p m
 mute_message b p to (Message.ReadAnswer a) h = mute_answer b p a a.answer refl h
-mute_message b p to (Message.Read r) h = tt
-mute_message b p to (Message.Prepare r) h = tt
-mute_message b p to (Message.Commit r) h = tt
-mute_message b p to (Message.GiveUp r) h = tt
-mute_message b p to (Message.Vote r) h = tt
-mute_message b p to (Message.Outcome r) h = tt
-mute_message b p to (Message.Ask r) h = tt
-mute_message b p to (Message.Done r) h = tt
+mute_message b p to _ h = tt
 
 mute_fair : (b : Before) (p : Plan) (es : List Envelope) → AllMute es → AllFair b p es
 mute_fair b p [] h = tt
@@ -101,13 +94,8 @@ refused_mute n None = tt
 refused_mute n (Some r) = by_phase r.phase
   where
     by_phase : (phase : Phase) → AllMute (refused_vote n (Some (record r { phase = phase })))
-    by_phase Idle = tt
-    by_phase (WaitsRead k) = tt
     by_phase (WaitsPrepare c rs ws) = (tt, tt)
-    by_phase (WaitsCommit l ps rs ws) = tt
-    by_phase (Collecting l ps rs ws votes) = tt
-    by_phase (IsPrepared c p) = tt
-    by_phase (IsDecided s ps) = tt
+    by_phase _ = tt
 
 votes_mute : (n : ℕ) (rows : List Row) (ts : List Id) → AllMute (votes_of n rows ts)
 votes_mute n rows [] = tt
@@ -139,16 +127,7 @@ module _ (t : Id) (k : Bytes) (e : ℕ) (b : Before) where
   abbrev pub LoggedFair : Option Record → Type 0
   LoggedFair (Some (Record.Prepare p)) = Asked p.txn p.reads
   LoggedFair (Some (Record.Commit c)) = Asked c.txn c.reads
-  LoggedFair (Some (Record.Opened epoch)) = Unit {0}
-  LoggedFair (Some (Record.Ceiling s)) = Unit {0}
-  LoggedFair (Some (Record.Horizon s)) = Unit {0}
-  LoggedFair (Some (Record.Base _ _ _)) = Unit {0}
-  LoggedFair (Some (Record.Version _)) = Unit {0}
-  LoggedFair (Some (Record.Settled _ _ _)) = Unit {0}
-  LoggedFair (Some (Record.Closed _ _ _)) = Unit {0}
-  LoggedFair (Some (Record.Abort u)) = Unit {0}
-  LoggedFair (Some (Record.Outcome u o)) = Unit {0}
-  LoggedFair None = Unit {0}
+  LoggedFair _ = Unit {0}
 
   pub record PlanFair (p : Plan) : Type 0 where
     pub change : ChangeFair p.change

@@ -76,10 +76,7 @@ module _ (log more : List Record) (within : Within log more) where
   )
   told_stays now later n on to (Message.Done d) h = done_stays now later n on to d.txn d.outcome h
   told_stays now later n on to (Message.ReadAnswer a) h = tt
-  told_stays now later n on to (Message.Read r) h = absurd h
-  told_stays now later n on to (Message.Prepare p) h = absurd h
-  told_stays now later n on to (Message.Commit c) h = absurd h
-  told_stays now later n on to (Message.GiveUp g) h = absurd h
+  told_stays now later n on to _ h = absurd h
 
 -- ---- a scene
 
@@ -149,10 +146,6 @@ module _ (a b : Scene) (g : Grows a b) where
     record_stays n (Record.Opened epoch) h = tt
     record_stays n (Record.Ceiling at) h = tt
     record_stays n (Record.Horizon at) h = tt
-    record_stays n (Record.Base _ _ _) h = absurd h
-    record_stays n (Record.Version _) h = absurd h
-    record_stays n (Record.Settled _ _ _) h = absurd h
-    record_stays n (Record.Closed _ _ _) h = absurd h
     record_stays n (Record.Prepare p) h = prepare_asked_stays n p.txn p.coordinator p.reads p.writes h
     record_stays n (Record.Commit c) h = commit_stays n c h
     record_stays n (Record.Abort t) (inl h) = inl (record {
@@ -167,6 +160,7 @@ module _ (a b : Scene) (g : Grows a b) where
     record_stays n (Record.Outcome t (Some s)) h =
         let before = h.0 in let later = g.now in
         (omega (arith, before, later), elim h.1 [ inl d ↦ inl (decision_stays log more within t s d) | inr w ↦ inr (was_told_stays n t (Some s) w) ])
+    record_stays n _ h = absurd h
 
     -- behind a row
     pub phase_stays : (n : ℕ) (t : Id) (phase : Phase) → PhaseEvidence a log n t phase → PhaseEvidence b more n t phase

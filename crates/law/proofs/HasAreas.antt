@@ -59,6 +59,7 @@ use Rattle.law.proofs.Areas.{IsLeft, logs_no_turn, no_more, read_may_leave}
 use Rattle.law.proofs.AreasAscend.{always_ascend, AllAscend, read_ascends}
 use Rattle.law.proofs.AreasOwn.{log_names_own}
 use Rattle.law.proofs.Every.{every_run_holds}
+use Rattle.law.proofs.Picked.{some_same}
 
 -- an opening takes the area, and it is alike to the records, among which an opening is
 pub record KeepsLog (setup : Setup) (log : List Record) (area : Area) : Type 0 where
@@ -190,9 +191,6 @@ module _ (w : World) (base : Base w) (kept : AreKept w) where
   set_kept n old new there new_kept m s e = elim (cases_eq n m)
       [ inl same ↦ by_place same | inr ne ↦ kept m s (sym (get-replaced_other w.shards n m new ne) ∙ e) ]
     where
-      some_same : (a b : ShardNow) → Some a ≡ Some b → a ≡ b
-      some_same a b k = cc
-
       by_place : n ≡ m → (log : List Record) (area : Area) → MayLeaveArea s log area → KeepsLog (setup_of w.config m) log area
       by_place same =
           let is : new ≡ s = some_same new s (sym (get-replaced_same w.shards n old new there)

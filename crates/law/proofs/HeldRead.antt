@@ -27,7 +27,7 @@ use Rattle.record.specs.declared.record.Committed.{Committed}
 use Rattle.record.specs.declared.record.Prepared.{Prepared}
 use Rattle.record.specs.declared.record.Record.{Record}
 use Rattle.message.specs.declared.message.Input.{Input}
-use Rattle.protocol.specs.Rows.{Memory, Row, Phase, Idle, WaitsRead, WaitsPrepare, WaitsCommit, Collecting, IsPrepared, IsDecided, WasEnded, find_row}
+use Rattle.protocol.specs.Rows.{Memory, Row, Phase, IsPrepared, IsDecided, WasEnded, find_row}
 use Rattle.protocol.specs.Rows.{standing, standing_by, without_row, with_row, is_firm, held_by, held_in, without_rows}
 use Rattle.protocol.specs.Plan.{time_limit, Plan, Before, start_of_step, carried, after_change, ended_by, in_way, stands, with_ids}
 use Rattle.protocol.specs.Sound.{IsSound, holds_alone, is_open}
@@ -45,6 +45,7 @@ use Rattle.law.specs.Among.{IsAmong}
 use Rattle.law.proofs.Members.{all_among}
 use Rattle.law.proofs.Accepts.{each_at}
 use Rattle.law.proofs.Fair.{PlanFair, reads_of}
+use Rattle.law.proofs.Picked.{some_same}
 use Rattle.law.proofs.ReadBefore.{Claims, reader_clashes}
 
 -- ---- ended ids
@@ -125,9 +126,6 @@ module _ (t : Id) (k : Bytes) (e : ℕ) (x : Option Bytes) where
         holds row.held k ≡ true) → recorded b.facts t ≡ Unrecorded
         → (stands b t ≡ WasEnded → ⊥) → (IsAmong (reads_of row.phase) k → b.facts.epoch ≡ e) → latest f.installs k ≡ latest b.facts.installs k → Fate b f m
 
-  some_row : (a b : Row) → Some a ≡ Some b → a ≡ b
-  some_row a b q = cc
-
   no_row : (r : Row) → None ≡ Some r → ⊥
   no_row r q = cc
 
@@ -155,7 +153,7 @@ module _ (t : Id) (k : Bytes) (e : ℕ) (x : Option Bytes) where
   }
   held_by_fate b f m same h (Grows row found opened grows status alive asked value) = record {
     late = subst (λ n. e ≤ n) (sym same) h.late;
-    asked = λ r there in_it. same ∙ asked (subst (λ (z : Row). IsAmong (reads_of z.phase) k) (some_row r row (sym there ∙ found)) in_it);
+    asked = λ r there in_it. same ∙ asked (subst (λ (z : Row). IsAmong (reads_of z.phase) k) (some_same r row (sym there ∙ found)) in_it);
     held = λ now. by_held (h.held (sym same ∙ now));
   }
     where
@@ -283,18 +281,14 @@ module _ (t : Id) (k : Bytes) (e : ℕ) (x : Option Bytes) where
       by_test true same =
           let one : u ≡ t = same_id-is u t same in
           Ends (λ q. some (sym is ∙ ap (recorded f) one ∙ q))
-          (λ r found. ap (λ (z : Row). reads_of z.phase) (some_row r (row_as u held phase)
+          (λ r found. ap (λ (z : Row). reads_of z.phase) (some_same r (row_as u held phase)
           (sym found ∙ put_found b u ended (row_as u held phase) refl one)) ∙ quiet)
       by_test false differ = others_fate b u ended (row_as u held phase) f last refl differ (others differ) values
 
   slack_open : (phase : Phase) → is_firm phase ≡ false → is_open phase ≡ true
-  slack_open Idle q = refl
-  slack_open (WaitsRead j) q = refl
-  slack_open (WaitsPrepare c rs ws) q = refl
-  slack_open (WaitsCommit l ps rs ws) q = refl
-  slack_open (Collecting l ps rs ws votes) q = refl
   slack_open (IsPrepared c p) q = cc
   slack_open (IsDecided s ps) q = cc
+  slack_open _ q = refl
 
   closed_some : (p : Prepared) (o : Option ℕ) → after_outcome (StandsPrepared p) o ≡ Unrecorded → ⊥
   closed_some p o q = cc
@@ -368,9 +362,6 @@ module _ (t : Id) (k : Bytes) (e : ℕ) (x : Option Bytes) where
   ReadsRight b p = PlanFair t k e b p → Held b.facts b.memory → (r : Record) (at : ℕ) (ks : List Bytes) (ws : List Write) → p.logged ≡ Some r →
       Claims r t at ks ws → IsAmong ks k → latest b.facts.installs k ≡ x
 
-  same_record : (a b : Record) → Some a ≡ Some b → a ≡ b
-  same_record a b q = cc
-
   -- who is logged was neither logged nor ended before
   told_latest : (b : Before) (u : Id) (rs : List Bytes) → Sound b → is_undecided (stands b u) ≡ true → (u ≡ t → stands b t ≡ WasEnded → ⊥) →
       (u ≡ t → IsAmong rs k → b.facts.epoch ≡ e) → u ≡ t → IsAmong rs k → Held b.facts b.memory → latest b.facts.installs k ≡ x
@@ -391,31 +382,31 @@ module _ (t : Id) (k : Bytes) (e : ℕ) (x : Option Bytes) where
   right b p sound (Answers out is) = subst (ReadsRight b) (sym is) (λ fair h r at ks ws logged claims there. cc)
   right b p sound (IsEnd u out fresh is) = subst (ReadsRight b) (sym is) (λ fair h r at ks ws logged claims there. cc)
   right b p sound (IsAbort u out fresh is) = subst (ReadsRight b) (sym is) (λ fair h r at ks ws logged claims there. absurd
-      (subst (λ z. Claims z t at ks ws) (sym (same_record (Record.Abort u) r logged)) claims))
+      (subst (λ z. Claims z t at ks ws) (sym (some_same (Record.Abort u) r logged)) claims))
   right b p sound (IsClose u n c s held outcome out found allowed is) = subst (ReadsRight b) (sym is)
-      (λ fair h r at ks ws logged claims there. absurd (subst (λ z. Claims z t at ks ws) (sym (same_record (Record.Outcome u outcome) r logged)) claims))
+      (λ fair h r at ks ws logged claims there. absurd (subst (λ z. Claims z t at ks ws) (sym (some_same (Record.Outcome u outcome) r logged)) claims))
   right b p sound (IsSettle u s ps held out found is) = subst (ReadsRight b) (sym is) (λ fair h r at ks ws logged claims there. absurd
-      (subst (λ z. Claims z t at ks ws) (sym (same_record (Record.Outcome u (Some s)) r logged)) claims))
+      (subst (λ z. Claims z t at ks ws) (sym (some_same (Record.Outcome u (Some s)) r logged)) claims))
   right b p sound (IsLock u ended needs phase out l is) = subst (ReadsRight b) (sym is) (λ fair h r at ks ws logged claims there. cc)
   right b p sound (IsWait u needs phase out w is) = subst (ReadsRight b) (sym is) (λ fair h r at ks ws logged claims there. cc)
   right b p sound (IsPromise u ended c s rs vs out l is) = subst (ReadsRight b) (sym is) (λ fair h r at ks ws logged claims there.
-      let mine = subst (λ z. Claims z t at ks ws) (sym (same_record (promise u c s rs vs) r logged)) claims in
+      let mine = subst (λ z. Claims z t at ks ws) (sym (some_same (promise u c s rs vs) r logged)) claims in
       told_latest b u rs sound l.undecided fair.change.0 fair.logged mine.0 (subst (λ l. IsAmong l k) (sym mine.2) there) h)
   right b p sound (IsDecision u ended needs s ps rs vs out l is) = subst (ReadsRight b) (sym is) (λ fair h r at ks ws logged claims there.
-      let mine = subst (λ z. Claims z t at ks ws) (sym (same_record (decision u s ps rs vs) r logged)) claims in
+      let mine = subst (λ z. Claims z t at ks ws) (sym (some_same (decision u s ps rs vs) r logged)) claims in
       told_latest b u rs sound l.undecided fair.change.0 fair.logged mine.0 (subst (λ l. IsAmong l k) (sym mine.2) there) h)
 
   right_of : (b : Before) (i : Input) (p : Plan) → Sound b → ShapeOf b i p → ReadsRight b p
   unfolding ReadsRight
   right_of b i p sound (Acts shape) = right b p sound shape
   right_of b i p sound (IsForget up k2 served higher is) = subst (ReadsRight b) (sym is) (λ fair h r at ks ws logged claims there. absurd
-      (subst (λ z. Claims z t at ks ws) (sym (same_record (Record.Horizon up) r logged)) claims))
+      (subst (λ z. Claims z t at ks ws) (sym (some_same (Record.Horizon up) r logged)) claims))
   right_of b i p sound (IsAdvance stride up k2 is) = subst (ReadsRight b) (sym is) (λ fair h r at ks ws logged claims there. by_test
       (nat_lt b.facts.floor up) r at ks ws logged claims)
     where
       by_test : (c : Bool) (r : Record) (at : ℕ) (ks : List Bytes) (ws : List Write) → cond c
           (Some (Record.Ceiling (min (up + stride) time_limit))) None ≡ Some r → Claims r t at ks ws → latest b.facts.installs k ≡ x
-      by_test true r at ks ws logged claims = absurd (subst (λ z. Claims z t at ks ws) (sym (same_record _ r logged)) claims)
+      by_test true r at ks ws logged claims = absurd (subst (λ z. Claims z t at ks ws) (sym (some_same _ r logged)) claims)
       by_test false r at ks ws logged claims = cc
 
   -- a reader's promise or decision is logged while the value that it was told is the latest

@@ -21,6 +21,7 @@ use Rattle.law.specs.Evidence.{RecordEvidence, Holds}
 use Rattle.law.specs.Left.{IsLeftLog, AreLeft}
 use Rattle.law.proofs.Logged.{AreLogged, rests_logged}
 use Rattle.law.proofs.Orderly.{IsOrderly, orderly, one_decision, decided_not_aborted}
+use Rattle.law.proofs.Picked.{some_same}
 
 -- ---- the closing of a transaction
 
@@ -29,9 +30,6 @@ pub record ClosesOver (w : World) (t : Id) (parts : List ℕ) : Type 0 where
   pub client : Client
   pub there : client_of w t ≡ Some client
   pub same : parts_of w.config.splits client ≡ parts
-
-some_same : {A : Type 0} (a b : A) → Some a ≡ Some b → a ≡ b
-some_same a b e = cc
 
 -- what an envelope says of the closing
 abbrev shard_in : Envelope → Option ℕ

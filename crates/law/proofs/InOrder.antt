@@ -166,7 +166,7 @@ not_before_self a = grind (arith, nat_tests)
 pub before_low : (a b : Txn) → serial_before a b ≡ true → a.at ≤ b.at
 before_low a b h = grind (arith, nat_tests)
 
-insert_cases : (x : Txn) (ys : List Txn) (u : Txn) → IsAmong (insert serial_before x ys) u → (x ≡ u) ⊎ IsAmong ys u
+pub insert_cases : (x : Txn) (ys : List Txn) (u : Txn) → IsAmong (insert serial_before x ys) u → (x ≡ u) ⊎ IsAmong ys u
 insert_cases x [] u (inl same) = inl same
 insert_cases x [] u (inr none) = absurd none
 insert_cases x (y ∷ ys) u h = by_test (serial_before y x) h (λ k. insert_cases x ys u k)

@@ -32,8 +32,9 @@ use Rattle.world.specs.Headline.{IsUnsure}
 use Rattle.world.specs.World.{World, ShardNow, View, State, Runs, IsStopped, IsDown, Area, Unsure, setup_of, view_of}
 use Rattle.world.proofs.Openings.{opening_follows}
 use Rattle.protocol.proofs.RowChanges.{by_id-claims}
+use Rattle.law.proofs.OfLogs.{memory_is}
 use Rattle.law.proofs.Orderly.{IsOrderly, orderly, same_claim, one_decision, one_promise, decided_not_promised}
-use Rattle.law.proofs.Picked.{gather_among, map_among}
+use Rattle.law.proofs.Picked.{gather_among, map_among, some_same}
 use Rattle.law.proofs.Logged.{AreLogged, each_logged}
 use Rattle.law.proofs.Quiet.{HasEnd, IsQuiet, IsAbove, above_logged, quiet_stays, answer_stays}
 use Rattle.law.proofs.Recorded.{among_first, outcome_among, is_aborted_among}
@@ -180,10 +181,7 @@ module _ (shard : ℕ) (log : List Record) (m : Memory) (sound : IsSound shard (
               let zero = by.above_zero in
               held_back p.txn q.at (IsPrepared q.coordinator q.at) (Some r) found refl zero
               (let at = ap (λ (z : Prepared). z.at) same in omega (arith, low, at))
-              (λ x e. ap (λ (z : Row). z.phase) (sym (some_is r x e)) ∙ by.phase) (λ e. cc)
-            where
-              some_is : (a b : Row) → Some a ≡ Some b → a ≡ b
-              some_is a b e = cc
+              (λ x e. ap (λ (z : Row). z.phase) (sym (some_same r x e)) ∙ by.phase) (λ e. cc)
 
       by_parts : (a : Bool) → is_aborted log p.txn ≡ a → (c : Option Committed) → committed_of log p.txn ≡ c → (q : Option Prepared) →
           prepared_of log p.txn ≡ q → (e : Option Ended) → ended_of log p.txn ≡ e → HasEnd log p.txn
@@ -207,10 +205,7 @@ module _ (shard : ℕ) (log : List Record) (m : Memory) (sound : IsSound shard (
           by_row (Some r) found by =
               let zero = by.above_zero in
               held_back c.txn d.at (IsDecided d.at d.parts) (Some r) found refl zero (let at = ap (λ (z : Committed). z.at) same in omega (arith, low, at))
-              (λ x e. ap (λ (z : Row). z.phase) (sym (some_is r x e)) ∙ by.phase) (λ e. cc)
-            where
-              some_is : (a b : Row) → Some a ≡ Some b → a ≡ b
-              some_is a b e = cc
+              (λ x e. ap (λ (z : Row). z.phase) (sym (some_same r x e)) ∙ by.phase) (λ e. cc)
 
       by_parts : (a : Bool) → is_aborted log c.txn ≡ a → (d : Option Committed) → committed_of log c.txn ≡ d → (q : Option Prepared) →
           prepared_of log c.txn ≡ q → (e : Option Ended) → ended_of log c.txn ≡ e → HasEnd log c.txn
@@ -269,9 +264,6 @@ apart_kept n v setup log area unsure IsDown views other h = record {
   state = tt;
 }
 
-memory_is : (a b : Memory) → Runs a ≡ Runs b → a ≡ b
-memory_is a b e = cc
-
 -- it is this one, and runs
 shown_now : (setup : Setup) (log : List Record) (m : Memory) → IsWell setup (facts_of log) m → IsTaken setup log →
     IsShown log (view_of (facts_of log) m)
@@ -313,16 +305,13 @@ running_kept n setup log area unsure (Runs q) views m e h = record {
     good : IsTaken setup log
     good = (h.left log (inl refl)).good
 
-some_shard : (a b : ShardNow) → Some a ≡ Some b → a ≡ b
-some_shard a b e = cc
-
 -- what a running shard shows now is kept
 pub present_is_kept : (w : World) (n : ℕ) (v : View) → WellWorld w → IsPresent w n v → KeptView n v w
 present_is_kept w n v well present = subst (λ z. KeptView n z w) present.is by_place
   where
     by_place : KeptView n (view_of (facts_of present.shard.log) present.memory) w
     by_place k s there = elim (cases_eq k n) [
-      | inl same ↦ here k s there (some_shard s present.shard (sym there ∙ subst (λ j. slice_get w.shards j ≡ Some present.shard) (sym same) present.there))
+      | inl same ↦ here k s there (some_same s present.shard (sym there ∙ subst (λ j. slice_get w.shards j ≡ Some present.shard) (sym same) present.there))
       | inr other ↦ apart_kept n (view_of (facts_of present.shard.log) present.memory) (setup_of w.config k) s.log s.area s.unsure s.state s.views other
           (well k s there)
     ]

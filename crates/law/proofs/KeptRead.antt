@@ -13,7 +13,7 @@ use Rattle.truetime.specs.Interval.{Interval}
 use Rattle.record.specs.Accepted.{followed}
 use Rattle.record.specs.Facts.{TxnStatus, Facts, facts_of, learn}
 use Rattle.record.specs.Installs.{installs_of}
-use Rattle.record.specs.Records.{Status, Unrecorded, StandsPrepared, StandsDecided, HasAborted, HasSettled, HasClosed}
+use Rattle.record.specs.Records.{Status, StandsPrepared, StandsDecided}
 use Rattle.record.specs.declared.record.Record.{Record}
 use Rattle.record.proofs.LearnAgrees.{accepted_follows}
 use Rattle.message.specs.declared.message.Input.{Input}
@@ -23,6 +23,7 @@ use Rattle.protocol.specs.Step.{plan_input, facts_after, IsInLimit}
 use Rattle.protocol.proofs.InWay.{row_at}
 use Rattle.law.specs.Among.{IsAmong}
 use Rattle.world.specs.World.{World}
+use Rattle.law.proofs.Picked.{some_same}
 use Rattle.law.proofs.Recorded.{among_first, among_gather}
 use Rattle.law.proofs.Fair.{Fair, IsFairInput, PlanFair, fairly, reads_of}
 use Rattle.world.proofs.Sounds.{SoundWorld}
@@ -38,16 +39,10 @@ no_reads entries t k row found there =
     let s = among_gather standing_row entries row (among_first (λ (r : Row). same_id r.txn t) (gather standing_row entries) row found) in
     by_status s.from.txn s.from.status s.gives
   where
-    some_row : (a b : Row) → Some a ≡ Some b → a ≡ b
-    some_row a b q = cc
-
     by_status : (u : Id) (st : Status) → standing_row (record { txn = u; status = st }) ≡ Some row → ⊥
-    by_status u (StandsPrepared p) e = subst (λ (r : Row). IsAmong (reads_of r.phase) k) (sym (some_row _ row e)) there
-    by_status u (StandsDecided c) e = subst (λ (r : Row). IsAmong (reads_of r.phase) k) (sym (some_row _ row e)) there
-    by_status u Unrecorded e = cc
-    by_status u HasAborted e = cc
-    by_status u (HasSettled s ps) e = cc
-    by_status u (HasClosed c o) e = cc
+    by_status u (StandsPrepared p) e = subst (λ (r : Row). IsAmong (reads_of r.phase) k) (sym (some_same _ row e)) there
+    by_status u (StandsDecided c) e = subst (λ (r : Row). IsAmong (reads_of r.phase) k) (sym (some_same _ row e)) there
+    by_status u _ e = cc
 
 module _ (n : ℕ) (t : Id) (k : Bytes) (e : ℕ) (x : Option Bytes) where
   -- what a shard is given is within the limit of time, and asks for the reader's key in its epoch alone

@@ -60,14 +60,7 @@ allowed_of Allowed w (Act.Deliver m now) n doing h e = by_message (slice_get w.b
         ]) ≡ Some (n, doing) → DoingAllowed Allowed (setup_of w.config n) w.bag doing
     by_message None is same = cc
     by_message (Some z) is same = by_address z is z.to refl same
-allowed_of Allowed w (Act.Begin t) n doing h e = cc
-allowed_of Allowed w (Act.Read t k) n doing h e = cc
-allowed_of Allowed w (Act.Write t k x) n doing h e = cc
-allowed_of Allowed w (Act.Close t) n doing h e = cc
-allowed_of Allowed w (Act.Quit t) n doing h e = cc
-allowed_of Allowed w (Act.Look m k at) n doing h e = cc
-allowed_of Allowed w (Act.View m v k at) n doing h e = cc
-allowed_of Allowed w (Act.Crash m) n doing h e = cc
+allowed_of Allowed w _ n doing h e = cc
 
 module _ (Allowed : Setup → Input → Type 0) (Sound : Setup → Facts → Memory → Type 0) (Good : Setup → List Record → Type 0)
     (keeps : (setup : Setup) (f : Facts) (m : Memory) (now : Interval) (i : Input) (p : Plan) → Allowed setup i → Sound setup f m →

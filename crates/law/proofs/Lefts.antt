@@ -21,12 +21,10 @@ use Rattle.world.specs.Steady.{IsSteady}
 use Rattle.law.proofs.Members.{among_left, among_cases}
 use Rattle.law.proofs.Grows.{record_stays}
 use Rattle.law.proofs.Doings.{SteppedEvidence, Given, given, get_among, grows_same}
+use Rattle.law.proofs.Picked.{some_same}
 use Rattle.law.proofs.Shards.{effect_evidence, logged_known, within_listed}
 
 -- ---- places
-
-some_same : {A : Type 0} (a b : A) → Some a ≡ Some b → a ≡ b
-some_same a b e = cc
 
 -- the shard of a log that a crash may leave
 pub record ShardOf (ss : List ShardNow) (n : ℕ) (P : ShardNow → Type 0) : Type 0 where
@@ -155,14 +153,7 @@ module _ (sc : Scene) (h : Holds sc) (steady : IsSteady sc.world) where
           Given sc n (input_of sc.world.bag doing)
       by_message None is same = cc
       by_message (Some x) is same = by_address x is x.to refl same
-  given_by (Act.Begin t) n doing may e = cc
-  given_by (Act.Read t k) n doing may e = cc
-  given_by (Act.Write t k x) n doing may e = cc
-  given_by (Act.Close t) n doing may e = cc
-  given_by (Act.Quit t) n doing may e = cc
-  given_by (Act.Look m k at) n doing may e = cc
-  given_by (Act.View m v k at) n doing may e = cc
-  given_by (Act.Crash m) n doing may e = cc
+  given_by _ n doing may e = cc
 
   module _ (present : slice_get sc.times sc.world.event ≡ Some sc.now) where
     step_left : (n : ℕ) (s : ShardNow) (doing : Doing) (log : List Record) → slice_get sc.world.shards n ≡ Some s → Given sc n (input_of sc.world.bag doing) →

@@ -1,7 +1,7 @@
 -- The records of a run are of the kinds that steps log.
-use Rattle.std.proofs.Common.{◌≡◌, inl, inr, ℕ, Bool, true, false, ◌&&◌, List, [], ◌∷◌, Some, None, refl, sym, ap, ◌∙◌}
+use Rattle.std.proofs.Common.{◌≡◌, inl, inr, ℕ, Bool, true, false, ◌&&◌, List, [], ◌∷◌, refl, sym, ap, ◌∙◌}
 use Rattle.record.specs.declared.record.Record.{Record}
-use Rattle.record.specs.declared.record.Record.TheVariants.{Opened, Ceiling, Prepare, Commit, Abort, Outcome, Horizon, Base, Version, Settled, Closed}
+use Rattle.record.specs.declared.record.Record.TheVariants.{Base, Version, Settled, Closed}
 use Rattle.law.specs.Among.{IsAmong}
 use Rattle.law.specs.Evidence.{Scene, RecordEvidence}
 use Rattle.world.proofs.StepKinds.{are_logged, is_logged}
@@ -22,15 +22,8 @@ each_logged (q ∷ qs) all r k = by_first (is_logged q) refl all k (λ rest late
 
 -- a record that something stands behind is
 pub rests_logged : (sc : Scene) (log : List Record) (n : ℕ) (r : Record) → RecordEvidence sc log n r → is_logged r ≡ true
-rests_logged sc log n (Opened epoch) e = refl
-rests_logged sc log n (Ceiling at) e = refl
-rests_logged sc log n (Horizon at) e = refl
-rests_logged sc log n (Prepare p) e = refl
-rests_logged sc log n (Commit c) e = refl
-rests_logged sc log n (Abort t) e = refl
-rests_logged sc log n (Outcome t None) e = refl
-rests_logged sc log n (Outcome t (Some s)) e = refl
 rests_logged sc log n (Base epoch floor horizon) e = absurd e
 rests_logged sc log n (Version install) e = absurd e
 rests_logged sc log n (Settled t at parts) e = absurd e
 rests_logged sc log n (Closed t coordinator outcome) e = absurd e
+rests_logged sc log n _ e = refl

@@ -10,7 +10,7 @@ use Rattle.record.specs.Accepted.{belongs}
 use Rattle.record.specs.History.{Txn, history, upto}
 use Rattle.record.specs.Installs.{installs_of}
 use Rattle.record.specs.declared.record.Record.{Record}
-use Rattle.record.specs.declared.record.Record.TheVariants.{Opened, Ceiling, Prepare, Commit, Abort, Outcome, Horizon, Base, Version, Settled, Closed}
+use Rattle.record.specs.declared.record.Record.TheVariants.{Prepare, Commit}
 use Rattle.world.specs.World.{setup_of}
 use Rattle.world.specs.declared.event.Config.{Config}
 use Rattle.law.specs.Among.{IsAmong}
@@ -36,15 +36,7 @@ module _ (sc : Scene) (h : Holds sc) (logs : List (List Record)) (left : AreLeft
     ends : (t : Txn) (w : Write) → t.at ≤ at → (r : Record) → IsAmong (log_in logs n) r → Wrote r t w → IsAmong (log_in logs n) r × HasEnd (log_in logs n) t.txn
     ends t w low (Prepare p) j wrote = (j, subst (HasEnd (log_in logs n)) wrote.0 (quiet.promises p j (let below = wrote.1 in omega (arith, low, below))))
     ends t w low (Commit c) j wrote = (j, subst (HasEnd (log_in logs n)) wrote.0 (quiet.decisions c j (let below = wrote.1 in omega (arith, low, below))))
-    ends t w low (Opened x) j wrote = absurd wrote
-    ends t w low (Ceiling x) j wrote = absurd wrote
-    ends t w low (Horizon x) j wrote = absurd wrote
-    ends t w low (Base _ _ _) j wrote = absurd wrote
-    ends t w low (Version _) j wrote = absurd wrote
-    ends t w low (Settled _ _ _) j wrote = absurd wrote
-    ends t w low (Closed _ _ _) j wrote = absurd wrote
-    ends t w low (Abort x) j wrote = absurd wrote
-    ends t w low (Outcome x o) j wrote = absurd wrote
+    ends t w low _ j wrote = absurd wrote
 
     shown : List Install
     shown = filter (λ (i : Install). nat_le i.at at) (installs_of (log_in logs n))

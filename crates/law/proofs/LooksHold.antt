@@ -1,12 +1,10 @@
 -- Every answered look equals the serial run up to its time, in each log that a crash may leave, then and later.
-use Rattle.std.proofs.Common.{◌≡◌, inl, inr, ℕ, suc, ◌≤◌, Bool, true, List, [], ◌∷◌, length, map, Option, Some, slice_get, refl, sym, subst, ◌∙◌}
-use Rattle.std.proofs.Common.{filter, nat_le}
+use Rattle.std.proofs.Common.{◌≡◌, inl, inr, ℕ, suc, ◌≤◌, true, List, [], ◌∷◌, length, Option, Some, slice_get, refl, sym, subst, ◌∙◌}
+use Rattle.std.proofs.Common.{nat_le}
 use Rattle.std.proofs.lemmas.Bool.{and_parts}
-use Rattle.units.specs.Ids.{Id, same_id}
 use Rattle.units.specs.Keys.{Bytes, shard_of}
 use Rattle.units.specs.Versions.{at_time}
 use Rattle.units.specs.declared.line.Line.{Line}
-use Rattle.units.specs.declared.writes.Write.{Write}
 use Rattle.record.specs.Accepted.{Accepted, taken, belongs}
 use Rattle.record.specs.Facts.{facts_of}
 use Rattle.record.specs.History.{history, upto}
@@ -14,13 +12,10 @@ use Rattle.record.specs.Serially.{LooksSerially}
 use Rattle.record.specs.declared.record.Record.{Record}
 use Rattle.record.specs.declared.record.Record.TheVariants.{Prepare, Commit}
 use Rattle.record.proofs.LearnAgrees.{accepted_follows}
-use Rattle.message.specs.declared.message.Envelope.{Envelope}
-use Rattle.message.specs.declared.message.Message.{Message}
 use Rattle.protocol.specs.Rows.{rebuilt}
 use Rattle.world.proofs.Places.{replicated}
-use Rattle.session.specs.Sessions.{Client, closing_messages, messages_for, prepare_for, parts_of}
 use Rattle.law.specs.Among.{IsAmong}
-use Rattle.law.specs.Evidence.{Scene, Holds, IsOfClosing}
+use Rattle.law.specs.Evidence.{Scene, Holds}
 use Rattle.world.specs.Headline.{AllAccepted, MayBeLeft}
 use Rattle.world.specs.Lawful.{lawful, lawful_from, may_happen, may_act}
 use Rattle.law.specs.Left.{AreLeft}
@@ -28,20 +23,21 @@ use Rattle.law.specs.Passes.{ShowsView}
 use Rattle.world.specs.World.{World, ShardNow, View, setup_of, view_of, fresh_log, fresh_shard, start, run, run_from, happens}
 use Rattle.world.specs.declared.event.Config.{Config}
 use Rattle.world.specs.declared.event.Event.{Event}
+use Rattle.law.proofs.AreasAscend.{AllAscend, always_ascend, sent_ascends, writes_once}
 use Rattle.law.proofs.Decisions.{log_in-is, there_in}
 use Rattle.law.proofs.Doings.{get_among}
 use Rattle.law.proofs.Homes.{log_in, log_logged, evidence}
 use Rattle.law.proofs.Instants.{Moment, moment}
 use Rattle.law.proofs.Orderly.{orderly}
-use Rattle.law.proofs.Recorded.{among_first, among_keep}
 use Rattle.world.proofs.Sounds.{ActAllowed, acts_sound}
-use Rattle.law.proofs.Accepts.{AllWriteOnce, WritesOnce, member_taken, one_value}
-use Rattle.law.proofs.Changed.{AcksAreLines, AllOnce, Changes, HasShard, Offers, RunsWith, acts_change}
+use Rattle.law.proofs.Accepts.{AllWriteOnce, member_taken, one_value}
+use Rattle.law.proofs.Changed.{AcksAreLines, Changes, HasShard, Offers, RunsWith, acts_change}
 use Rattle.law.proofs.Kept.{IsPresent, IsShown, KeptView, Serves, Shows, present_is_kept, quiet_lower, serves_keeps, serves_opens, shows_follows}
 use Rattle.law.proofs.Kept.{shows_logs, shows_opens}
 use Rattle.law.proofs.LookedAt.{shows_serially}
 use Rattle.world.proofs.EveryRun.{WellWorld, InLimit, IsWell, IsTaken, keeps, opening_keeps, opens, logs, always_well, in_limit, taken_follows}
 use Rattle.law.proofs.LeftGood.{left_is_good, recovered}
+use Rattle.law.proofs.Picked.{some_same}
 
 -- ---- what holds at every moment
 
@@ -61,7 +57,6 @@ pub record IsKept (config : Config) (w : World) : Type 0 where
   pub well : WellWorld w
   pub views : (n : ℕ) (v : View) → Offers w n v → KeptView n v w
   pub looks : (k : Bytes) (at : ℕ) (x : Option Bytes) → IsAmong w.lines (Line.Look k at x) → LookKept config w k at x
-  pub once : AllOnce w
   pub acks : AcksAreLines w.bag w.lines
 
 kept_on : (w : World) (e : Event) (n : ℕ) (v : View) → ActAllowed InLimit w e.act → KeptView n v w → KeptView n v (happens w e).0
@@ -88,7 +83,6 @@ changes w e well may =
         | inr p ↦ inr (record { shard = p.shard; there = p.there; memory = p.memory; runs = p.runs; is = p.is })
       ];
       looked = λ k at x h. c.looked k at x h;
-      once = λ h. c.once h;
     }
 
 pub event_keeps : (config : Config) (w : World) (e : Event) → may_happen w e ≡ true → IsKept config w → IsKept config (happens w e).0
@@ -126,7 +120,6 @@ event_keeps config w e may k =
           kept = kept_on w e new.shard new.view limit (k.views new.shard new.view new.offers);
         }
       ];
-      once = c.once k.once;
       acks = c.acked k.acks;
     }
 
@@ -150,16 +143,13 @@ start_well : (config : Config) → WellWorld (start config)
 unfolding run lawful
 start_well config = always_well config [] refl
 
-some_view : (a b : View) → Some a ≡ Some b → a ≡ b
-some_view a b e = cc
-
 fresh_runs : (v : View) → ShowsView fresh_shard v → RunsWith fresh_shard v
 fresh_runs v (inl (inl same)) = record { memory = rebuilt (facts_of fresh_log); runs = refl; is = same }
 fresh_runs v (inl (inr none)) = absurd none
 fresh_runs v (inr e) = record {
   memory = rebuilt (facts_of fresh_log);
   runs = refl;
-  is = some_view
+  is = some_same
       (view_of (facts_of fresh_log) (rebuilt (facts_of fresh_log))) v e;
 }
 
@@ -177,7 +167,6 @@ start_kept config = record {
   well = start_well config;
   views = λ n v o. present_is_kept (start config) n v (start_well config) (start_present config n v o);
   looks = λ k at x none. absurd none;
-  once = λ c none. absurd none;
   acks = λ to t s none. absurd none;
 }
 
@@ -187,38 +176,13 @@ always_kept config es fair = run_keeps config (start config) es fair (start_kept
 
 -- ---- each transaction writes a key once
 
-keep_once : (test : Write → Bool) (ws : List Write) → WritesOnce ws → WritesOnce (filter test ws)
-keep_once test ws once a b ha hb key = once a b (among_keep test ws a ha) (among_keep test ws b hb) key
-
-abbrev MessageOnce : Message → Type 0
-MessageOnce (Message.Prepare p) = WritesOnce p.writes
-MessageOnce (Message.Commit c) = WritesOnce c.writes
-MessageOnce _ = Unit {0}
-
-prepares_once : (splits : List Bytes) (c : Client) (n : ℕ) (ns : List ℕ) (e : Envelope) → WritesOnce c.writes →
-    IsAmong (map (prepare_for splits c n) ns) e → MessageOnce e.message
-prepares_once splits c n [] e once h = absurd h
-prepares_once splits c n (m ∷ ms) e once (inl same) = subst (λ (z : Envelope). MessageOnce z.message) same (keep_once _ c.writes once)
-prepares_once splits c n (m ∷ ms) e once (inr later) = prepares_once splits c n ms e once later
-
-messages_once : (splits : List Bytes) (c : Client) (ns : List ℕ) (e : Envelope) → WritesOnce c.writes → IsAmong (messages_for splits c ns) e →
-    MessageOnce e.message
-messages_once splits c [] e once h = absurd h
-messages_once splits c (n ∷ ns) e once (inl same) = subst (λ (z : Envelope). MessageOnce z.message) same (keep_once _ c.writes once)
-messages_once splits c (n ∷ ns) e once (inr later) = prepares_once splits c n ns e once later
-
-module _ (sc : Scene) (h : Holds sc) (logs : List (List Record)) (left : AreLeft sc logs) (once : AllOnce sc.world) where
-  sent_once : (t : Id) (e : Envelope) → IsOfClosing sc.world t e → MessageOnce e.message
-  unfolding closing_messages
-  sent_once t e c =
-      messages_once sc.world.config.splits c.over.client (parts_of sc.world.config.splits c.over.client) e
-      (once c.over.client (among_first (λ (d : Client). same_id d.txn t) sc.world.clients c.over.client c.over.there))
-      (subst (λ l. IsAmong l e) (sym c.over.same) c.among)
-
+module _ (sc : Scene) (h : Holds sc) (logs : List (List Record)) (left : AreLeft sc logs) (all : AllAscend sc.world) where
   pub all_write_once : (n : ℕ) → AllWriteOnce (log_in logs n)
   all_write_once n = record {
-    promises = λ p k. let asked = evidence sc h logs left n (Prepare p) k in sent_once p.txn _ (h.messages _ asked.sent);
-    decisions = λ c k. let asked = (evidence sc h logs left n (Commit c) k).asked in sent_once c.txn _ (h.messages _ asked.sent);
+    promises = λ p k. let asked = evidence sc h logs left n (Prepare p) k in
+        writes_once p.writes (sent_ascends sc h all p.txn _ (h.messages _ asked.sent));
+    decisions = λ c k. let asked = (evidence sc h logs left n (Commit c) k).asked in
+        writes_once c.writes (sent_ascends sc h all c.txn _ (h.messages _ asked.sent));
     logged = log_logged sc h logs left n;
   }
 
@@ -249,10 +213,10 @@ module _ (config : Config) (es : List Event) (ls : List (List Record)) (fair : l
       (sym is) (accepted l.shard there.0 there.1) in
       let shown : IsShown (log_in ls l.shard) l.view = subst (λ z. IsShown z l.view) (sym is)
       ((left_shows config es ls may l.shard l.view l.kept l.shard there.0 there.1).shown refl) in
-      let once : AllOnce m.scene.world = subst AllOnce (sym m.same) (always_kept config es fair).once in
+      let all : AllAscend m.scene.world = subst AllAscend (sym m.same) (always_ascend config es fair) in
       shows_serially m.scene m.holds ls m.left config owns l.shard (orderly l.shard (log_in ls l.shard)
       (accepted_follows (setup_of config l.shard) (log_in ls l.shard) taken_there) (log_logged m.scene m.holds ls m.left l.shard))
-      (one_value (setup_of config l.shard) (log_in ls l.shard) taken_there (all_write_once m.scene m.holds ls m.left once l.shard))
+      (one_value (setup_of config l.shard) (log_in ls l.shard) taken_there (all_write_once m.scene m.holds ls m.left all l.shard))
       at (quiet_lower (log_in ls l.shard) l.view.safe at shown.quiet l.served) k l.own
       ∙ shown.same k at l.served ∙ l.value
 

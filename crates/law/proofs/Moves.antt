@@ -6,7 +6,7 @@ use Rattle.units.specs.declared.fault.Fault.{Fault}
 use Rattle.units.specs.declared.lock.Lock.{Lock}
 use Rattle.record.specs.declared.record.Record.{Record}
 use Rattle.message.specs.declared.message.Envelope.{Envelope}
-use Rattle.protocol.specs.Rows.{Row, Phase, Idle, WaitsRead, WaitsPrepare, WaitsCommit, Collecting, IsPrepared, IsDecided, Standing, HasRow}
+use Rattle.protocol.specs.Rows.{Row, Phase, WaitsPrepare, Standing, HasRow}
 use Rattle.protocol.specs.Rows.{WasAborted, WasSettled, find_row}
 use Rattle.protocol.specs.Outputs.{refused_vote}
 use Rattle.protocol.specs.Plan.{Change, Puts, Plan, Planned, Before, votes_of, replies, ends, drops, puts, roomed}
@@ -49,13 +49,8 @@ refused_told log now n None = tt
 refused_told log now n (Some r) = by_phase r.phase
   where
     by_phase : (phase : Phase) → AllTold log now n (refused_vote n (Some (record r { phase = phase })))
-    by_phase Idle = tt
-    by_phase (WaitsRead k) = tt
     by_phase (WaitsPrepare c rs ws) = (tt, tt)
-    by_phase (WaitsCommit l ps rs ws) = tt
-    by_phase (Collecting l ps rs ws votes) = tt
-    by_phase (IsPrepared c p) = tt
-    by_phase (IsDecided s ps) = tt
+    by_phase _ = tt
 
 votes_told : (log : List Record) (now n : ℕ) (rows : List Row) (ts : List Id) → AllTold log now n (votes_of n rows ts)
 votes_told log now n rows [] = tt

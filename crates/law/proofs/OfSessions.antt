@@ -14,7 +14,7 @@ use Rattle.record.specs.Records.{as_prepared}
 use Rattle.record.specs.Accepted.{belongs}
 use Rattle.record.specs.declared.record.Prepared.{Prepared}
 use Rattle.record.specs.declared.record.Record.{Record}
-use Rattle.record.specs.declared.record.Record.TheVariants.{Opened, Ceiling, Prepare, Commit, Abort, Outcome, Horizon, Base, Version, Settled, Closed}
+use Rattle.record.specs.declared.record.Record.TheVariants.{Prepare, Commit}
 use Rattle.message.specs.declared.message.Address.TheVariants.{Shard}
 use Rattle.message.specs.declared.message.Envelope.{Envelope}
 use Rattle.message.specs.declared.message.Message.{Message}
@@ -28,13 +28,13 @@ use Rattle.law.proofs.Decisions.{left_logged, number_there}
 use Rattle.law.proofs.Homes.{log_in, evidence, decision_home, promised}
 use Rattle.law.proofs.Instants.{Moment, moment}
 use Rattle.law.proofs.Members.{among_left, among_right}
-use Rattle.law.proofs.Picked.{any_of, gather_among, join_among, keep_among, map_among}
+use Rattle.law.proofs.Picked.{any_of, gather_among, join_among, keep_among, map_among, some_same}
 use Rattle.law.proofs.Recorded.{among_first, among_keep}
 use Rattle.law.proofs.Accepts.{WritesOnce}
-use Rattle.law.proofs.Changed.{AllOnce}
+use Rattle.law.proofs.AreasAscend.{AllAscend, always_ascend, writes_once}
 use Rattle.law.proofs.LooksHold.{always_kept, owns}
 use Rattle.law.proofs.Serial.{put_untouched, put_written}
-use Rattle.law.proofs.SortedParts.{has_of, once_has, shard_in, some_number, sorted_has}
+use Rattle.law.proofs.SortedParts.{has_of, once_has, shard_in, sorted_has}
 use Rattle.law.proofs.InHistory.{InHistory, from_history}
 use Rattle.law.proofs.Standing.{Wrote, write_home}
 use Rattle.law.specs.Written.{IsOfSession, asks_to_commit, WrittenBySessions}
@@ -47,23 +47,20 @@ writes_in (Message.Prepare p) = Some p.writes
 writes_in (Message.Commit c) = Some c.writes
 writes_in _ = None
 
-some_list : (a b : List Write) → Some a ≡ Some b → a ≡ b
-some_list a b e = cc
-
 prepares_write : (splits : List Bytes) (c : Client) (k : ℕ) (ns : List ℕ) (n : ℕ) (e : Envelope) (s : List Write) →
     IsAmong (map (prepare_for splits c k) ns) e → shard_in e.to ≡ Some n → writes_in e.message ≡ Some s → s ≡ writes_at_shard splits c n
 prepares_write splits c k [] n e s h to is = absurd h
 prepares_write splits c k (m ∷ ms) n e s (inl same) to is =
-    some_list s (writes_at_shard splits c n) (sym is ∙ ap (λ (z : Envelope). writes_in z.message) (sym same)
-    ∙ ap (λ j. Some (writes_at_shard splits c j)) (some_number m n (ap (λ (z : Envelope). shard_in z.to) same ∙ to)))
+    some_same s (writes_at_shard splits c n) (sym is ∙ ap (λ (z : Envelope). writes_in z.message) (sym same)
+    ∙ ap (λ j. Some (writes_at_shard splits c j)) (some_same m n (ap (λ (z : Envelope). shard_in z.to) same ∙ to)))
 prepares_write splits c k (m ∷ ms) n e s (inr later) to is = prepares_write splits c k ms n e s later to is
 
 closing_writes : (splits : List Bytes) (c : Client) (ns : List ℕ) (n : ℕ) (e : Envelope) (s : List Write) → IsAmong (messages_for splits c ns) e →
     shard_in e.to ≡ Some n → writes_in e.message ≡ Some s → s ≡ writes_at_shard splits c n
 closing_writes splits c [] n e s h to is = absurd h
 closing_writes splits c (m ∷ ms) n e s (inl same) to is =
-    some_list s (writes_at_shard splits c n) (sym is ∙ ap (λ (z : Envelope). writes_in z.message) (sym same)
-    ∙ ap (λ j. Some (writes_at_shard splits c j)) (some_number m n (ap (λ (z : Envelope). shard_in z.to) same ∙ to)))
+    some_same s (writes_at_shard splits c n) (sym is ∙ ap (λ (z : Envelope). writes_in z.message) (sym same)
+    ∙ ap (λ j. Some (writes_at_shard splits c j)) (some_same m n (ap (λ (z : Envelope). shard_in z.to) same ∙ to)))
 closing_writes splits c (m ∷ ms) n e s (inr later) to is = prepares_write splits c m ms n e s later to is
 
 -- ---- the value that is written last
@@ -102,7 +99,7 @@ same_puts us ws m k one into from = by_some (find ws)
 
 module _ (sc : Scene) (h : Holds sc) (logs : List (List Record)) (left : AreLeft sc logs)
     (own : (n : ℕ) (r : Record) → IsAmong (log_in logs n) r → belongs (setup_of sc.world.config n) r ≡ true)
-    (one : AllOnce sc.world) (u : Txn) (there : IsAmong (history logs) u) where
+    (all : AllAscend sc.world) (u : Txn) (there : IsAmong (history logs) u) where
   abbrev splits : List Bytes
   splits = sc.world.config.splits
 
@@ -132,16 +129,13 @@ module _ (sc : Scene) (h : Holds sc) (logs : List (List Record)) (left : AreLeft
   c_there : client_of sc.world u.txn ≡ Some c
   c_there = subst (λ t. client_of sc.world t ≡ Some c) txn_is asked.over.there
 
-  some_client : (a b : Client) → Some a ≡ Some b → a ≡ b
-  some_client a b e = cc
-
   -- a message of the closing has the session's writes
   closing_set : (t : Id) (n : ℕ) (m : Message) (s : List Write) → t ≡ u.txn → IsOfClosing sc.world t (record { to = Shard n; message = m }) →
       writes_in m ≡ Some s → s ≡ writes_at_shard splits c n
   unfolding closing_messages
   closing_set t n m s named k is =
       let e : Envelope = record { to = Shard n; message = m } in
-      let mine : k.over.client ≡ c = some_client k.over.client c (sym k.over.there ∙ ap (λ i. client_of sc.world i) named ∙ c_there) in
+      let mine : k.over.client ≡ c = some_same k.over.client c (sym k.over.there ∙ ap (λ i. client_of sc.world i) named ∙ c_there) in
       subst (λ (z : Client). s ≡ writes_at_shard splits z n) mine
       (closing_writes splits k.over.client (parts_of splits k.over.client) n e s (subst (λ l. IsAmong l e) (sym k.over.same) k.among) refl is)
 
@@ -154,15 +148,7 @@ module _ (sc : Scene) (h : Holds sc) (logs : List (List Record)) (left : AreLeft
       let sent = (evidence sc h logs left n (Commit q) k).asked in
       among_keep (λ (v : Write). nat_eq (shard_of splits v.key) n) c.writes w (subst (λ l. IsAmong l w)
       (closing_set q.txn n _ _ wrote.0 (h.messages _ sent.sent) refl) wrote.2)
-  at_home n (Opened e) w k wrote = absurd wrote
-  at_home n (Ceiling e) w k wrote = absurd wrote
-  at_home n (Horizon e) w k wrote = absurd wrote
-  at_home n (Base _ _ _) w k wrote = absurd wrote
-  at_home n (Version _) w k wrote = absurd wrote
-  at_home n (Settled _ _ _) w k wrote = absurd wrote
-  at_home n (Closed _ _ _) w k wrote = absurd wrote
-  at_home n (Abort e) w k wrote = absurd wrote
-  at_home n (Outcome e q) w k wrote = absurd wrote
+  at_home n _ w k wrote = absurd wrote
 
   -- nothing else is written
   into : (w : Write) → IsAmong u.writes w → IsAmong c.writes w
@@ -192,7 +178,7 @@ module _ (sc : Scene) (h : Holds sc) (logs : List (List Record)) (left : AreLeft
       part : has d.commit.parts n ≡ true
       part =
           let over = (decision_home sc h logs left d.shard d.commit d.among).0 in
-          let mine : over.client ≡ c = some_client over.client c (sym over.there ∙ asked.over.there) in
+          let mine : over.client ≡ c = some_same over.client c (sym over.there ∙ asked.over.there) in
           subst (λ ps. has ps n ≡ true) (ap (parts_of splits) (sym mine) ∙ over.same)
           (has_of (parts_of splits c) n (sorted_has nat_lt (once (map (λ (a : Taken). a.shard) c.taken ++
           map (λ (v : Write). shard_of splits v.key) c.writes)) n
@@ -228,14 +214,16 @@ module _ (sc : Scene) (h : Holds sc) (logs : List (List Record)) (left : AreLeft
     there = c_there;
     closed = any_of (asks_to_commit u.txn) sc.world.bag (record { to = Shard d.shard; message = message }) request.sent
         (subst (λ t. same_id d.commit.txn t ≡ true) txn_is (same_id-refl d.commit.txn));
-    same = λ m k. same_puts u.writes c.writes m k (one c (among_first (λ (z : Client). same_id z.txn u.txn) sc.world.clients c c_there)) into from;
+    same = λ m k.
+        same_puts u.writes c.writes m k
+        (writes_once c.writes (all c (among_first (λ (z : Client). same_id z.txn u.txn) sc.world.clients c c_there))) into from;
   }
 
 pub written_by_sessions : WrittenBySessions
 written_by_sessions config es ls fair may u there =
     let m : Moment (run config es) ls = moment config es ls fair may in
-    let once : AllOnce m.scene.world = subst AllOnce (sym m.same) (always_kept config es fair).once in
+    let all : AllAscend m.scene.world = subst AllAscend (sym m.same) (always_ascend config es fair) in
     let is_config : m.scene.world.config ≡ config = ap (λ (w : World). w.config) m.same ∙ (always_kept config es fair).settings in
     subst (λ (w : World). IsOfSession w u) m.same
     (of_session m.scene m.holds ls m.left (λ n r k. subst (λ g. belongs (setup_of g n) r ≡ true) (sym is_config) (owns config es ls fair may n r k))
-    once u there)
+    all u there)

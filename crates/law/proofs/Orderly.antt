@@ -13,23 +13,19 @@ use Rattle.record.specs.Records.{Ended, Status, Unrecorded, as_committed, as_pre
 use Rattle.record.specs.declared.record.Committed.{Committed}
 use Rattle.record.specs.declared.record.Prepared.{Prepared}
 use Rattle.record.specs.declared.record.Record.{Record}
-use Rattle.record.specs.declared.record.Record.TheVariants.{Opened, Ceiling, Prepare, Commit, Abort, Outcome, Horizon, Base, Version, Settled, Closed}
+use Rattle.record.specs.declared.record.Record.TheVariants.{Prepare, Commit, Abort, Settled, Closed}
 use Rattle.law.specs.Among.{IsAmong}
 use Rattle.law.proofs.Logged.{AreLogged}
+use Rattle.law.proofs.Picked.{some_same}
 
 -- the record is a promise, a decision or an abort of the id, or what is left of one
 abbrev pub is_claim : Id → Record → Bool
 is_claim t (Prepare p) = same_id p.txn t
 is_claim t (Commit c) = same_id c.txn t
 is_claim t (Abort u) = same_id t u
-is_claim t (Record.Opened epoch) = false
-is_claim t (Record.Ceiling s) = false
-is_claim t (Record.Horizon s) = false
-is_claim t (Record.Base _ _ _) = false
-is_claim t (Record.Version _) = false
 is_claim t (Settled u at parts) = same_id u t
 is_claim t (Closed u coordinator outcome) = same_id u t
-is_claim t (Record.Outcome u o) = false
+is_claim t _ = false
 
 -- those of an id
 abbrev pub claims_of : List Record → Id → List Record
@@ -57,11 +53,6 @@ dropped false r rest e f = f
 none_of : (t : Id) (log : List Record) → is_aborted log t ≡ false → list_any (λ c. same_id c.txn t) (gather as_committed log) ≡ false →
     list_any (λ p. same_id p.txn t) (gather as_prepared log) ≡ false → claims_of log t ≡ []
 none_of t [] a c p = refl
-none_of t (Opened epoch ∷ rs) a c p = none_of t rs a c p
-none_of t (Ceiling at ∷ rs) a c p = none_of t rs a c p
-none_of t (Horizon at ∷ rs) a c p = none_of t rs a c p
-none_of t (Base _ _ _ ∷ rs) a c p = none_of t rs a c p
-none_of t (Version _ ∷ rs) a c p = none_of t rs a c p
 none_of t (Settled u at parts ∷ rs) a c p =
     dropped (same_id u t) (Settled u at parts) (claims_of rs t) (or_parts _ _ c).0 (none_of t rs a (or_parts _ _ c).1 p)
 none_of t (Closed u k outcome ∷ rs) a c p =
@@ -69,7 +60,7 @@ none_of t (Closed u k outcome ∷ rs) a c p =
 none_of t (Prepare q ∷ rs) a c p = dropped (same_id q.txn t) (Prepare q) (claims_of rs t) (or_parts _ _ p).0 (none_of t rs a c (or_parts _ _ p).1)
 none_of t (Commit q ∷ rs) a c p = dropped (same_id q.txn t) (Commit q) (claims_of rs t) (or_parts _ _ c).0 (none_of t rs a (or_parts _ _ c).1 p)
 none_of t (Abort u ∷ rs) a c p = dropped (same_id t u) (Abort u) (claims_of rs t) (or_parts _ _ a).0 (none_of t rs (or_parts _ _ a).1 c p)
-none_of t (Outcome u o ∷ rs) a c p = none_of t rs a c p
+none_of t (_ ∷ rs) a c p = none_of t rs a c p
 
 abbrev unrecorded : Status → Bool
 unrecorded s = elim s [ Unrecorded ↦ true | _ ↦ false ]
@@ -108,16 +99,11 @@ unfolding follows
 claims_new shard before (Prepare p) t h k = subst (λ u. is_new before u ≡ true) (same_id-is p.txn t k) (and_parts _ _ (and_parts _ _ h).0).1
 claims_new shard before (Commit c) t h k = subst (λ u. is_new before u ≡ true) (same_id-is c.txn t k) (and_parts _ _ (and_parts _ _ h).0).1
 claims_new shard before (Abort u) t h k = subst (λ v. is_new before v ≡ true) (sym (same_id-is t u k)) h
-claims_new shard before (Opened epoch) t h k = cc
-claims_new shard before (Ceiling at) t h k = cc
-claims_new shard before (Horizon at) t h k = cc
-claims_new shard before (Base _ _ _) t h k = cc
-claims_new shard before (Version _) t h k = cc
 claims_new shard before (Settled u at parts) t h k =
     subst (λ v. is_new before v ≡ true) (same_id-is u t k) (and_parts _ _ (and_parts _ _ h).0).1
 claims_new shard before (Closed u coordinator outcome) t h k =
     subst (λ v. is_new before v ≡ true) (same_id-is u t k) (and_parts _ _ (and_parts _ _ h).0).1
-claims_new shard before (Outcome u o) t h k = cc
+claims_new shard before _ t h k = cc
 
 one_more : (shard : ℕ) (before : List Record) (r : Record) (t : Id) → follows shard before r ≡ true → IsOne (claims_of before t) →
     IsOne (claims_of (before ++ r ∷ []) t)
@@ -162,9 +148,6 @@ one_same (x ∷ y ∷ rest) a b o h k = absurd o
 pub same_claim : (log : List Record) → IsOrderly log → (t : Id) (a b : Record) → IsAmong log a → IsAmong log b → is_claim t a ≡ true →
     is_claim t b ≡ true → a ≡ b
 same_claim log o t a b h k p q = one_same (claims_of log t) a b (o.0 t) (among_kept t log a h p) (among_kept t log b k q)
-
-some_same : {A : Type 0} (a b : A) → Some a ≡ Some b → a ≡ b
-some_same a b e = cc
 
 module _ (log : List Record) (o : IsOrderly log) where
   pub one_decision : (c d : Committed) → IsAmong log (Commit c) → IsAmong log (Commit d) → d.txn ≡ c.txn → c ≡ d

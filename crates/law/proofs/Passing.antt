@@ -7,7 +7,7 @@ use Rattle.units.specs.Locks.{holds}
 use Rattle.units.specs.declared.writes.Write.{Write}
 use Rattle.record.specs.Facts.{facts_of}
 use Rattle.record.specs.declared.record.Record.{Record}
-use Rattle.record.specs.declared.record.Record.TheVariants.{Opened, Ceiling, Prepare, Commit, Abort, Outcome, Horizon, Base, Version, Settled, Closed}
+use Rattle.record.specs.declared.record.Record.TheVariants.{Prepare, Commit, Abort, Outcome}
 use Rattle.message.specs.declared.message.Address.{Address}
 use Rattle.message.specs.declared.message.Address.TheVariants.{Shard}
 use Rattle.message.specs.declared.message.Envelope.{Envelope}
@@ -90,23 +90,13 @@ module _ (sc : Scene) (time : sc.world.time ≡ sc.now) where
           ]
       by_done None k = k
       by_done (Some s) k = passed (log_at sc.world e.shard) d.txn s k
-  said to (Message.Read r) e = tt
-  said to (Message.Prepare p) e = tt
-  said to (Message.Commit c) e = tt
-  said to (Message.GiveUp g) e = tt
-  said to (Message.Ask a) e = tt
-  said to (Message.ReadAnswer a) e = tt
+  said to _ e = tt
 
   has_record : (to : Address) (m : Message) → MessageEvidence sc to m → HasItsRecord sc.world m
   has_record to (Message.Vote v) e = said to (Message.Vote v) e
   has_record to (Message.Outcome o) e = said to (Message.Outcome o) e
   has_record to (Message.Done d) e = said to (Message.Done d) e
-  has_record to (Message.Read r) e = tt
-  has_record to (Message.Prepare p) e = tt
-  has_record to (Message.Commit c) e = tt
-  has_record to (Message.GiveUp g) e = tt
-  has_record to (Message.Ask a) e = tt
-  has_record to (Message.ReadAnswer a) e = tt
+  has_record to _ e = tt
 
 pub put_out_is_logged : PutOutIsLogged
 put_out_is_logged config es fair e there =
@@ -137,15 +127,7 @@ outcomes_have_passed config es fair n s there t at logged =
 with_writes : (r : Record) (t : Id) (at : ℕ) (ks : List Bytes) → IsClaim r t at ks → (ws : List Write) × Claims r t at ks ws
 with_writes (Prepare p) t at ks c = (p.writes, (c.0, c.1, c.2, refl))
 with_writes (Commit p) t at ks c = (p.writes, (c.0, c.1, c.2, refl))
-with_writes (Opened x) t at ks c = absurd c
-with_writes (Ceiling x) t at ks c = absurd c
-with_writes (Horizon x) t at ks c = absurd c
-with_writes (Base _ _ _) t at ks c = absurd c
-with_writes (Version _) t at ks c = absurd c
-with_writes (Settled _ _ _) t at ks c = absurd c
-with_writes (Closed _ _ _) t at ks c = absurd c
-with_writes (Abort x) t at ks c = absurd c
-with_writes (Outcome x y) t at ks c = absurd c
+with_writes _ t at ks c = absurd c
 
 module _ (config : Config) (es : List Event) (ls : List (List Record)) (fair : lawful config es ≡ true) (may : MayBeLeft config es ls) (a : ReadAnswer)
     (x : Option Bytes) (read : WasTaken (run config es) a x) where

@@ -22,7 +22,7 @@ use Rattle.record.proofs.LearnAgrees.{learn_agrees, followed_more}
 use Rattle.record.specs.declared.record.Committed.{Committed}
 use Rattle.record.specs.declared.record.Prepared.{Prepared}
 use Rattle.record.specs.declared.record.Record.{Record}
-use Rattle.record.specs.declared.record.Record.TheVariants.{Opened, Ceiling, Prepare, Commit, Abort, Outcome, Horizon, Base, Version, Settled, Closed}
+use Rattle.record.specs.declared.record.Record.TheVariants.{Prepare, Commit, Outcome, Base, Version, Settled, Closed}
 use Rattle.law.specs.Among.{IsAmong}
 use Rattle.law.proofs.Members.{among_left, among_cases}
 use Rattle.law.proofs.Picked.{any_of, gather_among}
@@ -44,28 +44,18 @@ pub record IsQuiet (log : List Record) (at : ℕ) : Type 0 where
 abbrev pub IsAbove : ℕ → Record → Type 0
 IsAbove at (Prepare p) = at < p.at
 IsAbove at (Commit c) = at < c.at
-IsAbove at (Record.Opened epoch) = Unit {0}
-IsAbove at (Record.Ceiling s) = Unit {0}
-IsAbove at (Record.Horizon s) = Unit {0}
 IsAbove at (Record.Base _ _ _) = ⊥
 IsAbove at (Record.Version _) = ⊥
 IsAbove at (Record.Settled _ _ _) = ⊥
 IsAbove at (Record.Closed _ _ _) = ⊥
-IsAbove at (Record.Abort u) = Unit {0}
-IsAbove at (Record.Outcome u o) = Unit {0}
+IsAbove at _ = Unit {0}
 
 pub above_logged : (at : ℕ) (r : Record) → IsAbove at r → is_logged r ≡ true
-above_logged at (Prepare p) h = refl
-above_logged at (Commit c) h = refl
-above_logged at (Opened epoch) h = refl
-above_logged at (Ceiling s) h = refl
-above_logged at (Horizon s) h = refl
-above_logged at (Abort u) h = refl
-above_logged at (Outcome u o) h = refl
 above_logged at (Base _ _ _) h = absurd h
 above_logged at (Version _) h = absurd h
 above_logged at (Settled _ _ _) h = absurd h
 above_logged at (Closed _ _ _) h = absurd h
+above_logged at _ h = refl
 
 -- ---- one more record keeps the quiet
 
@@ -138,10 +128,7 @@ unseen (w ∷ ws) at s h = ap (λ b. cond b (record { key = w.key; at = s; value
 installed_unseen : (st : Status) (at s : ℕ) → at < s → filter (λ (i : Install). nat_le i.at at) (installs_at st (Some s)) ≡ []
 installed_unseen (StandsPrepared p) at s h = unseen p.writes at s h
 installed_unseen (StandsDecided c) at s h = unseen c.writes at s h
-installed_unseen Unrecorded at s h = refl
-installed_unseen HasAborted at s h = refl
-installed_unseen (HasSettled x ps) at s h = refl
-installed_unseen (HasClosed c o) at s h = refl
+installed_unseen _ at s h = refl
 
 same_answer : (is more : List Install) (k : Bytes) (at : ℕ) → filter (λ (i : Install). nat_le i.at at) more ≡ [] → at_time (is ++ more) k at ≡ at_time is k at
 unfolding at_time
@@ -159,16 +146,10 @@ answer_stays shard log r k at logged of_step h q =
     ∙ by_kind r of_step (and_parts _ _ (and_parts _ _ (sym (followed_more shard log r) ∙ h)).1).1
   where
     by_kind : (x : Record) → is_logged x ≡ true → follows shard log x ≡ true → at_time (learn (facts_of log) x).installs k at ≡ at_time (installs_of log) k at
-    by_kind (Opened epoch) l e = refl
-    by_kind (Ceiling s) l e = refl
-    by_kind (Horizon s) l e = refl
     by_kind (Base _ _ _) l e = cc
     by_kind (Version _) l e = cc
     by_kind (Settled _ _ _) l e = cc
     by_kind (Closed _ _ _) l e = cc
-    by_kind (Prepare p) l e = refl
-    by_kind (Commit c) l e = refl
-    by_kind (Abort t) l e = refl
     by_kind (Outcome t None) l e = same_answer (installs_of log) (installs_at (recorded (facts_of log) t) None) k at
         (none_installed (recorded (facts_of log) t))
       where
@@ -186,3 +167,4 @@ answer_stays shard log r k at logged of_step h q =
         (outcome_fits (prepared_of log t) (committed_of log t) (Some s)) e).0
         (prepared_of log t) refl (committed_of log t) refl (and_parts (not (when (λ x. true) (ended_of log t)))
         (outcome_fits (prepared_of log t) (committed_of log t) (Some s)) e).1))
+    by_kind _ l e = refl

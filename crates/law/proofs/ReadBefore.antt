@@ -29,7 +29,7 @@ use Rattle.record.specs.Records.{status_by, status_of, horizon_of}
 use Rattle.record.specs.declared.record.Committed.{Committed}
 use Rattle.record.specs.declared.record.Prepared.{Prepared}
 use Rattle.record.specs.declared.record.Record.{Record}
-use Rattle.record.specs.declared.record.Record.TheVariants.{Opened, Ceiling, Prepare, Commit, Abort, Outcome, Horizon, Base, Version, Settled, Closed}
+use Rattle.record.specs.declared.record.Record.TheVariants.{Prepare, Commit, Abort, Outcome}
 use Rattle.record.proofs.LearnAgrees.{accepted_follows}
 use Rattle.protocol.specs.Sound.{holds_alone, is_exclusive}
 use Rattle.protocol.proofs.RecordLocks.{holds_reads}
@@ -40,7 +40,7 @@ use Rattle.law.specs.Evidence.{Scene, Holds}
 use Rattle.law.specs.Left.{AreLeft}
 use Rattle.law.proofs.Members.{among_left, among_right, some_passes}
 use Rattle.law.proofs.Orderly.{IsOrderly, orderly, same_claim, one_decision, one_promise, decided_not_promised}
-use Rattle.law.proofs.Picked.{any_of, gather_among}
+use Rattle.law.proofs.Picked.{any_of, gather_among, some_same}
 use Rattle.law.proofs.Logged.{AreLogged}
 use Rattle.law.proofs.Recorded.{among_first, is_aborted_among, outcome_among}
 use Rattle.law.proofs.Resolved.{committed_is, prepared_is, not_committed, not_prepared}
@@ -59,15 +59,7 @@ use Rattle.law.proofs.Standing.{Wrote, installed, written}
 abbrev pub Claims : Record → Id → ℕ → List Bytes → List Write → Type 0
 Claims (Prepare p) t at ks ws = (p.txn ≡ t) × (p.at ≡ at) × (p.reads ≡ ks) × (p.writes ≡ ws)
 Claims (Commit c) t at ks ws = (c.txn ≡ t) × (c.at ≡ at) × (c.reads ≡ ks) × (c.writes ≡ ws)
-Claims (Record.Opened epoch) t at ks ws = ⊥
-Claims (Record.Ceiling s) t at ks ws = ⊥
-Claims (Record.Horizon s) t at ks ws = ⊥
-Claims (Record.Base _ _ _) t at ks ws = ⊥
-Claims (Record.Version _) t at ks ws = ⊥
-Claims (Record.Settled _ _ _) t at ks ws = ⊥
-Claims (Record.Closed _ _ _) t at ks ws = ⊥
-Claims (Record.Abort u) t at ks ws = ⊥
-Claims (Record.Outcome u o) t at ks ws = ⊥
+Claims _ t at ks ws = ⊥
 
 -- the timestamp at which an id ended at a shard
 abbrev pub end_stamp : Status → Option ℕ
@@ -210,15 +202,7 @@ stands_there log o (Commit p) t at ks ws h c none = by_parts (is_aborted log t) 
         let i = committed_is log o.1 t d hd in
         let same : p ≡ d = one_decision log o p d h i.0 (i.1 ∙ sym c.0) in
         ap (λ (z : Committed). Some (locks_of z.reads z.writes)) (sym same) ∙ ap (λ l. Some (locks_of l p.writes)) c.2 ∙ ap (λ l. Some (locks_of ks l)) c.3
-stands_there log o (Opened x) t at ks ws h c none = absurd c
-stands_there log o (Ceiling x) t at ks ws h c none = absurd c
-stands_there log o (Horizon x) t at ks ws h c none = absurd c
-stands_there log o (Base _ _ _) t at ks ws h c none = absurd c
-stands_there log o (Version _) t at ks ws h c none = absurd c
-stands_there log o (Settled _ _ _) t at ks ws h c none = absurd c
-stands_there log o (Closed _ _ _) t at ks ws h c none = absurd c
-stands_there log o (Abort x) t at ks ws h c none = absurd c
-stands_there log o (Outcome x y) t at ks ws h c none = absurd c
+stands_there log o _ t at ks ws h c none = absurd c
 
 -- the end of a promise or a decision is at its outcome's timestamp
 pub stamp_of_end : (log : List Record) → IsOrderly log → (r : Record) (t : Id) (at : ℕ) (ks : List Bytes) (ws : List Write) (s : ℕ) → IsAmong log r →
@@ -236,10 +220,7 @@ stamp_of_end log o (Prepare p) t at ks ws s h c x is own = by_parts (is_aborted 
         (subst (λ u. same_id u t ≡ true) (sym c.0) (same_id-refl t)) (same_id-refl t) in cc)
     by_parts false ha (Some d) hd q hq (Some e) he = let i = committed_is log o.1 t d hd in absurd (decided_not_promised log o d p i.0 h (c.0 ∙ sym i.1))
     by_parts false ha None hd None hq (Some e) he = absurd (not_prepared log t p hq h c.0)
-    by_parts false ha None hd (Some q) hq (Some e) he = ap (λ (z : Ended). z.outcome) (same_end e x.ended he) ∙ is
-      where
-        same_end : (a b : Ended) → Some a ≡ Some b → a ≡ b
-        same_end a b k = cc
+    by_parts false ha None hd (Some q) hq (Some e) he = ap (λ (z : Ended). z.outcome) (some_same e x.ended he) ∙ is
 stamp_of_end log o (Commit p) t at ks ws s h c x is own = by_parts (is_aborted log t) refl (committed_of log t) refl (prepared_of log t) refl
     (ended_of log t) x.is
   where
@@ -253,28 +234,12 @@ stamp_of_end log o (Commit p) t at ks ws s h c x is own = by_parts (is_aborted l
     by_parts false ha (Some d) hd q hq (Some e) he =
         let i = committed_is log o.1 t d hd in
         ap (λ z. Some z) (sym (ap (λ (z : Committed). z.at) (one_decision log o p d h i.0 (i.1 ∙ sym c.0))) ∙ own p refl)
-stamp_of_end log o (Opened y) t at ks ws s h c x is own = absurd c
-stamp_of_end log o (Ceiling y) t at ks ws s h c x is own = absurd c
-stamp_of_end log o (Horizon y) t at ks ws s h c x is own = absurd c
-stamp_of_end log o (Base _ _ _) t at ks ws s h c x is own = absurd c
-stamp_of_end log o (Version _) t at ks ws s h c x is own = absurd c
-stamp_of_end log o (Settled _ _ _) t at ks ws s h c x is own = absurd c
-stamp_of_end log o (Closed _ _ _) t at ks ws s h c x is own = absurd c
-stamp_of_end log o (Abort y) t at ks ws s h c x is own = absurd c
-stamp_of_end log o (Outcome y z) t at ks ws s h c x is own = absurd c
+stamp_of_end log o _ t at ks ws s h c x is own = absurd c
 
 claim_id : (r : Record) (t : Id) (at : ℕ) (ks : List Bytes) (ws : List Write) → Claims r t at ks ws → id_in r ≡ Some t
 claim_id (Prepare p) t at ks ws c = ap (λ u. Some u) c.0
 claim_id (Commit p) t at ks ws c = ap (λ u. Some u) c.0
-claim_id (Opened x) t at ks ws c = absurd c
-claim_id (Ceiling x) t at ks ws c = absurd c
-claim_id (Horizon x) t at ks ws c = absurd c
-claim_id (Base _ _ _) t at ks ws c = absurd c
-claim_id (Version _) t at ks ws c = absurd c
-claim_id (Settled _ _ _) t at ks ws c = absurd c
-claim_id (Closed _ _ _) t at ks ws c = absurd c
-claim_id (Abort x) t at ks ws c = absurd c
-claim_id (Outcome x y) t at ks ws c = absurd c
+claim_id _ t at ks ws c = absurd c
 
 -- its locks are among those that stand
 locks_stand : (log : List Record) → IsOrderly log → (r : Record) (t : Id) (at : ℕ) (ks : List Bytes) (ws : List Write) → IsAmong log r →
@@ -321,15 +286,7 @@ free_beside front (Commit p) t at ks ws c e =
     && nat_lt (horizon_of front) p.at) _ e in
     subst (λ l. list_any (clash (locks_of ks l)) (locks_standing front) ≡ false) c.3 (subst
     (λ l. list_any (clash (locks_of l p.writes)) (locks_standing front) ≡ false) c.2 (not_any _ (and_parts _ _ (and_parts _ _ a.0).0).1))
-free_beside front (Opened x) t at ks ws c e = absurd c
-free_beside front (Ceiling x) t at ks ws c e = absurd c
-free_beside front (Horizon x) t at ks ws c e = absurd c
-free_beside front (Base _ _ _) t at ks ws c e = absurd c
-free_beside front (Version _) t at ks ws c e = absurd c
-free_beside front (Settled _ _ _) t at ks ws c e = absurd c
-free_beside front (Closed _ _ _) t at ks ws c e = absurd c
-free_beside front (Abort x) t at ks ws c e = absurd c
-free_beside front (Outcome x y) t at ks ws c e = absurd c
+free_beside front _ t at ks ws c e = absurd c
 
 module _ (setup : Setup) (log : List Record) (accepted : taken setup log ≡ Accepted) (logged : AreLogged log) where
   front_orderly : (front back : List Record) → log ≡ front ++ back → IsOrderly front
@@ -354,28 +311,12 @@ claim_of_wrote : (q : Record) (v : Txn) (w : Write) → Wrote q v w → (at : �
     × (at ≤ v.at) × IsAmong ws w
 claim_of_wrote (Prepare p) v w h = (p.at, p.reads, p.writes, (h.0, refl, refl, refl), h.1, h.2)
 claim_of_wrote (Commit c) v w h = (c.at, c.reads, c.writes, (h.0, refl, refl, refl), (let e = h.1 in omega (arith, e)), h.2)
-claim_of_wrote (Opened x) v w h = absurd h
-claim_of_wrote (Ceiling x) v w h = absurd h
-claim_of_wrote (Horizon x) v w h = absurd h
-claim_of_wrote (Base _ _ _) v w h = absurd h
-claim_of_wrote (Version _) v w h = absurd h
-claim_of_wrote (Settled _ _ _) v w h = absurd h
-claim_of_wrote (Closed _ _ _) v w h = absurd h
-claim_of_wrote (Abort x) v w h = absurd h
-claim_of_wrote (Outcome x y) v w h = absurd h
+claim_of_wrote _ v w h = absurd h
 
 pub same_claim_id : (q : Record) (t u : Id) (at bt : ℕ) (ks js : List Bytes) (ws vs : List Write) → Claims q t at ks ws → Claims q u bt js vs → t ≡ u
 same_claim_id (Prepare p) t u at bt ks js ws vs a b = sym a.0 ∙ b.0
 same_claim_id (Commit c) t u at bt ks js ws vs a b = sym a.0 ∙ b.0
-same_claim_id (Opened x) t u at bt ks js ws vs a b = absurd a
-same_claim_id (Ceiling x) t u at bt ks js ws vs a b = absurd a
-same_claim_id (Horizon x) t u at bt ks js ws vs a b = absurd a
-same_claim_id (Base _ _ _) t u at bt ks js ws vs a b = absurd a
-same_claim_id (Version _) t u at bt ks js ws vs a b = absurd a
-same_claim_id (Settled _ _ _) t u at bt ks js ws vs a b = absurd a
-same_claim_id (Closed _ _ _) t u at bt ks js ws vs a b = absurd a
-same_claim_id (Abort x) t u at bt ks js ws vs a b = absurd a
-same_claim_id (Outcome x y) t u at bt ks js ws vs a b = absurd a
+same_claim_id _ t u at bt ks js ws vs a b = absurd a
 
 before_itself : (v u : Txn) → v.at ≡ u.at → v.txn ≡ u.txn → serial_before v u ≡ true → ⊥
 before_itself v u at txn e = itself u.at u.txn (subst (λ t. (nat_lt u.at u.at || (nat_eq u.at u.at && older t u.txn)) ≡ true) txn

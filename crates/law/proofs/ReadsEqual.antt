@@ -15,7 +15,7 @@ use Rattle.record.specs.Accepted.{belongs}
 use Rattle.record.specs.History.{Txn, history, before, find_txn}
 use Rattle.record.specs.Serially.{ReadsSerially}
 use Rattle.record.specs.declared.record.Record.{Record}
-use Rattle.record.specs.declared.record.Record.TheVariants.{Opened, Ceiling, Prepare, Commit, Abort, Outcome, Horizon, Base, Version, Settled, Closed}
+use Rattle.record.specs.declared.record.Record.TheVariants.{Prepare, Commit}
 use Rattle.message.specs.ReadSet.{ReadSet}
 use Rattle.message.specs.declared.message.Address.TheVariants.{Shard}
 use Rattle.message.specs.declared.message.Envelope.{Envelope}
@@ -37,18 +37,18 @@ use Rattle.law.proofs.Doings.{get_among}
 use Rattle.law.proofs.Homes.{log_in, evidence, decision_home, promised}
 use Rattle.law.proofs.Instants.{Moment, moment}
 use Rattle.law.proofs.Members.{among_left}
-use Rattle.law.proofs.Picked.{any_of, keep_among, map_among}
+use Rattle.law.proofs.Picked.{any_of, keep_among, map_among, some_same}
 use Rattle.law.proofs.Recorded.{among_first}
 use Rattle.law.proofs.Accepts.{each_at, place_of}
-use Rattle.law.proofs.Changed.{AllOnce}
+use Rattle.law.proofs.AreasAscend.{AllAscend, always_ascend}
 use Rattle.law.proofs.Fair.{IsFairInput}
 use Rattle.law.proofs.KeptRead.{IsAllowed, KeptRead, Tells, Told, tells_keeps, tells_opens, told_follows, told_logs, told_opens}
-use Rattle.law.proofs.LooksHold.{all_write_once, always_kept, owns, start_kept}
+use Rattle.law.proofs.LooksHold.{all_write_once, owns, start_kept}
 use Rattle.law.proofs.ReadBefore.{Claims, read_serially}
 use Rattle.law.proofs.ReadsHold.{act_allowed, always_spoken, run_keeps_read}
 use Rattle.law.proofs.Said.{AllOneEpoch, OneEpoch, OwnIds, ReadOf, Took, answer_env}
 use Rattle.law.proofs.LeftGood.{left_is_good, recovered}
-use Rattle.law.proofs.SortedParts.{has_of, once_has, shard_in, some_number, sorted_has}
+use Rattle.law.proofs.SortedParts.{has_of, once_has, shard_in, sorted_has}
 use Rattle.law.proofs.Stamps.{left_stamped}
 use Rattle.law.proofs.InHistory.{InHistory, from_history}
 
@@ -91,23 +91,20 @@ reads_in (Message.Prepare p) = Some p.reads
 reads_in (Message.Commit c) = Some c.reads
 reads_in _ = None
 
-some_set : (a b : ReadSet) → Some a ≡ Some b → a ≡ b
-some_set a b e = cc
-
 prepares_read : (splits : List Bytes) (c : Client) (k : ℕ) (ns : List ℕ) (n : ℕ) (e : Envelope) (s : ReadSet) →
     IsAmong (map (prepare_for splits c k) ns) e → shard_in e.to ≡ Some n → reads_in e.message ≡ Some s → s ≡ read_set c n
 prepares_read splits c k [] n e s h to is = absurd h
 prepares_read splits c k (m ∷ ms) n e s (inl same) to is =
-    some_set s (read_set c n) (sym is ∙ ap (λ (z : Envelope). reads_in z.message) (sym same)
-    ∙ ap (λ j. Some (read_set c j)) (some_number m n (ap (λ (z : Envelope). shard_in z.to) same ∙ to)))
+    some_same s (read_set c n) (sym is ∙ ap (λ (z : Envelope). reads_in z.message) (sym same)
+    ∙ ap (λ j. Some (read_set c j)) (some_same m n (ap (λ (z : Envelope). shard_in z.to) same ∙ to)))
 prepares_read splits c k (m ∷ ms) n e s (inr later) to is = prepares_read splits c k ms n e s later to is
 
 closing_reads : (splits : List Bytes) (c : Client) (ns : List ℕ) (n : ℕ) (e : Envelope) (s : ReadSet) → IsAmong (messages_for splits c ns) e →
     shard_in e.to ≡ Some n → reads_in e.message ≡ Some s → s ≡ read_set c n
 closing_reads splits c [] n e s h to is = absurd h
 closing_reads splits c (m ∷ ms) n e s (inl same) to is =
-    some_set s (read_set c n) (sym is ∙ ap (λ (z : Envelope). reads_in z.message) (sym same)
-    ∙ ap (λ j. Some (read_set c j)) (some_number m n (ap (λ (z : Envelope). shard_in z.to) same ∙ to)))
+    some_same s (read_set c n) (sym is ∙ ap (λ (z : Envelope). reads_in z.message) (sym same)
+    ∙ ap (λ j. Some (read_set c j)) (some_same m n (ap (λ (z : Envelope). shard_in z.to) same ∙ to)))
 closing_reads splits c (m ∷ ms) n e s (inr later) to is = prepares_read splits c m ms n e s later to is
 
 module _ (sc : Scene) (h : Holds sc) (own : OwnIds sc.world) (epochs : AllOneEpoch sc.world) (a : ReadAnswer) (x : Option Bytes)
@@ -132,13 +129,7 @@ module _ (sc : Scene) (h : Holds sc) (own : OwnIds sc.world) (epochs : AllOneEpo
       (h.messages _ sent) refl) ∙ epoch_is took.client q took.taken (epochs took.client took.there)
   asked_fairly (Message.Commit c) sent = λ same there. ap (λ (z : ReadSet). z.epoch) (closing_set c.txn a.from (Message.Commit c) c.reads same
       (h.messages _ sent) refl) ∙ epoch_is took.client q took.taken (epochs took.client took.there)
-  asked_fairly (Message.Read r) sent = tt
-  asked_fairly (Message.GiveUp r) sent = tt
-  asked_fairly (Message.Vote r) sent = tt
-  asked_fairly (Message.Outcome r) sent = tt
-  asked_fairly (Message.Ask r) sent = tt
-  asked_fairly (Message.ReadAnswer r) sent = tt
-  asked_fairly (Message.Done r) sent = tt
+  asked_fairly _ sent = tt
 
   -- the record of the reader at the shard that answered
   pub record ReaderLogged (logs : List (List Record)) (u : Txn) : Type 0 where
@@ -217,15 +208,7 @@ own_read config n (Prepare p) t at ks ws k c b there = eqb-true _ _ (each_at (λ
     (subst (λ l. IsAmong l k) (sym c.2) there))
 own_read config n (Commit p) t at ks ws k c b there = eqb-true _ _ (each_at (λ j. nat_eq (shard_of config.splits j) n) p.reads k (and_parts _ _ b).0
     (subst (λ l. IsAmong l k) (sym c.2) there))
-own_read config n (Opened y) t at ks ws k c b there = absurd c
-own_read config n (Ceiling y) t at ks ws k c b there = absurd c
-own_read config n (Horizon y) t at ks ws k c b there = absurd c
-own_read config n (Base _ _ _) t at ks ws k c b there = absurd c
-own_read config n (Version _) t at ks ws k c b there = absurd c
-own_read config n (Settled _ _ _) t at ks ws k c b there = absurd c
-own_read config n (Closed _ _ _) t at ks ws k c b there = absurd c
-own_read config n (Abort y) t at ks ws k c b there = absurd c
-own_read config n (Outcome y z) t at ks ws k c b there = absurd c
+own_read config n _ t at ks ws k c b there = absurd c
 
 module _ (config : Config) (es : List Event) (ls : List (List Record)) (fair : lawful config es ≡ true) (may : MayBeLeft config es ls) where
   m : Moment (run config es) ls
@@ -267,10 +250,10 @@ module _ (config : Config) (es : List Event) (ls : List (List Record)) (fair : l
       (subst (λ v. Claims logged.claim v logged.at logged.reads logged.writes) named logged.claims) logged.within in
       let shard_is = own_read config n logged.claim u.txn logged.at logged.reads logged.writes a.key logged.claims
       (owns config es ls fair may n logged.claim logged.among) logged.within in
-      let once : AllOnce m.scene.world = subst AllOnce (sym m.same) (always_kept config es fair).once in
+      let all : AllAscend m.scene.world = subst AllAscend (sym m.same) (always_ascend config es fair) in
       subst (λ j. before (history ls) u j ≡ x) r.key
       (read_serially m.scene m.holds ls m.left config (owns config es ls fair may) n (accepted n (log_in ls n) is_there)
-      (all_write_once m.scene m.holds ls m.left once n)
+      (all_write_once m.scene m.holds ls m.left all n)
       (left_stamped config es ls fair may n (log_in ls n) is_there) u there place.front logged.claim place.back place.same logged.at logged.reads
       logged.writes logged.claims logged.low a.key shard_is logged.within
       ∙ value)

@@ -29,6 +29,7 @@ use Rattle.world.specs.declared.event.Act.{Act}
 use Rattle.world.specs.declared.event.Config.{Config}
 use Rattle.world.specs.declared.event.Doing.{Doing}
 use Rattle.world.specs.declared.event.Event.{Event}
+use Rattle.law.proofs.OfLogs.{memory_is}
 use Rattle.law.proofs.Doings.{get_among}
 use Rattle.law.proofs.Answering.{held_is_kept, open_unrecorded}
 use Rattle.law.proofs.Fair.{IsFairInput}
@@ -178,14 +179,7 @@ module _ (to : Address) (a : ReadAnswer) (x : Option Bytes) (holds : a.answer �
   act_allowed w time (Act.FailIn n call named doing) within may = doing_allowed w time n doing within
       (and_parts (nat_lt n (length w.shards) && nat_eq n named) (may_do w time n doing) may).1
   act_allowed w time (Act.Deliver m now) within may = λ e n is goes. took_message w n m now within e is goes
-  act_allowed w time (Act.Begin t) within may = tt
-  act_allowed w time (Act.Read t k) within may = tt
-  act_allowed w time (Act.Write t k y) within may = tt
-  act_allowed w time (Act.Close t) within may = tt
-  act_allowed w time (Act.Quit t) within may = tt
-  act_allowed w time (Act.Look n k at) within may = tt
-  act_allowed w time (Act.View n v k at) within may = tt
-  act_allowed w time (Act.Crash n) within may = tt
+  act_allowed w time _ within may = tt
 
   on_event : (w : World) (e : Event) → ((z : Envelope) → IsAmong w.bag z → IsAmong all z) → may_happen w e ≡ true →
       KeptRead a.from a.txn a.key a.epoch x w → KeptRead a.from a.txn a.key a.epoch x (happens w e).0
@@ -207,9 +201,6 @@ module _ (to : Address) (a : ReadAnswer) (x : Option Bytes) (holds : a.answer �
           WellShard (setup_of w.config a.from) (shard_with log area unsure st views) → recorded (facts_of log) a.txn ≡ Unrecorded
       by_state log area unsure (Runs m) views is h = open_unrecorded a.from (facts_of log) m a.txn now.holds.row h.state.0.sound
           (ap (λ (z : Memory). find_row z.rows a.txn) (memory_is m now.holds.memory is) ∙ now.holds.found) now.holds.opened
-        where
-          memory_is : (p q : Memory) → Runs p ≡ Runs q → p ≡ q
-          memory_is p q r = cc
       by_state log area unsure (IsStopped m) views is h = cc
       by_state log area unsure IsDown views is h = cc
 

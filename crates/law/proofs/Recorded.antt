@@ -5,14 +5,14 @@ use Rattle.units.specs.Ids.{Id, same_id}
 use Rattle.units.proofs.IdLaws.{same_id-is}
 use Rattle.units.proofs.ByIdLaws.{first_passes}
 use Rattle.record.specs.Facts.{facts_of, recorded}
-use Rattle.record.specs.Records.{Ended, Status, Unrecorded, StandsPrepared, StandsDecided, HasAborted, HasSettled, HasClosed, as_committed}
+use Rattle.record.specs.Records.{Ended, Status, StandsPrepared, StandsDecided, HasAborted, HasSettled, as_committed}
 use Rattle.record.specs.Records.{as_prepared, as_aborted, as_ended, as_version, status_by, status_of, is_aborted, committed_of, prepared_of, ended_of, ids_of}
 use Rattle.record.proofs.Statuses.{recorded_is}
 use Rattle.units.specs.declared.writes.Install.{Install}
 use Rattle.record.specs.declared.record.Committed.{Committed}
 use Rattle.record.specs.declared.record.Prepared.{Prepared}
 use Rattle.record.specs.declared.record.Record.{Record}
-use Rattle.record.specs.declared.record.Record.TheVariants.{Opened, Ceiling, Prepare, Commit, Abort, Outcome, Horizon, Base, Version, Settled, Closed}
+use Rattle.record.specs.declared.record.Record.TheVariants.{Prepare, Commit, Abort, Outcome, Version}
 use Rattle.protocol.specs.Rows.{Row, IsPrepared, IsDecided, standing_row, rebuilt}
 use Rattle.law.specs.Among.{IsAmong}
 use Rattle.law.specs.Evidence.{Scene, RecordEvidence, StatusEvidence, PhaseEvidence, RowsEvidence, HasDecision, HasOutcome, WasTold}
@@ -20,6 +20,7 @@ use Rattle.world.proofs.StepKinds.{is_logged}
 use Rattle.law.proofs.Logged.{AreLogged}
 use Rattle.law.proofs.Members.{some_passes}
 use Rattle.law.proofs.Orderly.{IsOrderly, one_decision, decided_not_promised}
+use Rattle.law.proofs.Picked.{some_same}
 
 -- ---- members of filters
 
@@ -37,10 +38,7 @@ among_first {A} test xs x e = among_keep test xs x (by_list (filter test xs) e)
   where
     by_list : (ys : List A) → head ys ≡ Some x → IsAmong ys x
     by_list [] k = cc
-    by_list (y ∷ ys) k = inl (some_is y x k)
-      where
-        some_is : (a b : A) → Some a ≡ Some b → a ≡ b
-        some_is a b l = cc
+    by_list (y ∷ ys) k = inl (some_same y x k)
 
 -- where a member of what was gathered comes from
 pub record Source {A B : Type 0} (f : A → Option B) (xs : List A) (y : B) : Type 0 where
@@ -63,58 +61,19 @@ among_gather {A} {B} f (x ∷ xs) y h = by_value (f x) refl h (λ k. among_gathe
 
 prepare_is : (r : Record) (p : Prepared) → is_logged r ≡ true → as_prepared r ≡ Some p → r ≡ Prepare p
 prepare_is (Prepare q) p l e = cc
-prepare_is (Opened x) p l e = cc
-prepare_is (Ceiling x) p l e = cc
-prepare_is (Horizon x) p l e = cc
-prepare_is (Base _ _ _) p l e = cc
-prepare_is (Version _) p l e = cc
-prepare_is (Settled _ _ _) p l e = cc
-prepare_is (Closed _ _ _) p l e = cc
-prepare_is (Commit x) p l e = cc
-prepare_is (Abort x) p l e = cc
-prepare_is (Outcome x y) p l e = cc
+prepare_is _ p l e = cc
 
 commit_is : (r : Record) (c : Committed) → is_logged r ≡ true → as_committed r ≡ Some c → r ≡ Commit c
 commit_is (Commit q) c l e = cc
-commit_is (Opened x) c l e = cc
-commit_is (Ceiling x) c l e = cc
-commit_is (Horizon x) c l e = cc
-commit_is (Base _ _ _) c l e = cc
-commit_is (Version _) c l e = cc
-commit_is (Settled _ _ _) c l e = cc
-commit_is (Closed _ _ _) c l e = cc
-commit_is (Prepare x) c l e = cc
-commit_is (Abort x) c l e = cc
-commit_is (Outcome x y) c l e = cc
+commit_is _ c l e = cc
 
 abort_is : (r : Record) (t : Id) → as_aborted r ≡ Some t → r ≡ Abort t
 abort_is (Abort q) t e = cc
-abort_is (Opened x) t e = cc
-abort_is (Ceiling x) t e = cc
-abort_is (Horizon x) t e = cc
-abort_is (Base _ _ _) t e = cc
-abort_is (Version _) t e = cc
-abort_is (Settled _ _ _) t e = cc
-abort_is (Closed _ _ _) t e = cc
-abort_is (Prepare x) t e = cc
-abort_is (Commit x) t e = cc
-abort_is (Outcome x y) t e = cc
+abort_is _ t e = cc
 
 outcome_is : (r : Record) (x : Ended) → is_logged r ≡ true → as_ended r ≡ Some x → r ≡ Outcome x.txn x.outcome
-outcome_is (Outcome u o) x l e = let same : record { txn = u; outcome = o } ≡ x = some_is _ x e in ap (λ (y : Ended). Outcome y.txn y.outcome) same
-  where
-    some_is : (a b : Ended) → Some a ≡ Some b → a ≡ b
-    some_is a b l = cc
-outcome_is (Opened q) x l e = cc
-outcome_is (Ceiling q) x l e = cc
-outcome_is (Horizon q) x l e = cc
-outcome_is (Base _ _ _) x l e = cc
-outcome_is (Version _) x l e = cc
-outcome_is (Settled _ _ _) x l e = cc
-outcome_is (Closed _ _ _) x l e = cc
-outcome_is (Prepare q) x l e = cc
-outcome_is (Commit q) x l e = cc
-outcome_is (Abort q) x l e = cc
+outcome_is (Outcome u o) x l e = let same : record { txn = u; outcome = o } ≡ x = some_same _ x e in ap (λ (y : Ended). Outcome y.txn y.outcome) same
+outcome_is _ x l e = cc
 
 module _ (log : List Record) where
   abort_among : (t : Id) → IsAmong (gather as_aborted log) t → IsAmong log (Abort t)
@@ -126,17 +85,8 @@ module _ (log : List Record) where
       abort_among t (subst (λ u. IsAmong (gather as_aborted log) u) (sym (same_id-is t p.member p.passes)) p.among)
 
 no_version : (r : Record) (i : Install) → is_logged r ≡ true → as_version r ≡ Some i → ⊥
-no_version (Opened x) i l e = cc
-no_version (Ceiling x) i l e = cc
-no_version (Horizon x) i l e = cc
-no_version (Prepare x) i l e = cc
-no_version (Commit x) i l e = cc
-no_version (Abort x) i l e = cc
-no_version (Outcome x y) i l e = cc
-no_version (Base _ _ _) i l e = cc
 no_version (Version _) i l e = cc
-no_version (Settled _ _ _) i l e = cc
-no_version (Closed _ _ _) i l e = cc
+no_version _ i l e = cc
 
 -- a log of the kinds that steps log
 module _ (log : List Record) (logged : AreLogged log) where
@@ -196,20 +146,11 @@ module _ (log : List Record) (logged : AreLogged log) where
       PhaseEvidence sc log n r.txn r.phase
   standing_evidence sc n t (StandsPrepared p) r h e =
       let evidence : PhaseEvidence sc log n p.txn (IsPrepared p.coordinator p.at) = record { reads = p.reads; writes = p.writes; among = h } in
-      subst (λ (x : Row). PhaseEvidence sc log n x.txn x.phase) (some_is _ r e) evidence
-    where
-      some_is : (a b : Row) → Some a ≡ Some b → a ≡ b
-      some_is a b l = cc
+      subst (λ (x : Row). PhaseEvidence sc log n x.txn x.phase) (some_same _ r e) evidence
   standing_evidence sc n t (StandsDecided c) r h e =
       let evidence : PhaseEvidence sc log n c.txn (IsDecided c.at c.parts) = record { parts = c.parts; reads = c.reads; writes = c.writes; among = h } in
-      subst (λ (x : Row). PhaseEvidence sc log n x.txn x.phase) (some_is _ r e) evidence
-    where
-      some_is : (a b : Row) → Some a ≡ Some b → a ≡ b
-      some_is a b l = cc
-  standing_evidence sc n t HasAborted r h e = cc
-  standing_evidence sc n t (HasSettled s ps) r h e = cc
-  standing_evidence sc n t (HasClosed c o) r h e = cc
-  standing_evidence sc n t Unrecorded r h e = cc
+      subst (λ (x : Row). PhaseEvidence sc log n x.txn x.phase) (some_same _ r e) evidence
+  standing_evidence sc n t _ r h e = cc
 
   found_rows : (sc : Scene) (n : ℕ) (ts : List Id) → RowsEvidence sc log n (gather standing_row (map (λ t. record { txn = t; status = status_of log t }) ts))
   found_rows sc n [] = tt
@@ -257,10 +198,7 @@ module _ (sc : Scene) (log : List Record) (n : ℕ) (orderly : IsOrderly log) (r
   by_status t (HasSettled s ps) h =
       let e : IsAmong log (Outcome h.commit.txn h.outcome) = subst (λ u. IsAmong log (Outcome u h.outcome)) (sym h.named) h.ended in
       subst (λ u. HasOutcome log sc.now u s) h.named (subst (λ x. HasOutcome log sc.now h.commit.txn x) h.stamp (settled h.commit h.outcome h.among e))
-  by_status t Unrecorded h = tt
-  by_status t (StandsPrepared p) h = tt
-  by_status t (StandsDecided c) h = tt
-  by_status t (HasClosed c o) h = tt
+  by_status t _ h = tt
 
   pub statuses : (t : Id) → StatusEvidence log sc.now t (recorded (facts_of log) t)
   statuses t = subst (λ st. StatusEvidence log sc.now t st) (sym (recorded_is log t)) (by_status t (status_of log t) (rests log orderly.1 t))

@@ -1,7 +1,8 @@
 -- What one act adds to the answers of reads, to what sessions took and to the lines of reads.
 use Rattle.std.specs.List.{list_any}
 use Rattle.std.proofs.Common.{◌≡◌, ◌⊎◌, inl, inr, ℕ, Bool, true, false, not, cond, ◌&&◌, ◌||◌, nat_eq, nat_le, List, [], ◌∷◌, ◌++◌, length, map}
-use Rattle.std.proofs.Common.{Option, Some, None, slice_get, refl, sym, ap, subst, ◌∙◌, arith, flat_map}
+use Rattle.std.proofs.Common.{Option, Some, slice_get, refl, sym, ap, subst, ◌∙◌, arith, flat_map}
+use Rattle.std.proofs.lemmas.Bool.{false≢true}
 use Rattle.std.proofs.lemmas.Bool.Decides.{nat_tests}
 use Rattle.units.specs.Ids.{Id, same_id}
 use Rattle.protocol.specs.Step.{Does}
@@ -30,7 +31,7 @@ use Rattle.session.specs.Sessions.{closing_messages, messages_for, prepare_for, 
 use Rattle.session.specs.declared.answered.Answered.{Answered as Taken}
 use Rattle.law.specs.Among.{IsAmong}
 use Rattle.world.specs.World.{World, ShardNow, setup_of, effect, finished, crashed, failed_in, failed_turn, set_shard, client_of, set_client, put_out, acks_of}
-use Rattle.world.specs.World.{ack_of, commit_told, moved, answered, read_lines, look_noted, look_shard, look_at_view, begin, acts}
+use Rattle.world.specs.World.{moved, answered, read_lines, look_noted, look_shard, look_at_view, begin, acts}
 use Rattle.world.specs.declared.event.Act.{Act}
 use Rattle.world.specs.declared.event.Doing.{Doing}
 use Rattle.world.specs.declared.event.Reply.{Reply}
@@ -40,6 +41,7 @@ use Rattle.world.specs.Lawful.{may_act}
 use Rattle.law.proofs.Picked.{among_map, any_of, map_among}
 use Rattle.law.proofs.Accepts.{each_at}
 use Rattle.law.proofs.Acts.{Step, Reads, Buffers, Closes, GivesUp, Finishes, acts_go, step_of}
+use Rattle.law.proofs.Changed.{acks_alone}
 use Rattle.law.proofs.Spoken.{HoldsRead, doing_holds}
 
 abbrev pub answer_env : Address → ReadAnswer → Envelope
@@ -93,34 +95,8 @@ silent w = record { bag = λ e h. h; told = λ to a x is h. inl h; took = λ own
 
 -- ---- messages
 
-no_read : (b : Bool) (t : Id) (s event : ℕ) (u : Id) (k : Bytes) (x : Option Bytes) → IsAmong (cond b [] (Line.Ack t s event ∷ [])) (Line.Read u k x) → ⊥
-no_read true t s event u k x h = h
-no_read false t s event u k x (inl same) = cc
-no_read false t s event u k x (inr none) = none
-
-ack_no_read : (w : World) (t : Id) (o : Option ℕ) (u : Id) (k : Bytes) (x : Option Bytes) → IsAmong (ack_of w t o) (Line.Read u k x) → ⊥
-ack_no_read w t None u k x h = h
-ack_no_read w t (Some s) u k x h = no_read (list_any (λ e. when (λ y. true) (commit_told t e)) w.bag) t s w.event u k x h
-
-message_no_read : (w : World) (to : Address) (m : Message) (u : Id) (k : Bytes) (x : Option Bytes) →
-    IsAmong (acks_of w (record { to = to; message = m })) (Line.Read u k x) → ⊥
-message_no_read w to (Message.Done d) u k x h = ack_no_read w d.txn d.outcome u k x h
-message_no_read w to (Message.Read r) u k x h = h
-message_no_read w to (Message.Prepare p) u k x h = h
-message_no_read w to (Message.Commit c) u k x h = h
-message_no_read w to (Message.GiveUp g) u k x h = h
-message_no_read w to (Message.Vote v) u k x h = h
-message_no_read w to (Message.Outcome o) u k x h = h
-message_no_read w to (Message.Ask a) u k x h = h
-message_no_read w to (Message.ReadAnswer a) u k x h = h
-
 acks_no_read : (w : World) (es : List Envelope) (u : Id) (k : Bytes) (x : Option Bytes) → IsAmong (flat_map (acks_of w) es) (Line.Read u k x) → ⊥
-acks_no_read w [] u k x h = h
-acks_no_read w (e ∷ es) u k x h = elim (among_cases (acks_of w e) (flat_map (acks_of w) es) (Line.Read u k x) h) [
-  | inl here ↦
-      message_no_read w e.to e.message u k x here
-  | inr later ↦ acks_no_read w es u k x later
-]
+acks_no_read w es u k x h = false≢true (acks_alone w es (Line.Read u k x) h)
 
 -- each value among new messages is held
 abbrev TellsHeld : World → List Envelope → Type 0
@@ -535,9 +511,7 @@ noted_says w k at (Reply.Shows y) = record {
     apart : (u : Id) (j : Bytes) (x : Option Bytes) → IsAmong (Line.Look k at y ∷ []) (Line.Read u j x) → ⊥
     apart u j x (inl same) = cc
     apart u j x (inr none) = none
-noted_says w k at Reply.Done = silent w
-noted_says w k at (Reply.Refused f) = silent w
-noted_says w k at Reply.Crashed = silent w
+noted_says w k at _ = silent w
 
 pub acts_say : (w : World) → WellWorld w → (time : ℕ) (a : Act) → may_act w time a ≡ true → Says w (acts w a).0
 acts_say w well =

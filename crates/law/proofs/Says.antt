@@ -87,14 +87,7 @@ module _ (sc : Scene) (out : List Envelope) (ls : List Line) (present : slice_ge
   of_message : (to : Address) (m : Message) → IsAmong out (record { to = to; message = m }) → MessageEvidence sc to m →
       AllByRecursion (λ l. IsNoBegin l × LineEvidence (with_world sc (lined ls (bagged out sc.world))) l) (acks_of sc.world (record { to = to; message = m }))
   of_message to (Message.Done d) there told = ack_written to d.txn d.outcome there told
-  of_message to (Message.Read r) there told = tt
-  of_message to (Message.Prepare p) there told = tt
-  of_message to (Message.Commit c) there told = tt
-  of_message to (Message.GiveUp g) there told = tt
-  of_message to (Message.Vote v) there told = tt
-  of_message to (Message.Outcome o) there told = tt
-  of_message to (Message.Ask a) there told = tt
-  of_message to (Message.ReadAnswer a) there told = tt
+  of_message to _ there told = tt
 
   pub acks_written : (some : List Envelope) → ((e : Envelope) → IsAmong some e → IsAmong out e) →
       AllByRecursion (λ (e : Envelope). MessageEvidence sc e.to e.message) some →

@@ -1,8 +1,7 @@
 -- The value of a key in the serial run is that of its newest version.
-use Rattle.std.proofs.Common.{◌≡◌, ◌⊎◌, inl, inr, ℕ, ◌≤◌, Bool, true, false, cond, ◌&&◌, ◌||◌, nat_eq, nat_lt, List, [], ◌∷◌, Option, Some, None}
+use Rattle.std.proofs.Common.{◌≡◌, inl, inr, ℕ, ◌≤◌, Bool, true, false, cond, nat_lt, List, [], ◌∷◌, Option, Some, None}
 use Rattle.std.proofs.Common.{refl, sym, ap, subst, ◌∙◌, arith, filter}
 use Rattle.std.proofs.lemmas.Bool.Decides.{nat_tests}
-use Rattle.units.specs.Ids.{older}
 use Rattle.units.specs.Keys.{Bytes, same_key}
 use Rattle.units.specs.Lists.{insert, follow}
 use Rattle.units.specs.Versions.{newest, of_key, latest}
@@ -11,7 +10,8 @@ use Rattle.units.specs.declared.writes.Write.{Write}
 use Rattle.units.proofs.KeyLaws.{same_key-is, same_key-refl}
 use Rattle.record.specs.History.{Txn, Map, serial_before, serial, put, put_all, applied, empty}
 use Rattle.law.specs.Among.{IsAmong}
-use Rattle.law.proofs.Picked.{keep_among, kept_passes}
+use Rattle.law.proofs.InOrder.{before_low, insert_cases, serial_from}
+use Rattle.law.proofs.Picked.{keep_among, kept_passes, some_same}
 use Rattle.law.proofs.Recorded.{among_keep}
 
 -- ---- transactions by timestamp
@@ -21,41 +21,8 @@ abbrev pub Rising : List Txn → Type 0
 Rising [] = Unit {0}
 Rising (t ∷ ts) = ((u : Txn) → IsAmong ts u → t.at ≤ u.at) × Rising ts
 
-before_low : (a b : Txn) → serial_before a b ≡ true → a.at ≤ b.at
-before_low a b e = by_tests (nat_lt a.at b.at) refl (nat_eq a.at b.at) refl e
-  where
-    less : (m n : ℕ) → nat_lt m n ≡ true → m ≤ n
-    less m n h = grind (arith, nat_tests)
-
-    even : (m n : ℕ) → nat_eq m n ≡ true → m ≤ n
-    even m n h = grind (arith, nat_tests)
-
-    by_tests : (c : Bool) → nat_lt a.at b.at ≡ c → (d : Bool) → nat_eq a.at b.at ≡ d → (c || (d && older a.txn b.txn)) ≡ true → a.at ≤ b.at
-    by_tests true h d k e = less a.at b.at h
-    by_tests false h true k e = even a.at b.at k
-    by_tests false h false k e = cc
-
 not_before_low : (a b : Txn) → serial_before a b ≡ false → b.at ≤ a.at
-not_before_low a b e = by_test (nat_lt a.at b.at) refl e
-  where
-    not_less : (m n : ℕ) → nat_lt m n ≡ false → n ≤ m
-    not_less m n h = grind (arith, nat_tests)
-
-    by_test : (c : Bool) → nat_lt a.at b.at ≡ c → (c || (nat_eq a.at b.at && older a.txn b.txn)) ≡ false → b.at ≤ a.at
-    by_test true h e = cc
-    by_test false h e = not_less a.at b.at h
-
-insert_cases : (x : Txn) (ys : List Txn) (u : Txn) → IsAmong (insert serial_before x ys) u → (x ≡ u) ⊎ IsAmong ys u
-insert_cases x [] u (inl same) = inl same
-insert_cases x [] u (inr none) = absurd none
-insert_cases x (y ∷ ys) u h = by_test (serial_before y x) h (λ k. insert_cases x ys u k)
-  where
-    by_test : (b : Bool) → IsAmong (cond b (y ∷ insert serial_before x ys) (x ∷ y ∷ ys)) u →
-        (IsAmong (insert serial_before x ys) u → (x ≡ u) ⊎ IsAmong ys u) → (x ≡ u) ⊎ IsAmong (y ∷ ys) u
-    by_test true (inl same) rest = inr (inl same)
-    by_test true (inr later) rest = elim (rest later) [ inl same ↦ inl same | inr k ↦ inr (inr k) ]
-    by_test false (inl same) rest = inl same
-    by_test false (inr later) rest = inr later
+not_before_low a b e = grind (arith, nat_tests)
 
 insert_first : (x : Txn) (ys : List Txn) → IsAmong (insert serial_before x ys) x
 insert_first x [] = inl refl
@@ -99,10 +66,6 @@ insert_rises x (y ∷ ys) r = by_test (serial_before y x) refl (insert_rises x y
 pub serial_rises : (h : List Txn) → Rising (serial h)
 serial_rises [] = tt
 serial_rises (t ∷ ts) = insert_rises t (serial ts) (serial_rises ts)
-
-pub serial_from : (h : List Txn) (u : Txn) → IsAmong (serial h) u → IsAmong h u
-serial_from [] u k = absurd k
-serial_from (t ∷ ts) u k = elim (insert_cases t (serial ts) u k) [ inl same ↦ inl same | inr old ↦ inr (serial_from ts u old) ]
 
 pub serial_has : (h : List Txn) (u : Txn) → IsAmong h u → IsAmong (serial h) u
 serial_has [] u k = absurd k
@@ -180,9 +143,6 @@ module _ (k : Bytes) (x : Option Bytes) (top : ℕ) where
 pub record IsNewest (is : List Install) (i : Install) : Type 0 where
   pub among : IsAmong is i
   pub above : (j : Install) → IsAmong is j → j.at ≤ i.at
-
-some_same : {A : Type 0} (a b : A) → Some a ≡ Some b → a ≡ b
-some_same a b e = cc
 
 pub newest_none : (is : List Install) (i : Install) → newest is ≡ None → IsAmong is i → ⊥
 newest_none [] i e h = h

@@ -1,5 +1,5 @@
 -- What was served stays below all that is logged later.
-use Rattle.std.proofs.Common.{◌≡◌, inl, inr, ℕ, ◌+◌, ◌≤◌, true, not, List, [], ◌∷◌, ◌++◌, Some, None, slice_get, refl, sym, ap, subst}
+use Rattle.std.proofs.Common.{◌≡◌, inl, inr, ℕ, ◌+◌, ◌≤◌, true, not, List, [], ◌∷◌, ◌++◌, Some, slice_get, refl, sym, ap, subst}
 use Rattle.std.proofs.Common.{◌∙◌, arith, append_assoc}
 use Rattle.std.specs.Prelude.{Ok}
 use Rattle.std.proofs.lemmas.Bool.{and_parts}
@@ -12,7 +12,7 @@ use Rattle.record.specs.Accepted.{follows, followed, outcome_fits}
 use Rattle.record.specs.Facts.{Facts, facts_of, learn}
 use Rattle.record.specs.Records.{committed_of, prepared_of, ended_of}
 use Rattle.record.specs.declared.record.Record.{Record}
-use Rattle.record.specs.declared.record.Record.TheVariants.{Opened, Ceiling, Prepare, Commit, Abort, Outcome, Horizon, Base, Version, Settled, Closed}
+use Rattle.record.specs.declared.record.Record.TheVariants.{Opened, Prepare, Commit, Outcome, Base, Version, Settled, Closed}
 use Rattle.record.proofs.LearnAgrees.{learn_agrees, followed_more}
 use Rattle.message.specs.declared.message.Input.{Input}
 use Rattle.protocol.specs.Plan.{Plan, start_of_step}
@@ -37,6 +37,7 @@ use Rattle.law.proofs.LooksHold.{IsKept, always_kept, changes, event_keeps, star
 use Rattle.law.proofs.Members.{among_cases, among_right}
 use Rattle.law.proofs.OfLogs.{of_its_log}
 use Rattle.law.proofs.Logged.{AreLogged, each_logged}
+use Rattle.law.proofs.Picked.{some_same}
 use Rattle.law.proofs.Quiet.{IsAbove, IsQuiet, outcome_above}
 use Rattle.law.proofs.Rising.{LoggedAbove}
 use Rattle.law.proofs.WholeLaw.{lawful_on, run_on}
@@ -50,18 +51,14 @@ comes_above shard log r at logged h q above = by_kind r (and_parts _ _ (and_part
     by_kind : (x : Record) → follows shard log x ≡ true → IsAbove at x → ComesAbove at x
     by_kind (Prepare p) e high = high
     by_kind (Commit c) e high = high
-    by_kind (Opened epoch) e high = tt
-    by_kind (Ceiling s) e high = tt
-    by_kind (Horizon s) e high = tt
     by_kind (Base _ _ _) e high = absurd high
     by_kind (Version _) e high = absurd high
     by_kind (Settled _ _ _) e high = absurd high
     by_kind (Closed _ _ _) e high = absurd high
-    by_kind (Abort t) e high = tt
-    by_kind (Outcome t None) e high = tt
     by_kind (Outcome t (Some s)) e high =
         let p = and_parts (not (when (λ x. true) (ended_of log t))) (outcome_fits (prepared_of log t) (committed_of log t) (Some s)) e in
         outcome_above log logged at t s q p.0 (prepared_of log t) refl (committed_of log t) refl p.1
+    by_kind _ e high = tt
 
 grown_more : (base log : List Record) (r : Record) (at : ℕ) → IsAboveServed base log at → ComesAbove at r → at ≤ (facts_of (log ++ r ∷ [])).floor →
     IsAboveServed base (log ++ r ∷ []) at
@@ -155,9 +152,6 @@ with_grown n v base setup log area unsure IsDown views kept grown = record {
   state = tt;
 }
 
-some_shard : (a b : ShardNow) → Some a ≡ Some b → a ≡ b
-some_shard a b e = cc
-
 -- ---- what a running shard shows now stays
 
 module _ (w : World) (n : ℕ) (v : View) (well : WellWorld w) (p : IsPresent w n v) where
@@ -174,7 +168,7 @@ module _ (w : World) (n : ℕ) (v : View) (well : WellWorld w) (p : IsPresent w 
   ]
     where
       mine : s ≡ p.shard
-      mine = some_shard s p.shard (sym there ∙ subst (λ z. slice_get w.shards z ≡ Some p.shard) (sym here) p.there)
+      mine = some_same s p.shard (sym there ∙ subst (λ z. slice_get w.shards z ≡ Some p.shard) (sym here) p.there)
 
       own : IsOfItsLog k s p.memory
       own = of_its_log w well k s p.memory there (ap (λ (z : ShardNow). z.state) mine ∙ p.runs)
@@ -254,7 +248,7 @@ module _ (w : World) (n : ℕ) (v : View) (base : List Record) (kept : KeptView 
     (there : slice_get w.shards n ≡ Some s) where
   grown_on : (k : ℕ) (x : ShardNow) → slice_get w.shards k ≡ Some x → (l : List Record) → MayLeaveLog x l → k ≡ n → IsAboveServed s.log l v.safe
   grown_on k x at l may here =
-      subst (λ (z : ShardNow). IsAboveServed z.log l v.safe) (some_shard x s (sym at ∙ subst (λ z. slice_get w.shards z ≡ Some s) (sym here) there))
+      subst (λ (z : ShardNow). IsAboveServed z.log l v.safe) (some_same x s (sym at ∙ subst (λ z. slice_get w.shards z ≡ Some s) (sym here) there))
       (elim may [
         | inl same ↦ subst (λ z. IsAboveServed x.log z v.safe) (sym same) (itself base x.log v.safe (((stays k x at).left x.log (inl refl)).good.grown here))
         | inr more ↦ subst (λ z. IsAboveServed x.log z v.safe) (sym more.2) (rebased base x.log more.0 v.safe

@@ -16,9 +16,7 @@ use Rattle.law.specs.Evidence.{Scene, ClosedOver, BeganBy, LineEvidence, is_past
 use Rattle.law.proofs.Members.{among_left, among_last, among_cases}
 use Rattle.law.proofs.Grows.{Grows, message_stays, line_stays, began_stays}
 use Rattle.law.proofs.Changes.{with_world, shard_stays}
-
-some_same : {A : Type 0} (a b : A) → Some a ≡ Some b → a ≡ b
-some_same a b e = cc
+use Rattle.law.proofs.Picked.{some_same}
 
 -- ---- another session in the place of one
 

@@ -46,28 +46,18 @@ told_backed sc n to (Message.Read r) h = tt
 told_backed sc n to (Message.GiveUp g) h = tt
 told_backed sc n to (Message.Prepare p) h = absurd h
 told_backed sc n to (Message.Commit c) h = absurd h
-told_backed sc n to (Message.Vote v) h = record { shard = n; told = h }
-told_backed sc n to (Message.Outcome o) h = record { shard = n; told = h }
-told_backed sc n to (Message.Ask a) h = record { shard = n; told = h }
-told_backed sc n to (Message.ReadAnswer a) h = record { shard = n; told = h }
-told_backed sc n to (Message.Done d) h = record { shard = n; told = h }
+told_backed sc n to _ h = record { shard = n; told = h }
 
 module _ (sc : Scene) (h : Holds sc) (steady : IsSteady sc.world) (present : slice_get sc.times sc.world.event ≡ Some sc.now)
     (n : ℕ) (s : ShardNow) (there : slice_get sc.world.shards n ≡ Some s) where
   -- ---- what a read of the disk gives
 
   shown_unsure : (u : Unsure) (r : Record) → IsAmong (shown_records u) r → IsUnsure u r
-  shown_unsure Nothing r k = absurd k
   shown_unsure (Shown q) r (inl same) = same
   shown_unsure (Shown q) r (inr none) = absurd none
-  shown_unsure (Hidden q) r k = absurd k
-  shown_unsure (TurnShown other) r k = absurd k
-  shown_unsure (TurnHidden other) r k = absurd k
+  shown_unsure _ r k = absurd k
 
   left_is_unsure : (fate : Fate) (u : Unsure) (r : Record) → IsAmong (left_of fate u) r → IsUnsure u r
-  left_is_unsure fate Nothing r k = absurd k
-  left_is_unsure fate (TurnShown other) r k = absurd k
-  left_is_unsure fate (TurnHidden other) r k = absurd k
   left_is_unsure fate (Shown q) r k = by_test (opens_gate fate) k
     where
       by_test : (b : Bool) → IsAmong (cond b (q ∷ []) []) r → q ≡ r
@@ -80,6 +70,7 @@ module _ (sc : Scene) (h : Holds sc) (steady : IsSteady sc.world) (present : sli
       by_test true (inl same) = same
       by_test true (inr none) = absurd none
       by_test false none = absurd none
+  left_is_unsure fate _ r k = absurd k
 
   -- the records of the log with some unsure ones behind them
   known : (more : List Record) → ((r : Record) → IsAmong more r → IsUnsure s.unsure r) → (r : Record) → IsAmong (s.log ++ more) r → RecordEvidence sc s.log n r
@@ -246,13 +237,7 @@ module _ (sc : Scene) (h : Holds sc) (steady : IsSteady sc.world) (present : sli
       by_state (Runs m) = h
       by_state (IsStopped m) = read_crash_holds (read_area s)
       by_state IsDown = read_crash_holds (read_area s)
-  refused_holds (Doing.Take m now) f = h
-  refused_holds (Doing.Resume now) f = h
-  refused_holds (Doing.Settle t now) f = h
-  refused_holds (Doing.Advance at now) f = h
-  refused_holds (Doing.Forget at now) f = h
-  refused_holds (Doing.Nudge t now) f = h
-  refused_holds Doing.Turn f = h
+  refused_holds _ f = h
 
   did_holds : (doing : Doing) (stepped : Stepped) → SteppedEvidence sc n (read_log s) stepped → AfterHolds sc (did sc.world n s doing stepped)
   unfolding did
@@ -267,13 +252,7 @@ module _ (sc : Scene) (h : Holds sc) (steady : IsSteady sc.world) (present : sli
 
   refused_left_holds : (fate : Fate) (doing : Doing) → Holds (with_world sc (set_shard n (left_by_refused s fate doing) sc.world))
   refused_left_holds fate Doing.Open = read_crash_holds (read_area s)
-  refused_left_holds fate (Doing.Take m now) = left_holds fate
-  refused_left_holds fate (Doing.Resume now) = left_holds fate
-  refused_left_holds fate (Doing.Settle t now) = left_holds fate
-  refused_left_holds fate (Doing.Advance at now) = left_holds fate
-  refused_left_holds fate (Doing.Forget at now) = left_holds fate
-  refused_left_holds fate (Doing.Nudge t now) = left_holds fate
-  refused_left_holds fate Doing.Turn = left_holds fate
+  refused_left_holds fate _ = left_holds fate
 
   crashed_in_holds : (call : ℕ) (fate : Fate) (doing : Doing) (stepped : Stepped) → SteppedEvidence sc n (read_log s) stepped →
       Holds (with_world sc (set_shard n (crashed_in s call fate doing stepped) sc.world))

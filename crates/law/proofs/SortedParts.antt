@@ -52,6 +52,3 @@ has_of (x ∷ xs) z (inr later) = let ih = has_of xs z later in grind (arith, na
 abbrev pub shard_in : Address → Option ℕ
 shard_in (Shard n) = Some n
 shard_in (Session t) = None
-
-pub some_number : (a b : ℕ) → Some a ≡ Some b → a ≡ b
-some_number a b e = cc

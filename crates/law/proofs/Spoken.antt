@@ -46,18 +46,7 @@ away_fair : (k : Bytes) (e : ℕ) (i : Input) → IsFairInput (away i) k e i
 unfolding away
 away_fair k e (Input.Deliver (Message.Prepare p)) = λ same there. absurd (not_itself p.txn same)
 away_fair k e (Input.Deliver (Message.Commit c)) = λ same there. absurd (not_itself c.txn same)
-away_fair k e (Input.Deliver (Message.Read r)) = tt
-away_fair k e (Input.Deliver (Message.GiveUp r)) = tt
-away_fair k e (Input.Deliver (Message.Vote r)) = tt
-away_fair k e (Input.Deliver (Message.Outcome r)) = tt
-away_fair k e (Input.Deliver (Message.Ask r)) = tt
-away_fair k e (Input.Deliver (Message.ReadAnswer r)) = tt
-away_fair k e (Input.Deliver (Message.Done r)) = tt
-away_fair k e Input.Resume = tt
-away_fair k e (Input.Settle u) = tt
-away_fair k e (Input.Advance up) = tt
-away_fair k e (Input.Forget up) = tt
-away_fair k e (Input.Nudge u) = tt
+away_fair k e _ = tt
 
 -- each value in the outbox of a plan is told fairly
 told_fairly : (setup : Setup) (f : Facts) (m : Memory) (now : Interval) (i : Input) (p : Plan) (to : Address) (a : ReadAnswer) (x : Option Bytes) →

@@ -18,7 +18,7 @@ use Rattle.record.specs.Facts.{Facts, facts_of, learn, recorded, after_outcome}
 use Rattle.record.specs.Installs.{installs_of}
 use Rattle.record.specs.Records.{Status, StandsPrepared, StandsDecided, HasAborted}
 use Rattle.record.specs.declared.record.Record.{Record}
-use Rattle.record.specs.declared.record.Record.TheVariants.{Opened, Ceiling, Prepare, Commit, Abort, Outcome, Horizon, Base, Version, Settled, Closed}
+use Rattle.record.specs.declared.record.Record.TheVariants.{Opened, Ceiling, Prepare, Commit, Abort, Outcome}
 use Rattle.record.proofs.LearnAgrees.{accepted_follows}
 use Rattle.record.proofs.Statuses.{recorded_is}
 use Rattle.message.specs.declared.message.Input.{Input}
@@ -30,6 +30,7 @@ use Rattle.protocol.proofs.PlanShapes.{shape_of}
 use Rattle.protocol.proofs.RowChanges.{by_id-claims}
 use Rattle.protocol.proofs.Shapes.{Shape, Answers, IsEnd, IsAbort, IsClose, IsSettle, IsLock, IsWait, IsPromise, IsDecision, ShapeOf, Acts, IsAdvance, IsForget}
 use Rattle.protocol.proofs.StatusChanges.{status_same, status_other}
+use Rattle.law.proofs.Picked.{some_same}
 use Rattle.law.proofs.Quiet.{IsAbove}
 use Rattle.law.proofs.Rising.{LoggedAbove, rising}
 use Rattle.law.proofs.Accepts.{each_at}
@@ -73,9 +74,6 @@ EndsBelow f last = (u : Id) (s : ℕ) → end_stamp (recorded f u) ≡ Some s �
 unfoldable EndsNext : Before → Plan → Type 0
 EndsNext b p = EndsBelow b.facts b.memory.last → EndsBelow (facts_after b.facts p.logged) p.last
 
-some_is : (a b : ℕ) → Some a ≡ Some b → a ≡ b
-some_is a b e = cc
-
 -- one id has another status
 changed_ends : (b : Before) (f : Facts) (u : Id) (st : Status) (last : ℕ) → recorded f u ≡ st →
     ((v : Id) → same_id u v ≡ false → recorded f v ≡ recorded b.facts v) → b.memory.last ≤ last → ((s : ℕ) → end_stamp st ≡ Some s → s ≤ last) →
@@ -105,14 +103,14 @@ next b p sound (IsClose u n c at held outcome out found allowed is) = subst (End
 
     own : (o : Option ℕ) (s : ℕ) → o ≡ Some s → s ≤ raised b.memory.last o
     own None s e = cc
-    own (Some q) s e = let same = some_is q s e in omega (arith, same)
+    own (Some q) s e = let same = some_same q s e in omega (arith, same)
 next b p sound (IsSettle u at ps held out found is) = subst (EndsNext b) (sym is)
     (changed_ends b (facts_after b.facts (Some (Record.Outcome u (Some at)))) u (after_outcome (recorded b.facts u) (Some at)) b.memory.last
     (status_same b.facts.entries u (after_outcome (recorded b.facts u) (Some at)))
     (λ v d. status_other b.facts.entries u v (after_outcome (recorded b.facts u) (Some at)) d) (omega arith)
     (λ s e.
     let made = decision_of b u held at ps sound found in
-    let same : made.decision.at ≡ s = some_is made.decision.at s (ap (λ st. end_stamp (after_outcome st (Some at))) (sym made.is) ∙ e) in
+    let same : made.decision.at ≡ s = some_same made.decision.at s (ap (λ st. end_stamp (after_outcome st (Some at))) (sym made.is) ∙ e) in
     let low = made.stands_by.assigned in
     omega (arith, same, low)))
 next b p sound (IsLock u ended needs phase out l is) = subst (EndsNext b) (sym is) (λ h. h)
@@ -175,15 +173,7 @@ stamped_follows setup log s = accepted_follows setup log s.accepted.0
 claim_above : (r : Record) (t : Id) (at : ℕ) (ks : List Bytes) (ws : List Write) (low : ℕ) → Claims r t at ks ws → IsAbove low r → low < at
 claim_above (Prepare p) t at ks ws low c h = let e = c.1 in omega (arith, e, h)
 claim_above (Commit p) t at ks ws low c h = let e = c.1 in omega (arith, e, h)
-claim_above (Opened x) t at ks ws low c h = absurd c
-claim_above (Ceiling x) t at ks ws low c h = absurd c
-claim_above (Horizon x) t at ks ws low c h = absurd c
-claim_above (Base _ _ _) t at ks ws low c h = absurd c
-claim_above (Version _) t at ks ws low c h = absurd c
-claim_above (Settled _ _ _) t at ks ws low c h = absurd c
-claim_above (Closed _ _ _) t at ks ws low c h = absurd c
-claim_above (Abort x) t at ks ws low c h = absurd c
-claim_above (Outcome x y) t at ks ws low c h = absurd c
+claim_above _ t at ks ws low c h = absurd c
 
 pub stamped_logs : (setup : Setup) (log : List Record) (m : Memory) (now : Interval) (i : Input) (p : Plan) (r : Record) → IsInLimit i →
     Stamped setup log → Stamps setup (facts_of log) m →

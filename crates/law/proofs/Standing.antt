@@ -16,7 +16,7 @@ use Rattle.record.specs.Records.{as_prepared, committed_of, prepared_of}
 use Rattle.record.specs.declared.record.Committed.{Committed}
 use Rattle.record.specs.declared.record.Prepared.{Prepared}
 use Rattle.record.specs.declared.record.Record.{Record}
-use Rattle.record.specs.declared.record.Record.TheVariants.{Opened, Ceiling, Prepare, Commit, Abort, Outcome, Horizon, Base, Version, Settled, Closed}
+use Rattle.record.specs.declared.record.Record.TheVariants.{Prepare, Commit, Outcome}
 use Rattle.world.specs.World.{setup_of}
 use Rattle.world.specs.declared.event.Config.{Config}
 use Rattle.law.specs.Among.{IsAmong}
@@ -40,15 +40,7 @@ use Rattle.law.proofs.Serial.{Writes, IsInstalled}
 abbrev pub Wrote : Record → Txn → Write → Type 0
 Wrote (Prepare p) x w = (p.txn ≡ x.txn) × (p.at ≤ x.at) × IsAmong p.writes w
 Wrote (Commit c) x w = (c.txn ≡ x.txn) × (c.at ≡ x.at) × IsAmong c.writes w
-Wrote (Record.Opened epoch) x w = ⊥
-Wrote (Record.Ceiling s) x w = ⊥
-Wrote (Record.Horizon s) x w = ⊥
-Wrote (Record.Base _ _ _) x w = ⊥
-Wrote (Record.Version _) x w = ⊥
-Wrote (Record.Settled _ _ _) x w = ⊥
-Wrote (Record.Closed _ _ _) x w = ⊥
-Wrote (Record.Abort u) x w = ⊥
-Wrote (Record.Outcome u o) x w = ⊥
+Wrote _ x w = ⊥
 
 -- in an orderly log it is the one that counts
 wrote_by : (log : List Record) → IsOrderly log → (r : Record) (x : Txn) (w : Write) → IsAmong log r → Wrote r x w →
@@ -70,15 +62,7 @@ wrote_by log o (Prepare p) x w k wrote = by_value (committed_of log x.txn) refl 
     by_value None e (Some q) f =
         let i = prepared_is log o.1 x.txn q f in
         subst (λ (z : Prepared). IsAmong z.writes w) (one_promise log o p q k i.0 (i.1 ∙ sym wrote.0)) wrote.2
-wrote_by log o (Opened e) x w k wrote = absurd wrote
-wrote_by log o (Ceiling e) x w k wrote = absurd wrote
-wrote_by log o (Horizon e) x w k wrote = absurd wrote
-wrote_by log o (Base _ _ _) x w k wrote = absurd wrote
-wrote_by log o (Version _) x w k wrote = absurd wrote
-wrote_by log o (Settled _ _ _) x w k wrote = absurd wrote
-wrote_by log o (Closed _ _ _) x w k wrote = absurd wrote
-wrote_by log o (Abort e) x w k wrote = absurd wrote
-wrote_by log o (Outcome e q) x w k wrote = absurd wrote
+wrote_by log o _ x w k wrote = absurd wrote
 
 -- ---- over all logs
 

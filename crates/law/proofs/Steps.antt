@@ -52,12 +52,10 @@ module _ (sc : Scene) (log : List Record) (b : Before) (now : Interval) (knows :
   by_parts t None HasAborted ended row kept = kept
   by_parts t None (HasSettled s ps) ended row kept = kept
   by_parts t None (HasClosed c o) ended row kept = tt
-  by_parts t None Unrecorded true row kept = tt
   by_parts t None Unrecorded false row kept = tt
-  by_parts t None (StandsPrepared p) true row kept = tt
   by_parts t None (StandsPrepared p) false row kept = tt
-  by_parts t None (StandsDecided c) true row kept = tt
   by_parts t None (StandsDecided c) false row kept = tt
+  by_parts t None _ true row kept = tt
 
   stands_by_evidence : (t : Id) → StandingEvidence sc log b.shard t (stands b t)
   unfolding standing

@@ -17,7 +17,7 @@ use Rattle.record.specs.Records.{committed_of, prepared_of, ended_of}
 use Rattle.record.specs.declared.record.Committed.{Committed}
 use Rattle.record.specs.declared.record.Prepared.{Prepared}
 use Rattle.record.specs.declared.record.Record.{Record}
-use Rattle.record.specs.declared.record.Record.TheVariants.{Opened, Ceiling, Prepare, Commit, Abort, Outcome, Horizon, Base, Version, Settled, Closed}
+use Rattle.record.specs.declared.record.Record.TheVariants.{Prepare, Commit, Outcome}
 use Rattle.record.proofs.LearnAgrees.{accepted_follows}
 use Rattle.locks.proofs.Clashes.{clash_comm}
 use Rattle.law.specs.Among.{IsAmong}
@@ -26,6 +26,7 @@ use Rattle.law.proofs.Accepts.{IsNew, Place, each_taken, front_taken, installs_b
 use Rattle.law.proofs.Members.{among_cases, among_left, among_right}
 use Rattle.law.proofs.Logged.{AreLogged}
 use Rattle.law.proofs.Orderly.{IsOrderly, orderly, decided_not_promised}
+use Rattle.law.proofs.Picked.{some_same}
 use Rattle.law.proofs.Quiet.{not_ended}
 use Rattle.law.proofs.ReadBefore.{Claims, EndIs, IsStamped, Order, IsSame, IsEarlier, IsLater, ended_between, order, read_clashes, same_claim_id}
 use Rattle.law.proofs.ReadBefore.{stamp_of_end}
@@ -126,11 +127,8 @@ module _ (setup : Setup) (log : List Record) (accepted : taken setup log ≡ Acc
     itself e = record {
       outcome = Some new.stamp;
       among = subst (λ u. IsAmong log (Outcome u (Some new.stamp))) e logged;
-      below = λ s is. let stamp = new.at in let one = some_is new.stamp s is in omega (arith, stamp, one);
+      below = λ s is. let stamp = new.at in let one = some_same new.stamp s is in omega (arith, stamp, one);
     }
-      where
-        some_is : (a b : ℕ) → Some a ≡ Some b → a ≡ b
-        some_is a b z = cc
 
     -- one that had been logged before it had ended before it
     earlier : (m : List Record) → front ≡ p.front ++ c.claim ∷ m → ⊥
@@ -214,15 +212,7 @@ module _ (setup : Setup) (log : List Record) (accepted : taken setup log ≡ Acc
       nothing : (q : Record) → Claims q t at ks ws → IsAmong (installs_by front q) i → ⊥
       nothing (Prepare x) c h2 = h2
       nothing (Commit x) c h2 = h2
-      nothing (Opened x) c h2 = absurd c
-      nothing (Ceiling x) c h2 = absurd c
-      nothing (Horizon x) c h2 = absurd c
-      nothing (Base _ _ _) c h2 = absurd c
-      nothing (Version _) c h2 = absurd c
-      nothing (Settled _ _ _) c h2 = absurd c
-      nothing (Closed _ _ _) c h2 = absurd c
-      nothing (Abort x) c h2 = absurd c
-      nothing (Outcome x y) c h2 = absurd c
+      nothing _ c h2 = absurd c
 
   all_more : (mid rest : List Record) → log ≡ (front ++ r ∷ mid) ++ rest → SoFar (front ++ r ∷ mid) → SoFar log
   all_more mid [] e old = subst SoFar (sym (e ∙ append-nil (front ++ r ∷ mid))) old

@@ -27,6 +27,7 @@ use Rattle.law.proofs.Instants.{Moment, acknowledged_before, all_or_nothing, ins
 use Rattle.law.proofs.LeftGood.{recovered}
 use Rattle.law.proofs.LooksHold.{always_kept, event_keeps, lines_stay, looks_serially}
 use Rattle.law.proofs.Members.{among_last}
+use Rattle.law.proofs.Picked.{some_same}
 use Rattle.law.proofs.ReadsEqual.{reads_serially}
 
 pub externally_consistent : ExternalConsistency
@@ -58,9 +59,7 @@ noted_line w k at (Reply.Shows y) x e = subst (λ z. IsAmong (w.lines ++ Line.Lo
   where
     shows_is : (a b : Option Bytes) → Reply.Shows a ≡ Reply.Shows b → a ≡ b
     shows_is a b f = cc
-noted_line w k at Reply.Done x e = cc
-noted_line w k at (Reply.Refused f) x e = cc
-noted_line w k at Reply.Crashed x e = cc
+noted_line w k at _ x e = cc
 
 at_shard_line : (w : World) (n : ℕ) (k : Bytes) (at : ℕ) (look : Setup → ShardNow → Reply) (x : Option Bytes) →
     (at_shard w n (λ setup s. look_noted w k at (look setup s))).1 ≡ Reply.Shows x →
@@ -91,16 +90,7 @@ look_line w (Act.Look n j z) k at x e shows =
     of_look (acts w (Act.Look n j z)).0 j z k at x e (at_shard_line w n j z (λ setup s. look_shard setup s j z) x shows)
 look_line w (Act.View n v j z) k at x e shows =
     of_look (acts w (Act.View n v j z)).0 j z k at x e (at_shard_line w n j z (λ setup s. look_at_view setup (slice_get s.views v) j z) x shows)
-look_line w (Act.Begin t) k at x e shows = cc
-look_line w (Act.Read t j) k at x e shows = cc
-look_line w (Act.Write t j y) k at x e shows = cc
-look_line w (Act.Close t) k at x e shows = cc
-look_line w (Act.Quit t) k at x e shows = cc
-look_line w (Act.Deliver m now) k at x e shows = cc
-look_line w (Act.At n doing) k at x e shows = cc
-look_line w (Act.Crash n) k at x e shows = cc
-look_line w (Act.CrashIn n call fate named doing) k at x e shows = cc
-look_line w (Act.FailIn n call named doing) k at x e shows = cc
+look_line w _ k at x e shows = cc
 
 -- more events go on from the world of the first
 pub run_on : (w : World) (es more : List Event) → run_from w (es ++ more) ≡ run_from (run_from w es) more
@@ -177,9 +167,6 @@ pub as_they_are : (ss : List ShardNow) → MayLeaveLogs ss (map (λ s. s.log) ss
 as_they_are [] = tt
 as_they_are (s ∷ ss) = (inl refl, as_they_are ss)
 
-some_txn : (a b : Txn) → Some a ≡ Some b → a ≡ b
-some_txn a b e = cc
-
 pub commits_are_lines : CommitsAreLines
 commits_are_lines config es fair to t s there =
     let k = (always_kept config es fair).acks to t s there in
@@ -193,7 +180,7 @@ commits_are_lines config es fair to t s there =
     (sym m.same) line) in
     let first = told_txn m.scene m.holds logs m.left ack.to t k.stamp ack.sent in
     let same : first.txn ≡ told.txn =
-    some_txn first.txn told.txn
+    some_same first.txn told.txn
     (sym (found (history logs) first.txn one first.among) ∙ ap (find_txn (history logs)) (first.named ∙ sym told.named)
     ∙ found (history logs) told.txn one told.among) in
     let stamp : k.stamp ≡ s = sym first.stamp ∙ ap (λ (x : Txn). x.at) same ∙ told.stamp in

@@ -15,11 +15,6 @@ pub of_session : (a : Act) → ((m : ℕ) (now : Interval) → a ≡ Act.Deliver
     → ((n : ℕ) → a ≡ Act.Crash n → ⊥) → ((n call : ℕ) (fate : Fate) (named : ℕ) (doing : Doing) → a ≡ Act.CrashIn n call fate named doing → ⊥)
     → ((n call named : ℕ) (doing : Doing) → a ≡ Act.FailIn n call named doing → ⊥)
     → is_of_session a ≡ true
-of_session (Act.Begin t) f0 f1 f2 f3 f4 f5 f6 = refl
-of_session (Act.Read t k) f0 f1 f2 f3 f4 f5 f6 = refl
-of_session (Act.Write t k x) f0 f1 f2 f3 f4 f5 f6 = refl
-of_session (Act.Close t) f0 f1 f2 f3 f4 f5 f6 = refl
-of_session (Act.Quit t) f0 f1 f2 f3 f4 f5 f6 = refl
 of_session (Act.Deliver m now) f0 f1 f2 f3 f4 f5 f6 = absurd (f0 m now refl)
 of_session (Act.At n doing) f0 f1 f2 f3 f4 f5 f6 = absurd (f1 n doing refl)
 of_session (Act.Look n k at) f0 f1 f2 f3 f4 f5 f6 = absurd (f2 n k at refl)
@@ -27,6 +22,7 @@ of_session (Act.View n v k at) f0 f1 f2 f3 f4 f5 f6 = absurd (f3 n v k at refl)
 of_session (Act.Crash n) f0 f1 f2 f3 f4 f5 f6 = absurd (f4 n refl)
 of_session (Act.CrashIn n call fate named doing) f0 f1 f2 f3 f4 f5 f6 = absurd (f5 n call fate named doing refl)
 of_session (Act.FailIn n call named doing) f0 f1 f2 f3 f4 f5 f6 = absurd (f6 n call named doing refl)
+of_session _ f0 f1 f2 f3 f4 f5 f6 = refl
 
 -- without a shard, it is one of these
 pub has_shard : (a : Act) → act_shard a ≡ None
@@ -40,12 +36,7 @@ has_shard (Act.Write t k x) is f0 f1 f2 f3 f4 f5 = f2 t k x refl
 has_shard (Act.Close t) is f0 f1 f2 f3 f4 f5 = f3 t refl
 has_shard (Act.Quit t) is f0 f1 f2 f3 f4 f5 = f4 t refl
 has_shard (Act.Deliver m now) is f0 f1 f2 f3 f4 f5 = f5 m now refl
-has_shard (Act.At n doing) is f0 f1 f2 f3 f4 f5 = absurd (cc)
-has_shard (Act.Look n k at) is f0 f1 f2 f3 f4 f5 = absurd (cc)
-has_shard (Act.View n v k at) is f0 f1 f2 f3 f4 f5 = absurd (cc)
-has_shard (Act.Crash n) is f0 f1 f2 f3 f4 f5 = absurd (cc)
-has_shard (Act.CrashIn n call fate named doing) is f0 f1 f2 f3 f4 f5 = absurd (cc)
-has_shard (Act.FailIn n call named doing) is f0 f1 f2 f3 f4 f5 = absurd (cc)
+has_shard _ is f0 f1 f2 f3 f4 f5 = absurd (cc)
 
 -- with a shard, it is one of these
 pub has_no_shard : (a : Act) → (n : ℕ) → act_shard a ≡ Some n
@@ -54,15 +45,10 @@ pub has_no_shard : (a : Act) → (n : ℕ) → act_shard a ≡ Some n
     → ((n call : ℕ) (fate : Fate) (named : ℕ) (doing : Doing) → a ≡ Act.CrashIn n call fate named doing → ⊥)
     → ((n call named : ℕ) (doing : Doing) → a ≡ Act.FailIn n call named doing → ⊥)
     → ⊥
-has_no_shard (Act.Begin t) n0 is f0 f1 f2 f3 f4 f5 = absurd (cc)
-has_no_shard (Act.Read t k) n0 is f0 f1 f2 f3 f4 f5 = absurd (cc)
-has_no_shard (Act.Write t k x) n0 is f0 f1 f2 f3 f4 f5 = absurd (cc)
-has_no_shard (Act.Close t) n0 is f0 f1 f2 f3 f4 f5 = absurd (cc)
-has_no_shard (Act.Quit t) n0 is f0 f1 f2 f3 f4 f5 = absurd (cc)
-has_no_shard (Act.Deliver m now) n0 is f0 f1 f2 f3 f4 f5 = absurd (cc)
 has_no_shard (Act.At n doing) n0 is f0 f1 f2 f3 f4 f5 = f0 n doing refl
 has_no_shard (Act.Look n k at) n0 is f0 f1 f2 f3 f4 f5 = f1 n k at refl
 has_no_shard (Act.View n v k at) n0 is f0 f1 f2 f3 f4 f5 = f2 n v k at refl
 has_no_shard (Act.Crash n) n0 is f0 f1 f2 f3 f4 f5 = f3 n refl
 has_no_shard (Act.CrashIn n call fate named doing) n0 is f0 f1 f2 f3 f4 f5 = f4 n call fate named doing refl
 has_no_shard (Act.FailIn n call named doing) n0 is f0 f1 f2 f3 f4 f5 = f5 n call named doing refl
+has_no_shard _ n0 is f0 f1 f2 f3 f4 f5 = absurd (cc)

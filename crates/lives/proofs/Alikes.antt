@@ -1,5 +1,5 @@
 -- Facts that are alike: back and forth, behind one more record, and what an opening finds in them.
-use Rattle.std.proofs.Common.{◌≡◌, ◌≤◌, ℕ, List, [], ◌∷◌, ◌++◌, length, take, Option, Some, None, refl, sym, ap, ◌∙◌, subst, arith}
+use Rattle.std.proofs.Common.{◌≡◌, ◌≤◌, List, [], ◌∷◌, ◌++◌, length, take, Option, Some, None, refl, sym, ap, ◌∙◌, subst, arith}
 use Rattle.std.proofs.lemmas.List.{append-nil, take-append-le, take_all}
 use Rattle.units.specs.Lists.{gather}
 use Rattle.units.specs.declared.writes.Install.{Install}
@@ -19,18 +19,6 @@ alike_back a b h = record {
   versions = record {
     now = λ k. sym (h.versions.now k);
     at = λ k t le. sym (h.versions.at k t (subst (λ n. n ≤ t) (sym h.horizon) le));
-  };
-}
-
-pub alike_then : (a b c : Facts) → Alike a b → Alike b c → Alike a c
-alike_then a b c h k = record {
-  epoch = h.epoch ∙ k.epoch;
-  floor = h.floor ∙ k.floor;
-  horizon = h.horizon ∙ k.horizon;
-  entries = h.entries ∙ k.entries;
-  versions = record {
-    now = λ x. h.versions.now x ∙ k.versions.now x;
-    at = λ x t le. h.versions.at x t le ∙ k.versions.at x t (subst (λ n. n ≤ t) h.horizon le);
   };
 }
 

@@ -1,7 +1,6 @@
 -- A crash in a call is that call's failure, and then a crash.
 use Rattle.std.proofs.Common.{◌≡◌, ℕ, Bool, true, false, cond, ◌&&◌, nat_le, nat_lt, [], ◌∷◌, ◌++◌, Some, None, refl, sym, ap}
 use Rattle.std.proofs.Common.{◌∙◌, subst, arith}
-use Rattle.std.proofs.lemmas.Bool.{false≢true}
 use Rattle.std.proofs.lemmas.Bool.Decides.{nat_tests}
 use Rattle.std.proofs.lemmas.List.{append-nil}
 use Rattle.disk.specs.File.{surface, crash_leaves}
@@ -17,7 +16,7 @@ use Rattle.std.specs.Prelude.{List}
 use Rattle.simdisk.specs.Replay.{settled}
 use Rattle.simdisk.specs.State.{disk_file, disk_plan}
 use Rattle.simdisk.specs.declared.simdisk.SimDisk.{SimDisk}
-use Rattle.world.specs.World.{Area, ShardNow, State, Runs, IsStopped, IsDown, Unsure, Nothing, Shown, Hidden, TurnShown, TurnHidden, crashed, crashed_in}
+use Rattle.world.specs.World.{ShardNow, State, Runs, IsStopped, IsDown, Unsure, Nothing, Shown, Hidden, TurnShown, TurnHidden, crashed, crashed_in}
 use Rattle.world.specs.World.{failed_in, failed_turn, left_area, left_area_of, left_by_refused, left_of, new_area, read_area, read_log, shown_area}
 use Rattle.world.specs.World.{shown_records, turns, with_records}
 use Rattle.world.specs.declared.event.Doing.{Doing}
@@ -75,13 +74,7 @@ module _ (s : ShardNow) (fate : Fate) (sure : IsSure s) where
           ∙ sym (λ i. crashed s (s.log ++ shown_records (sure m is i)) (shown_area s.area (sure m is i)))
       by_state (IsStopped m) is = λ i. crashed s (append-nil (read_log s) i) (read_area s)
       by_state IsDown is = λ i. crashed s (append-nil (read_log s) i) (read_area s)
-  refused_is (Doing.Take m now) = refl
-  refused_is (Doing.Resume now) = refl
-  refused_is (Doing.Settle t now) = refl
-  refused_is (Doing.Advance at now) = refl
-  refused_is (Doing.Forget at now) = refl
-  refused_is (Doing.Nudge t now) = refl
-  refused_is Doing.Turn = refl
+  refused_is _ = refl
 
   -- what is done without a record, by whether it is a turnover
   abbrev idle_shard : Memory → Bool → ShardNow

@@ -1,5 +1,5 @@
 -- What a disk holds behind a call of a core.
-use Rattle.std.proofs.Common.{◌≡◌, inl, inr, subst, ℕ, zero, suc, Bool, true, false, nat_lt, cond, List, [], ◌∷◌, ◌++◌, get_or, Result, Ok, refl, sym}
+use Rattle.std.proofs.Common.{◌≡◌, inl, inr, subst, ℕ, zero, suc, Bool, true, false, nat_lt, cond, List, [], ◌∷◌, ◌++◌, get_or, Ok, refl, sym}
 use Rattle.std.proofs.Common.{ap, ◌∙◌, arith}
 use Rattle.std.proofs.lemmas.Bool.Decides.{nat_tests}
 use Rattle.std.proofs.lemmas.List.{append-nil}
@@ -15,13 +15,12 @@ use Rattle.gatelog.specs.Gates.{is_left, is_read}
 use Rattle.gatelog.specs.Slots.{Beginning, begins_in}
 use Rattle.record.specs.declared.record.Record.{Record}
 use Rattle.shard.specs.Armed.{AreArmed, records_with_if}
-use Rattle.shard.specs.Logs.{BeginsAsBefore, KeepsRecords, records_in}
+use Rattle.shard.specs.Logs.{BeginsAsBefore, KeepsRecords}
 use Rattle.shard.specs.Turned.{AreArmedTurn, IsTurnedIf, turned_to}
 use Rattle.simdisk.specs.State.{LeftSince, disk_clock, disk_file, disk_plan}
 use Rattle.simdisk.specs.declared.simdisk.SimDisk.{SimDisk}
-use Rattle.units.specs.declared.fault.Fault.{Fault}
-use Rattle.world.specs.World.{Area, ShardNow, Unsure, Nothing, Shown, Hidden, failed_in, failed_turn, left_area, left_area_of, left_of, left_unsure, new_area}
-use Rattle.world.specs.World.{read_area, shown_area, shown_records, turn_unsure, with_records}
+use Rattle.world.specs.World.{Area, ShardNow, Nothing, failed_in, failed_turn, left_area, left_area_of, left_of, left_unsure, new_area}
+use Rattle.world.specs.World.{read_area, shown_area, turn_unsure, with_records}
 use Rattle.lives.specs.Held.{HoldsArea, beginning_of}
 use Rattle.lives.specs.Lives.{HoldsLog, disk_log}
 
@@ -52,10 +51,8 @@ unsure_shown (suc (suc (suc (suc more)))) r area is = absurd (past_four more is)
 -- and what a crash makes of it, of the records
 pub unsure_left : (call : ℕ) (fate : Fate) (r : Record) → nat_lt call 4 ≡ true → left_of fate (left_unsure call r) ≡ cond (is_left call fate) (r ∷ []) []
 unsure_left zero fate r is = refl
-unsure_left (suc zero) fate r is = refl
-unsure_left (suc (suc zero)) fate r is = refl
-unsure_left (suc (suc (suc zero))) fate r is = refl
 unsure_left (suc (suc (suc (suc more)))) fate r is = absurd (past_four more is)
+unsure_left _ fate r is = refl
 
 -- and of the area
 pub area_left : (call : ℕ) (fate : Fate) (r : Record) (area : Area) → nat_lt call 4 ≡ true
@@ -69,30 +66,21 @@ area_left (suc (suc (suc (suc more)))) fate r area is = absurd (past_four more i
 -- what a failing call of a turnover leaves unsure: what a read gives of it
 turn_shown : (call : ℕ) (area other : Area) → nat_lt call 5 ≡ true → shown_area area (turn_unsure call other) ≡ cond (is_read_turn call) other area
 turn_shown zero area other is = refl
-turn_shown (suc zero) area other is = refl
-turn_shown (suc (suc zero)) area other is = refl
-turn_shown (suc (suc (suc zero))) area other is = refl
-turn_shown (suc (suc (suc (suc zero)))) area other is = refl
 turn_shown (suc (suc (suc (suc (suc more))))) area other is = absurd (past_five more is)
+turn_shown _ area other is = refl
 
 -- and what a crash makes of it
 pub turn_left : (call : ℕ) (fate : Fate) (area other : Area) → nat_lt call 5 ≡ true
     → left_area_of fate area (turn_unsure call other) ≡ cond (is_left_turn call fate) other area
 turn_left zero fate area other is = refl
-turn_left (suc zero) fate area other is = refl
-turn_left (suc (suc zero)) fate area other is = refl
-turn_left (suc (suc (suc zero))) fate area other is = refl
-turn_left (suc (suc (suc (suc zero)))) fate area other is = refl
 turn_left (suc (suc (suc (suc (suc more))))) fate area other is = absurd (past_five more is)
+turn_left _ fate area other is = refl
 
 -- of the records since the formatting a failing turnover leaves all, whatever a crash does
 pub turn_leaves : (call : ℕ) (fate : Fate) (other : Area) → nat_lt call 5 ≡ true → left_of fate (turn_unsure call other) ≡ []
 turn_leaves zero fate other is = refl
-turn_leaves (suc zero) fate other is = refl
-turn_leaves (suc (suc zero)) fate other is = refl
-turn_leaves (suc (suc (suc zero))) fate other is = refl
-turn_leaves (suc (suc (suc (suc zero)))) fate other is = refl
 turn_leaves (suc (suc (suc (suc (suc more))))) fate other is = absurd (past_five more is)
+turn_leaves _ fate other is = refl
 
 -- the log begins where it began, behind a call of a core on a disk with the same file, and before another one
 pub begins_kept : (at : Beginning) (old before after new : SimDisk) → disk_file before ≡ disk_file old
@@ -107,10 +95,6 @@ begins_kept at old before after new first run last begins image may =
     by_run : BeginsAsBefore (surface (disk_file before)) image → begins_in image ≡ at
     by_run (inl left) = was image left
     by_run (inr same) = same ∙ was (surface (disk_file before)).seen (seen_may (disk_file before))
-
--- an image with these records, which begins where an area does
-has_area : (area : Area) (image : List ℕ) → records_in image ≡ Ok area.records → begins_in image ≡ beginning_of area → HoldsArea area image
-has_area area image read begins = (read, begins)
 
 -- behind a call of an append that failed
 pub holds_failed : (s : ShardNow) (call : ℕ) (r : Record) (disk : SimDisk) → disk_plan disk ≡ FailurePlan.Never → nat_lt call 4 ≡ true

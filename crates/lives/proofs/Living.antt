@@ -44,34 +44,13 @@ goes_so false e = absurd (false≢true (sym e))
 
 -- what is neither an opening nor a turnover takes an input
 pub input_so : (doing : Doing) → goes_on doing ≡ true → turns doing ≡ false → has_input doing ≡ true
-input_so (Doing.Take n now) g t = refl
-input_so (Doing.Resume now) g t = refl
-input_so (Doing.Settle i now) g t = refl
-input_so (Doing.Advance at now) g t = refl
-input_so (Doing.Forget at now) g t = refl
-input_so (Doing.Nudge i now) g t = refl
 input_so Doing.Turn g t = absurd (false≢true (sym t))
 input_so Doing.Open g t = absurd (false≢true g)
-
-pub input_goes : (doing : Doing) → has_input doing ≡ true → goes_on doing ≡ true
-input_goes (Doing.Take n now) g = refl
-input_goes (Doing.Resume now) g = refl
-input_goes (Doing.Settle i now) g = refl
-input_goes (Doing.Advance at now) g = refl
-input_goes (Doing.Forget at now) g = refl
-input_goes (Doing.Nudge i now) g = refl
-input_goes Doing.Turn g = absurd (false≢true g)
-input_goes Doing.Open g = absurd (false≢true g)
+input_so _ g t = refl
 
 is_turn : (doing : Doing) → turns doing ≡ true → doing ≡ Doing.Turn
-is_turn (Doing.Take n now) t = absurd (false≢true t)
-is_turn (Doing.Resume now) t = absurd (false≢true t)
-is_turn (Doing.Settle i now) t = absurd (false≢true t)
-is_turn (Doing.Advance at now) t = absurd (false≢true t)
-is_turn (Doing.Forget at now) t = absurd (false≢true t)
-is_turn (Doing.Nudge i now) t = absurd (false≢true t)
 is_turn Doing.Turn t = refl
-is_turn Doing.Open t = absurd (false≢true t)
+is_turn _ t = absurd (false≢true t)
 
 module _ (setup : Setup) (bag : List Envelope) (s : ShardNow) where
   -- what it asks for
@@ -80,14 +59,9 @@ module _ (setup : Setup) (bag : List Envelope) (s : ShardNow) where
       ≡ where_room (gate_of (read_area s))
       (elim s.state as (λ x. Stepped) [ Runs m ↦ step_with setup (facts_of s.log) m (input_of bag doing) | _ ↦ Refuses Stopped ])
   unfolding effect wanted
-  goes_as (Doing.Take n now) g = refl
-  goes_as (Doing.Resume now) g = refl
-  goes_as (Doing.Settle t now) g = refl
-  goes_as (Doing.Advance at now) g = refl
-  goes_as (Doing.Forget at now) g = refl
-  goes_as (Doing.Nudge t now) g = refl
   goes_as Doing.Turn g = absurd (false≢true g)
   goes_as Doing.Open g = absurd (false≢true g)
+  goes_as _ g = refl
 
   -- with an input it is the step
   pub asks : (doing : Doing) (now : Interval) (i : Input) → has_input doing ≡ true → input_of bag doing ≡ Some (now, i)
@@ -172,14 +146,8 @@ does_turn old new bag call doing r t over =
 
 -- a refusal of what is no opening leaves all as it was
 refused_same : (s : ShardNow) (doing : Doing) → goes_on doing ≡ true → left_by_refusal s doing ≡ s
-refused_same s (Doing.Take n now) g = refl
-refused_same s (Doing.Resume now) g = refl
-refused_same s (Doing.Settle t now) g = refl
-refused_same s (Doing.Advance at now) g = refl
-refused_same s (Doing.Forget at now) g = refl
-refused_same s (Doing.Nudge t now) g = refl
-refused_same s Doing.Turn g = refl
 refused_same s Doing.Open g = absurd (false≢true g)
+refused_same s _ g = refl
 
 module _ (setup : Setup) (bag : List Envelope) (s : ShardNow) (call : Option ℕ) (doing : Doing) where
   -- a core carries it out

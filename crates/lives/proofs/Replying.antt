@@ -97,27 +97,7 @@ module _ (w : World) (old new : Run) (h : IsRun old w) where
           time = time ∙ h.time;
         },
       )
-  look_comes k at (Reply.Refused fault) (Ok reply) notes sessions shards time =
-      let r = notes in (
-        r.0,
-        record {
-          sessions = subst (λ s. Hosts w.config.splits s w.clients) (sym sessions) h.sessions;
-          shards = same_shards shards;
-          output = r.1;
-          time = time ∙ h.time;
-        },
-      )
-  look_comes k at Reply.Done (Ok reply) notes sessions shards time =
-      let r = notes in (
-        r.0,
-        record {
-          sessions = subst (λ s. Hosts w.config.splits s w.clients) (sym sessions) h.sessions;
-          shards = same_shards shards;
-          output = r.1;
-          time = time ∙ h.time;
-        },
-      )
-  look_comes k at Reply.Crashed (Ok reply) notes sessions shards time =
+  look_comes k at _ (Ok reply) notes sessions shards time =
       let r = notes in (
         r.0,
         record {

@@ -196,9 +196,6 @@ pub sure_of : (setup : Setup) (s : ShardNow) (life : Life) → LivesAs setup s l
 sure_of setup s (Up core) h m is = (subst (IsCoreIn setup s (seen core)) is h).sure
 sure_of setup s (Down disk) h m is = absurd (subst (IsDiskIn s disk) is h)
 
-refuses_not : (f : Fault) (logged : Option Record) (memory : Kept) (out : List Envelope) → Refuses f ≡ Does logged memory out → ⊥
-refuses_not f logged memory out e = cc
-
 -- ---- a doing
 
 same_views : (setup : Setup) (s : ShardNow) (old mid : RunShard) → mid.installs.items ≡ old.installs.items → mid.views.items ≡ old.views.items
@@ -208,6 +205,13 @@ same_views setup s old mid installs views h = (
   subst (λ is. AreViews is mid.views.items s.views) (sym installs) (subst (λ vs. AreViews old.installs.items vs s.views) (sym views) h.views),
   (λ i. list_all (is_within (installs i)) (views i)) ∙ h.within,
 )
+
+-- a shard with another life
+abbrev pub with_life : RunShard → Life → RunShard
+with_life s life = record s { life = life }
+
+pub life_kept : (s : RunShard) (life : Life) → IsKept s (with_life s life)
+life_kept s life = record { setup = refl; installs = refl; from = refl; views = refl; high = refl; rises = refl }
 
 same_apart : (setup : Setup) (s : ShardNow) (old mid : RunShard) → IsKept old mid → StandsFor setup old s → mid.rises ≡ true →
     list_all (is_apart mid.installs.items mid.high) mid.views.items ≡ true
@@ -260,19 +264,13 @@ module _ (setup : Setup) (bag : List Envelope) (s : ShardNow) (call : Option ℕ
       (subst (λ is. ShowsLife is old.from old.life) (sym kept.installs) h.shows)
 
   refused_views : (d : Doing) → (left_by_refusal s d).views ≡ s.views
-  refused_views (Doing.Take n now) = refl
-  refused_views (Doing.Resume now) = refl
-  refused_views (Doing.Settle t now) = refl
-  refused_views (Doing.Advance at now) = refl
-  refused_views (Doing.Forget at now) = refl
-  refused_views (Doing.Nudge t now) = refl
-  refused_views Doing.Turn = refl
   refused_views Doing.Open = by_state s.state
     where
       by_state : (st : State) → (unopened s st).views ≡ s.views
       by_state (Runs m) = refl
       by_state (IsStopped m) = refl
       by_state IsDown = refl
+  refused_views _ = refl
 
   failed_views : (logged : Option Record) (c : ℕ) → (failed_by s logged c).views ≡ s.views
   unfolding failed_in failed_turn

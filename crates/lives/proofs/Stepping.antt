@@ -1,5 +1,5 @@
 -- A core that takes an input with a call armed, or with none, does what the definitions say.
-use Rattle.std.proofs.Common.{◌≡◌, ◌≢◌, ◌⊎◌, inl, inr, ℕ, ◌<◌, Bool, true, false, cond, nat_lt, IsTrue, List, [], ◌∷◌, ◌++◌, Option, Some}
+use Rattle.std.proofs.Common.{◌≡◌, ◌≢◌, ◌⊎◌, inl, inr, ℕ, ◌<◌, true, false, cond, nat_lt, IsTrue, List, [], ◌∷◌, ◌++◌, Option, Some}
 use Rattle.std.proofs.Common.{None, Result, Ok, Err}
 use Rattle.std.proofs.Common.{refl, sym, ap, ◌∙◌, subst, option_to_list, arith}
 use Rattle.std.proofs.lemmas.Bool.{false≢true}
@@ -41,7 +41,7 @@ use Rattle.world.specs.declared.event.Doing.{Doing}
 use Rattle.lives.specs.Inputs.{has_input}
 use Rattle.lives.specs.Held.{beginning_of}
 use Rattle.lives.specs.Lives.{IsCoreIn, IsCoreOf, IsRunningAs, IsStoppedAs, disk_log}
-use Rattle.lives.specs.Carries.{Comes, CoreComes, IsOrderly, ShowsMore, TakesInput, answer_of, asked_if_room, asked_in, by_call, calls_of, comes_to}
+use Rattle.lives.specs.Carries.{CoreComes, IsOrderly, TakesInput, answer_of, asked_if_room, asked_in, by_call, calls_of, comes_to}
 use Rattle.lives.specs.Carries.{failed_by, stepped_shard}
 use Rattle.lives.proofs.Alikes.{alike_after, still_first}
 use Rattle.lives.proofs.Holding.{begins_kept, holds_failed, holds_kept, holds_same}
@@ -62,6 +62,20 @@ pub record IsArmedFrom (old new : CoreView SimDisk) (call : Option ℕ) : Type 0
   pub facts : new.facts ≡ old.facts
   pub memory : new.memory ≡ old.memory
   pub file : disk_file new.disk ≡ disk_file old.disk
+
+pub armed_from : (old new : CoreView SimDisk) (call : Option ℕ) → disk_plan new.disk ≡ armed call → (new.gate ≡ old.gate) × (new.stopped ≡ old.stopped)
+    → new.slot ≡ old.slot → (new.setup ≡ old.setup) × (new.facts ≡ old.facts) × (new.memory ≡ old.memory) → disk_file new.disk ≡ disk_file old.disk
+    → IsArmedFrom old new call
+armed_from old new call plan log slot state file = record {
+  plan = plan;
+  gate = log.0;
+  slot = slot;
+  stopped = log.1;
+  setup = state.0;
+  facts = state.1;
+  memory = state.2;
+  file = file;
+}
 
 -- a core that is as another
 pub record IsAs (old new : CoreView SimDisk) : Type 0 where
@@ -116,14 +130,8 @@ end_with area (Some r) = sym (fold-append next_gate area.begins area.records (r 
 
 -- no turnover takes an input
 pub no_turn : (doing : Doing) → has_input doing ≡ true → turns doing ≡ false
-no_turn (Doing.Take n now) g = refl
-no_turn (Doing.Resume now) g = refl
-no_turn (Doing.Settle t now) g = refl
-no_turn (Doing.Advance at now) g = refl
-no_turn (Doing.Nudge t now) g = refl
-no_turn (Doing.Forget at now) g = refl
 no_turn Doing.Turn g = absurd (false≢true g)
-no_turn Doing.Open g = refl
+no_turn _ g = refl
 
 -- a shard after what is no turnover, but for the view that it makes: its record stands in the area that was read
 abbrev pub plain_shard : ShardNow → Option Record → Memory → ShardNow

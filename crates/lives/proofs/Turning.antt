@@ -7,7 +7,6 @@ use Rattle.std.proofs.lemmas.List.{append-nil}
 use Rattle.units.specs.declared.fault.Fault.{Fault}
 use Rattle.units.specs.declared.fault.Fault.TheVariants.{Device, Memory as WantsMemory, Stopped, TimeSpent}
 use Rattle.units.specs.declared.setup.Setup.{Setup}
-use Rattle.units.specs.declared.writes.Install.{Install}
 use Rattle.disk.specs.File.{surface}
 use Rattle.disk.specs.Planned.{armed}
 use Rattle.gatelog.specs.Crash.{Begins}
@@ -26,8 +25,8 @@ use Rattle.shard.specs.On.{CoreView}
 use Rattle.shard.specs.Turned.{AreArmedTurn, HasNoTurnPlace, HasTurned, HasTurnPlace, turned_to}
 use Rattle.simdisk.specs.State.{disk_clock, disk_failures, disk_file, disk_plan, LeftSince}
 use Rattle.simdisk.specs.declared.simdisk.SimDisk.{SimDisk}
-use Rattle.world.specs.World.{ShardNow, State, Runs, IsStopped, IsDown, failed_turn, gate_of, has_place, new_area, read_area, read_log, shown_records}
-use Rattle.world.specs.World.{step_of_turnover, stopped as stopped_state}
+use Rattle.world.specs.World.{ShardNow, State, Runs, IsStopped, IsDown, failed_turn, gate_of, new_area, read_area, read_log, shown_records}
+use Rattle.world.specs.World.{stopped as stopped_state}
 use Rattle.world.specs.declared.event.Doing.{Doing}
 use Rattle.lives.specs.Held.{HoldsArea, beginning_of}
 use Rattle.lives.specs.Lives.{IsCoreIn, IsRunningAs, IsStoppedAs}

@@ -1,5 +1,5 @@
 -- How a core, or the disk of one that is down, stands for a shard of the definitions.
-use Rattle.std.specs.Prelude.{◌≡◌, ℕ, true, false, List, get_or}
+use Rattle.std.specs.Prelude.{◌≡◌, true, false, List, get_or}
 use Rattle.units.specs.declared.setup.Setup.{Setup}
 use Rattle.disk.specs.File.{surface, crash_leaves}
 use Rattle.disk.specs.declared.plan.FailurePlan.{FailurePlan}

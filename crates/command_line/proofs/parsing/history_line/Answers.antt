@@ -1,6 +1,10 @@
+use Rattle.std.proofs.Common.{codes, refl}
 use Rattle.clap.specs.Words.{found_of}
-use Rattle.command_line.proofs.FoundLemmas.{history_found}
+use Rattle.command_line.specs.Lines.{history}
+use Rattle.command_line.proofs.FoundLemmas.{two_found}
 use Rattle.command_line.proofs.parsing.history_line.Goals as goal
 
 pub returns : goal.returns
-returns c line name rows = history_found line (found_of c.args.given.now) _ _ name rows c.word.ensures c.word-2.ensures
+returns c line name rows =
+    two_found line (found_of c.args.given.now) (codes "history") (codes "dir") (codes "key") history _ _ (λ rows. refl) name rows
+    c.word.ensures c.word-2.ensures

@@ -1,6 +1,6 @@
 use Rattle.shard.specs.Core.{book_of, seen}
 use Rattle.lives.proofs.Living.{does_input, does_nothing}
-use Rattle.lives.proofs.Stepping.{takes_input}
+use Rattle.lives.proofs.Stepping.{armed_from, takes_input}
 use Rattle.lives.proofs.life.do_input.Goals as goal
 
 pub input_of-requires : goal.input_of-requires
@@ -11,26 +11,8 @@ returns-in-Ok c =
     does_input (seen c.args.core.now) (seen c.arm-in-Ok.new.self) c.args.bag.now c.args.call c.args.doing.now _ _ c.on-result.result c.requires
     c.in-Ok.ensures.found
     (takes_input (seen c.args.core.now) (seen c.arm.new.self) (seen c.on-result.new.self) (seen c.arm-in-Ok.new.self) c.args.call c.args.doing.now c.requires
-    (record {
-      plan = c.arm.ensures.plan tt;
-      gate = c.arm.ensures.log.0;
-      slot = c.arm.ensures.slot;
-      stopped = c.arm.ensures.log.1;
-      setup = c.arm.ensures.state.0;
-      facts = c.arm.ensures.state.1;
-      memory = c.arm.ensures.state.2;
-      file = c.arm.ensures.file.0;
-    })
-    (record {
-      plan = c.arm-in-Ok.ensures.plan tt;
-      gate = c.arm-in-Ok.ensures.log.0;
-      slot = c.arm-in-Ok.ensures.slot;
-      stopped = c.arm-in-Ok.ensures.log.1;
-      setup = c.arm-in-Ok.ensures.state.0;
-      facts = c.arm-in-Ok.ensures.state.1;
-      memory = c.arm-in-Ok.ensures.state.2;
-      file = c.arm-in-Ok.ensures.file.0;
-    })
+    (armed_from _ _ _ (c.arm.ensures.plan tt) c.arm.ensures.log c.arm.ensures.slot c.arm.ensures.state c.arm.ensures.file.0)
+    (armed_from _ _ _ (c.arm-in-Ok.ensures.plan tt) c.arm-in-Ok.ensures.log c.arm-in-Ok.ensures.slot c.arm-in-Ok.ensures.state c.arm-in-Ok.ensures.file.0)
     _ _ c.on-result.result (book_of c.arm.new.self) c.on-result.ensures.stepped)
 
 pub returns-in-Err : goal.returns-in-Err

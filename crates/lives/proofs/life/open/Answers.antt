@@ -5,6 +5,7 @@ use Rattle.world.specs.declared.event.Doing.{Doing}
 use Rattle.lives.specs.Carries.{Comes, IsOpened, OpensDisk, opened_by, opens_as}
 use Rattle.lives.specs.declared.life.Life.TheVariants.{Up, Down}
 use Rattle.lives.proofs.Opening.{not_opened, opened, with_more}
+use Rattle.lives.proofs.Stepping.{armed_from}
 use Rattle.lives.proofs.life.open.Goals as goal
 
 pub returns-in-Err : goal.returns-in-Err
@@ -19,16 +20,7 @@ returns-in-Ok-open c =
     (with_more c.args.call Doing.Open (opens_as s) (Ok []) tt
     (opened c.args.disk c.arm.new.self c.args.call (c.arm.ensures.plan tt) c.arm.ensures.same c.in-Ok.told s h down order (seen c.in-Ok-open.core)
     (seen c.arm-in-Ok-open.new.self)
-    (record {
-      plan = c.arm-in-Ok-open.ensures.plan tt;
-      gate = c.arm-in-Ok-open.ensures.log.0;
-      slot = c.arm-in-Ok-open.ensures.slot;
-      stopped = c.arm-in-Ok-open.ensures.log.1;
-      setup = c.arm-in-Ok-open.ensures.state.0;
-      facts = c.arm-in-Ok-open.ensures.state.1;
-      memory = c.arm-in-Ok-open.ensures.state.2;
-      file = c.arm-in-Ok-open.ensures.file.0;
-    })
+    (armed_from _ _ _ (c.arm-in-Ok-open.ensures.plan tt) c.arm-in-Ok-open.ensures.log c.arm-in-Ok-open.ensures.slot c.arm-in-Ok-open.ensures.state c.arm-in-Ok-open.ensures.file.0)
     c.in-Ok-open.ensures.opened)))
 
 pub returns-in-Err-open : goal.returns-in-Err-open
