@@ -3,10 +3,10 @@ ghost use Rattle.std.specs.Prelude.{◌≡◌, ◌⊎◌, IfErr, OnOk, IsTrue};
 ghost use Rattle.host_files.specs.Folders.{IsFolderFault, names_are_synced};
 ghost use Rattle.units.specs.declared.fault.Fault.TheVariants.{Device, Memory};
 
-use crate::manifest::{MANIFEST, MANIFEST_DRAFT, manifest_text};
-use crate::names::{Kind, StoreFolder};
+use crate::manifest::manifest_text;
+use crate::names::{Kind, Name, StoreFolder};
 use crate::owners::all_fit;
-use crate::shards::{draft_of, log_of, setup_of};
+use crate::shards::setup_of;
 use disk::Disk;
 use filedisk::FileDisk;
 use gatelog::GateLog;
@@ -28,7 +28,7 @@ pub fn begin<R: Files<File = File>>(
 {
     let shards = splits.as_slice().len() + 1;
     for beyond in shards..16 {
-        let Kind::Nothing = folder.kind(&log_of(alloc, beyond)?)? else {
+        let Kind::Nothing = folder.kind(Name::Log(beyond))? else {
             return Err(Fault::BadRequest(Reason::Settings));
         };
     }
@@ -50,10 +50,9 @@ fn prepare<R: Files<File = File>>(
 ) -> Result<(), Fault>
     ensures { IfErr result IsFolderFault }
 {
-    let log = log_of(alloc, shard)?;
-    match folder.kind(&log)? {
-        Kind::Nothing => draft(folder, alloc, setup, &draft_of(alloc, shard)?),
-        _ => match holds(alloc, folder.open(&log)?, setup) {
+    match folder.kind(Name::Log(shard))? {
+        Kind::Nothing => draft(folder, alloc, setup, Name::LogDraft(shard)),
+        _ => match holds(alloc, folder.open(Name::Log(shard))?, setup) {
             Ok(_) => Ok(()),
             Err(fault) => Err(fault),
         },
@@ -65,7 +64,7 @@ fn draft<R: Files<File = File>>(
     folder: &mut StoreFolder<'_, R>,
     alloc: Global,
     setup: &Setup,
-    draft: &str,
+    draft: Name,
 ) -> Result<(), Fault>
     ensures { IfErr result IsFolderFault }
 {
@@ -97,7 +96,7 @@ fn draft<R: Files<File = File>>(
 }
 
 // Whether a draft begins as a log of version 1 does. It may hold records, so it is not made anew.
-fn is_old<R: Files<File = File>>(folder: &StoreFolder<'_, R>, draft: &str) -> Result<bool, Fault>
+fn is_old<R: Files<File = File>>(folder: &StoreFolder<'_, R>, draft: Name) -> Result<bool, Fault>
     ensures { IfErr result (λ fault. (fault ≡ Memory) ⊎ (fault ≡ Device)) }
 {
     let front = folder.read(draft, 8)?;
@@ -129,15 +128,15 @@ fn tell<R: Files<File = File>>(folder: &mut StoreFolder<'_, R>, text: &str) -> R
     ensures synced { OnOk result (IsTrue (names_are_synced folder.new)) }
     ensures refused { IfErr result IsFolderFault }
 {
-    match folder.kind(MANIFEST_DRAFT)? {
+    match folder.kind(Name::ManifestDraft)? {
         Kind::Nothing => {}
-        _ => folder.remove(MANIFEST_DRAFT)?,
+        _ => folder.remove(Name::ManifestDraft)?,
     }
-    let mut file = folder.create(MANIFEST_DRAFT)?;
+    let mut file = folder.create(Name::ManifestDraft)?;
     file.write_at(0, text.as_bytes())?;
     file.sync()?;
     drop(file);
     folder.sync()?;
-    folder.name(MANIFEST_DRAFT, MANIFEST)?;
+    folder.name(Name::ManifestDraft, Name::Manifest)?;
     folder.sync()
 }

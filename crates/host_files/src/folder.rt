@@ -9,10 +9,10 @@ ghost use Rattle.simdisk.specs.State.{disk_file, disk_plan};
 ghost use Rattle.units.specs.declared.fault.Fault.TheVariants.{Device, Memory};
 
 use crate::beginning::begin;
-use crate::manifest::{MANIFEST, MOST_MANIFEST, is_manifest_of};
-use crate::names::{Kind, StoreFolder};
+use crate::manifest::{MOST_MANIFEST, is_manifest_of};
+use crate::names::{Kind, Name, StoreFolder};
 use crate::owners::first_fits;
-use crate::shards::{draft_of, log_of, setup_of};
+use crate::shards::setup_of;
 use filedisk::FileDisk;
 use gatelog::GateLog;
 use simdisk::SimDisk;
@@ -73,10 +73,10 @@ fn is_known<R: Files<File = File>>(
 ) -> Result<bool, Fault>
     ensures { IfErr result IsFolderFault }
 {
-    if let Kind::Nothing = folder.kind(MANIFEST)? {
+    if let Kind::Nothing = folder.kind(Name::Manifest)? {
         return Ok(false);
     }
-    let text = folder.read(MANIFEST, MOST_MANIFEST)?;
+    let text = folder.read(Name::Manifest, MOST_MANIFEST)?;
     if is_manifest_of(alloc, &text, splits)? {
         Ok(true)
     } else {
@@ -106,7 +106,7 @@ fn name_all<R: Files<File = File>>(
     let missing = missing_logs(folder, alloc, splits)?;
     for shard in &missing {
         folder.sync()?;
-        folder.name(&draft_of(alloc, *shard)?, &log_of(alloc, *shard)?)?;
+        folder.name(Name::LogDraft(*shard), Name::Log(*shard))?;
     }
     Ok(())
 }
@@ -121,8 +121,8 @@ fn missing_logs<R: Files<File = File>>(
 {
     let mut missing = Vec::new(alloc);
     for shard in 0..splits.as_slice().len() + 1 {
-        if let Kind::Nothing = folder.kind(&log_of(alloc, shard)?)? {
-            let Kind::Plain = folder.kind(&draft_of(alloc, shard)?)? else {
+        if let Kind::Nothing = folder.kind(Name::Log(shard))? {
+            let Kind::Plain = folder.kind(Name::LogDraft(shard))? else {
                 return Err(Fault::Device);
             };
             missing.push(shard)?;
@@ -157,7 +157,7 @@ fn opened<R: Files<File = File>>(
 ) -> Result<FileDisk, Fault>
     ensures { IfErr result IsFolderFault }
 {
-    let mut log = folder.open(&log_of(alloc, shard)?)?;
+    let mut log = folder.open(Name::Log(shard))?;
     let setup = setup_of(alloc, splits, shard)?;
     let fits = first_fits(alloc, &mut log, &setup);
     drop(setup);

@@ -5,12 +5,6 @@ ghost use Rattle.units.specs.declared.fault.Fault.TheVariants.{Memory};
 use std::alloc::Global;
 use units::{Fault, Key, Splits};
 
-/// The name of the manifest in its folder.
-pub const MANIFEST: &str = "store.toml";
-
-/// The name that it has until it is whole.
-pub const MANIFEST_DRAFT: &str = "store.toml.new";
-
 /// How long a manifest may be: 16 shards take no more than 6,000 bytes.
 pub const MOST_MANIFEST: u64 = 1 << 16;
 

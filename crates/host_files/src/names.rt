@@ -8,8 +8,29 @@ use std::alloc::Global;
 use std::fs::File;
 use std::io::{ErrorKind, Read};
 use std::rt::Files;
-use std::{fs, io};
+use std::{fmt, fs, io};
 use units::Fault;
+
+/// The name of a file in a store's folder. What is not whole yet has that of a draft.
+#[derive(Clone, Copy)]
+pub enum Name {
+    Manifest,
+    ManifestDraft,
+    /// Of a shard.
+    Log(usize),
+    LogDraft(usize),
+}
+
+impl fmt::Display for Name {
+    fn fmt<W: fmt::Write>(&self, f: &mut fmt::Formatter<W>) -> fmt::Result {
+        match self {
+            Name::Manifest => f.write_str("store.toml"),
+            Name::ManifestDraft => f.write_str("store.toml.new"),
+            Name::Log(shard) => write!(f, "shard-{shard}.log"),
+            Name::LogDraft(shard) => write!(f, "shard-{shard}.log.new"),
+        }
+    }
+}
 
 /// What stands under a name.
 #[derive(Clone, Copy)]
@@ -50,7 +71,7 @@ impl<'a, R: Files<File = File>> StoreFolder<'a, R> {
         }
     }
 
-    fn path_of(&self, name: &str) -> Result<String, Fault>
+    fn path_of(&self, name: Name) -> Result<String, Fault>
         ensures { IfErr result (λ fault. fault ≡ Memory) }
     {
         let path = self.path;
@@ -58,7 +79,7 @@ impl<'a, R: Files<File = File>> StoreFolder<'a, R> {
     }
 
     /// What stands under a name.
-    pub fn kind(&self, name: &str) -> Result<Kind, Fault>
+    pub fn kind(&self, name: Name) -> Result<Kind, Fault>
         ensures { IfErr result (λ fault. (fault ≡ Memory) ⊎ (fault ≡ Device)) }
     {
         let path = self.path_of(name)?;
@@ -66,7 +87,7 @@ impl<'a, R: Files<File = File>> StoreFolder<'a, R> {
     }
 
     /// The bytes of a plain file, so many at most.
-    pub fn read(&self, name: &str, most: u64) -> Result<Vec<u8>, Fault>
+    pub fn read(&self, name: Name, most: u64) -> Result<Vec<u8>, Fault>
         ensures { IfErr result (λ fault. (fault ≡ Memory) ⊎ (fault ≡ Device)) }
     {
         let Kind::Plain = self.kind(name)? else {
@@ -77,7 +98,7 @@ impl<'a, R: Files<File = File>> StoreFolder<'a, R> {
     }
 
     /// Makes a new, empty file, whose name is on the device. It is refused where there is anything of that name.
-    pub fn create(&self, name: &str) -> Result<FileDisk, Fault>
+    pub fn create(&self, name: Name) -> Result<FileDisk, Fault>
         ensures { IfErr result (λ fault. (fault ≡ Memory) ⊎ (fault ≡ Device)) }
     {
         let path = self.path_of(name)?;
@@ -85,7 +106,7 @@ impl<'a, R: Files<File = File>> StoreFolder<'a, R> {
     }
 
     /// Opens a plain file that is there.
-    pub fn open(&self, name: &str) -> Result<FileDisk, Fault>
+    pub fn open(&self, name: Name) -> Result<FileDisk, Fault>
         ensures { IfErr result (λ fault. (fault ≡ Memory) ⊎ (fault ≡ Device)) }
     {
         let path = self.path_of(name)?;
@@ -93,7 +114,7 @@ impl<'a, R: Files<File = File>> StoreFolder<'a, R> {
     }
 
     /// Takes a name away: of a link not what it leads to.
-    pub fn remove(&mut self, name: &str) -> Result<(), Fault>
+    pub fn remove(&mut self, name: Name) -> Result<(), Fault>
         ensures { IfErr result (λ fault. (fault ≡ Memory) ⊎ (fault ≡ Device)) }
     {
         self.synced = false;
@@ -103,7 +124,7 @@ impl<'a, R: Files<File = File>> StoreFolder<'a, R> {
 
     /// Gives a draft the name that it is to have, which nothing has. All names before it are on the device: so no crash leaves this one
     /// without them.
-    pub fn name(&mut self, draft: &str, name: &str) -> Result<(), Fault>
+    pub fn name(&mut self, draft: Name, name: Name) -> Result<(), Fault>
         requires { IsTrue (names_are_synced self.old) }
         ensures { IfErr result (λ fault. (fault ≡ Memory) ⊎ (fault ≡ Device)) }
     {

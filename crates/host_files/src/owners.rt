@@ -1,5 +1,5 @@
 //! Whose log a file is.
-ghost use Rattle.std.specs.Prelude.{◌≡◌, ◌⊎◌, ◌≤◌, IfOk, IfErr, IfSome, length};
+ghost use Rattle.std.specs.Prelude.{◌≡◌, ◌⊎◌, ◌≤◌, ◌+◌, IfOk, IfErr, IfSome, length};
 ghost use Rattle.host_files.specs.Folders.{IsFolderFault};
 ghost use Rattle.units.specs.declared.fault.Fault.TheVariants.{Device, Memory};
 
@@ -108,19 +108,15 @@ pub fn first_fits(alloc: Global, disk: &mut FileDisk, setup: &Setup) -> Result<(
 {
     let len = disk.len();
     let front = part_of(alloc, disk, 0, len.min(FIRST_GATE))?;
-    let Some(area) = area_of(&front, len) else {
+    let area = area_of(&front, len);
+    drop(front);
+    let Some(area) = area else {
         return Ok(());
     };
     let part = part_of(alloc, disk, area, len.saturating_sub(area).min(MOST_FRONT))?;
-    let Some((place, item)) = first_telling(alloc, &part)? else {
-        return Ok(());
-    };
-    let misfit = misfit(setup, &item, area.saturating_add(place));
-    drop(item);
-    match misfit {
-        Some(fault) => Err(fault),
-        None => Ok(()),
-    }
+    let fits = frames_fit(alloc, &part, area, setup);
+    drop(part);
+    fits
 }
 
 // So many bytes of a file, from an offset on.
@@ -144,51 +140,63 @@ fn area_of(front: &[u8], len: u64) -> Option<u64>
     area_named(slots, len).ok()
 }
 
-// The first record among the frames of a log that tells whose it is, a promise, a decision, how one ended, or a version, and how far
-// behind their front its gate is.
-fn first_telling(alloc: Global, bytes: &[u8]) -> Result<Option<(u64, Record)>, Fault>
-    ensures { IfErr result (λ fault. fault ≡ Memory) }
+// The first record among the frames of a log that tells whose it is counts.
+fn frames_fit(alloc: Global, bytes: &[u8], area: u64, setup: &Setup) -> Result<(), Fault>
+    ensures { IfErr result IsFolderFault }
 {
     let mut at = 0;
     while at < bytes.len() && bytes[at] == 0xa5 {
-        let Some((item, size)) = frame_of(alloc, &bytes[at + 1..])? else {
-            return Ok(None);
+        let Some(body) = body_of(&bytes[at + 1..]) else {
+            return Ok(());
         };
-        match item {
-            Record::Prepare(_)
-            | Record::Commit(_)
-            | Record::Version(_)
-            | Record::Settled { .. }
-            | Record::Closed { .. } => return Ok(Some((at as u64, item))),
-            Record::Opened { .. }
-            | Record::Ceiling { .. }
-            | Record::Horizon { .. }
-            | Record::Base { .. }
-            | Record::Abort { .. }
-            | Record::Outcome { .. } => drop(item),
+        if !is_silent(alloc, body, area.saturating_add(at as u64), setup)? {
+            return Ok(());
         }
-        at += 1 + size;
+        at += 5 + body.len();
     }
-    Ok(None)
+    Ok(())
 }
 
-// The record at the front of some bytes, behind its length, and how many bytes both take.
-fn frame_of(alloc: Global, bytes: &[u8]) -> Result<Option<(Record, usize)>, Fault>
-    ensures memory { IfErr result (λ fault. fault ≡ Memory) }
-    ensures fits { IfOk result (λ found. IfSome found (λ frame. frame.1 ≤ length bytes.now)) }
+// What stands in a frame behind its length.
+fn body_of(bytes: &[u8]) -> Option<&[u8]>
+    ensures { IfSome result (λ body. 4 + length body.now ≤ length bytes.now) }
 {
     if bytes.len() < 4 {
-        return Ok(None);
+        return None;
     }
     let (front, rest) = bytes.split_at(4);
-    let count = BigEndian::read_u32(front) as usize;
-    if rest.len() < count {
-        return Ok(None);
+    rest.get(..BigEndian::read_u32(front) as usize)
+}
+
+// Whether the bytes of a record are one that does not tell whose log it is in. One that tells another shard's is refused.
+fn is_silent(alloc: Global, body: &[u8], offset: u64, setup: &Setup) -> Result<bool, Fault>
+    ensures { IfErr result IsFolderFault }
+{
+    let Some(item) = decode(alloc, body)? else {
+        return Ok(false);
+    };
+    let misfit = misfit(setup, &item, offset);
+    let tells = tells_its_shard(&item);
+    drop(item);
+    match misfit {
+        Some(fault) => Err(fault),
+        None => Ok(!tells),
     }
-    let (body, _) = rest.split_at(count);
-    match decode(alloc, body) {
-        Ok(Some(item)) => Ok(Some((item, 4 + count))),
-        Ok(None) => Ok(None),
-        Err(fault) => Err(fault),
+}
+
+// Whether a record tells whose log it is in: a promise, a decision, how one ended, or a version.
+fn tells_its_shard(item: &Record) -> bool {
+    match item {
+        Record::Prepare(_)
+        | Record::Commit(_)
+        | Record::Version(_)
+        | Record::Settled { .. }
+        | Record::Closed { .. } => true,
+        Record::Opened { .. }
+        | Record::Ceiling { .. }
+        | Record::Horizon { .. }
+        | Record::Base { .. }
+        | Record::Abort { .. }
+        | Record::Outcome { .. } => false,
     }
 }

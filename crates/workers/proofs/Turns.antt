@@ -12,9 +12,6 @@ use Rattle.units.specs.declared.line.Line.{Line}
 use Rattle.units.specs.declared.line.Line.TheVariants.{Begin, Ack, Read}
 use Rattle.progress.specs.declared.turn.Ended.{Ended}
 use Rattle.progress.specs.declared.turn.Ended.TheVariants as ended
-use Rattle.session.specs.declared.answered.Finished.{Finished}
-use Rattle.session.specs.declared.answered.Finished.TheVariants as finished
-use Rattle.client.specs.Ends.{finish_of}
 use Rattle.client.specs.declared.ended.Ended.{Ended as Finish}
 use Rattle.client.specs.declared.ended.Ended.TheVariants as finish
 use Rattle.client.specs.declared.ended.Halt.{Halt}
@@ -63,10 +60,10 @@ lines_shown txn [] = refl
 lines_shown txn (a ∷ rest) = ap (λ (ls : List Line). Read txn a.key a.value ∷ ls) (lines_shown txn rest)
 
 -- the lines of an end, as they were reported of a transaction that commits only with all its answers
-pub reported_end : (how : Finished) (txn : Id) (keys : List Bytes) (asked : List Asked) (end : Ended) (told : List Line)
+pub reported_end : (how : Finish) (txn : Id) (keys : List Bytes) (asked : List Asked) (end : Ended) (told : List Line)
     → IsReported how txn asked end told
-    → ((at : ℕ) → how ≡ finished.Committed at → asked_keys asked ≡ keys) → IsEnd end txn keys told
-reported_end (finished.Committed at) txn keys asked end told is all =
+    → ((at : ℕ) → how ≡ finish.Committed at → asked_keys asked ≡ keys) → IsEnd end txn keys told
+reported_end (finish.Committed at) txn keys asked end told is all =
     subst (λ (e : Ended). IsEnd e txn keys told) (sym is.0) (record {
       at = at;
       moment = is.1.0;
@@ -74,34 +71,17 @@ reported_end (finished.Committed at) txn keys asked end told is all =
       same = keys_shown asked ∙ all at refl;
       whole = is.1.1 ∙ ap (λ (ls : List Line). Ack txn at is.1.0 ∷ ls) (lines_shown txn asked);
     })
-reported_end finished.Aborted txn keys asked end told is all = subst (λ (e : Ended). IsEnd e txn keys told) (sym is.0) is.1
+reported_end finish.Aborted txn keys asked end told is all = subst (λ (e : Ended). IsEnd e txn keys told) (sym is.0) is.1
+reported_end (finish.Unknown t) txn keys asked end told is all = subst (λ (e : Ended). IsEnd e txn keys told) (sym is.0) is.1
 
 pub on_ok : {X : Type 0} (r : Result X Halt) (P : Type 0) → OnOk r P → IsOk r → P
 on_ok (Ok x) P is ok = is
 on_ok (Err halt) P is ok = absurd (true≢false (sym ok))
 
--- an end that finished as committed
-pub committed_at : (e : Finish) (at : ℕ) → finish_of e ≡ Some (finished.Committed at) → e ≡ finish.Committed at
-committed_at (finish.Committed s) at is = ap (λ (o : Option Finished). finish.Committed (stamp_of o)) is
-  where
-    stamp_of : Option Finished → ℕ
-    stamp_of (Some (finished.Committed t)) = t
-    stamp_of _ = 0
-committed_at finish.Aborted at is = absurd (true≢false (ap is_aborted is))
-  where
-    is_aborted : Option Finished → Bool
-    is_aborted (Some finished.Aborted) = true
-    is_aborted _ = false
-committed_at (finish.Unknown t) at is = absurd (true≢false (ap is_none is))
-  where
-    is_none : Option Finished → Bool
-    is_none None = true
-    is_none _ = false
-
 -- a transaction's lines, where its begin was reported, and then its end
-pub reported_turn : (result : Result Ended Fault) (how : Finished) (was txn : Id) (moment : ℕ) (keys : List Bytes)
+pub reported_turn : (result : Result Ended Fault) (how : Finish) (was txn : Id) (moment : ℕ) (keys : List Bytes)
     (asked : List Asked) (old between new : List Line) → txn ≡ was → between ≡ old ++ Begin was moment ∷ []
-    → ((at : ℕ) → how ≡ finished.Committed at → asked_keys asked ≡ keys)
+    → ((at : ℕ) → how ≡ finish.Committed at → asked_keys asked ≡ keys)
     → MatchResult result (λ end. (told : List Line) × IsReported how txn asked end told × (new ≡ between ++ told)) IsCutShort
     → MatchResult result (λ end. (told : List Line) × IsTransaction keys end told × (new ≡ old ++ told)) IsCutShort
 reported_turn (Err fault) how was txn moment keys asked old between new same begins all is = is

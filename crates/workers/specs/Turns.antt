@@ -9,8 +9,8 @@ use Rattle.units.specs.declared.writes.Write.{Write}
 use Rattle.progress.specs.declared.turn.Ended.{Ended}
 use Rattle.progress.specs.declared.turn.Ended.TheVariants as ended
 use Rattle.session.specs.Sessions.{with_write}
-use Rattle.session.specs.declared.answered.Finished.{Finished}
-use Rattle.session.specs.declared.answered.Finished.TheVariants as finished
+use Rattle.client.specs.declared.ended.Ended.{Ended as Finish}
+use Rattle.client.specs.declared.ended.Ended.TheVariants as finish
 use Rattle.workers.specs.declared.reads.Asked.{Asked}
 use Rattle.workers.specs.Keys.{turn_keys}
 
@@ -71,10 +71,11 @@ IsEnd ended.Aborted txn keys lines = lines ≡ []
 IsEnd ended.Unknown txn keys lines = lines ≡ []
 
 -- how a transaction ended as it heard, with the lines of its answers
-abbrev pub IsReported : Finished → Id → List Asked → Ended → List Line → Type 0
-IsReported (finished.Committed at) txn asked end lines =
+abbrev pub IsReported : Finish → Id → List Asked → Ended → List Line → Type 0
+IsReported (finish.Committed at) txn asked end lines =
     (end ≡ ended.Committed) × ((moment : ℕ) × (lines ≡ Ack txn at moment ∷ read_lines txn asked))
-IsReported finished.Aborted txn asked end lines = (end ≡ ended.Aborted) × (lines ≡ [])
+IsReported finish.Aborted txn asked end lines = (end ≡ ended.Aborted) × (lines ≡ [])
+IsReported (finish.Unknown _) txn asked end lines = (end ≡ ended.Unknown) × (lines ≡ [])
 
 -- the lines of a transaction over some keys: its begin, and those of its end
 pub record IsTransaction (keys : List Bytes) (end : Ended) (lines : List Line) : Type 0 where

@@ -9,7 +9,7 @@ use crate::reads::Reads;
 use crate::worker::Worker;
 use client::Halt;
 use progress::{Ended, Watch};
-use session::{Finished, Open, Tx};
+use session::{Open, Tx};
 use std::sync::Wait;
 use std::time;
 use truetime::Clock;
@@ -35,13 +35,7 @@ impl<'s, R: Wait + time::Clock, C: Clock + Drop, W: Watch> Worker<'_, 's, R, C, 
         lines.push_reserved(Line::Begin(txn, moment));
         let ran = self.read(&mut tx, &mut reads, keys);
         match self.wire.finish(tx, ran) {
-            Ok(ended) => match ended.finished() {
-                Some(finished) => self.report(reads, finished, lines),
-                None => {
-                    drop(reads);
-                    Ok(Ended::Unknown)
-                }
-            },
+            Ok(ended) => self.report(reads, ended, lines),
             Err(fault) => {
                 drop(reads);
                 Err(fault)
@@ -89,22 +83,26 @@ impl<'s, R: Wait + time::Clock, C: Clock + Drop, W: Watch> Worker<'_, 's, R, C, 
     fn report(
         &mut self,
         reads: Reads,
-        finished: Finished,
+        ended: client::Ended,
         lines: &mut Vec<Line>,
     ) -> Result<Ended, Fault>
-        ensures { MatchResult result (λ ended. (told : List Line)
-            × IsReported finished reads.txn reads.asked.items ended told
+        ensures { MatchResult result (λ how. (told : List Line)
+            × IsReported ended reads.txn reads.asked.items how told
             × (lines.new.items ≡ lines.old.items ++ told)) IsCutShort }
     {
-        match finished {
-            Finished::Committed(at) => {
+        match ended {
+            client::Ended::Committed(at) => {
                 let moment = self.shared.moments.draw(&mut self.moments)?;
                 reads.report(lines, at, moment)?;
                 Ok(Ended::Committed)
             }
-            Finished::Aborted => {
+            client::Ended::Aborted => {
                 drop(reads);
                 Ok(Ended::Aborted)
+            }
+            client::Ended::Unknown(_) => {
+                drop(reads);
+                Ok(Ended::Unknown)
             }
         }
     }

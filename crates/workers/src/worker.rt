@@ -1,8 +1,6 @@
 //! A worker: turns of a transaction and a look, one after the other.
-ghost use Rattle.std.specs.Prelude.{◌≡◌, ◌<◌, ◌≤◌, ◌+◌, ◌*◌, ◌^◌, ◌++◌, ℕ, List, Option, length, IfErr, IfOk, IfSome, MatchResult, OnOk};
-ghost use Rattle.units.specs.Keys.{Bytes};
+ghost use Rattle.std.specs.Prelude.{◌≡◌, ◌<◌, ◌≤◌, ◌+◌, ◌*◌, ◌^◌, ◌++◌, List, length, IfErr, IfOk, MatchResult, OnOk};
 ghost use Rattle.units.specs.declared.line.Line.{Line};
-ghost use Rattle.units.specs.declared.line.Line.TheVariants.{Look};
 ghost use Rattle.workers.specs.Refusals.{IsCutShort};
 ghost use Rattle.workers.specs.Reports.{AreCounted, IsCounted};
 ghost use Rattle.workers.specs.Summaries.{tried};
@@ -92,35 +90,20 @@ impl<R: Wait + time::Clock, C: Clock + Drop, W: Watch> Worker<'_, '_, R, C, W> {
         ensures { MatchResult result (λ looked. (told : List Line) × IsLooked looked keys.now told
             × (lines.new.items ≡ lines.old.items ++ told)) (λ fault. fault ≡ Fault.Memory) }
     {
-        match keys.split_first() {
-            Some((key, _others)) => match self.look(key)? {
-                Some(line) => {
-                    lines.push(line)?;
-                    Ok(true)
-                }
-                None => Ok(false),
-            },
-            None => Ok(false),
-        }
-    }
-
-    // The line of a look at a key, at the latest of a reading, where it was answered.
-    fn look(&mut self, key: &Key) -> Result<Option<Line>, Fault>
-        ensures { MatchResult result (λ line. IfSome line (λ told. (at : ℕ)
-            × (value : Option Bytes) × (told ≡ Look key.now at value)))
-            (λ fault. fault ≡ Fault.Memory) }
-    {
+        let Some((key, _others)) = keys.split_first() else {
+            return Ok(false);
+        };
         let Some(now) = self.clock.now() else {
-            return Ok(None);
+            return Ok(false);
         };
         let snapshot = Snapshot::start(&now);
         let mut buffer = [0; 4096];
-        let found = self.look_for(&snapshot, now.latest(), key, &mut buffer);
-        let Some(seen) = found else {
-            return Ok(None);
+        let Some(seen) = self.look_for(&snapshot, now.latest(), key, &mut buffer) else {
+            return Ok(false);
         };
         let value = value_seen(self.shared.alloc, seen, &buffer)?;
-        Ok(Some(Line::Look(*key, now.latest(), value)))
+        lines.push(Line::Look(*key, now.latest(), value))?;
+        Ok(true)
     }
 
     // Looks at a key at the snapshot, which is at this timestamp, a hundred times at most, and not behind the word to stop, until its
