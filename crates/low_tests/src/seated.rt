@@ -148,7 +148,10 @@ fn spend(rows: &mut Rows, logged: Logged) -> Record {
 
 // The record of a line is logged, and is the one that 1.1 hands back.
 fn goes_by(rows: &mut Rows, log: &mut Log, alloc: Global, line: &str) -> bool {
-    let Some(logged) = logged(log, alloc, record_of(alloc, line)) else {
+    let Some(record) = record_of(alloc, line) else {
+        return false;
+    };
+    let Some(logged) = logged(log, alloc, record) else {
         return false;
     };
     let record = spend(rows, logged);

@@ -90,12 +90,6 @@ fn forgotten_versions(rt: HostRuntime) {
         "many versions behind a horizon",
         &horizons::MANY,
     );
-    go_over(
-        &mut wrong,
-        &rt,
-        "drawn versions behind horizons",
-        &horizons::DRAWN,
-    );
     end(&rt, wrong);
 }
 

@@ -9,14 +9,26 @@ use units::{Epoch, Install, Key, Keys, Parts, Stamp, TxnId, Value, Write, Writes
 
 /// Adds the records of a text to a log, one a line. Says whether each is printed as its line.
 pub fn reads(alloc: Global, text: &str, log: &mut Vec<Record>) -> bool {
-    let mut printed = true;
-    for line in text.split_inclusive('\n') {
-        let line = line.strip_suffix('\n').unwrap_or("no end");
-        let record = record_of(alloc, line);
-        printed = is_printed(alloc, &Text(&record), line) && printed;
-        printed = log.push(record).is_ok() && printed;
+    for line in text.lines() {
+        let Some(record) = record_of(alloc, line) else {
+            return false;
+        };
+        if log.push(record).is_err() {
+            return false;
+        }
     }
-    printed
+    true
+}
+
+/// The record of a line, where it is printed as that line.
+pub fn record_of(alloc: Global, line: &str) -> Option<Record> {
+    let record = read(alloc, line);
+    if is_printed(alloc, &Text(&record), line) {
+        Some(record)
+    } else {
+        drop(record);
+        None
+    }
 }
 
 // The pieces of a text between separators, and empty ones behind them.
@@ -32,8 +44,8 @@ fn pieces(text: &str, separator: char) -> [&str; 6] {
     pieces
 }
 
-/// The record of a line.
-pub fn record_of(alloc: Global, line: &str) -> Record {
+// The record of a line, as far as its words can be read.
+fn read(alloc: Global, line: &str) -> Record {
     let words = pieces(line, ' ');
     let txn = txn_of(words[1]);
     let (first, second, third) = (number(words[1]), number(words[2]), number(words[3]));
