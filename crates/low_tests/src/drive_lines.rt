@@ -209,7 +209,12 @@ fn count_looks(progress: &mut Progress, looks: &Looks) {
 
 // No line has more than 80 columns.
 fn is_narrow(text: &str) -> bool {
-    text.lines().all(|line| line.len() <= 80)
+    for line in text.lines() {
+        if line.len() > 80 {
+            return false;
+        }
+    }
+    true
 }
 
 fn has_its_lines(alloc: Global, row: &Row) -> bool {
