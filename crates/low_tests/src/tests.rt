@@ -55,7 +55,7 @@ fn disks_and_logs(rt: HostRuntime) {
 }
 
 #[test]
-fn turned_logs(rt: HostRuntime) {
+fn turned_and_migrated_logs(rt: HostRuntime) {
     let mut wrong = WrongRows::none(rt.alloc());
     go_over(
         &mut wrong,
@@ -64,12 +64,6 @@ fn turned_logs(rt: HostRuntime) {
         &turned::TURNED,
     );
     wrong.unless(turned::ends(&rt), "a log without a slot left");
-    end(&rt, wrong);
-}
-
-#[test]
-fn migrated_files(rt: HostRuntime) {
-    let mut wrong = WrongRows::none(rt.alloc());
     go_over(&mut wrong, &rt, "files of version 1", &migrated::MIGRATED);
     go_over(&mut wrong, &rt, "migrations that fail", &migrated::FAILING);
     end(&rt, wrong);
@@ -104,12 +98,6 @@ fn renewed_logs(rt: HostRuntime) {
         "what renewed logs determine",
         &known::RENEWED,
     );
-    end(&rt, wrong);
-}
-
-#[test]
-fn records_of_renewed_logs(rt: HostRuntime) {
-    let mut wrong = WrongRows::none(rt.alloc());
     go_over(
         &mut wrong,
         &rt,
