@@ -240,7 +240,8 @@ fn quits(tx: Tx<'_, Closing>, alloc: Global, story: &Story, at: Option<Stamp>) -
 
 // It takes the end at a timestamp, or aborted where there is none.
 fn takes_its_end<S: Closed>(tx: Tx<'_, S>, at: Option<Stamp>) -> bool {
-    match tx.take(&Done::said(id(2), at)) {
+    let done = Done::said(id(2), at);
+    match tx.take(&done) {
         Ok(Finished::Aborted) => at.is_none(),
         Ok(Finished::Committed(by)) => at == Some(by),
         Err((_, tx)) => {
@@ -251,7 +252,8 @@ fn takes_its_end<S: Closed>(tx: Tx<'_, S>, at: Option<Stamp>) -> bool {
 }
 
 fn takes_no_other<S: Closed>(tx: Tx<'_, S>, at: Option<Stamp>) -> bool {
-    match tx.take(&Done::said(id(3), at)) {
+    let done = Done::said(id(3), at);
+    match tx.take(&done) {
         Ok(_) => false,
         Err((fault, tx)) => takes_its_end(tx, at) && fault == Fault::Stranger,
     }
