@@ -8,7 +8,7 @@ use session::{Closed, Closing, Finished, Heard, Ongoing, Open, Tx};
 use std::alloc::Global;
 use texts::Text;
 use tickets::{Drawer, Tickets};
-use units::{Epoch, Fault, Key, Run, Splits, Stamp, Value};
+use units::{Epoch, Fault, Key, Run, Splits, Value};
 
 // What transaction 1.2 does while it is open, with keys of one letter.
 enum Does {
@@ -225,7 +225,7 @@ fn gives_up<S: Ongoing>(tx: Tx<'_, S>, alloc: Global, lines: &[&str]) -> bool {
 }
 
 // It says so as it quits and as it asks once more, and takes its end then.
-fn quits(tx: Tx<'_, Closing>, alloc: Global, story: &Story, at: Option<Stamp>) -> bool {
+fn quits(tx: Tx<'_, Closing>, alloc: Global, story: &Story, at: u32) -> bool {
     match tx.quit(alloc) {
         Ok((tx, out)) => {
             let said = says(alloc, out, story.farewells) && says_again(&tx, alloc, story.closing);
@@ -238,12 +238,27 @@ fn quits(tx: Tx<'_, Closing>, alloc: Global, story: &Story, at: Option<Stamp>) -
     }
 }
 
-// It takes the end at a timestamp, or aborted where there is none.
-fn takes_its_end<S: Closed>(tx: Tx<'_, S>, at: Option<Stamp>) -> bool {
-    let done = Done::said(id(2), at);
+// The end of a transaction of this number, at a timestamp, or aborted where that is 0.
+fn end_of(number: u16, at: u32) -> Done {
+    if at == 0 {
+        Done::aborted(id(number))
+    } else {
+        Done::said(id(number), Some(stamp(at)))
+    }
+}
+
+fn finished_at(at: u32) -> Finished {
+    if at == 0 {
+        Finished::Aborted
+    } else {
+        Finished::Committed(stamp(at))
+    }
+}
+
+fn takes_its_end<S: Closed>(tx: Tx<'_, S>, at: u32) -> bool {
+    let done = end_of(2, at);
     match tx.take(&done) {
-        Ok(Finished::Aborted) => at.is_none(),
-        Ok(Finished::Committed(by)) => at == Some(by),
+        Ok(finished) => finished == finished_at(at),
         Err((_, tx)) => {
             tx.spend();
             false
@@ -251,8 +266,8 @@ fn takes_its_end<S: Closed>(tx: Tx<'_, S>, at: Option<Stamp>) -> bool {
     }
 }
 
-fn takes_no_other<S: Closed>(tx: Tx<'_, S>, at: Option<Stamp>) -> bool {
-    let done = Done::said(id(3), at);
+fn takes_no_other<S: Closed>(tx: Tx<'_, S>, at: u32) -> bool {
+    let done = end_of(3, at);
     match tx.take(&done) {
         Ok(_) => false,
         Err((fault, tx)) => takes_its_end(tx, at) && fault == Fault::Stranger,
@@ -269,9 +284,9 @@ fn says_again<S: Closed>(tx: &Tx<'_, S>, alloc: Global, lines: &[&str]) -> bool 
 fn goes_on_closed(tx: Tx<'_, Closing>, alloc: Global, story: &Story) -> bool {
     match story.then {
         Then::GivesUp => gives_up(tx, alloc, story.farewells),
-        Then::Hears => takes_no_other(tx, Some(stamp(200))),
-        Then::Quits(None) => quits(tx, alloc, story, None),
-        Then::Quits(Some(at)) => quits(tx, alloc, story, Some(stamp(at))),
+        Then::Hears => takes_no_other(tx, 200),
+        Then::Quits(None) => quits(tx, alloc, story, 0),
+        Then::Quits(Some(at)) => quits(tx, alloc, story, at),
     }
 }
 

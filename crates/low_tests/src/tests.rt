@@ -18,15 +18,21 @@ fn low_crates(rt: HostRuntime) {
     messages::go_over(wrong.of("messages"), alloc);
     documents::go_over(wrong.of("settings"), alloc);
     verdicts::go_over(wrong.of("verdicts"), alloc);
-    clocks::go_over(wrong.of("clocks"), alloc);
-    tables::go_over(wrong.of("the lock table"), alloc);
+    go_over(&mut wrong, &rt, "clocks", &clocks::BESIDE);
+    go_over(&mut wrong, &rt, "ceilings", &clocks::AHEAD);
+    wrong.of("safe times").unless(
+        clocks::is_held_below(alloc),
+        "below a promise until it is settled",
+    );
+    wrong.unless(clocks::are_lifted(alloc), "one hold is lifted at a time");
+    go_over(&mut wrong, &rt, "the lock table", &tables::STORIES);
     seated::go_over(wrong.of("rows"), alloc);
     sessions::go_over(wrong.of("sessions"), alloc);
     drawers::go_over(wrong.of("tickets"), &rt, alloc);
     looks::go_over(wrong.of("looks"), &rt, alloc);
     figures::go_over(wrong.of("figures"));
-    drive_lines::go_over(wrong.of("lines"), alloc);
-    screens::go_over(wrong.of("screens"), alloc);
+    go_over(&mut wrong, &rt, "lines", &drive_lines::ROWS);
+    go_over(&mut wrong, &rt, "screens", &screens::ROWS);
     terminals::go_over(wrong.of("terminals"), &rt, alloc);
     end(&rt, wrong);
 }
