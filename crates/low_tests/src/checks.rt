@@ -1,10 +1,13 @@
 //! What the tests end with, and what more than one asks.
 use made::WrongRows;
 use message::Envelope;
+use record::Record;
+use spelling::encode;
 use std::alloc::{AllocError, Global};
 use std::fmt::Display;
 use std::process::Abort;
 use texts::Text;
+use units::Value;
 
 /// Ends the test where rows are wrong, with all of them.
 pub fn end(rt: &impl Abort, wrong: WrongRows) {
@@ -14,25 +17,15 @@ pub fn end(rt: &impl Abort, wrong: WrongRows) {
 
 /// A row of a table.
 pub trait Row {
-    fn holds(&self, rt: &HostRuntime) -> bool;
-}
-
-/// A row, and what it is about.
-pub struct Named<R> {
-    pub what: &'static str,
-    pub row: R,
+    /// Tells the row by its name where it does not hold.
+    fn tell(&self, wrong: &mut WrongRows, rt: &HostRuntime);
 }
 
 /// Goes over the rows of an area.
-pub fn go_over<R: Row>(
-    wrong: &mut WrongRows,
-    rt: &HostRuntime,
-    area: &'static str,
-    rows: &[Named<R>],
-) {
+pub fn go_over<R: Row>(wrong: &mut WrongRows, rt: &HostRuntime, area: &'static str, rows: &[R]) {
     let wrong = wrong.of(area);
-    for Named { what, row } in rows {
-        wrong.unless(row.holds(rt), what);
+    for row in rows {
+        row.tell(wrong, rt);
     }
 }
 
@@ -58,4 +51,25 @@ pub fn is_line(alloc: Global, envelope: Envelope, line: &str) -> bool {
     let printed = is_printed(alloc, &Text(&envelope), line);
     drop(envelope);
     printed
+}
+
+/// Whether these are the bytes of a record.
+pub fn is_spelled(alloc: Global, item: &Record, bytes: &[u8]) -> bool {
+    let Ok(found) = encode(alloc, item) else {
+        return false;
+    };
+    let same = found.as_slice() == bytes;
+    drop(found);
+    same
+}
+
+/// The one byte of a value that was found.
+pub fn byte(found: Option<&Value>) -> Option<u8> {
+    let Some(value) = found else {
+        return None;
+    };
+    match value.as_bytes() {
+        [byte] => Some(*byte),
+        _ => None,
+    }
 }

@@ -1,4 +1,5 @@
 //! Readings of the clock, commit wait, the safe time, and ceilings.
+use crate::checks::Row;
 use ceiling::needed;
 use made::{WrongRows, stamp};
 use record::Record;
@@ -8,8 +9,8 @@ use truetime::Reading;
 use units::{Fault, Reason, Stamp, Stride};
 use waiting::pass;
 
-// A reading, and how a timestamp stands beside it. Commit wait for the timestamp passes once all of the reading is after it.
-struct Beside {
+/// A reading, and how a timestamp stands beside it. Commit wait for the timestamp passes once all of the reading is after it.
+pub struct Beside {
     name: &'static str,
     earliest: u32,
     latest: u32,
@@ -20,7 +21,7 @@ struct Beside {
     passed: bool,
 }
 
-static BESIDE: [Beside; 10] = [
+pub static BESIDE: [Beside; 10] = [
     Beside {
         name: "99",
         earliest: 100,
@@ -135,22 +136,26 @@ fn has_passed(at: Stamp, now: &Reading) -> Option<bool> {
     }
 }
 
-fn is_beside(row: &Beside) -> bool {
-    let (earliest, latest, at) = (stamp(row.earliest), stamp(row.latest), stamp(row.at));
-    match Reading::new(earliest, latest) {
-        Ok(now) => {
-            row.read
-                && now.earliest() == earliest
-                && now.latest() == latest
-                && now.after(at) == row.after
-                && now.before(at) == row.before
-                && has_passed(at, &now) == Some(row.passed)
-        }
-        Err(fault) => !row.read && fault == Fault::BadRequest(Reason::Stamp),
+impl Row for Beside {
+    fn tell(&self, wrong: &mut WrongRows, _rt: &HostRuntime) {
+        let (earliest, latest, at) = (stamp(self.earliest), stamp(self.latest), stamp(self.at));
+        let right = match Reading::new(earliest, latest) {
+            Ok(now) => {
+                self.read
+                    && now.earliest() == earliest
+                    && now.latest() == latest
+                    && now.after(at) == self.after
+                    && now.before(at) == self.before
+                    && has_passed(at, &now) == Some(self.passed)
+            }
+            Err(fault) => !self.read && fault == Fault::BadRequest(Reason::Stamp),
+        };
+        wrong.unless(right, self.name);
     }
 }
 
-struct Ahead {
+/// The record that is needed for a timestamp, where one is: a ceiling by strides above a floor.
+pub struct Ahead {
     name: &'static str,
     floor: u32,
     to: u64,
@@ -159,7 +164,7 @@ struct Ahead {
 }
 
 // Above the floor alone, and not past the greatest timestamp.
-static AHEAD: [Ahead; 5] = [
+pub static AHEAD: [Ahead; 5] = [
     Ahead {
         name: "0 to 110",
         floor: 0,
@@ -197,29 +202,28 @@ static AHEAD: [Ahead; 5] = [
     },
 ];
 
-fn is_needed(row: &Ahead) -> bool {
-    let Some(stride) = Stride::new(row.stride) else {
-        return false;
-    };
-    let Ok(to) = Stamp::new(row.to) else {
-        return false;
-    };
-    let needed = needed(stamp(row.floor), to, stride);
-    let right = match &needed {
-        Some(Record::Ceiling { at }) => row.ceiling == Some(at.micros()),
-        Some(_) => false,
-        None => row.ceiling.is_none(),
-    };
-    drop(needed);
-    right
+impl Row for Ahead {
+    fn tell(&self, wrong: &mut WrongRows, _rt: &HostRuntime) {
+        let (Some(stride), Ok(to)) = (Stride::new(self.stride), Stamp::new(self.to)) else {
+            return wrong.unless(false, self.name);
+        };
+        let needed = needed(stamp(self.floor), to, stride);
+        let right = match &needed {
+            Some(Record::Ceiling { at }) => self.ceiling == Some(at.micros()),
+            Some(_) => false,
+            None => self.ceiling.is_none(),
+        };
+        drop(needed);
+        wrong.unless(right, self.name);
+    }
 }
 
 fn stands(times: &SafeTime, last: u64, safe: u64) -> bool {
     times.last().micros() == last && times.safe().micros() == safe
 }
 
-// The safe time stays below a promise until that is settled.
-fn is_held_below(alloc: Global) -> bool {
+/// The safe time stays below a promise until that is settled.
+pub fn is_held_below(alloc: Global) -> bool {
     let Ok(mut times) = SafeTime::new(alloc, Stamp::zero()) else {
         return false;
     };
@@ -235,8 +239,8 @@ fn is_held_below(alloc: Global) -> bool {
     held && raised && lifted
 }
 
-// Each lift takes one hold of two, and a third takes none.
-fn are_lifted(alloc: Global) -> bool {
+/// Each lift takes one hold of two, and a third takes none.
+pub fn are_lifted(alloc: Global) -> bool {
     let at = stamp(111);
     let Ok(mut times) = SafeTime::new(alloc, at) else {
         return false;
@@ -253,16 +257,4 @@ fn are_lifted(alloc: Global) -> bool {
     let still = stands(&times, 111, 111);
     drop(times);
     two && one && none && still
-}
-
-/// Goes over all rows.
-pub fn go_over(wrong: &mut WrongRows, alloc: Global) {
-    for row in &BESIDE {
-        wrong.unless(is_beside(row), row.name);
-    }
-    for row in &AHEAD {
-        wrong.unless(is_needed(row), row.name);
-    }
-    wrong.unless(is_held_below(alloc), "below a promise until it is settled");
-    wrong.unless(are_lifted(alloc), "one hold is lifted at a time");
 }

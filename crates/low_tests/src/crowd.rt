@@ -58,31 +58,19 @@ fn what_comes(
     }
 }
 
-fn exclusive(number: u16) -> Lock {
-    Lock {
-        key: account(number),
-        mode: Mode::Exclusive,
-    }
-}
-
-fn shared(number: u16) -> Lock {
-    Lock {
-        key: account(number),
-        mode: Mode::Shared,
-    }
+fn lock(number: u16, mode: Mode) -> Lock {
+    let key = account(number);
+    Lock { key, mode }
 }
 
 // 1.0 holds an account, and all others wait for it.
 fn wait_for_one(table: &mut Table, alloc: Global, tokens: &mut Vec<Held>, mode: Mode) -> bool {
-    if !comes(table, alloc, tokens, 0, exclusive(0), Gets::Granted) {
+    let first = lock(0, Mode::Exclusive);
+    if !comes(table, alloc, tokens, 0, first, Gets::Granted) {
         return false;
     }
     for number in 1..=CROWD {
-        let wanted = Lock {
-            key: account(0),
-            mode,
-        };
-        if !comes(table, alloc, tokens, number, wanted, Gets::Waits) {
+        if !comes(table, alloc, tokens, number, lock(0, mode), Gets::Waits) {
             return false;
         }
     }
@@ -123,19 +111,13 @@ fn read_at_once(table: &mut Table, alloc: Global, tokens: &mut Vec<Held>) -> boo
 // Each holds an account of its own, and for each of these another waits.
 fn wait_for_each(table: &mut Table, alloc: Global, tokens: &mut Vec<Held>) -> bool {
     for number in 0..CROWD {
-        if !comes(
-            table,
-            alloc,
-            tokens,
-            number,
-            exclusive(number),
-            Gets::Granted,
-        ) {
+        let wanted = lock(number, Mode::Exclusive);
+        if !comes(table, alloc, tokens, number, wanted, Gets::Granted) {
             return false;
         }
     }
     for number in 0..CROWD {
-        let wanted = shared(number);
+        let wanted = lock(number, Mode::Shared);
         if !comes(table, alloc, tokens, CROWD + number, wanted, Gets::Waits) {
             return false;
         }
@@ -180,10 +162,7 @@ fn is_told(alloc: Global, which: usize) -> bool {
 
 /// Goes over the three.
 pub fn go_over(wrong: &mut WrongRows, alloc: Global) {
-    for (which, what) in ["write in turn", "read at once", "go on apart"]
-        .into_iter()
-        .enumerate()
-    {
-        wrong.unless(is_told(alloc, which), what);
-    }
+    wrong.unless(is_told(alloc, 0), "write in turn");
+    wrong.unless(is_told(alloc, 1), "read at once");
+    wrong.unless(is_told(alloc, 2), "go on apart");
 }

@@ -1,7 +1,8 @@
 //! Disks in memory: which calls fail, what is read, and what a crash leaves.
-use crate::checks::{Named, Row};
+use crate::checks::Row;
 use crate::steps::{Step, Stepped, call_any, go_well};
 use disk::{FailurePlan, Fate};
+use made::WrongRows;
 use simdisk::{Choice, SimDisk};
 use std::alloc::Global;
 use std::mem;
@@ -15,45 +16,40 @@ enum Call {
 
 /// A plan, and calls with whether each fails. Then no call is to fail any more.
 pub struct Failing {
+    what: &'static str,
     plan: FailurePlan,
     // The call by which `armed` makes that plan, where it does.
     armed_by: Option<Option<u64>>,
     calls: &'static [(Call, bool)],
 }
 
-pub static FAILING: [Named<Failing>; 3] = [
-    Named {
+pub static FAILING: [Failing; 3] = [
+    Failing {
         what: "the third call fails",
-        row: Failing {
-            plan: FailurePlan::After(2),
-            armed_by: None,
-            calls: &[
-                (Call::Other, false),
-                (Call::Write, false),
-                (Call::Other, true),
-            ],
-        },
+        plan: FailurePlan::After(2),
+        armed_by: None,
+        calls: &[
+            (Call::Other, false),
+            (Call::Write, false),
+            (Call::Other, true),
+        ],
     },
-    Named {
+    Failing {
         what: "what is armed waits for a write",
-        row: Failing {
-            plan: FailurePlan::AfterWrite(1),
-            armed_by: Some(Some(1)),
-            calls: &[
-                (Call::Other, false),
-                (Call::Other, false),
-                (Call::Write, false),
-                (Call::Other, true),
-            ],
-        },
+        plan: FailurePlan::AfterWrite(1),
+        armed_by: Some(Some(1)),
+        calls: &[
+            (Call::Other, false),
+            (Call::Other, false),
+            (Call::Write, false),
+            (Call::Other, true),
+        ],
     },
-    Named {
+    Failing {
         what: "no call fails",
-        row: Failing {
-            plan: FailurePlan::Never,
-            armed_by: Some(None),
-            calls: &[(Call::Write, false)],
-        },
+        plan: FailurePlan::Never,
+        armed_by: Some(None),
+        calls: &[(Call::Write, false)],
     },
 ];
 
@@ -71,16 +67,15 @@ fn fails_so(plan: &mut FailurePlan, calls: &[(Call, bool)]) -> bool {
 }
 
 impl Row for Failing {
-    fn holds(&self, _rt: &HostRuntime) -> bool {
+    fn tell(&self, wrong: &mut WrongRows, _rt: &HostRuntime) {
         let armed = match self.armed_by {
             Some(call) => FailurePlan::armed(call) == self.plan,
             None => true,
         };
         let mut plan = self.plan;
-        armed
-            && fails_so(&mut plan, self.calls)
-            && matches!(plan, FailurePlan::Never)
-            && !plan.write()
+        let fails = fails_so(&mut plan, self.calls);
+        let ended = matches!(plan, FailurePlan::Never) && !plan.write();
+        wrong.unless(armed && fails && ended, self.what);
     }
 }
 
@@ -113,6 +108,7 @@ impl Stepped for SimDisk {
 
 /// What is done with a synced file of six letters, `abcdef`: changes, and what comes then.
 pub struct Life {
+    what: &'static str,
     changes: &'static [Step],
     then: &'static [Step],
 }
@@ -127,172 +123,142 @@ const WRITES: &[Step] = &[
 // `Z` behind the first two letters alone.
 const A_CUT: &[Step] = &[Step::Cut(2), Step::Write(2, b"Z")];
 
-pub static LIVES: [Named<Life>; 15] = [
-    Named {
+pub static LIVES: [Life; 15] = [
+    Life {
         what: "no write",
-        row: Life {
-            changes: WRITES,
-            then: &[Step::Crash(&[]), Step::Holds(b"abcdef")],
-        },
+        changes: WRITES,
+        then: &[Step::Crash(&[]), Step::Holds(b"abcdef")],
     },
-    Named {
+    Life {
         what: "the first write",
-        row: Life {
-            changes: WRITES,
-            then: &[Step::Crash(&[Fate::New]), Step::Holds(b"aXYdef")],
-        },
+        changes: WRITES,
+        then: &[Step::Crash(&[Fate::New]), Step::Holds(b"aXYdef")],
     },
-    Named {
+    Life {
         what: "the second write",
-        row: Life {
-            changes: WRITES,
-            then: &[
-                Step::Crash(&[Fate::Old, Fate::New]),
-                Step::Holds(b"abcdefgh"),
-            ],
-        },
+        changes: WRITES,
+        then: &[
+            Step::Crash(&[Fate::Old, Fate::New]),
+            Step::Holds(b"abcdefgh"),
+        ],
     },
-    Named {
+    Life {
         what: "a filled write",
-        row: Life {
-            changes: WRITES,
-            then: &[Step::Crash(&[Fate::Filled(0x2a)]), Step::Holds(b"a**def")],
-        },
+        changes: WRITES,
+        then: &[Step::Crash(&[Fate::Filled(0x2a)]), Step::Holds(b"a**def")],
     },
-    Named {
+    Life {
         what: "a filled write between two",
-        row: Life {
-            changes: WRITES,
-            then: &[
-                Step::Crash(&[Fate::New, Fate::Filled(0x2a), Fate::New]),
-                Step::Holds(b"aXYdef**ij"),
-            ],
-        },
+        changes: WRITES,
+        then: &[
+            Step::Crash(&[Fate::New, Fate::Filled(0x2a), Fate::New]),
+            Step::Holds(b"aXYdef**ij"),
+        ],
     },
-    Named {
+    Life {
         what: "the third write",
-        row: Life {
-            changes: WRITES,
-            then: &[
-                Step::Crash(&[Fate::Old, Fate::Old, Fate::New]),
-                Step::Holds(b"abcdef\0\0ij"),
-            ],
-        },
+        changes: WRITES,
+        then: &[
+            Step::Crash(&[Fate::Old, Fate::Old, Fate::New]),
+            Step::Holds(b"abcdef\0\0ij"),
+        ],
     },
-    Named {
+    Life {
         what: "no cut, no write",
-        row: Life {
-            changes: A_CUT,
-            then: &[Step::Crash(&[Fate::Old, Fate::Old]), Step::Holds(b"abcdef")],
-        },
+        changes: A_CUT,
+        then: &[Step::Crash(&[Fate::Old, Fate::Old]), Step::Holds(b"abcdef")],
     },
-    Named {
+    Life {
         what: "a cut alone",
-        row: Life {
-            changes: A_CUT,
-            then: &[Step::Crash(&[Fate::New, Fate::Old]), Step::Holds(b"ab")],
-        },
+        changes: A_CUT,
+        then: &[Step::Crash(&[Fate::New, Fate::Old]), Step::Holds(b"ab")],
     },
-    Named {
+    Life {
         what: "a write alone",
-        row: Life {
-            changes: A_CUT,
-            then: &[Step::Crash(&[Fate::Old, Fate::New]), Step::Holds(b"abZdef")],
-        },
+        changes: A_CUT,
+        then: &[Step::Crash(&[Fate::Old, Fate::New]), Step::Holds(b"abZdef")],
     },
-    Named {
+    Life {
         what: "a filled cut and a write",
-        row: Life {
-            changes: A_CUT,
-            then: &[
-                Step::Crash(&[Fate::Filled(1), Fate::New]),
-                Step::Holds(b"abZ"),
-            ],
-        },
+        changes: A_CUT,
+        then: &[
+            Step::Crash(&[Fate::Filled(1), Fate::New]),
+            Step::Holds(b"abZ"),
+        ],
     },
-    Named {
+    Life {
         what: "what is synced stays",
-        row: Life {
-            changes: &[],
-            then: &[
-                Step::Write(4, b"EFG"),
-                Step::Sync,
-                Step::Crash(&[]),
-                Step::Holds(b"abcdEFG"),
-                Step::Write(7, b"h"),
-                Step::Crash(&[]),
-                Step::Holds(b"abcdEFG"),
-            ],
-        },
+        changes: &[],
+        then: &[
+            Step::Write(4, b"EFG"),
+            Step::Sync,
+            Step::Crash(&[]),
+            Step::Holds(b"abcdEFG"),
+            Step::Write(7, b"h"),
+            Step::Crash(&[]),
+            Step::Holds(b"abcdEFG"),
+        ],
     },
-    Named {
+    Life {
         what: "a failed write may come out of a crash",
-        row: Life {
-            changes: &[],
-            then: &[
-                Step::FailNext(0),
-                Step::Fails(&Step::Write(1, b"XY")),
-                Step::Holds(b"abcdef"),
-                Step::Crash(&[Fate::New]),
-                Step::Holds(b"aXYdef"),
-            ],
-        },
+        changes: &[],
+        then: &[
+            Step::FailNext(0),
+            Step::Fails(&Step::Write(1, b"XY")),
+            Step::Holds(b"abcdef"),
+            Step::Crash(&[Fate::New]),
+            Step::Holds(b"aXYdef"),
+        ],
     },
-    Named {
+    Life {
         what: "the next call but one fails, once",
-        row: Life {
-            changes: &[],
-            then: &[
-                Step::FailNext(1),
-                Step::Write(6, b"g"),
-                Step::Fails(&Step::Cut(3)),
-                Step::Holds(b"abcdefg"),
-                Step::Cut(3),
-                Step::Sync,
-                Step::Holds(b"abc"),
-            ],
-        },
+        changes: &[],
+        then: &[
+            Step::FailNext(1),
+            Step::Write(6, b"g"),
+            Step::Fails(&Step::Cut(3)),
+            Step::Holds(b"abcdefg"),
+            Step::Cut(3),
+            Step::Sync,
+            Step::Holds(b"abc"),
+        ],
     },
-    Named {
+    Life {
         what: "an armed call is counted from the next write",
-        row: Life {
-            changes: &[],
-            then: &[
-                Step::Arm(Some(1)),
-                Step::Sync,
-                Step::Sync,
-                Step::Write(0, b"A"),
-                Step::Fails(&Step::Sync),
-                Step::Sync,
-                Step::Arm(Some(0)),
-                Step::Sync,
-                Step::Fails(&Step::Write(0, b"B")),
-                Step::Arm(Some(0)),
-                Step::Arm(None),
-                Step::Write(1, b"C"),
-                Step::FailNext(0),
-                Step::Arm(None),
-                Step::Holds(b"ACcdef"),
-            ],
-        },
+        changes: &[],
+        then: &[
+            Step::Arm(Some(1)),
+            Step::Sync,
+            Step::Sync,
+            Step::Write(0, b"A"),
+            Step::Fails(&Step::Sync),
+            Step::Sync,
+            Step::Arm(Some(0)),
+            Step::Sync,
+            Step::Fails(&Step::Write(0, b"B")),
+            Step::Arm(Some(0)),
+            Step::Arm(None),
+            Step::Write(1, b"C"),
+            Step::FailNext(0),
+            Step::Arm(None),
+            Step::Holds(b"ACcdef"),
+        ],
     },
-    Named {
+    Life {
         what: "eight calls on what was reserved",
-        row: Life {
-            changes: &[],
-            then: &[
-                Step::Reserve(8),
-                Step::Write(6, b"gh"),
-                Step::Sync,
-                Step::Cut(7),
-                Step::Write(7, b"HI"),
-                Step::Sync,
-                Step::Write(9, b"jk"),
-                Step::Write(0, b"AB"),
-                Step::Sync,
-                Step::Holds(b"ABcdefgHIjk"),
-            ],
-        },
+        changes: &[],
+        then: &[
+            Step::Reserve(8),
+            Step::Write(6, b"gh"),
+            Step::Sync,
+            Step::Cut(7),
+            Step::Write(7, b"HI"),
+            Step::Sync,
+            Step::Write(9, b"jk"),
+            Step::Write(0, b"AB"),
+            Step::Sync,
+            Step::Holds(b"ABcdefgHIjk"),
+        ],
     },
 ];
 
@@ -300,13 +266,13 @@ pub static LIVES: [Named<Life>; 15] = [
 static SIX_LETTERS: [Step; 2] = [Step::Write(0, b"abcdef"), Step::Sync];
 
 impl Row for Life {
-    fn holds(&self, rt: &HostRuntime) -> bool {
+    fn tell(&self, wrong: &mut WrongRows, rt: &HostRuntime) {
         let alloc = rt.alloc();
         let mut disk = sent(SimDisk::new(alloc));
         let lived = go_well(alloc, &mut disk, &SIX_LETTERS)
             && go_well(alloc, &mut disk, self.changes)
             && go_well(alloc, &mut disk, self.then);
         drop(disk);
-        lived
+        wrong.unless(lived, self.what);
     }
 }

@@ -1,11 +1,12 @@
 //! Disks over files.
-use crate::checks::{Named, Row};
+use crate::checks::Row;
 use crate::devices::sent;
 use crate::file_logs::{is_no_log, is_opened_again};
 use crate::folder::Folder;
 use crate::steps::{Step, Stepped, call_any, go_well, read_back};
 use disk::Disk;
 use filedisk::FileDisk;
+use made::WrongRows;
 use std::alloc::Global;
 use std::{env, fs};
 use units::Fault;
@@ -35,6 +36,7 @@ enum Left {
 
 /// A call in a folder of its own, with the folder `logs` in it, and what is done with the disk.
 pub struct Asked {
+    what: &'static str,
     // From that folder; and else the path of a log there.
     path: Option<&'static str>,
     there: There,
@@ -45,253 +47,213 @@ pub struct Asked {
     left: Left,
 }
 
-pub static ROWS: [Named<Asked>; 20] = [
-    Named {
+pub static ROWS: [Asked; 20] = [
+    Asked {
         what: "a new file",
-        row: Asked {
-            path: None,
-            there: There::Nothing,
-            call: Call::Create,
-            wanted: Ok(0),
-            steps: &[],
-            left: Left::Anything,
-        },
+        path: None,
+        there: There::Nothing,
+        call: Call::Create,
+        wanted: Ok(0),
+        steps: &[],
+        left: Left::Anything,
     },
-    Named {
+    Asked {
         what: "a file is made anew",
-        row: Asked {
-            path: None,
-            there: There::File,
-            call: Call::Create,
-            wanted: Err(Fault::Device),
-            steps: &[],
-            left: Left::Anything,
-        },
+        path: None,
+        there: There::File,
+        call: Call::Create,
+        wanted: Err(Fault::Device),
+        steps: &[],
+        left: Left::Anything,
     },
-    Named {
+    Asked {
         what: "a file that is held is made anew",
-        row: Asked {
-            path: None,
-            there: There::Held,
-            call: Call::Create,
-            wanted: Err(Fault::Device),
-            steps: &[],
-            left: Left::Anything,
-        },
+        path: None,
+        there: There::Held,
+        call: Call::Create,
+        wanted: Err(Fault::Device),
+        steps: &[],
+        left: Left::Anything,
     },
-    Named {
+    Asked {
         what: "a file is made in place of a folder",
-        row: Asked {
-            path: None,
-            there: There::Folder,
-            call: Call::Create,
-            wanted: Err(Fault::Device),
-            steps: &[],
-            left: Left::Anything,
-        },
+        path: None,
+        there: There::Folder,
+        call: Call::Create,
+        wanted: Err(Fault::Device),
+        steps: &[],
+        left: Left::Anything,
     },
-    Named {
+    Asked {
         what: "a file that is missing",
-        row: Asked {
-            path: None,
-            there: There::Nothing,
-            call: Call::Open,
-            wanted: Err(Fault::Device),
-            steps: &[],
-            left: Left::Anything,
-        },
+        path: None,
+        there: There::Nothing,
+        call: Call::Open,
+        wanted: Err(Fault::Device),
+        steps: &[],
+        left: Left::Anything,
     },
-    Named {
+    Asked {
         what: "a file",
-        row: Asked {
-            path: None,
-            there: There::File,
-            call: Call::Open,
-            wanted: Ok(5),
-            steps: &[],
-            left: Left::Anything,
-        },
+        path: None,
+        there: There::File,
+        call: Call::Open,
+        wanted: Ok(5),
+        steps: &[],
+        left: Left::Anything,
     },
-    Named {
+    Asked {
         what: "a file that is held",
-        row: Asked {
-            path: None,
-            there: There::Held,
-            call: Call::Open,
-            wanted: Err(Fault::Device),
-            steps: &[],
-            left: Left::Anything,
-        },
+        path: None,
+        there: There::Held,
+        call: Call::Open,
+        wanted: Err(Fault::Device),
+        steps: &[],
+        left: Left::Anything,
     },
-    Named {
+    Asked {
         what: "a folder is opened",
-        row: Asked {
-            path: None,
-            there: There::Folder,
-            call: Call::Open,
-            wanted: Err(Fault::Device),
-            steps: &[],
-            left: Left::Anything,
-        },
+        path: None,
+        there: There::Folder,
+        call: Call::Open,
+        wanted: Err(Fault::Device),
+        steps: &[],
+        left: Left::Anything,
     },
-    Named {
+    Asked {
         what: "log",
-        row: Asked {
-            path: Some("log"),
-            there: There::Nothing,
-            call: Call::Create,
-            wanted: Ok(0),
-            steps: &[],
-            left: Left::Anything,
-        },
+        path: Some("log"),
+        there: There::Nothing,
+        call: Call::Create,
+        wanted: Ok(0),
+        steps: &[],
+        left: Left::Anything,
     },
-    Named {
+    Asked {
         what: "./log",
-        row: Asked {
-            path: Some("./log"),
-            there: There::Nothing,
-            call: Call::Create,
-            wanted: Ok(0),
-            steps: &[],
-            left: Left::Anything,
-        },
+        path: Some("./log"),
+        there: There::Nothing,
+        call: Call::Create,
+        wanted: Ok(0),
+        steps: &[],
+        left: Left::Anything,
     },
-    Named {
+    Asked {
         what: "logs/shard-0.log",
-        row: Asked {
-            path: Some("logs/shard-0.log"),
-            there: There::Nothing,
-            call: Call::Create,
-            wanted: Ok(0),
-            steps: &[],
-            left: Left::Anything,
-        },
+        path: Some("logs/shard-0.log"),
+        there: There::Nothing,
+        call: Call::Create,
+        wanted: Ok(0),
+        steps: &[],
+        left: Left::Anything,
     },
-    Named {
+    Asked {
         what: "missing/log",
-        row: Asked {
-            path: Some("missing/log"),
-            there: There::Nothing,
-            call: Call::Create,
-            wanted: Err(Fault::Device),
-            steps: &[],
-            left: Left::Anything,
-        },
+        path: Some("missing/log"),
+        there: There::Nothing,
+        call: Call::Create,
+        wanted: Err(Fault::Device),
+        steps: &[],
+        left: Left::Anything,
     },
-    Named {
+    Asked {
         what: "logs/",
-        row: Asked {
-            path: Some("logs/"),
-            there: There::Nothing,
-            call: Call::Create,
-            wanted: Err(Fault::Device),
-            steps: &[],
-            left: Left::Anything,
-        },
+        path: Some("logs/"),
+        there: There::Nothing,
+        call: Call::Create,
+        wanted: Err(Fault::Device),
+        steps: &[],
+        left: Left::Anything,
     },
-    Named {
+    Asked {
         what: "no path",
-        row: Asked {
-            path: Some(""),
-            there: There::Nothing,
-            call: Call::Create,
-            wanted: Err(Fault::Device),
-            steps: &[],
-            left: Left::Anything,
-        },
+        path: Some(""),
+        there: There::Nothing,
+        call: Call::Create,
+        wanted: Err(Fault::Device),
+        steps: &[],
+        left: Left::Anything,
     },
-    Named {
+    Asked {
         what: "an empty file",
-        row: Asked {
-            path: None,
-            there: There::Nothing,
-            call: Call::Create,
-            wanted: Ok(0),
-            steps: &[Step::Holds(b""), Step::Sync],
-            left: Left::Bytes(b""),
-        },
+        path: None,
+        there: There::Nothing,
+        call: Call::Create,
+        wanted: Ok(0),
+        steps: &[Step::Holds(b""), Step::Sync],
+        left: Left::Bytes(b""),
     },
-    Named {
+    Asked {
         what: "writes behind and over each other",
-        row: Asked {
-            path: None,
-            there: There::Nothing,
-            call: Call::Create,
-            wanted: Ok(0),
-            steps: &[
-                Step::Reserve(20),
-                Step::Write(0, b"SPNLOG02"),
-                Step::Write(8, b"\0frame"),
-                Step::Write(8, b"\xa5"),
-                Step::Write(14, b""),
-                Step::Holds(b"SPNLOG02\xa5frame"),
-                Step::Sync,
-            ],
-            left: Left::Bytes(b"SPNLOG02\xa5frame"),
-        },
+        path: None,
+        there: There::Nothing,
+        call: Call::Create,
+        wanted: Ok(0),
+        steps: &[
+            Step::Reserve(20),
+            Step::Write(0, b"SPNLOG02"),
+            Step::Write(8, b"\0frame"),
+            Step::Write(8, b"\xa5"),
+            Step::Write(14, b""),
+            Step::Holds(b"SPNLOG02\xa5frame"),
+            Step::Sync,
+        ],
+        left: Left::Bytes(b"SPNLOG02\xa5frame"),
     },
-    Named {
+    Asked {
         what: "cuts",
-        row: Asked {
-            path: None,
-            there: There::Nothing,
-            call: Call::Create,
-            wanted: Ok(0),
-            steps: &[
-                Step::Write(0, b"SPNLOG02"),
-                Step::Cut(8),
-                Step::Cut(3),
-                Step::Holds(b"SPN"),
-                Step::Write(3, b"!"),
-                Step::Sync,
-                Step::Holds(b"SPN!"),
-            ],
-            left: Left::Bytes(b"SPN!"),
-        },
+        path: None,
+        there: There::Nothing,
+        call: Call::Create,
+        wanted: Ok(0),
+        steps: &[
+            Step::Write(0, b"SPNLOG02"),
+            Step::Cut(8),
+            Step::Cut(3),
+            Step::Holds(b"SPN"),
+            Step::Write(3, b"!"),
+            Step::Sync,
+            Step::Holds(b"SPN!"),
+        ],
+        left: Left::Bytes(b"SPN!"),
     },
-    Named {
+    Asked {
         what: "calls that the system refuses change nothing, and what is armed does nothing",
-        row: Asked {
-            path: None,
-            there: There::Nothing,
-            call: Call::Create,
-            wanted: Ok(0),
-            steps: &[
-                Step::Write(0, b"bytes"),
-                Step::Arm(Some(0)),
-                Step::Fails(&Step::ReadAnywhere(2, 4)),
-                Step::Fails(&Step::ReadAnywhere(u64::MAX, 1)),
-                Step::Fails(&Step::WriteAnywhere(u64::MAX, b"xy")),
-                Step::Fails(&Step::WriteAnywhere(1 << 63, b"x")),
-                Step::Fails(&Step::CutAnywhere(u64::MAX)),
-                Step::Write(5, b"."),
-                Step::Sync,
-                Step::Holds(b"bytes."),
-            ],
-            left: Left::Bytes(b"bytes."),
-        },
+        path: None,
+        there: There::Nothing,
+        call: Call::Create,
+        wanted: Ok(0),
+        steps: &[
+            Step::Write(0, b"bytes"),
+            Step::Arm(Some(0)),
+            Step::Fails(&Step::ReadAnywhere(2, 4)),
+            Step::Fails(&Step::ReadAnywhere(u64::MAX, 1)),
+            Step::Fails(&Step::WriteAnywhere(u64::MAX, b"xy")),
+            Step::Fails(&Step::WriteAnywhere(1 << 63, b"x")),
+            Step::Fails(&Step::CutAnywhere(u64::MAX)),
+            Step::Write(5, b"."),
+            Step::Sync,
+            Step::Holds(b"bytes."),
+        ],
+        left: Left::Bytes(b"bytes."),
     },
-    Named {
+    Asked {
         what: "a log is opened again",
-        row: Asked {
-            path: None,
-            there: There::Nothing,
-            call: Call::Create,
-            wanted: Ok(0),
-            steps: &[],
-            left: Left::Log,
-        },
+        path: None,
+        there: There::Nothing,
+        call: Call::Create,
+        wanted: Ok(0),
+        steps: &[],
+        left: Left::Log,
     },
-    Named {
+    Asked {
         what: "a new file is no log",
-        row: Asked {
-            path: None,
-            there: There::Nothing,
-            call: Call::Create,
-            wanted: Ok(0),
-            steps: &[],
-            left: Left::NoLog,
-        },
+        path: None,
+        there: There::Nothing,
+        call: Call::Create,
+        wanted: Ok(0),
+        steps: &[],
+        left: Left::NoLog,
     },
 ];
 
@@ -374,11 +336,11 @@ fn is_so(rt: &HostRuntime, folder: &Folder, row: &Asked) -> bool {
 }
 
 impl Row for Asked {
-    fn holds(&self, rt: &HostRuntime) -> bool {
+    fn tell(&self, wrong: &mut WrongRows, rt: &HostRuntime) {
         let Some(folder) = Folder::new(rt) else {
-            return false;
+            return wrong.unless(false, self.what);
         };
         let so = is_so(rt, &folder, self);
-        folder.remove(rt) && so
+        wrong.unless(folder.remove(rt) && so, self.what);
     }
 }

@@ -1,8 +1,7 @@
 //! Lines of a drive, and its table.
-use crate::checks::is_text;
+use crate::checks::{Row, is_text};
 use made::WrongRows;
 use progress::{Ended, Progress, Turn};
-use std::alloc::Global;
 
 // So many turns that ended alike.
 struct Group {
@@ -17,8 +16,8 @@ struct Looks {
     times: u64,
 }
 
-// Some turns of a drive, and looks, of which no more count than there are turns, its line after so many microseconds, and its table.
-struct Row {
+/// Some turns of a drive, and looks, of which no more count than there are turns, its line after so many microseconds, and its table.
+pub struct Drive {
     name: &'static str,
     turns: u64,
     groups: &'static [Group],
@@ -28,8 +27,8 @@ struct Row {
     table: &'static str,
 }
 
-static ROWS: [Row; 6] = [
-    Row {
+pub static ROWS: [Drive; 6] = [
+    Drive {
         name: "nothing",
         turns: 200,
         groups: &[],
@@ -41,7 +40,7 @@ static ROWS: [Row; 6] = [
             \x20aborts           0           -           -           -           -\n\
             \x20 looks           0           -           -           -           -\n",
     },
-    Row {
+    Drive {
         name: "each kind",
         turns: 200,
         groups: &[
@@ -78,7 +77,7 @@ static ROWS: [Row; 6] = [
             \x20aborts           2           2           2           2           2\n\
             \x20 looks         100           4           4          50          50\n",
     },
-    Row {
+    Drive {
         name: "in any order",
         turns: 200,
         groups: &[
@@ -109,7 +108,7 @@ static ROWS: [Row; 6] = [
             \x20aborts           0           -           -           -           -\n\
             \x20 looks           1           7           7           7           7\n",
     },
-    Row {
+    Drive {
         name: "none committed",
         turns: 3,
         groups: &[
@@ -132,7 +131,7 @@ static ROWS: [Row; 6] = [
             \x20aborts           2           5           5           5           5\n\
             \x20 looks           0           -           -           -           -\n",
     },
-    Row {
+    Drive {
         name: "four figures",
         turns: 100,
         groups: &[
@@ -168,7 +167,7 @@ static ROWS: [Row; 6] = [
             \x20aborts           0           -           -           -           -\n\
             \x20 looks         100           1           1           1           1\n",
     },
-    Row {
+    Drive {
         name: "a number wider than its column",
         turns: 1,
         groups: &[Group {
@@ -209,24 +208,26 @@ fn count_looks(progress: &mut Progress, looks: &Looks) {
 
 // No line has more than 80 columns.
 fn is_narrow(text: &str) -> bool {
-    text.lines().all(|line| line.len() <= 80)
+    for line in text.lines() {
+        if line.len() > 80 {
+            return false;
+        }
+    }
+    true
 }
 
-fn has_its_lines(alloc: Global, row: &Row) -> bool {
-    let mut progress = Progress::new(alloc, row.turns);
-    for group in row.groups {
-        count(&mut progress, group);
-    }
-    for looks in row.looks {
-        count_looks(&mut progress, looks);
-    }
-    let has_line = is_text(progress.line(alloc, row.micros), row.line);
-    is_text(progress.table(alloc), row.table) && has_line && is_narrow(row.table)
-}
-
-/// Goes over all rows.
-pub fn go_over(wrong: &mut WrongRows, alloc: Global) {
-    for row in &ROWS {
-        wrong.unless(has_its_lines(alloc, row), row.name);
+impl Row for Drive {
+    fn tell(&self, wrong: &mut WrongRows, rt: &HostRuntime) {
+        let alloc = rt.alloc();
+        let mut progress = Progress::new(alloc, self.turns);
+        for group in self.groups {
+            count(&mut progress, group);
+        }
+        for looks in self.looks {
+            count_looks(&mut progress, looks);
+        }
+        let has_line = is_text(progress.line(alloc, self.micros), self.line);
+        let has_table = is_text(progress.table(alloc), self.table);
+        wrong.unless(has_table && has_line && is_narrow(self.table), self.name);
     }
 }

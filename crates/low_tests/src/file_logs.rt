@@ -1,7 +1,6 @@
 //! Logs in files.
 use crate::disks::keeps;
 use crate::files::{Place, open, put_lines, refusal};
-use crate::lines::Line;
 use crate::spellings::OPENED;
 use filedisk::FileDisk;
 use gatelog::GateLog;
@@ -28,14 +27,13 @@ fn begins(rt: &HostRuntime, path: &str) -> bool {
     let Ok(mut log) = GateLog::format(disk) else {
         return false;
     };
-    let begun = put_lines(rt.alloc(), &mut log, &[Line::Opened(1)])
-        && FileDisk::open(rt, path).is_err();
+    let begun = put_lines(rt.alloc(), &mut log, "opened 1") && FileDisk::open(rt, path).is_err();
     drop(log);
     begun
 }
 
 // It is opened with these entries, and takes more.
-fn goes_on(rt: &HostRuntime, path: &str, places: &[Place], more: &[Line]) -> bool {
+fn goes_on(rt: &HostRuntime, path: &str, places: &[Place], more: &str) -> bool {
     let Ok(disk) = FileDisk::open(rt, path) else {
         return false;
     };
@@ -70,7 +68,7 @@ fn is_kept(rt: &HostRuntime, path: &str) -> bool {
 /// Whether the file, once it was formatted, is opened as a log, and opened again with what was put behind.
 pub fn is_opened_again(rt: &HostRuntime, path: &str) -> bool {
     begins(rt, path)
-        && goes_on(rt, path, &[(FIRST_GATE, OPENED)], &[Line::Opened(2)])
-        && goes_on(rt, path, OPENINGS, &[])
+        && goes_on(rt, path, &[(FIRST_GATE, OPENED)], "opened 2")
+        && goes_on(rt, path, OPENINGS, "")
         && is_kept(rt, path)
 }

@@ -1,12 +1,12 @@
 //! The log in its file.
-use crate::checks::{Named, Row};
+use crate::checks::{Row, is_spelled};
 use crate::devices::crash;
-use crate::lines::{Line, is_spelled, record_of};
 use crate::spellings::{CEILING, COMMIT, OPENED, OUTCOME};
 use crate::steps::read_back;
+use crate::text_logs::record_of;
 use disk::{Disk, Fate};
 use gatelog::{Entry, GateLog};
-use made::{FIRST_GATE, ONE_COMMIT, stamp, with_slots};
+use made::{FIRST_GATE, ONE_COMMIT, WrongRows, stamp, with_slots};
 use record::Record;
 use simdisk::SimDisk;
 use std::alloc::Global;
@@ -79,9 +79,9 @@ pub fn put<D: Disk>(
 }
 
 /// Whether all of these records were logged.
-pub fn put_lines<D: Disk>(alloc: Global, log: &mut GateLog<D>, lines: &[Line]) -> bool {
-    for line in lines {
-        let Some(item) = record_of(alloc, *line) else {
+pub fn put_lines<D: Disk>(alloc: Global, log: &mut GateLog<D>, lines: &str) -> bool {
+    for line in lines.lines() {
+        let Some(item) = record_of(alloc, line) else {
             return false;
         };
         if put(alloc, log, item, None).is_err() {
@@ -94,7 +94,8 @@ pub fn put_lines<D: Disk>(alloc: Global, log: &mut GateLog<D>, lines: &[Line]) -
 /// Records that are logged, what is done then, and what the log is when it is opened again.
 #[derive(Clone, Copy)]
 pub struct Case {
-    lines: &'static [Line],
+    what: &'static str,
+    lines: &'static str,
     // Ceiling 200 is to be logged, each time while that call of the append is to fail, and it is answered so.
     armed: &'static [(u64, Result<(), Fault>)],
     is_stopped: bool,
@@ -104,7 +105,7 @@ pub struct Case {
     bytes: Option<&'static [u8]>,
     places: &'static [Place],
     // More records that are logged then, and the entries with these.
-    more: &'static [Line],
+    more: &'static str,
     places_with_more: &'static [Place],
 }
 
@@ -129,130 +130,105 @@ const COMMITTED: &[Place] = &[
 
 // A log that was opened once.
 const OPENED_ONCE: Case = Case {
-    lines: &[Line::Opened(1)],
+    what: "a log that was opened once",
+    lines: "opened 1",
     armed: &[],
     is_stopped: false,
     fate: None,
     bytes: None,
     places: AT_FIRST,
-    more: &[],
+    more: "",
     places_with_more: AT_FIRST,
 };
 
-pub static CASES: [Named<Case>; 11] = [
-    Named {
+pub static CASES: [Case; 11] = [
+    Case {
         what: "an empty log",
-        row: Case {
-            lines: &[],
-            bytes: Some(b"SPNLOG02\0"),
-            places: &[],
-            places_with_more: &[],
-            ..OPENED_ONCE
-        },
+        lines: "",
+        bytes: Some(b"SPNLOG02\0"),
+        places: &[],
+        places_with_more: &[],
+        ..OPENED_ONCE
     },
-    Named {
+    Case {
         what: "one commit",
-        row: Case {
-            lines: &[
-                Line::Opened(1),
-                Line::Commit(1, 111, b'a', 1),
-                Line::Committed(1, 111),
-            ],
-            bytes: Some(&ONE_COMMIT),
-            places: COMMITTED,
-            places_with_more: COMMITTED,
-            ..OPENED_ONCE
-        },
+        lines: "opened 1\ncommit 1.1 111 0 - a=1\noutcome 1.1 committed 111",
+        bytes: Some(&ONE_COMMIT),
+        places: COMMITTED,
+        places_with_more: COMMITTED,
+        ..OPENED_ONCE
     },
-    Named {
+    Case {
         what: "the first call fails",
-        row: Case {
-            armed: &[(0, Err(Fault::Device))],
-            is_stopped: true,
-            fate: Some(Fate::New),
-            ..OPENED_ONCE
-        },
+        armed: &[(0, Err(Fault::Device))],
+        is_stopped: true,
+        fate: Some(Fate::New),
+        ..OPENED_ONCE
     },
-    Named {
+    Case {
         what: "the second call fails",
-        row: Case {
-            armed: &[(1, Err(Fault::Device))],
-            is_stopped: true,
-            fate: Some(Fate::Filled(0xa5)),
-            ..OPENED_ONCE
-        },
+        armed: &[(1, Err(Fault::Device))],
+        is_stopped: true,
+        fate: Some(Fate::Filled(0xa5)),
+        ..OPENED_ONCE
     },
-    Named {
+    Case {
         what: "the third call fails, with its change lost",
-        row: Case {
-            armed: &[(2, Err(Fault::Device))],
-            is_stopped: true,
-            fate: Some(Fate::Old),
-            ..OPENED_ONCE
-        },
+        armed: &[(2, Err(Fault::Device))],
+        is_stopped: true,
+        fate: Some(Fate::Old),
+        ..OPENED_ONCE
     },
-    Named {
+    Case {
         what: "the third call fails, with its change kept",
-        row: Case {
-            armed: &[(2, Err(Fault::Device))],
-            is_stopped: true,
-            fate: Some(Fate::New),
-            places: WITH_CEILING,
-            places_with_more: WITH_CEILING,
-            ..OPENED_ONCE
-        },
+        armed: &[(2, Err(Fault::Device))],
+        is_stopped: true,
+        fate: Some(Fate::New),
+        places: WITH_CEILING,
+        places_with_more: WITH_CEILING,
+        ..OPENED_ONCE
     },
-    Named {
+    Case {
         what: "the third call fails, with its change filled",
-        row: Case {
-            armed: &[(2, Err(Fault::Device))],
-            is_stopped: true,
-            fate: Some(Fate::Filled(0xa5)),
-            places: WITH_CEILING,
-            places_with_more: WITH_CEILING,
-            ..OPENED_ONCE
-        },
+        armed: &[(2, Err(Fault::Device))],
+        is_stopped: true,
+        fate: Some(Fate::Filled(0xa5)),
+        places: WITH_CEILING,
+        places_with_more: WITH_CEILING,
+        ..OPENED_ONCE
     },
-    Named {
+    Case {
         what: "the fourth call fails",
-        row: Case {
-            armed: &[(3, Err(Fault::Device))],
-            is_stopped: true,
-            fate: Some(Fate::Filled(0x37)),
-            ..OPENED_ONCE
-        },
+        armed: &[(3, Err(Fault::Device))],
+        is_stopped: true,
+        fate: Some(Fate::Filled(0x37)),
+        ..OPENED_ONCE
     },
-    Named {
+    Case {
         what: "the fifth call fails",
-        row: Case {
-            armed: &[(4, Ok(()))],
-            fate: Some(Fate::Old),
-            places: WITH_CEILING,
-            places_with_more: WITH_CEILING,
-            ..OPENED_ONCE
-        },
+        armed: &[(4, Ok(()))],
+        fate: Some(Fate::Old),
+        places: WITH_CEILING,
+        places_with_more: WITH_CEILING,
+        ..OPENED_ONCE
     },
-    Named {
+    Case {
         what: "a closed gate is used again",
-        row: Case {
-            armed: &[(2, Err(Fault::Device))],
-            is_stopped: true,
-            fate: Some(Fate::Filled(0x37)),
-            more: &[Line::Ceiling(300)],
-            places_with_more: WITH_HIGHER,
-            ..OPENED_ONCE
-        },
+        armed: &[(2, Err(Fault::Device))],
+        is_stopped: true,
+        fate: Some(Fate::Filled(0x37)),
+        more: "ceiling 300",
+        places_with_more: WITH_HIGHER,
+        ..OPENED_ONCE
     },
     // The file has both entries, as it is read.
-    Named {
+    Case {
         what: "a failure stops it",
-        row: Case {
-            armed: &[(3, Err(Fault::Device)), (3, Err(Fault::Stopped))],
-            is_stopped: true,
-            places: WITH_CEILING,
-            places_with_more: WITH_CEILING,
-            ..OPENED_ONCE
-        },
+        armed: &[(3, Err(Fault::Device)), (3, Err(Fault::Stopped))],
+        is_stopped: true,
+        places: WITH_CEILING,
+        places_with_more: WITH_CEILING,
+        ..OPENED_ONCE
     },
 ];
 
@@ -295,25 +271,26 @@ fn is_left(alloc: Global, disk: &mut SimDisk, row: &Case) -> bool {
 
 // The log is filled, and opened again; then it takes more.
 impl Row for Case {
-    fn holds(&self, rt: &HostRuntime) -> bool {
+    fn tell(&self, wrong: &mut WrongRows, rt: &HostRuntime) {
         let alloc = rt.alloc();
         let Ok(mut log) = GateLog::format(SimDisk::new(alloc)) else {
-            return false;
+            return wrong.unless(false, self.what);
         };
         let filled = is_filled(alloc, &mut log, self);
         let mut disk = log.into_disk();
         let left = is_left(alloc, &mut disk, self);
         let Ok(mut again) = open(alloc, disk, self.places) else {
-            return false;
+            return wrong.unless(false, self.what);
         };
         let logged = put_lines(alloc, &mut again, self.more);
         let refused = refusal(alloc, again.into_disk(), self.places_with_more);
-        filled && left && logged && refused.is_none()
+        wrong.unless(filled && left && logged && refused.is_none(), self.what);
     }
 }
 
 /// A file that is told without its slots, of which so many bytes are left, where they are not all; and how it is refused.
 pub struct Refused {
+    what: &'static str,
     told: &'static [u8],
     len: Option<u64>,
     fault: Option<Fault>,
@@ -321,6 +298,7 @@ pub struct Refused {
 
 // A file of no record.
 const EMPTY: Refused = Refused {
+    what: "a file of no record",
     told: b"SPNLOG02\0",
     len: None,
     fault: None,
@@ -328,100 +306,78 @@ const EMPTY: Refused = Refused {
 
 const DAMAGED: Option<Fault> = Some(Fault::Damaged { offset: FIRST_GATE });
 
-pub static REFUSED: [Named<Refused>; 12] = [
-    Named {
+pub static REFUSED: [Refused; 12] = [
+    Refused {
         what: "past the end",
-        row: Refused {
-            told: b"SPNLOG02\xa5\0\0\0\x09",
-            fault: DAMAGED,
-            ..EMPTY
-        },
+        told: b"SPNLOG02\xa5\0\0\0\x09",
+        fault: DAMAGED,
+        ..EMPTY
     },
-    Named {
+    Refused {
         what: "no gate",
-        row: Refused {
-            told: b"SPNLOG02",
-            fault: DAMAGED,
-            ..EMPTY
-        },
+        told: b"SPNLOG02",
+        fault: DAMAGED,
+        ..EMPTY
     },
-    Named {
+    Refused {
         what: "length 0",
-        row: Refused {
-            told: b"SPNLOG02\xa5\0\0\0\0",
-            fault: DAMAGED,
-            ..EMPTY
-        },
+        told: b"SPNLOG02\xa5\0\0\0\0",
+        fault: DAMAGED,
+        ..EMPTY
     },
-    Named {
+    Refused {
         what: "no record",
-        row: Refused {
-            told: b"SPNLOG02\xa5\0\0\0\x01\x09",
-            fault: DAMAGED,
-            ..EMPTY
-        },
+        told: b"SPNLOG02\xa5\0\0\0\x01\x09",
+        fault: DAMAGED,
+        ..EMPTY
     },
-    Named {
+    Refused {
         what: "no slot",
-        row: Refused {
-            len: Some(8),
-            fault: Some(Fault::Damaged { offset: 8 }),
-            ..EMPTY
-        },
+        len: Some(8),
+        fault: Some(Fault::Damaged { offset: 8 }),
+        ..EMPTY
     },
-    Named {
+    Refused {
         what: "the first slot is not whole",
-        row: Refused {
-            len: Some(16),
-            fault: Some(Fault::Damaged { offset: 8 }),
-            ..EMPTY
-        },
+        len: Some(16),
+        fault: Some(Fault::Damaged { offset: 8 }),
+        ..EMPTY
     },
-    Named {
+    Refused {
         what: "the last slot is not whole",
-        row: Refused {
-            len: Some(FIRST_GATE - 1),
-            fault: Some(Fault::Damaged {
-                offset: FIRST_GATE - 9,
-            }),
-            ..EMPTY
-        },
+        len: Some(FIRST_GATE - 1),
+        fault: Some(Fault::Damaged {
+            offset: FIRST_GATE - 9,
+        }),
+        ..EMPTY
     },
-    Named {
+    Refused {
         what: "a part of the header",
-        row: Refused {
-            len: Some(7),
-            fault: Some(Fault::NotALog),
-            ..EMPTY
-        },
+        len: Some(7),
+        fault: Some(Fault::NotALog),
+        ..EMPTY
     },
-    Named {
+    Refused {
         what: "version 1",
-        row: Refused {
-            told: b"SPNLOG01\0",
-            fault: Some(Fault::NotALog),
-            ..EMPTY
-        },
+        told: b"SPNLOG01\0",
+        fault: Some(Fault::NotALog),
+        ..EMPTY
     },
-    Named {
+    Refused {
         what: "version 3",
-        row: Refused {
-            told: b"SPNLOG03\0",
-            fault: Some(Fault::NotALog),
-            ..EMPTY
-        },
+        told: b"SPNLOG03\0",
+        fault: Some(Fault::NotALog),
+        ..EMPTY
     },
-    Named {
+    Refused {
         what: "no byte",
-        row: Refused {
-            told: b"",
-            fault: Some(Fault::NotALog),
-            ..EMPTY
-        },
+        told: b"",
+        fault: Some(Fault::NotALog),
+        ..EMPTY
     },
-    Named {
+    Refused {
         what: "an empty log",
-        row: EMPTY,
+        ..EMPTY
     },
 ];
 
@@ -446,71 +402,64 @@ pub fn disk_of(alloc: Global, told: &[u8], len: Option<u64>) -> Option<SimDisk> 
 }
 
 impl Row for Refused {
-    fn holds(&self, rt: &HostRuntime) -> bool {
+    fn tell(&self, wrong: &mut WrongRows, rt: &HostRuntime) {
         let alloc = rt.alloc();
-        match disk_of(alloc, self.told, self.len) {
+        let refused = match disk_of(alloc, self.told, self.len) {
             Some(disk) => refusal(alloc, disk, &[]) == self.fault,
             None => false,
-        }
+        };
+        wrong.unless(refused, self.what);
     }
 }
 
 /// The file of one commit whose slots begin with these bytes, and the log that it has then.
 pub struct Area {
+    what: &'static str,
     slots: &'static [u8],
     places: &'static [Place],
 }
 
 // In hexadecimal digits the commit's gate is at 2416, its outcome's at 2440, the closed one at 245f.
-pub static AREAS: [Named<Area>; 5] = [
-    Named {
+pub static AREAS: [Area; 5] = [
+    Area {
         what: "no slot is open",
-        row: Area {
-            slots: &[],
-            places: COMMITTED,
-        },
+        slots: &[],
+        places: COMMITTED,
     },
-    Named {
+    Area {
         what: "an area that begins at the commit",
-        row: Area {
-            slots: &[0xa5, 0, 0, 0, 0, 0, 0, 0x24, 0x16],
-            places: &[(BEHIND_ONE, COMMIT), (FIRST_GATE + 56, OUTCOME)],
-        },
+        slots: &[0xa5, 0, 0, 0, 0, 0, 0, 0x24, 0x16],
+        places: &[(BEHIND_ONE, COMMIT), (FIRST_GATE + 56, OUTCOME)],
     },
-    Named {
+    Area {
         what: "the last open slot counts",
-        row: Area {
-            slots: &[
-                0xa5, 0, 0, 0, 0, 0, 0, 0x24, 0x16, 0xa5, 0, 0, 0, 0, 0, 0, 0x24, 0x40,
-            ],
-            places: &[(FIRST_GATE + 56, OUTCOME)],
-        },
+        slots: &[
+            0xa5, 0, 0, 0, 0, 0, 0, 0x24, 0x16, 0xa5, 0, 0, 0, 0, 0, 0, 0x24, 0x40,
+        ],
+        places: &[(FIRST_GATE + 56, OUTCOME)],
     },
-    Named {
+    Area {
         what: "a filled gate is closed",
-        row: Area {
-            slots: &[
-                0xa5, 0, 0, 0, 0, 0, 0, 0x24, 0x40, 0x37, 0, 0, 0, 0, 0, 0, 0x24, 0x16,
-            ],
-            places: &[(FIRST_GATE + 56, OUTCOME)],
-        },
+        slots: &[
+            0xa5, 0, 0, 0, 0, 0, 0, 0x24, 0x40, 0x37, 0, 0, 0, 0, 0, 0, 0x24, 0x16,
+        ],
+        places: &[(FIRST_GATE + 56, OUTCOME)],
     },
-    Named {
+    Area {
         what: "an area of no record",
-        row: Area {
-            slots: &[0xa5, 0, 0, 0, 0, 0, 0, 0x24, 0x5f],
-            places: &[],
-        },
+        slots: &[0xa5, 0, 0, 0, 0, 0, 0, 0x24, 0x5f],
+        places: &[],
     },
 ];
 
 impl Row for Area {
-    fn holds(&self, rt: &HostRuntime) -> bool {
+    fn tell(&self, wrong: &mut WrongRows, rt: &HostRuntime) {
         let alloc = rt.alloc();
         let Some(mut disk) = disk_of(alloc, &ONE_COMMIT, None) else {
-            return false;
+            return wrong.unless(false, self.what);
         };
         let written = disk.len() >= 8 && disk.write_at(8, self.slots).is_ok();
-        refusal(alloc, disk, self.places).is_none() && written
+        let found = refusal(alloc, disk, self.places).is_none();
+        wrong.unless(found && written, self.what);
     }
 }

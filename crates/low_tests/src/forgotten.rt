@@ -1,650 +1,216 @@
 //! Versions below a horizon, which are forgotten.
-use crate::checks::{Named, Row};
+use crate::checks::Row;
 use crate::versioned::{Lookup, Version, all_found, install_rows};
+use made::WrongRows;
 use units::Stamp;
 use versions::Versions;
 
 // One key, written twice.
-static TWO: [Version; 2] = [
-    Version {
-        key: b'z',
-        at: 200,
-        value: Some(b'1'),
-    },
-    Version {
-        key: b'z',
-        at: 300,
-        value: Some(b'2'),
-    },
-];
+const TWO: &[Version] = &[(b'z', 200, Some(b'1')), (b'z', 300, Some(b'2'))];
 
 // One key, erased between two writes.
-static ERASED: [Version; 3] = [
-    Version {
-        key: b'a',
-        at: 111,
-        value: Some(b'1'),
-    },
-    Version {
-        key: b'a',
-        at: 200,
-        value: None,
-    },
-    Version {
-        key: b'a',
-        at: 300,
-        value: Some(b'2'),
-    },
+const ERASED: &[Version] = &[
+    (b'a', 111, Some(b'1')),
+    (b'a', 200, None),
+    (b'a', 300, Some(b'2')),
 ];
 
 // Three keys, of which one is written late.
-static SIX: [Version; 6] = [
-    Version {
-        key: b'a',
-        at: 10,
-        value: Some(b'1'),
-    },
-    Version {
-        key: b'b',
-        at: 5,
-        value: Some(b'4'),
-    },
-    Version {
-        key: b'a',
-        at: 20,
-        value: Some(b'2'),
-    },
-    Version {
-        key: b'b',
-        at: 25,
-        value: Some(b'5'),
-    },
-    Version {
-        key: b'a',
-        at: 30,
-        value: Some(b'3'),
-    },
-    Version {
-        key: b'c',
-        at: 40,
-        value: Some(b'6'),
-    },
+const SIX: &[Version] = &[
+    (b'a', 10, Some(b'1')),
+    (b'b', 5, Some(b'4')),
+    (b'a', 20, Some(b'2')),
+    (b'b', 25, Some(b'5')),
+    (b'a', 30, Some(b'3')),
+    (b'c', 40, Some(b'6')),
 ];
 
 // What comes later.
-static LATER: [Version; 3] = [
-    Version {
-        key: b'a',
-        at: 31,
-        value: Some(b'7'),
-    },
-    Version {
-        key: b'b',
-        at: 26,
-        value: None,
-    },
-    Version {
-        key: b'd',
-        at: 50,
-        value: Some(b'8'),
-    },
+const LATER: &[Version] = &[
+    (b'a', 31, Some(b'7')),
+    (b'b', 26, None),
+    (b'd', 50, Some(b'8')),
 ];
-
-// One of these lists.
-enum Listed {
-    Nothing,
-    Two,
-    Erased,
-    Six,
-    Later,
-}
-
-impl Listed {
-    fn versions(&self) -> &'static [Version] {
-        match self {
-            Listed::Nothing => &[],
-            Listed::Two => &TWO,
-            Listed::Erased => &ERASED,
-            Listed::Six => &SIX,
-            Listed::Later => &LATER,
-        }
-    }
-}
 
 /// Versions, the horizons below which they are forgotten one after another, versions that come behind that, and what is found.
 pub struct Forgotten {
-    versions: Listed,
+    what: &'static str,
+    versions: &'static [Version],
     horizons: &'static [u64],
-    behind: Listed,
+    behind: &'static [Version],
     lookups: &'static [Lookup],
 }
 
-pub static FORGOTTEN: [Named<Forgotten>; 13] = [
-    Named {
+pub static FORGOTTEN: [Forgotten; 13] = [
+    Forgotten {
         what: "the older of two goes",
-        row: Forgotten {
-            versions: Listed::Two,
-            horizons: &[300],
-            behind: Listed::Nothing,
-            lookups: &[
-                Lookup {
-                    key: b'z',
-                    at: Some(299),
-                    value: None,
-                    place: None,
-                },
-                Lookup {
-                    key: b'z',
-                    at: Some(300),
-                    value: Some(b'2'),
-                    place: None,
-                },
-                Lookup {
-                    key: b'z',
-                    at: None,
-                    value: Some(b'2'),
-                    place: Some((1, 1)),
-                },
-            ],
-        },
+        versions: TWO,
+        horizons: &[300],
+        behind: &[],
+        lookups: &[
+            (b'z', Some(299), None, None),
+            (b'z', Some(300), Some(b'2'), None),
+            (b'z', None, Some(b'2'), Some((1, 1))),
+        ],
     },
-    Named {
+    Forgotten {
         what: "the newest below a horizon stays",
-        row: Forgotten {
-            versions: Listed::Two,
-            horizons: &[250],
-            behind: Listed::Nothing,
-            lookups: &[
-                Lookup {
-                    key: b'z',
-                    at: Some(199),
-                    value: None,
-                    place: None,
-                },
-                Lookup {
-                    key: b'z',
-                    at: Some(200),
-                    value: Some(b'1'),
-                    place: None,
-                },
-                Lookup {
-                    key: b'z',
-                    at: Some(250),
-                    value: Some(b'1'),
-                    place: None,
-                },
-                Lookup {
-                    key: b'z',
-                    at: Some(299),
-                    value: Some(b'1'),
-                    place: None,
-                },
-                Lookup {
-                    key: b'z',
-                    at: Some(300),
-                    value: Some(b'2'),
-                    place: None,
-                },
-                Lookup {
-                    key: b'z',
-                    at: None,
-                    value: Some(b'2'),
-                    place: Some((2, 2)),
-                },
-            ],
-        },
+        versions: TWO,
+        horizons: &[250],
+        behind: &[],
+        lookups: &[
+            (b'z', Some(199), None, None),
+            (b'z', Some(200), Some(b'1'), None),
+            (b'z', Some(250), Some(b'1'), None),
+            (b'z', Some(299), Some(b'1'), None),
+            (b'z', Some(300), Some(b'2'), None),
+            (b'z', None, Some(b'2'), Some((2, 2))),
+        ],
     },
-    Named {
+    Forgotten {
         what: "that at the horizon stays",
-        row: Forgotten {
-            versions: Listed::Two,
-            horizons: &[200],
-            behind: Listed::Nothing,
-            lookups: &[
-                Lookup {
-                    key: b'z',
-                    at: Some(200),
-                    value: Some(b'1'),
-                    place: None,
-                },
-                Lookup {
-                    key: b'z',
-                    at: Some(299),
-                    value: Some(b'1'),
-                    place: None,
-                },
-                Lookup {
-                    key: b'z',
-                    at: None,
-                    value: Some(b'2'),
-                    place: Some((2, 2)),
-                },
-            ],
-        },
+        versions: TWO,
+        horizons: &[200],
+        behind: &[],
+        lookups: &[
+            (b'z', Some(200), Some(b'1'), None),
+            (b'z', Some(299), Some(b'1'), None),
+            (b'z', None, Some(b'2'), Some((2, 2))),
+        ],
     },
-    Named {
+    Forgotten {
         what: "a horizon below all",
-        row: Forgotten {
-            versions: Listed::Two,
-            horizons: &[199],
-            behind: Listed::Nothing,
-            lookups: &[
-                Lookup {
-                    key: b'z',
-                    at: Some(199),
-                    value: None,
-                    place: None,
-                },
-                Lookup {
-                    key: b'z',
-                    at: Some(200),
-                    value: Some(b'1'),
-                    place: None,
-                },
-                Lookup {
-                    key: b'z',
-                    at: None,
-                    value: Some(b'2'),
-                    place: Some((2, 2)),
-                },
-            ],
-        },
+        versions: TWO,
+        horizons: &[199],
+        behind: &[],
+        lookups: &[
+            (b'z', Some(199), None, None),
+            (b'z', Some(200), Some(b'1'), None),
+            (b'z', None, Some(b'2'), Some((2, 2))),
+        ],
     },
-    Named {
+    Forgotten {
         what: "a horizon above all",
-        row: Forgotten {
-            versions: Listed::Six,
-            horizons: &[4611686018427387903],
-            behind: Listed::Nothing,
-            lookups: &[
-                Lookup {
-                    key: b'a',
-                    at: Some(4611686018427387903),
-                    value: Some(b'3'),
-                    place: None,
-                },
-                Lookup {
-                    key: b'b',
-                    at: None,
-                    value: Some(b'5'),
-                    place: None,
-                },
-                Lookup {
-                    key: b'c',
-                    at: None,
-                    value: Some(b'6'),
-                    place: Some((3, 2)),
-                },
-                Lookup {
-                    key: b'a',
-                    at: Some(29),
-                    value: None,
-                    place: None,
-                },
-                Lookup {
-                    key: b'a',
-                    at: Some(30),
-                    value: Some(b'3'),
-                    place: None,
-                },
-            ],
-        },
+        versions: SIX,
+        horizons: &[4611686018427387903],
+        behind: &[],
+        lookups: &[
+            (b'a', Some(4611686018427387903), Some(b'3'), None),
+            (b'b', None, Some(b'5'), None),
+            (b'c', None, Some(b'6'), Some((3, 2))),
+            (b'a', Some(29), None, None),
+            (b'a', Some(30), Some(b'3'), None),
+        ],
     },
-    Named {
+    Forgotten {
         what: "an erasure that is the newest stays",
-        row: Forgotten {
-            versions: Listed::Erased,
-            horizons: &[250],
-            behind: Listed::Nothing,
-            lookups: &[
-                Lookup {
-                    key: b'a',
-                    at: Some(199),
-                    value: None,
-                    place: None,
-                },
-                Lookup {
-                    key: b'a',
-                    at: Some(200),
-                    value: None,
-                    place: None,
-                },
-                Lookup {
-                    key: b'a',
-                    at: Some(250),
-                    value: None,
-                    place: None,
-                },
-                Lookup {
-                    key: b'a',
-                    at: Some(299),
-                    value: None,
-                    place: None,
-                },
-                Lookup {
-                    key: b'a',
-                    at: Some(300),
-                    value: Some(b'2'),
-                    place: None,
-                },
-                Lookup {
-                    key: b'a',
-                    at: None,
-                    value: Some(b'2'),
-                    place: Some((2, 2)),
-                },
-            ],
-        },
+        versions: ERASED,
+        horizons: &[250],
+        behind: &[],
+        lookups: &[
+            (b'a', Some(199), None, None),
+            (b'a', Some(200), None, None),
+            (b'a', Some(250), None, None),
+            (b'a', Some(299), None, None),
+            (b'a', Some(300), Some(b'2'), None),
+            (b'a', None, Some(b'2'), Some((2, 2))),
+        ],
     },
-    Named {
+    Forgotten {
         what: "an erasure before it goes",
-        row: Forgotten {
-            versions: Listed::Erased,
-            horizons: &[300],
-            behind: Listed::Nothing,
-            lookups: &[
-                Lookup {
-                    key: b'a',
-                    at: Some(250),
-                    value: None,
-                    place: None,
-                },
-                Lookup {
-                    key: b'a',
-                    at: Some(300),
-                    value: Some(b'2'),
-                    place: None,
-                },
-                Lookup {
-                    key: b'a',
-                    at: None,
-                    value: Some(b'2'),
-                    place: Some((1, 1)),
-                },
-            ],
-        },
+        versions: ERASED,
+        horizons: &[300],
+        behind: &[],
+        lookups: &[
+            (b'a', Some(250), None, None),
+            (b'a', Some(300), Some(b'2'), None),
+            (b'a', None, Some(b'2'), Some((1, 1))),
+        ],
     },
-    Named {
+    Forgotten {
         what: "each key by itself",
-        row: Forgotten {
-            versions: Listed::Six,
-            horizons: &[20],
-            behind: Listed::Nothing,
-            lookups: &[
-                Lookup {
-                    key: b'a',
-                    at: Some(10),
-                    value: None,
-                    place: None,
-                },
-                Lookup {
-                    key: b'a',
-                    at: Some(20),
-                    value: Some(b'2'),
-                    place: None,
-                },
-                Lookup {
-                    key: b'a',
-                    at: Some(29),
-                    value: Some(b'2'),
-                    place: None,
-                },
-                Lookup {
-                    key: b'a',
-                    at: Some(30),
-                    value: Some(b'3'),
-                    place: None,
-                },
-                Lookup {
-                    key: b'b',
-                    at: Some(5),
-                    value: Some(b'4'),
-                    place: None,
-                },
-                Lookup {
-                    key: b'b',
-                    at: Some(20),
-                    value: Some(b'4'),
-                    place: None,
-                },
-                Lookup {
-                    key: b'b',
-                    at: Some(25),
-                    value: Some(b'5'),
-                    place: None,
-                },
-                Lookup {
-                    key: b'c',
-                    at: Some(39),
-                    value: None,
-                    place: None,
-                },
-                Lookup {
-                    key: b'c',
-                    at: Some(40),
-                    value: Some(b'6'),
-                    place: None,
-                },
-                Lookup {
-                    key: b'c',
-                    at: None,
-                    value: Some(b'6'),
-                    place: Some((5, 3)),
-                },
-            ],
-        },
+        versions: SIX,
+        horizons: &[20],
+        behind: &[],
+        lookups: &[
+            (b'a', Some(10), None, None),
+            (b'a', Some(20), Some(b'2'), None),
+            (b'a', Some(29), Some(b'2'), None),
+            (b'a', Some(30), Some(b'3'), None),
+            (b'b', Some(5), Some(b'4'), None),
+            (b'b', Some(20), Some(b'4'), None),
+            (b'b', Some(25), Some(b'5'), None),
+            (b'c', Some(39), None, None),
+            (b'c', Some(40), Some(b'6'), None),
+            (b'c', None, Some(b'6'), Some((5, 3))),
+        ],
     },
-    Named {
+    Forgotten {
         what: "twice",
-        row: Forgotten {
-            versions: Listed::Six,
-            horizons: &[20, 30],
-            behind: Listed::Nothing,
-            lookups: &[
-                Lookup {
-                    key: b'a',
-                    at: Some(29),
-                    value: None,
-                    place: None,
-                },
-                Lookup {
-                    key: b'a',
-                    at: Some(30),
-                    value: Some(b'3'),
-                    place: None,
-                },
-                Lookup {
-                    key: b'b',
-                    at: Some(25),
-                    value: Some(b'5'),
-                    place: None,
-                },
-                Lookup {
-                    key: b'b',
-                    at: Some(24),
-                    value: None,
-                    place: None,
-                },
-                Lookup {
-                    key: b'c',
-                    at: Some(40),
-                    value: Some(b'6'),
-                    place: Some((3, 2)),
-                },
-                Lookup {
-                    key: b'c',
-                    at: Some(39),
-                    value: None,
-                    place: Some((2, 2)),
-                },
-            ],
-        },
+        versions: SIX,
+        horizons: &[20, 30],
+        behind: &[],
+        lookups: &[
+            (b'a', Some(29), None, None),
+            (b'a', Some(30), Some(b'3'), None),
+            (b'b', Some(25), Some(b'5'), None),
+            (b'b', Some(24), None, None),
+            (b'c', Some(40), Some(b'6'), Some((3, 2))),
+            (b'c', Some(39), None, Some((2, 2))),
+        ],
     },
-    Named {
+    Forgotten {
         what: "a lower horizon later",
-        row: Forgotten {
-            versions: Listed::Six,
-            horizons: &[30, 10],
-            behind: Listed::Nothing,
-            lookups: &[
-                Lookup {
-                    key: b'a',
-                    at: Some(30),
-                    value: Some(b'3'),
-                    place: None,
-                },
-                Lookup {
-                    key: b'b',
-                    at: Some(30),
-                    value: Some(b'5'),
-                    place: None,
-                },
-                Lookup {
-                    key: b'a',
-                    at: Some(20),
-                    value: None,
-                    place: None,
-                },
-                Lookup {
-                    key: b'c',
-                    at: None,
-                    value: Some(b'6'),
-                    place: Some((3, 2)),
-                },
-            ],
-        },
+        versions: SIX,
+        horizons: &[30, 10],
+        behind: &[],
+        lookups: &[
+            (b'a', Some(30), Some(b'3'), None),
+            (b'b', Some(30), Some(b'5'), None),
+            (b'a', Some(20), None, None),
+            (b'c', None, Some(b'6'), Some((3, 2))),
+        ],
     },
-    Named {
+    Forgotten {
         what: "the beginning of time",
-        row: Forgotten {
-            versions: Listed::Six,
-            horizons: &[0],
-            behind: Listed::Nothing,
-            lookups: &[
-                Lookup {
-                    key: b'a',
-                    at: Some(10),
-                    value: Some(b'1'),
-                    place: None,
-                },
-                Lookup {
-                    key: b'a',
-                    at: Some(20),
-                    value: Some(b'2'),
-                    place: None,
-                },
-                Lookup {
-                    key: b'b',
-                    at: Some(5),
-                    value: Some(b'4'),
-                    place: None,
-                },
-                Lookup {
-                    key: b'c',
-                    at: None,
-                    value: Some(b'6'),
-                    place: Some((6, 3)),
-                },
-            ],
-        },
+        versions: SIX,
+        horizons: &[0],
+        behind: &[],
+        lookups: &[
+            (b'a', Some(10), Some(b'1'), None),
+            (b'a', Some(20), Some(b'2'), None),
+            (b'b', Some(5), Some(b'4'), None),
+            (b'c', None, Some(b'6'), Some((6, 3))),
+        ],
     },
-    Named {
+    Forgotten {
         what: "no version",
-        row: Forgotten {
-            versions: Listed::Nothing,
-            horizons: &[100],
-            behind: Listed::Nothing,
-            lookups: &[
-                Lookup {
-                    key: b'a',
-                    at: Some(100),
-                    value: None,
-                    place: Some((0, 0)),
-                },
-                Lookup {
-                    key: b'a',
-                    at: None,
-                    value: None,
-                    place: None,
-                },
-            ],
-        },
+        versions: &[],
+        horizons: &[100],
+        behind: &[],
+        lookups: &[
+            (b'a', Some(100), None, Some((0, 0))),
+            (b'a', None, None, None),
+        ],
     },
-    Named {
+    Forgotten {
         what: "installs behind it",
-        row: Forgotten {
-            versions: Listed::Six,
-            horizons: &[20],
-            behind: Listed::Later,
-            lookups: &[
-                Lookup {
-                    key: b'a',
-                    at: Some(20),
-                    value: Some(b'2'),
-                    place: None,
-                },
-                Lookup {
-                    key: b'a',
-                    at: Some(30),
-                    value: Some(b'3'),
-                    place: None,
-                },
-                Lookup {
-                    key: b'a',
-                    at: Some(31),
-                    value: Some(b'7'),
-                    place: None,
-                },
-                Lookup {
-                    key: b'b',
-                    at: Some(20),
-                    value: Some(b'4'),
-                    place: None,
-                },
-                Lookup {
-                    key: b'b',
-                    at: Some(25),
-                    value: Some(b'5'),
-                    place: None,
-                },
-                Lookup {
-                    key: b'b',
-                    at: Some(26),
-                    value: None,
-                    place: None,
-                },
-                Lookup {
-                    key: b'b',
-                    at: None,
-                    value: None,
-                    place: None,
-                },
-                Lookup {
-                    key: b'c',
-                    at: Some(40),
-                    value: Some(b'6'),
-                    place: None,
-                },
-                Lookup {
-                    key: b'd',
-                    at: Some(49),
-                    value: None,
-                    place: None,
-                },
-                Lookup {
-                    key: b'd',
-                    at: Some(50),
-                    value: Some(b'8'),
-                    place: None,
-                },
-                Lookup {
-                    key: b'd',
-                    at: None,
-                    value: Some(b'8'),
-                    place: Some((8, 4)),
-                },
-            ],
-        },
+        versions: SIX,
+        horizons: &[20],
+        behind: LATER,
+        lookups: &[
+            (b'a', Some(20), Some(b'2'), None),
+            (b'a', Some(30), Some(b'3'), None),
+            (b'a', Some(31), Some(b'7'), None),
+            (b'b', Some(20), Some(b'4'), None),
+            (b'b', Some(25), Some(b'5'), None),
+            (b'b', Some(26), None, None),
+            (b'b', None, None, None),
+            (b'c', Some(40), Some(b'6'), None),
+            (b'd', Some(49), None, None),
+            (b'd', Some(50), Some(b'8'), None),
+            (b'd', None, Some(b'8'), Some((8, 4))),
+        ],
     },
 ];
 
@@ -659,14 +225,14 @@ fn forget_all(versions: &mut Versions, horizons: &[u64]) -> bool {
 }
 
 impl Row for Forgotten {
-    fn holds(&self, rt: &HostRuntime) -> bool {
+    fn tell(&self, wrong: &mut WrongRows, rt: &HostRuntime) {
         let alloc = rt.alloc();
         let mut versions = Versions::none(alloc);
-        let installed = install_rows(alloc, &mut versions, self.versions.versions());
+        let installed = install_rows(alloc, &mut versions, self.versions);
         let forgotten = forget_all(&mut versions, self.horizons);
-        let more = install_rows(alloc, &mut versions, self.behind.versions());
+        let more = install_rows(alloc, &mut versions, self.behind);
         let shown = installed && forgotten && more && all_found(&versions, self.lookups);
         drop(versions);
-        shown
+        wrong.unless(shown, self.what);
     }
 }

@@ -2,13 +2,14 @@
 ghost use Rattle.std.specs.Prelude.{IsTrue};
 ghost use Rattle.ledger.specs.Ledger.{CanInstall};
 
-use crate::checks::{Named, Row};
-use crate::lines::{Line, is_spelled, record_of};
+use crate::checks::{Row, is_printed};
+use crate::text_logs::record_of;
 use ledger::{Ledger, Recorder};
+use made::{WrongRows, shard};
 use record::Record;
-use spelling::encode;
 use std::alloc::Global;
-use units::{Fault, ShardNo};
+use texts::Text;
+use units::Fault;
 
 // The records that were handed on.
 struct Handed {
@@ -26,173 +27,74 @@ impl Recorder for Handed {
 
 /// A log, and the records of the renewed one.
 pub struct Renewal {
+    what: &'static str,
     shard: u8,
-    lines: &'static [Line],
-    handed: &'static [Line],
+    lines: &'static str,
+    handed: &'static str,
 }
 
-pub static HANDED: [Named<Renewal>; 8] = [
-    Named {
+pub static HANDED: [Renewal; 8] = [
+    Renewal {
         what: "a commit that settled",
-        row: Renewal {
-            shard: 0,
-            lines: &[
-                Line::Opened(1),
-                Line::Commit(1, 111, b'a', 1),
-                Line::Committed(1, 111),
-            ],
-            handed: &[
-                Line::Base(1, 111, 0),
-                Line::Version(111, b'a'),
-                Line::Settled(1, 111, 1),
-            ],
-        },
+        shard: 0,
+        lines: "opened 1\ncommit 1.1 111 0 - a=1\noutcome 1.1 committed 111",
+        handed: "base 1 111 0\nversion 111 a=1\nsettled 1.1 111 0",
     },
-    Named {
+    Renewal {
         what: "an abort, and a ceiling",
-        row: Renewal {
-            shard: 0,
-            lines: &[Line::Opened(1), Line::Ceiling(50), Line::Abort(9)],
-            handed: &[Line::Base(1, 50, 0), Line::Abort(9)],
-        },
+        shard: 0,
+        lines: "opened 1\nceiling 50\nabort 1.9",
+        handed: "base 1 50 0\nabort 1.9",
     },
-    Named {
+    Renewal {
         what: "a promise that stands",
-        row: Renewal {
-            shard: 1,
-            lines: &[
-                Line::Opened(1),
-                Line::Prepare(3, 60, b'b', 0),
-                Line::Opened(2),
-            ],
-            handed: &[Line::Base(2, 60, 0), Line::Prepare(3, 60, b'b', 0)],
-        },
+        shard: 1,
+        lines: "opened 1\nprepare 1.3 0 60 - b=1\nopened 2",
+        handed: "base 2 60 0\nprepare 1.3 0 60 - b=1",
     },
-    Named {
+    Renewal {
         what: "promises that were closed",
-        row: Renewal {
-            shard: 1,
-            lines: &[
-                Line::Opened(1),
-                Line::Prepare(4, 70, b'c', 0),
-                Line::Committed(4, 80),
-                Line::Prepare(5, 90, b'd', 0),
-                Line::Aborted(5),
-            ],
-            handed: &[
-                Line::Base(1, 90, 0),
-                Line::Version(80, b'c'),
-                Line::Closed(4, 0, 80),
-                Line::ClosedAborted(5, 0),
-            ],
-        },
+        shard: 1,
+        lines: "opened 1\nprepare 1.4 0 70 - c=1\noutcome 1.4 committed 80\n\
+            prepare 1.5 0 90 - d=1\noutcome 1.5 aborted",
+        handed: "base 1 90 0\nversion 80 c=1\nclosed 1.4 0 committed 80\nclosed 1.5 0 aborted",
     },
-    Named {
+    Renewal {
         what: "versions below, at and above a horizon",
-        row: Renewal {
-            shard: 0,
-            lines: &[
-                Line::Opened(1),
-                Line::Commit(1, 200, b'a', 1),
-                Line::Committed(1, 200),
-                Line::Commit(2, 250, b'b', 1),
-                Line::Committed(2, 250),
-                Line::Commit(3, 300, b'a', 1),
-                Line::Committed(3, 300),
-                Line::Commit(4, 400, b'a', 1),
-                Line::Committed(4, 400),
-                Line::Horizon(300),
-            ],
-            handed: &[
-                Line::Base(1, 400, 300),
-                Line::Version(300, b'a'),
-                Line::Version(400, b'a'),
-                Line::Version(250, b'b'),
-                Line::Settled(1, 200, 1),
-                Line::Settled(2, 250, 1),
-                Line::Settled(3, 300, 1),
-                Line::Settled(4, 400, 1),
-            ],
-        },
+        shard: 0,
+        lines: "opened 1\ncommit 1.1 200 0 - a=1\noutcome 1.1 committed 200\n\
+            commit 1.2 250 0 - b=1\noutcome 1.2 committed 250\ncommit 1.3 300 0 - a=1\n\
+            outcome 1.3 committed 300\ncommit 1.4 400 0 - a=1\noutcome 1.4 committed 400\n\
+            horizon 300",
+        handed: "base 1 400 300\nversion 300 a=1\nversion 400 a=1\nversion 250 b=1\n\
+            settled 1.1 200 0\nsettled 1.2 250 0\nsettled 1.3 300 0\nsettled 1.4 400 0",
     },
-    Named {
+    Renewal {
         what: "a horizon between two versions",
-        row: Renewal {
-            shard: 0,
-            lines: &[
-                Line::Opened(1),
-                Line::Commit(1, 100, b'a', 1),
-                Line::Committed(1, 100),
-                Line::Commit(2, 200, b'a', 1),
-                Line::Committed(2, 200),
-                Line::Commit(3, 300, b'a', 1),
-                Line::Committed(3, 300),
-                Line::Horizon(299),
-            ],
-            handed: &[
-                Line::Base(1, 300, 299),
-                Line::Version(200, b'a'),
-                Line::Version(300, b'a'),
-                Line::Settled(1, 100, 1),
-                Line::Settled(2, 200, 1),
-                Line::Settled(3, 300, 1),
-            ],
-        },
+        shard: 0,
+        lines: "opened 1\ncommit 1.1 100 0 - a=1\noutcome 1.1 committed 100\n\
+            commit 1.2 200 0 - a=1\noutcome 1.2 committed 200\ncommit 1.3 300 0 - a=1\n\
+            outcome 1.3 committed 300\nhorizon 299",
+        handed: "base 1 300 299\nversion 200 a=1\nversion 300 a=1\nsettled 1.1 100 0\n\
+            settled 1.2 200 0\nsettled 1.3 300 0",
     },
-    Named {
+    Renewal {
         what: "ids and keys that do not come in order",
-        row: Renewal {
-            shard: 0,
-            lines: &[
-                Line::Opened(1),
-                Line::Abort(9),
-                Line::Commit(5, 30, b'c', 1),
-                Line::Abort(2),
-                Line::Commit(7, 20, b'b', 3),
-                Line::Committed(5, 30),
-                Line::Commit(8, 35, b'a', 1),
-                Line::Committed(8, 35),
-                Line::Commit(3, 10, b'd', 1),
-                Line::Abort(4),
-            ],
-            handed: &[
-                Line::Base(1, 35, 0),
-                Line::Version(35, b'a'),
-                Line::Version(30, b'c'),
-                Line::Abort(2),
-                Line::Abort(4),
-                Line::Settled(5, 30, 1),
-                Line::Settled(8, 35, 1),
-                Line::Abort(9),
-                Line::Commit(3, 10, b'd', 1),
-                Line::Commit(7, 20, b'b', 3),
-            ],
-        },
+        shard: 0,
+        lines: "opened 1\nabort 1.9\ncommit 1.5 30 0 - c=1\nabort 1.2\ncommit 1.7 20 0,1 - b=1\n\
+            outcome 1.5 committed 30\ncommit 1.8 35 0 - a=1\noutcome 1.8 committed 35\n\
+            commit 1.3 10 0 - d=1\nabort 1.4",
+        handed: "base 1 35 0\nversion 35 a=1\nversion 30 c=1\nabort 1.2\nabort 1.4\n\
+            settled 1.5 30 0\nsettled 1.8 35 0\nabort 1.9\ncommit 1.3 10 0 - d=1\n\
+            commit 1.7 20 0,1 - b=1",
     },
-    Named {
+    Renewal {
         what: "a renewed log, with an erasure and with a promise behind",
-        row: Renewal {
-            shard: 1,
-            lines: &[
-                Line::Base(2, 111, 20),
-                Line::Version(10, b'a'),
-                Line::Erased(30, b'a'),
-                Line::Version(5, b'b'),
-                Line::Closed(7, 0, 100),
-                Line::Abort(1),
-                Line::Opened(3),
-                Line::Prepare(6, 120, b'b', 0),
-            ],
-            handed: &[
-                Line::Base(3, 120, 20),
-                Line::Version(10, b'a'),
-                Line::Erased(30, b'a'),
-                Line::Version(5, b'b'),
-                Line::Abort(1),
-                Line::Closed(7, 0, 100),
-                Line::Prepare(6, 120, b'b', 0),
-            ],
-        },
+        shard: 1,
+        lines: "base 2 111 20\nversion 10 a=1\nversion 30 a!\nversion 5 b=1\n\
+            closed 1.7 0 committed 100\nabort 1.1\nopened 3\nprepare 1.6 0 120 - b=1",
+        handed: "base 3 120 20\nversion 10 a=1\nversion 30 a!\nversion 5 b=1\nabort 1.1\n\
+            closed 1.7 0 committed 100\nprepare 1.6 0 120 - b=1",
     },
 ];
 
@@ -217,7 +119,7 @@ fn can_install(ledger: &Ledger, item: &Record) -> bool
 }
 
 // Learns a record, where it may come next.
-fn comes(alloc: Global, ledger: &mut Ledger, line: Line) -> bool {
+fn comes(alloc: Global, ledger: &mut Ledger, line: &str) -> bool {
     let Ok(()) = ledger.reserve() else {
         return false;
     };
@@ -233,42 +135,30 @@ fn comes(alloc: Global, ledger: &mut Ledger, line: Line) -> bool {
     fits
 }
 
-fn all_come(alloc: Global, ledger: &mut Ledger, lines: &[Line]) -> bool {
-    for line in lines {
-        if !comes(alloc, ledger, *line) {
+/// Whether the ledger learns all of these records.
+pub fn all_come(alloc: Global, ledger: &mut Ledger, lines: &str) -> bool {
+    for line in lines.lines() {
+        if !comes(alloc, ledger, line) {
             return false;
         }
     }
     true
 }
 
-// The record is that of the line, byte by byte.
-fn is_of(alloc: Global, item: &Record, line: Line) -> bool {
-    let Some(wanted) = record_of(alloc, line) else {
-        return false;
-    };
-    let bytes = encode(alloc, &wanted);
-    drop(wanted);
-    let Ok(bytes) = bytes else {
-        return false;
-    };
-    let same = is_spelled(alloc, item, bytes.as_slice());
-    drop(bytes);
-    same
-}
-
-fn are_of(alloc: Global, records: &[Record], lines: &[Line]) -> bool {
-    for (number, item) in records.iter().enumerate() {
-        match lines.get(number) {
-            Some(line) if is_of(alloc, item, *line) => {}
+// The records are printed as these lines.
+fn are_of(alloc: Global, records: &[Record], lines: &str) -> bool {
+    let mut wanted = lines.lines();
+    for item in records {
+        match wanted.next() {
+            Some(line) if is_printed(alloc, &Text(item), line) => {}
             _ => return false,
         }
     }
-    records.len() == lines.len()
+    wanted.next().is_none()
 }
 
 // Whether the ledger hands on these records, and no others.
-fn hands_on(alloc: Global, ledger: &Ledger, lines: &[Line]) -> bool {
+fn hands_on(alloc: Global, ledger: &Ledger, lines: &str) -> bool {
     if ledger.epoch() == 0 {
         return false;
     }
@@ -284,15 +174,12 @@ fn hands_on(alloc: Global, ledger: &Ledger, lines: &[Line]) -> bool {
 
 // The records come one after another, and the renewed log is made of those that it should.
 impl Row for Renewal {
-    fn holds(&self, rt: &HostRuntime) -> bool {
+    fn tell(&self, wrong: &mut WrongRows, rt: &HostRuntime) {
         let alloc = rt.alloc();
-        let Some(shard) = ShardNo::new(self.shard) else {
-            return false;
-        };
-        let mut ledger = Ledger::new(alloc, shard);
+        let mut ledger = Ledger::new(alloc, shard(self.shard % 16));
         let holds = all_come(alloc, &mut ledger, self.lines)
             && hands_on(alloc, &ledger, self.handed);
         drop(ledger);
-        holds
+        wrong.unless(holds, self.what);
     }
 }

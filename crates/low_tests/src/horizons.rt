@@ -1,9 +1,8 @@
-//! Many versions, and drawn ones, of which those below horizons are forgotten.
-use crate::checks::{Named, Row};
-use crate::lines::byte;
-use crate::versioned::{PREFIXES, Plain, agree_at, draw, draw_version, install, take};
+//! Many versions, of which those below horizons are forgotten.
+use crate::checks::{Row, byte};
+use crate::versioned::{Plain, agree_at, install};
 use counts::Count;
-use made::{key, stamp};
+use made::{WrongRows, key, stamp};
 use std::alloc::Global;
 use std::ops::Range;
 use units::Key;
@@ -12,6 +11,7 @@ use versions::Versions;
 /// So many versions, one at each timestamp from 1 on, of so many keys in turn that begin alike; a horizon, how many it leaves, and
 /// how many come behind it.
 pub struct Many {
+    what: &'static str,
     versions: u32,
     keys: u32,
     horizon: u32,
@@ -19,49 +19,41 @@ pub struct Many {
     behind: u32,
 }
 
-pub static MANY: [Named<Many>; 4] = [
+pub static MANY: [Many; 4] = [
     // 4,500 and the 500 behind it.
-    Named {
+    Many {
         what: "of one key",
-        row: Many {
-            versions: 5_000,
-            keys: 1,
-            horizon: 4_500,
-            left: 501,
-            behind: 5_000,
-        },
+        versions: 5_000,
+        keys: 1,
+        horizon: 4_500,
+        left: 501,
+        behind: 5_000,
     },
-    Named {
+    Many {
         what: "the last of one key",
-        row: Many {
-            versions: 9_000,
-            keys: 1,
-            horizon: 9_000,
-            left: 1,
-            behind: 3,
-        },
+        versions: 9_000,
+        keys: 1,
+        horizon: 9_000,
+        left: 1,
+        behind: 3,
     },
     // 8,997, 8,998 and 8,999, and the one behind them.
-    Named {
+    Many {
         what: "of three keys",
-        row: Many {
-            versions: 9_000,
-            keys: 3,
-            horizon: 8_999,
-            left: 4,
-            behind: 9_000,
-        },
+        versions: 9_000,
+        keys: 3,
+        horizon: 8_999,
+        left: 4,
+        behind: 9_000,
     },
     // 4,093 to 4,097, and the 4,903 behind them.
-    Named {
+    Many {
         what: "of five keys, in two pieces",
-        row: Many {
-            versions: 9_000,
-            keys: 5,
-            horizon: 4_097,
-            left: 4_908,
-            behind: 100,
-        },
+        versions: 9_000,
+        keys: 5,
+        horizon: 4_097,
+        left: 4_908,
+        behind: 100,
     },
 ];
 
@@ -132,41 +124,14 @@ fn is_forgotten(alloc: Global, versions: &mut Versions, row: &Many) -> bool {
 }
 
 impl Row for Many {
-    fn holds(&self, rt: &HostRuntime) -> bool {
+    fn tell(&self, wrong: &mut WrongRows, rt: &HostRuntime) {
         let alloc = rt.alloc();
         let mut versions = Versions::none(alloc);
         let shown = is_forgotten(alloc, &mut versions, self);
         drop(versions);
-        shown
+        wrong.unless(shown, self.what);
     }
 }
-
-/// So many drawn versions of keys behind one of these numbers of letters. At each so many-th turn those below a drawn horizon are
-/// forgotten, and some versions are looked for.
-pub struct Drawn {
-    letters: [usize; 5],
-    turns: u32,
-    apart: u32,
-}
-
-pub static DRAWN: [Named<Drawn>; 2] = [
-    Named {
-        what: "behind 8 letters",
-        row: Drawn {
-            letters: [8; 5],
-            turns: 600,
-            apart: 40,
-        },
-    },
-    Named {
-        what: "behind several prefixes",
-        row: Drawn {
-            letters: PREFIXES,
-            turns: 2_000,
-            apart: 150,
-        },
-    },
-];
 
 // A later version of the key is not above the horizon.
 fn has_later(all: &[Plain], one: &Plain, horizon: u32) -> bool {
@@ -189,8 +154,13 @@ fn without(alloc: Global, all: &[Plain], horizon: u32) -> Option<Vec<Plain>> {
     Some(kept)
 }
 
-// Versions and the plain list forget what is below the horizon, and say the same of each version that there was.
-fn forget_both(alloc: Global, versions: &mut Versions, all: &mut Vec<Plain>, horizon: u32) -> bool {
+/// Versions and the plain list forget what is below the horizon, and say the same of each version that there was.
+pub fn forget_both(
+    alloc: Global,
+    versions: &mut Versions,
+    all: &mut Vec<Plain>,
+    horizon: u32,
+) -> bool {
     let Some(kept) = without(alloc, all, horizon) else {
         return false;
     };
@@ -202,29 +172,4 @@ fn forget_both(alloc: Global, versions: &mut Versions, all: &mut Vec<Plain>, hor
     }
     *all = kept;
     true
-}
-
-fn agree(alloc: Global, versions: &mut Versions, all: &mut Vec<Plain>, row: &Drawn) -> bool {
-    let mut state = u64::from(row.turns);
-    for turn in 0..row.turns {
-        let new = draw_version(&mut state, &row.letters, turn);
-        let horizon = turn.saturating_add(draw(&mut state, 60) as u32);
-        let agreed = take(alloc, versions, all, &new)
-            && (turn % row.apart.max(1) != 0 || forget_both(alloc, versions, all, horizon));
-        if !agreed {
-            return false;
-        }
-    }
-    true
-}
-
-impl Row for Drawn {
-    fn holds(&self, rt: &HostRuntime) -> bool {
-        let alloc = rt.alloc();
-        let (mut versions, mut all) = (Versions::none(alloc), Vec::new(alloc));
-        let agreed = agree(alloc, &mut versions, &mut all, self);
-        drop(versions);
-        drop(all);
-        agreed
-    }
 }

@@ -1,15 +1,15 @@
 //! What a log determines, and which records may come next.
-use crate::checks::{Named, Row};
-use crate::lines::{Line, record_of};
+use crate::checks::Row;
+use crate::text_logs::record_of;
 use facts::{Facts, Status};
-use made::{id, key};
+use made::{WrongRows, id, key, shard};
 use record::{Committed, Prepared};
 use std::alloc::Global;
-use units::{Fault, Install, ShardNo, Stamp};
+use units::{Fault, Install, Stamp};
 
 // Learns a record, where it may come next; where not, it is refused as damage, handed back, and does not follow. Whether it is as
 // wanted.
-fn comes(alloc: Global, facts: &mut Facts, line: Line, learnt: bool) -> bool {
+fn comes(alloc: Global, facts: &mut Facts, line: &str, learnt: bool) -> bool {
     let Ok(()) = facts.reserve() else {
         return false;
     };
@@ -27,9 +27,9 @@ fn comes(alloc: Global, facts: &mut Facts, line: Line, learnt: bool) -> bool {
 }
 
 // Whether each is learnt, or each refused.
-fn all_come(alloc: Global, facts: &mut Facts, lines: &[Line], learnt: bool) -> bool {
-    for line in lines {
-        if !comes(alloc, facts, *line, learnt) {
+fn all_come(alloc: Global, facts: &mut Facts, lines: &str, learnt: bool) -> bool {
+    for line in lines.lines() {
+        if !comes(alloc, facts, line, learnt) {
             return false;
         }
     }
@@ -71,461 +71,329 @@ struct Determined {
 
 /// The log of a shard, records of which none may come next, and what it determines where that is looked at.
 pub struct Case {
+    what: &'static str,
     shard: u8,
-    lines: &'static [Line],
-    refused: &'static [Line],
+    lines: &'static str,
+    refused: &'static str,
     determined: Option<Determined>,
 }
 
-const PROMISE: Line = Line::Prepare(1, 5, b'a', 0);
-
-const DECISION: Line = Line::Commit(1, 5, b'a', 2);
-
-pub static CASES: [Named<Case>; 18] = [
-    Named {
+pub static CASES: [Case; 18] = [
+    Case {
         what: "a decision",
-        row: Case {
-            shard: 0,
-            lines: &[Line::Opened(1), Line::Commit(1, 111, b'a', 1)],
-            refused: &[],
-            determined: Some(Determined {
-                epoch: 1,
-                floor: 111,
-                horizon: 0,
-                installs: &[],
-                known: &[Known {
-                    number: 1,
-                    decided: Some(111),
-                    ..UNKNOWN
-                }],
-            }),
-        },
+        shard: 0,
+        lines: "opened 1\ncommit 1.1 111 0 - a=1",
+        refused: "",
+        determined: Some(Determined {
+            epoch: 1,
+            floor: 111,
+            horizon: 0,
+            installs: &[],
+            known: &[Known {
+                number: 1,
+                decided: Some(111),
+                ..UNKNOWN
+            }],
+        }),
     },
-    Named {
+    Case {
         what: "a decision that was settled",
-        row: Case {
-            shard: 0,
-            lines: &[
-                Line::Opened(1),
-                Line::Commit(1, 111, b'a', 1),
-                Line::Committed(1, 111),
-            ],
-            refused: &[],
-            determined: Some(Determined {
-                epoch: 1,
-                floor: 111,
-                horizon: 0,
-                installs: &[(111, b'a')],
-                known: &[Known {
-                    number: 1,
-                    outcome: Some(Some(111)),
-                    settled: true,
-                    ..UNKNOWN
-                }],
-            }),
-        },
+        shard: 0,
+        lines: "opened 1\ncommit 1.1 111 0 - a=1\noutcome 1.1 committed 111",
+        refused: "",
+        determined: Some(Determined {
+            epoch: 1,
+            floor: 111,
+            horizon: 0,
+            installs: &[(111, b'a')],
+            known: &[Known {
+                number: 1,
+                outcome: Some(Some(111)),
+                settled: true,
+                ..UNKNOWN
+            }],
+        }),
     },
     // An outcome aborted follows a promise, and is no abort decision.
-    Named {
+    Case {
         what: "two promises that ended",
-        row: Case {
-            shard: 1,
-            lines: &[
-                Line::Opened(1),
-                Line::Prepare(3, 200, b'a', 0),
-                Line::Prepare(2, 300, b'a', 0),
-                Line::Committed(3, 250),
-                Line::Ceiling(280),
-                Line::Aborted(2),
-                Line::Opened(2),
+        shard: 1,
+        lines: "opened 1\nprepare 1.3 0 200 - a=1\nprepare 1.2 0 300 - a=1\n\
+            outcome 1.3 committed 250\nceiling 280\noutcome 1.2 aborted\nopened 2",
+        refused: "",
+        determined: Some(Determined {
+            epoch: 2,
+            floor: 300,
+            horizon: 0,
+            installs: &[(250, b'a')],
+            known: &[
+                Known {
+                    number: 2,
+                    outcome: Some(None),
+                    ..UNKNOWN
+                },
+                Known {
+                    number: 3,
+                    outcome: Some(Some(250)),
+                    ..UNKNOWN
+                },
             ],
-            refused: &[],
-            determined: Some(Determined {
-                epoch: 2,
-                floor: 300,
-                horizon: 0,
-                installs: &[(250, b'a')],
-                known: &[
-                    Known {
-                        number: 2,
-                        outcome: Some(None),
-                        ..UNKNOWN
-                    },
-                    Known {
-                        number: 3,
-                        outcome: Some(Some(250)),
-                        ..UNKNOWN
-                    },
-                ],
-            }),
-        },
+        }),
     },
-    Named {
+    Case {
         what: "aborts beside promises",
-        row: Case {
-            shard: 1,
-            lines: &[
-                Line::Opened(1),
-                Line::Abort(5),
-                Line::Prepare(3, 200, b'a', 0),
-                Line::Abort(9),
-                Line::Prepare(1, 300, b'a', 0),
-                Line::Aborted(3),
-                Line::Abort(7),
+        shard: 1,
+        lines: "opened 1\nabort 1.5\nprepare 1.3 0 200 - a=1\nabort 1.9\n\
+            prepare 1.1 0 300 - a=1\noutcome 1.3 aborted\nabort 1.7",
+        refused: "",
+        determined: Some(Determined {
+            epoch: 1,
+            floor: 300,
+            horizon: 0,
+            installs: &[],
+            known: &[
+                Known {
+                    number: 3,
+                    outcome: Some(None),
+                    ..UNKNOWN
+                },
+                Known {
+                    number: 1,
+                    prepared: Some(300),
+                    ..UNKNOWN
+                },
+                Known {
+                    number: 4,
+                    ..UNKNOWN
+                },
+                Known {
+                    number: 5,
+                    aborted: true,
+                    ..UNKNOWN
+                },
+                Known {
+                    number: 7,
+                    aborted: true,
+                    ..UNKNOWN
+                },
+                Known {
+                    number: 9,
+                    aborted: true,
+                    ..UNKNOWN
+                },
             ],
-            refused: &[],
-            determined: Some(Determined {
-                epoch: 1,
-                floor: 300,
-                horizon: 0,
-                installs: &[],
-                known: &[
-                    Known {
-                        number: 3,
-                        outcome: Some(None),
-                        ..UNKNOWN
-                    },
-                    Known {
-                        number: 1,
-                        prepared: Some(300),
-                        ..UNKNOWN
-                    },
-                    Known {
-                        number: 4,
-                        ..UNKNOWN
-                    },
-                    Known {
-                        number: 5,
-                        aborted: true,
-                        ..UNKNOWN
-                    },
-                    Known {
-                        number: 7,
-                        aborted: true,
-                        ..UNKNOWN
-                    },
-                    Known {
-                        number: 9,
-                        aborted: true,
-                        ..UNKNOWN
-                    },
-                ],
-            }),
-        },
+        }),
     },
-    Named {
+    Case {
         what: "a promise that stands",
-        row: Case {
-            shard: 1,
-            lines: &[
-                Line::Opened(1),
-                Line::Prepare(2, 200, b'a', 0),
-                Line::Abort(9),
+        shard: 1,
+        lines: "opened 1\nprepare 1.2 0 200 - a=1\nabort 1.9",
+        refused: "",
+        determined: Some(Determined {
+            epoch: 1,
+            floor: 200,
+            horizon: 0,
+            installs: &[],
+            known: &[
+                Known {
+                    number: 2,
+                    prepared: Some(200),
+                    ..UNKNOWN
+                },
+                Known {
+                    number: 9,
+                    aborted: true,
+                    ..UNKNOWN
+                },
             ],
-            refused: &[],
-            determined: Some(Determined {
-                epoch: 1,
-                floor: 200,
-                horizon: 0,
-                installs: &[],
-                known: &[
-                    Known {
-                        number: 2,
-                        prepared: Some(200),
-                        ..UNKNOWN
-                    },
-                    Known {
-                        number: 9,
-                        aborted: true,
-                        ..UNKNOWN
-                    },
-                ],
-            }),
-        },
+        }),
     },
-    Named {
+    Case {
         what: "behind nothing",
-        row: Case {
-            shard: 0,
-            lines: &[],
-            refused: &[
-                Line::Opened(2),
-                Line::Abort(1),
-                Line::Ceiling(5),
-                Line::Horizon(0),
-                Line::Version(5, b'a'),
-                Line::Settled(1, 5, 1),
-            ],
-            determined: None,
-        },
+        shard: 0,
+        lines: "",
+        refused: "opened 2\nabort 1.1\nceiling 5\nhorizon 0\nversion 5 a=1\nsettled 1.1 5 0",
+        determined: None,
     },
-    Named {
+    Case {
         what: "behind an opening",
-        row: Case {
-            shard: 0,
-            lines: &[Line::Opened(1)],
-            refused: &[Line::Opened(1)],
-            determined: None,
-        },
+        shard: 0,
+        lines: "opened 1",
+        refused: "opened 1",
+        determined: None,
     },
-    Named {
+    Case {
         what: "behind two openings",
-        row: Case {
-            shard: 0,
-            lines: &[Line::Opened(1), Line::Opened(2)],
-            refused: &[Line::Opened(4)],
-            determined: None,
-        },
+        shard: 0,
+        lines: "opened 1\nopened 2",
+        refused: "opened 4",
+        determined: None,
     },
     // A horizon is above 0, and nothing was assigned.
-    Named {
+    Case {
         what: "a horizon behind an opening",
-        row: Case {
-            shard: 0,
-            lines: &[Line::Opened(1)],
-            refused: &[Line::Horizon(0), Line::Horizon(1)],
-            determined: None,
-        },
+        shard: 0,
+        lines: "opened 1",
+        refused: "horizon 0\nhorizon 1",
+        determined: None,
     },
     // A horizon rises, and is not above the greatest timestamp, which it does not raise.
-    Named {
+    Case {
         what: "behind a horizon",
-        row: Case {
-            shard: 0,
-            lines: &[Line::Opened(1), Line::Ceiling(300), Line::Horizon(200)],
-            refused: &[
-                Line::Horizon(0),
-                Line::Horizon(199),
-                Line::Horizon(200),
-                Line::Horizon(301),
-            ],
-            determined: Some(Determined {
-                epoch: 1,
-                floor: 300,
-                horizon: 200,
-                installs: &[],
-                known: &[],
-            }),
-        },
+        shard: 0,
+        lines: "opened 1\nceiling 300\nhorizon 200",
+        refused: "horizon 0\nhorizon 199\nhorizon 200\nhorizon 301",
+        determined: Some(Determined {
+            epoch: 1,
+            floor: 300,
+            horizon: 200,
+            installs: &[],
+            known: &[],
+        }),
     },
-    Named {
+    Case {
         what: "behind a horizon at the greatest timestamp",
-        row: Case {
-            shard: 0,
-            lines: &[
-                Line::Opened(1),
-                Line::Ceiling(300),
-                Line::Horizon(1),
-                Line::Horizon(300),
-                Line::Opened(2),
-            ],
-            refused: &[Line::Horizon(300), Line::Horizon(301)],
-            determined: Some(Determined {
-                epoch: 2,
-                floor: 300,
-                horizon: 300,
-                installs: &[],
-                known: &[],
-            }),
-        },
+        shard: 0,
+        lines: "opened 1\nceiling 300\nhorizon 1\nhorizon 300\nopened 2",
+        refused: "horizon 300\nhorizon 301",
+        determined: Some(Determined {
+            epoch: 2,
+            floor: 300,
+            horizon: 300,
+            installs: &[],
+            known: &[],
+        }),
     },
     // The versions of a log are all those that it installs, whatever its horizon.
-    Named {
+    Case {
         what: "versions behind a horizon",
-        row: Case {
-            shard: 0,
-            lines: &[
-                Line::Opened(1),
-                Line::Commit(1, 5, b'a', 1),
-                Line::Committed(1, 5),
-                Line::Commit(2, 9, b'a', 1),
-                Line::Committed(2, 9),
-                Line::Horizon(9),
-            ],
-            refused: &[],
-            determined: Some(Determined {
-                epoch: 1,
-                floor: 9,
-                horizon: 9,
-                installs: &[(5, b'a'), (9, b'a')],
-                known: &[Known {
-                    number: 1,
-                    outcome: Some(Some(5)),
-                    settled: true,
-                    ..UNKNOWN
-                }],
-            }),
-        },
+        shard: 0,
+        lines: "opened 1\ncommit 1.1 5 0 - a=1\noutcome 1.1 committed 5\ncommit 1.2 9 0 - a=1\n\
+            outcome 1.2 committed 9\nhorizon 9",
+        refused: "",
+        determined: Some(Determined {
+            epoch: 1,
+            floor: 9,
+            horizon: 9,
+            installs: &[(5, b'a'), (9, b'a')],
+            known: &[Known {
+                number: 1,
+                outcome: Some(Some(5)),
+                settled: true,
+                ..UNKNOWN
+            }],
+        }),
     },
     // A timestamp 0, a coordinator that is not below the shard, a least part that is another shard, an end of nothing.
-    Named {
+    Case {
         what: "behind an opening of shard 1",
-        row: Case {
-            shard: 1,
-            lines: &[Line::Opened(1)],
-            refused: &[
-                Line::Prepare(1, 0, b'a', 0),
-                Line::Prepare(1, 5, b'a', 1),
-                Line::Commit(1, 0, b'a', 2),
-                Line::Commit(1, 5, b'a', 3),
-                Line::Commit(1, 5, b'a', 4),
-                Line::Committed(1, 5),
-                Line::Aborted(1),
-            ],
-            determined: None,
-        },
+        shard: 1,
+        lines: "opened 1",
+        refused: "prepare 1.1 0 0 - a=1\nprepare 1.1 1 5 - a=1\ncommit 1.1 0 1 - a=1\n\
+            commit 1.1 5 0,1 - a=1\ncommit 1.1 5 2 - a=1\noutcome 1.1 committed 5\n\
+            outcome 1.1 aborted",
+        determined: None,
     },
     // A second promise, decision or abort, and an end that is not the one that was begun.
-    Named {
+    Case {
         what: "behind a promise",
-        row: Case {
-            shard: 1,
-            lines: &[Line::Opened(1), PROMISE],
-            refused: &[PROMISE, DECISION, Line::Abort(1), Line::Committed(1, 4)],
-            determined: None,
-        },
+        shard: 1,
+        lines: "opened 1\nprepare 1.1 0 5 - a=1",
+        refused: "prepare 1.1 0 5 - a=1\ncommit 1.1 5 1 - a=1\nabort 1.1\noutcome 1.1 committed 4",
+        determined: None,
     },
-    Named {
+    Case {
         what: "behind a decision",
-        row: Case {
-            shard: 1,
-            lines: &[Line::Opened(1), DECISION],
-            refused: &[
-                PROMISE,
-                DECISION,
-                Line::Abort(1),
-                Line::Committed(1, 6),
-                Line::Aborted(1),
-            ],
-            determined: None,
-        },
+        shard: 1,
+        lines: "opened 1\ncommit 1.1 5 1 - a=1",
+        refused: "prepare 1.1 0 5 - a=1\ncommit 1.1 5 1 - a=1\nabort 1.1\n\
+            outcome 1.1 committed 6\noutcome 1.1 aborted",
+        determined: None,
     },
-    Named {
+    Case {
         what: "behind an abort",
-        row: Case {
-            shard: 1,
-            lines: &[Line::Opened(1), Line::Abort(1)],
-            refused: &[PROMISE, DECISION, Line::Abort(1), Line::Aborted(1)],
-            determined: None,
-        },
+        shard: 1,
+        lines: "opened 1\nabort 1.1",
+        refused: "prepare 1.1 0 5 - a=1\ncommit 1.1 5 1 - a=1\nabort 1.1\noutcome 1.1 aborted",
+        determined: None,
     },
     // A second end.
-    Named {
+    Case {
         what: "behind a decision that was settled",
-        row: Case {
-            shard: 1,
-            lines: &[Line::Opened(1), DECISION, Line::Committed(1, 5)],
-            refused: &[Line::Committed(1, 5)],
-            determined: None,
-        },
+        shard: 1,
+        lines: "opened 1\ncommit 1.1 5 1 - a=1\noutcome 1.1 committed 5",
+        refused: "outcome 1.1 committed 5",
+        determined: None,
     },
-    Named {
+    Case {
         what: "behind a promise that was aborted",
-        row: Case {
-            shard: 1,
-            lines: &[Line::Opened(1), PROMISE, Line::Aborted(1)],
-            refused: &[Line::Committed(1, 6)],
-            determined: None,
-        },
+        shard: 1,
+        lines: "opened 1\nprepare 1.1 0 5 - a=1\noutcome 1.1 aborted",
+        refused: "outcome 1.1 committed 6",
+        determined: None,
     },
 ];
 
 /// What renewed logs determine.
-pub static RENEWED: [Named<Case>; 3] = [
-    Named {
+pub static RENEWED: [Case; 3] = [
+    Case {
         what: "behind a base",
-        row: Case {
-            shard: 0,
-            lines: &[Line::Base(3, 111, 50)],
-            refused: &[
-                Line::Base(3, 111, 50),
-                Line::Opened(3),
-                Line::Opened(5),
-                Line::Horizon(50),
-                Line::Horizon(112),
-                Line::Settled(1, 0, 1),
-                Line::Settled(1, 5, 2),
-                Line::ClosedAborted(1, 0),
-            ],
-            determined: Some(Determined {
-                epoch: 3,
-                floor: 111,
-                horizon: 50,
-                installs: &[],
-                known: &[UNKNOWN],
-            }),
-        },
+        shard: 0,
+        lines: "base 3 111 50",
+        refused: "base 3 111 50\nopened 3\nopened 5\nhorizon 50\nhorizon 112\nsettled 1.1 0 0\n\
+            settled 1.1 5 1\nclosed 1.1 0 aborted",
+        determined: Some(Determined {
+            epoch: 3,
+            floor: 111,
+            horizon: 50,
+            installs: &[],
+            known: &[UNKNOWN],
+        }),
     },
-    Named {
+    Case {
         what: "one settled commit",
-        row: Case {
-            shard: 0,
-            lines: &[
-                Line::Base(1, 111, 0),
-                Line::Version(111, b'a'),
-                Line::Settled(1, 111, 1),
-            ],
-            refused: &[
-                Line::Version(112, b'a'),
-                Line::Settled(1, 111, 1),
-                Line::Commit(1, 111, b'a', 1),
-                Line::Abort(1),
-                Line::Committed(1, 111),
-                Line::Opened(1),
-            ],
-            determined: Some(Determined {
-                epoch: 1,
-                floor: 111,
-                horizon: 0,
-                installs: &[(111, b'a')],
-                known: &[Known {
-                    number: 1,
-                    outcome: Some(Some(111)),
-                    settled: true,
-                    ..UNKNOWN
-                }],
-            }),
-        },
+        shard: 0,
+        lines: "base 1 111 0\nversion 111 a=1\nsettled 1.1 111 0",
+        refused: "version 112 a=1\nsettled 1.1 111 0\ncommit 1.1 111 0 - a=1\nabort 1.1\n\
+            outcome 1.1 committed 111\nopened 1",
+        determined: Some(Determined {
+            epoch: 1,
+            floor: 111,
+            horizon: 0,
+            installs: &[(111, b'a')],
+            known: &[Known {
+                number: 1,
+                outcome: Some(Some(111)),
+                settled: true,
+                ..UNKNOWN
+            }],
+        }),
     },
-    Named {
+    Case {
         what: "two closed promises",
-        row: Case {
-            shard: 1,
-            lines: &[
-                Line::Base(2, 200, 50),
-                Line::Version(100, b'y'),
-                Line::Erased(90, b'z'),
-                Line::Closed(1, 0, 211),
-                Line::ClosedAborted(2, 0),
-                Line::Opened(3),
+        shard: 1,
+        lines: "base 2 200 50\nversion 100 y=1\nversion 90 z!\nclosed 1.1 0 committed 211\n\
+            closed 1.2 0 aborted\nopened 3",
+        refused: "closed 1.3 0 committed 211\nclosed 1.3 0 aborted\nsettled 1.3 211 1\n\
+            version 300 z=1\noutcome 1.2 aborted\nprepare 1.2 0 300 - a=1",
+        determined: Some(Determined {
+            epoch: 3,
+            floor: 211,
+            horizon: 50,
+            installs: &[(100, b'y'), (90, b'z')],
+            known: &[
+                Known {
+                    number: 1,
+                    outcome: Some(Some(211)),
+                    ..UNKNOWN
+                },
+                Known {
+                    number: 2,
+                    outcome: Some(None),
+                    ..UNKNOWN
+                },
             ],
-            refused: &[
-                Line::Closed(3, 0, 211),
-                Line::ClosedAborted(3, 0),
-                Line::Settled(3, 211, 2),
-                Line::Version(300, b'z'),
-                Line::Aborted(2),
-                Line::Prepare(2, 300, b'a', 0),
-            ],
-            determined: Some(Determined {
-                epoch: 3,
-                floor: 211,
-                horizon: 50,
-                installs: &[(100, b'y'), (90, b'z')],
-                known: &[
-                    Known {
-                        number: 1,
-                        outcome: Some(Some(211)),
-                        ..UNKNOWN
-                    },
-                    Known {
-                        number: 2,
-                        outcome: Some(None),
-                        ..UNKNOWN
-                    },
-                ],
-            }),
-        },
+        }),
     },
 ];
 
@@ -601,11 +469,9 @@ fn is_determined(facts: &Facts, row: &Determined) -> bool {
 
 // The records come one after another, none of the refused ones may come next, and the log determines what it should.
 impl Row for Case {
-    fn holds(&self, rt: &HostRuntime) -> bool {
+    fn tell(&self, wrong: &mut WrongRows, rt: &HostRuntime) {
         let alloc = rt.alloc();
-        let Some(shard) = ShardNo::new(self.shard) else {
-            return false;
-        };
+        let shard = shard(self.shard % 16);
         let mut facts = Facts::new(alloc, shard);
         let come = all_come(alloc, &mut facts, self.lines, true)
             && all_come(alloc, &mut facts, self.refused, false);
@@ -615,6 +481,6 @@ impl Row for Case {
         };
         let same = facts.shard() == shard;
         drop(facts);
-        come && determined && same
+        wrong.unless(come && determined && same, self.what);
     }
 }

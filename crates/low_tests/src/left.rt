@@ -1,15 +1,13 @@
 //! Logs that are opened again: what they leave, and which are refused.
-use crate::checks::{Named, Row};
-use crate::files::{put, put_lines};
-use crate::lines::{Line, promise};
+use crate::checks::Row;
+use crate::files::put_lines;
 use gatelog::{Entry, GateLog};
-use made::{FIRST_GATE, key};
+use made::{FIRST_GATE, WrongRows, key};
 use memory::State;
-use record::Record;
 use recovery::rebuild;
 use simdisk::SimDisk;
 use std::alloc::Global;
-use units::{Book, Fault, Key, Setup, ShardNo, Splits, Stamp, Stride, TxnId};
+use units::{Book, Fault, Setup, ShardNo, Splits, Stamp, Stride, TxnId};
 
 // A shard of two, which are split at `m`.
 fn setup(alloc: Global, number: u8) -> Option<Setup> {
@@ -74,369 +72,259 @@ type Rebuilt = Result<Option<Shown>, Fault>;
 
 /// The log of a shard with so many promises at its end, and what it leaves.
 pub struct Reopened {
+    pub what: &'static str,
     pub shard: u8,
-    pub lines: &'static [Line],
+    pub lines: &'static str,
     pub promises: u16,
     pub left: Rebuilt,
 }
 
-pub static REOPENED: [Named<Reopened>; 23] = [
-    Named {
+pub static REOPENED: [Reopened; 23] = [
+    Reopened {
         what: "a promise stands",
-        row: Reopened {
-            shard: 1,
-            lines: &[
-                Line::Opened(1),
-                Line::Prepare(2, 200, b'z', 0),
-                Line::Opened(2),
-            ],
-            promises: 0,
-            left: Ok(Some(Shown {
-                prepared: (2, 200),
-                last: 200,
-                safe: 199,
-                epoch: 2,
-                ..NOTHING
-            })),
-        },
+        shard: 1,
+        lines: "opened 1\nprepare 1.2 0 200 - z=1\nopened 2",
+        promises: 0,
+        left: Ok(Some(Shown {
+            prepared: (2, 200),
+            last: 200,
+            safe: 199,
+            epoch: 2,
+            ..NOTHING
+        })),
     },
-    Named {
+    Reopened {
         what: "a decision stands until its outcome",
-        row: Reopened {
-            shard: 0,
-            lines: &[Line::Opened(1), Line::Commit(1, 111, b'a', 1)],
-            promises: 0,
-            left: Ok(Some(Shown {
-                decided: (1, 111),
-                last: 111,
-                safe: 110,
-                ..NOTHING
-            })),
-        },
+        shard: 0,
+        lines: "opened 1\ncommit 1.1 111 0 - a=1",
+        promises: 0,
+        left: Ok(Some(Shown {
+            decided: (1, 111),
+            last: 111,
+            safe: 110,
+            ..NOTHING
+        })),
     },
-    Named {
+    Reopened {
         what: "a decision has its outcome",
-        row: Reopened {
-            shard: 0,
-            lines: &[
-                Line::Opened(1),
-                Line::Commit(1, 111, b'a', 1),
-                Line::Committed(1, 111),
-            ],
-            promises: 0,
-            left: Ok(Some(Shown {
-                last: 111,
-                safe: 111,
-                installs: 1,
-                ..NOTHING
-            })),
-        },
+        shard: 0,
+        lines: "opened 1\ncommit 1.1 111 0 - a=1\noutcome 1.1 committed 111",
+        promises: 0,
+        left: Ok(Some(Shown {
+            last: 111,
+            safe: 111,
+            installs: 1,
+            ..NOTHING
+        })),
     },
-    Named {
+    Reopened {
         what: "a ceiling is the last timestamp",
-        row: Reopened {
-            shard: 1,
-            lines: &[Line::Opened(1), Line::Ceiling(200)],
-            promises: 0,
-            left: Ok(Some(Shown {
-                last: 200,
-                safe: 200,
-                ..NOTHING
-            })),
-        },
+        shard: 1,
+        lines: "opened 1\nceiling 200",
+        promises: 0,
+        left: Ok(Some(Shown {
+            last: 200,
+            safe: 200,
+            ..NOTHING
+        })),
     },
-    Named {
+    Reopened {
         what: "no record",
-        row: Reopened {
-            shard: 1,
-            lines: &[],
-            promises: 0,
-            left: Ok(None),
-        },
+        shard: 1,
+        lines: "",
+        promises: 0,
+        left: Ok(None),
     },
-    Named {
+    Reopened {
         what: "another epoch than the first",
-        row: Reopened {
-            shard: 1,
-            lines: &[Line::Opened(2)],
-            promises: 0,
-            left: Err(Fault::Damaged { offset: FIRST_GATE }),
-        },
+        shard: 1,
+        lines: "opened 2",
+        promises: 0,
+        left: Err(Fault::Damaged { offset: FIRST_GATE }),
     },
-    Named {
+    Reopened {
         what: "a promise before any opening",
-        row: Reopened {
-            shard: 1,
-            lines: &[Line::Prepare(2, 200, b'z', 0)],
-            promises: 0,
-            left: Err(Fault::Damaged { offset: FIRST_GATE }),
-        },
+        shard: 1,
+        lines: "prepare 1.2 0 200 - z=1",
+        promises: 0,
+        left: Err(Fault::Damaged { offset: FIRST_GATE }),
     },
-    Named {
+    Reopened {
         what: "a strange key before any opening",
-        row: Reopened {
-            shard: 1,
-            lines: &[Line::Prepare(2, 200, b'a', 0)],
-            promises: 0,
-            left: Err(Fault::Stranger),
-        },
+        shard: 1,
+        lines: "prepare 1.2 0 200 - a=1",
+        promises: 0,
+        left: Err(Fault::Stranger),
     },
-    Named {
+    Reopened {
         what: "a strange key before damage",
-        row: Reopened {
-            shard: 1,
-            lines: &[
-                Line::Opened(1),
-                Line::Prepare(2, 200, b'a', 0),
-                Line::Opened(9),
-            ],
-            promises: 0,
-            left: Err(Fault::Stranger),
-        },
+        shard: 1,
+        lines: "opened 1\nprepare 1.2 0 200 - a=1\nopened 9",
+        promises: 0,
+        left: Err(Fault::Stranger),
     },
-    Named {
+    Reopened {
         what: "another holds the key",
-        row: Reopened {
-            shard: 1,
-            lines: &[
-                Line::Opened(1),
-                Line::Prepare(2, 200, b'z', 0),
-                Line::Prepare(3, 300, b'z', 0),
-            ],
-            promises: 0,
-            left: Err(Fault::Damaged {
-                offset: FIRST_GATE + 55,
-            }),
-        },
+        shard: 1,
+        lines: "opened 1\nprepare 1.2 0 200 - z=1\nprepare 1.3 0 300 - z=1",
+        promises: 0,
+        left: Err(Fault::Damaged {
+            offset: FIRST_GATE + 55,
+        }),
     },
-    Named {
+    Reopened {
         what: "a version of the key is not below it",
-        row: Reopened {
-            shard: 0,
-            lines: &[
-                Line::Opened(1),
-                Line::Commit(1, 111, b'a', 1),
-                Line::Committed(1, 111),
-                Line::Commit(2, 111, b'a', 1),
-            ],
-            promises: 0,
-            left: Err(Fault::Damaged {
-                offset: FIRST_GATE + 87,
-            }),
-        },
+        shard: 0,
+        lines: "opened 1\ncommit 1.1 111 0 - a=1\noutcome 1.1 committed 111\ncommit 1.2 111 0 - a=1",
+        promises: 0,
+        left: Err(Fault::Damaged {
+            offset: FIRST_GATE + 87,
+        }),
     },
     // The greatest horizon counts.
-    Named {
+    Reopened {
         what: "two horizons",
-        row: Reopened {
-            shard: 1,
-            lines: &[
-                Line::Opened(1),
-                Line::Ceiling(200),
-                Line::Horizon(100),
-                Line::Horizon(150),
-                Line::Opened(2),
-            ],
-            promises: 0,
-            left: Ok(Some(Shown {
-                last: 200,
-                safe: 200,
-                horizon: 150,
-                epoch: 2,
-                ..NOTHING
-            })),
-        },
+        shard: 1,
+        lines: "opened 1\nceiling 200\nhorizon 100\nhorizon 150\nopened 2",
+        promises: 0,
+        left: Ok(Some(Shown {
+            last: 200,
+            safe: 200,
+            horizon: 150,
+            epoch: 2,
+            ..NOTHING
+        })),
     },
-    Named {
+    Reopened {
         what: "a horizon is not above the former",
-        row: Reopened {
-            shard: 1,
-            lines: &[
-                Line::Opened(1),
-                Line::Ceiling(200),
-                Line::Horizon(150),
-                Line::Horizon(150),
-            ],
-            promises: 0,
-            left: Err(Fault::Damaged {
-                offset: FIRST_GATE + 42,
-            }),
-        },
+        shard: 1,
+        lines: "opened 1\nceiling 200\nhorizon 150\nhorizon 150",
+        promises: 0,
+        left: Err(Fault::Damaged {
+            offset: FIRST_GATE + 42,
+        }),
     },
-    Named {
+    Reopened {
         what: "a horizon is above the greatest timestamp",
-        row: Reopened {
-            shard: 1,
-            lines: &[Line::Opened(1), Line::Ceiling(200), Line::Horizon(201)],
-            promises: 0,
-            left: Err(Fault::Damaged {
-                offset: FIRST_GATE + 28,
-            }),
-        },
+        shard: 1,
+        lines: "opened 1\nceiling 200\nhorizon 201",
+        promises: 0,
+        left: Err(Fault::Damaged {
+            offset: FIRST_GATE + 28,
+        }),
     },
-    Named {
+    Reopened {
         what: "a horizon below what stands",
-        row: Reopened {
-            shard: 1,
-            lines: &[
-                Line::Opened(1),
-                Line::Prepare(2, 200, b'z', 0),
-                Line::Horizon(199),
-            ],
-            promises: 0,
-            left: Ok(Some(Shown {
-                prepared: (2, 200),
-                last: 200,
-                safe: 199,
-                horizon: 199,
-                ..NOTHING
-            })),
-        },
+        shard: 1,
+        lines: "opened 1\nprepare 1.2 0 200 - z=1\nhorizon 199",
+        promises: 0,
+        left: Ok(Some(Shown {
+            prepared: (2, 200),
+            last: 200,
+            safe: 199,
+            horizon: 199,
+            ..NOTHING
+        })),
     },
-    Named {
+    Reopened {
         what: "a horizon is not below a promise that stands",
-        row: Reopened {
-            shard: 1,
-            lines: &[
-                Line::Opened(1),
-                Line::Prepare(2, 200, b'z', 0),
-                Line::Horizon(200),
-            ],
-            promises: 0,
-            left: Err(Fault::Damaged {
-                offset: FIRST_GATE + 55,
-            }),
-        },
+        shard: 1,
+        lines: "opened 1\nprepare 1.2 0 200 - z=1\nhorizon 200",
+        promises: 0,
+        left: Err(Fault::Damaged {
+            offset: FIRST_GATE + 55,
+        }),
     },
-    Named {
+    Reopened {
         what: "a horizon is not below a decision that stands",
-        row: Reopened {
-            shard: 0,
-            lines: &[
-                Line::Opened(1),
-                Line::Commit(1, 111, b'a', 1),
-                Line::Horizon(111),
-            ],
-            promises: 0,
-            left: Err(Fault::Damaged {
-                offset: FIRST_GATE + 56,
-            }),
-        },
+        shard: 0,
+        lines: "opened 1\ncommit 1.1 111 0 - a=1\nhorizon 111",
+        promises: 0,
+        left: Err(Fault::Damaged {
+            offset: FIRST_GATE + 56,
+        }),
     },
     // What is settled does not stand, and its version stays in the log.
-    Named {
+    Reopened {
         what: "a horizon at what was settled",
-        row: Reopened {
-            shard: 0,
-            lines: &[
-                Line::Opened(1),
-                Line::Commit(1, 111, b'a', 1),
-                Line::Committed(1, 111),
-                Line::Commit(2, 222, b'a', 1),
-                Line::Committed(2, 222),
-                Line::Horizon(222),
-            ],
-            promises: 0,
-            left: Ok(Some(Shown {
-                last: 222,
-                safe: 222,
-                horizon: 222,
-                installs: 2,
-                ..NOTHING
-            })),
-        },
+        shard: 0,
+        lines: "opened 1\ncommit 1.1 111 0 - a=1\noutcome 1.1 committed 111\n\
+            commit 1.2 222 0 - a=1\noutcome 1.2 committed 222\nhorizon 222",
+        promises: 0,
+        left: Ok(Some(Shown {
+            last: 222,
+            safe: 222,
+            horizon: 222,
+            installs: 2,
+            ..NOTHING
+        })),
     },
-    Named {
+    Reopened {
         what: "a promise above an earlier horizon",
-        row: Reopened {
-            shard: 1,
-            lines: &[
-                Line::Opened(1),
-                Line::Ceiling(200),
-                Line::Horizon(150),
-                Line::Prepare(2, 151, b'z', 0),
-            ],
-            promises: 0,
-            left: Ok(Some(Shown {
-                prepared: (2, 151),
-                last: 200,
-                safe: 150,
-                horizon: 150,
-                ..NOTHING
-            })),
-        },
+        shard: 1,
+        lines: "opened 1\nceiling 200\nhorizon 150\nprepare 1.2 0 151 - z=1",
+        promises: 0,
+        left: Ok(Some(Shown {
+            prepared: (2, 151),
+            last: 200,
+            safe: 150,
+            horizon: 150,
+            ..NOTHING
+        })),
     },
-    Named {
+    Reopened {
         what: "a promise is not above an earlier horizon",
-        row: Reopened {
-            shard: 1,
-            lines: &[
-                Line::Opened(1),
-                Line::Ceiling(200),
-                Line::Horizon(150),
-                Line::Prepare(2, 150, b'z', 0),
-            ],
-            promises: 0,
-            left: Err(Fault::Damaged {
-                offset: FIRST_GATE + 42,
-            }),
-        },
+        shard: 1,
+        lines: "opened 1\nceiling 200\nhorizon 150\nprepare 1.2 0 150 - z=1",
+        promises: 0,
+        left: Err(Fault::Damaged {
+            offset: FIRST_GATE + 42,
+        }),
     },
-    Named {
+    Reopened {
         what: "a decision is not above an earlier horizon",
-        row: Reopened {
-            shard: 0,
-            lines: &[
-                Line::Opened(1),
-                Line::Ceiling(200),
-                Line::Horizon(150),
-                Line::Commit(1, 150, b'a', 1),
-            ],
-            promises: 0,
-            left: Err(Fault::Damaged {
-                offset: FIRST_GATE + 42,
-            }),
-        },
+        shard: 0,
+        lines: "opened 1\nceiling 200\nhorizon 150\ncommit 1.1 150 0 - a=1",
+        promises: 0,
+        left: Err(Fault::Damaged {
+            offset: FIRST_GATE + 42,
+        }),
     },
     // 1,024 rows may stand, and no more.
-    Named {
+    Reopened {
         what: "a full table",
-        row: Reopened {
-            shard: 1,
-            lines: &[Line::Opened(1)],
-            promises: 1024,
-            left: Ok(Some(Shown {
-                prepared: (0, 200),
-                last: 200,
-                safe: 199,
-                ..NOTHING
-            })),
-        },
+        shard: 1,
+        lines: "opened 1",
+        promises: 1024,
+        left: Ok(Some(Shown {
+            prepared: (0, 200),
+            last: 200,
+            safe: 199,
+            ..NOTHING
+        })),
     },
-    // Each frame has 43 bytes; the first stands behind that of the opening, of 14.
-    Named {
+    // Each frame has 45 bytes; the first stands behind that of the opening, of 14.
+    Reopened {
         what: "too many rows",
-        row: Reopened {
-            shard: 1,
-            lines: &[Line::Opened(1)],
-            promises: 1025,
-            left: Err(Fault::Damaged {
-                offset: FIRST_GATE + 44_046,
-            }),
-        },
+        shard: 1,
+        lines: "opened 1",
+        promises: 1025,
+        left: Err(Fault::Damaged {
+            offset: FIRST_GATE + 46_094,
+        }),
     },
 ];
 
-// Each 1.number promises at 200 to write a key of its own of three bytes.
+// Each 1.number promises at 200 to write a key of its own of five bytes.
 fn put_promises(alloc: Global, log: &mut GateLog<SimDisk>, count: u16) -> bool {
     for number in 0..count {
-        let Ok(key) = Key::new(&[b'z', (number / 256) as u8, (number % 256) as u8]) else {
+        let key = u32::from(number) + 1_000;
+        let Ok(line) = format!(in alloc; "prepare 1.{number} 0 200 - z{key}=1") else {
             return false;
         };
-        let Some(promise) = promise(alloc, number, 200, key, 0) else {
-            return false;
-        };
-        if put(alloc, log, Record::Prepare(promise), None).is_err() {
+        let promised = put_lines(alloc, log, line.as_str());
+        drop(line);
+        if !promised {
             return false;
         }
     }
@@ -462,24 +350,25 @@ fn rebuilt(alloc: Global, number: u8, entries: &[Entry]) -> Rebuilt {
 }
 
 impl Row for Reopened {
-    fn holds(&self, rt: &HostRuntime) -> bool {
+    fn tell(&self, wrong: &mut WrongRows, rt: &HostRuntime) {
         let alloc = rt.alloc();
         let Ok(mut log) = GateLog::format(SimDisk::new(alloc)) else {
-            return false;
+            return wrong.unless(false, self.what);
         };
         let put = put_lines(alloc, &mut log, self.lines)
             && put_promises(alloc, &mut log, self.promises);
-        match GateLog::open(alloc, log.into_disk()) {
+        let same = match GateLog::open(alloc, log.into_disk()) {
             Ok((log, entries)) => {
                 drop(log);
                 let same = rebuilt(alloc, self.shard, &entries) == self.left;
                 drop(entries);
-                put && same
+                same
             }
             Err((_, disk)) => {
                 drop(disk);
                 false
             }
-        }
+        };
+        wrong.unless(put && same, self.what);
     }
 }

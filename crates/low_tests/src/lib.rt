@@ -47,8 +47,6 @@ mod left;
 #[cfg(test)]
 mod limits;
 #[cfg(test)]
-mod lines;
-#[cfg(test)]
 mod looks;
 #[cfg(test)]
 mod messages;

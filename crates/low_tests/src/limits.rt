@@ -49,21 +49,13 @@ enum Made {
     ShardNo,
 }
 
-// What comes of it: it is made, or refused, with a fault where one is told.
-#[derive(Clone, Copy, PartialEq, Eq)]
-enum Answer {
-    Taken,
-    Refused,
-    Told(Fault),
-}
-
-// The numbers at the limits, and how those beyond are refused.
+// The numbers at the limits, and with which fault those beyond are refused, where one is told.
 struct Limit {
     what: &'static str,
     made: Made,
     taken: &'static [u64],
     refused: &'static [u64],
-    answer: Answer,
+    fault: Option<Fault>,
 }
 
 static LIMITS: [Limit; 6] = [
@@ -72,55 +64,44 @@ static LIMITS: [Limit; 6] = [
         made: Made::Key,
         taken: &[1, 64],
         refused: &[0, 65],
-        answer: Answer::Told(Fault::BadRequest(Reason::Key)),
+        fault: Some(Fault::BadRequest(Reason::Key)),
     },
     Limit {
         what: "a value",
         made: Made::Value,
         taken: &[0, 4096],
         refused: &[4097],
-        answer: Answer::Told(Fault::BadRequest(Reason::Value)),
+        fault: Some(Fault::BadRequest(Reason::Value)),
     },
     Limit {
         what: "a timestamp",
         made: Made::Stamp,
         taken: &[Stamp::MAX],
         refused: &[4_611_686_018_427_387_904],
-        answer: Answer::Told(Fault::BadRequest(Reason::Stamp)),
+        fault: Some(Fault::BadRequest(Reason::Stamp)),
     },
     Limit {
         what: "an epoch",
         made: Made::Epoch,
         taken: &[1, Stamp::MAX],
         refused: &[0, 4_611_686_018_427_387_904],
-        answer: Answer::Refused,
+        fault: None,
     },
     Limit {
         what: "a run",
         made: Made::Run,
         taken: &[1, Stamp::MAX],
         refused: &[0, 4_611_686_018_427_387_904],
-        answer: Answer::Refused,
+        fault: None,
     },
     Limit {
         what: "a shard",
         made: Made::ShardNo,
         taken: &[15],
         refused: &[16],
-        answer: Answer::Refused,
+        fault: None,
     },
 ];
-
-fn answer_of(alloc: Global, made: &Made, number: u64) -> Answer {
-    match made {
-        Made::Key => told(fault_of(alloc, number as usize, true)),
-        Made::Value => told(fault_of(alloc, number as usize, false)),
-        Made::Stamp => told(Stamp::new(number).err()),
-        Made::Epoch => untold(Epoch::new(number).is_some()),
-        Made::Run => untold(Run::new(number).is_some()),
-        Made::ShardNo => untold(ShardNo::new(number.min(255) as u8).is_some()),
-    }
-}
 
 // The fault of a key of so many bytes, or else of a value, where it is refused.
 fn fault_of(alloc: Global, len: usize, key: bool) -> Option<Fault> {
@@ -136,22 +117,20 @@ fn fault_of(alloc: Global, len: usize, key: bool) -> Option<Fault> {
     fault
 }
 
-fn told(fault: Option<Fault>) -> Answer {
-    match fault {
-        Some(fault) => Answer::Told(fault),
-        None => Answer::Taken,
-    }
+// Whether it is made, and the fault where it is refused with one.
+fn answer_of(alloc: Global, made: &Made, number: u64) -> (bool, Option<Fault>) {
+    let fault = match made {
+        Made::Key => fault_of(alloc, number as usize, true),
+        Made::Value => fault_of(alloc, number as usize, false),
+        Made::Stamp => Stamp::new(number).err(),
+        Made::Epoch => return (Epoch::new(number).is_some(), None),
+        Made::Run => return (Run::new(number).is_some(), None),
+        Made::ShardNo => return (ShardNo::new(number.min(255) as u8).is_some(), None),
+    };
+    (fault.is_none(), fault)
 }
 
-fn untold(taken: bool) -> Answer {
-    if taken {
-        Answer::Taken
-    } else {
-        Answer::Refused
-    }
-}
-
-fn all_are(alloc: Global, made: &Made, numbers: &[u64], answer: Answer) -> bool {
+fn all_are(alloc: Global, made: &Made, numbers: &[u64], answer: (bool, Option<Fault>)) -> bool {
     for number in numbers {
         if answer_of(alloc, made, *number) != answer {
             return false;
@@ -223,8 +202,8 @@ pub fn go_over(wrong: &mut WrongRows, alloc: Global) {
         wrong.unless(printed && is_numbered(row), row.text);
     }
     for row in &LIMITS {
-        let kept = all_are(alloc, &row.made, row.taken, Answer::Taken)
-            && all_are(alloc, &row.made, row.refused, row.answer);
+        let kept = all_are(alloc, &row.made, row.taken, (true, None))
+            && all_are(alloc, &row.made, row.refused, (false, row.fault));
         wrong.unless(kept, row.what);
     }
     wrong.unless(are_ordered(alloc), "1.10 and 2.9");

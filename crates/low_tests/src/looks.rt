@@ -175,16 +175,8 @@ static AT_8: [Look; 1] = [Look {
     answer: Ok(Seen::Value(3)),
 }];
 
-// A look on another thread sees what was published here before that thread began.
-fn is_read_back<R: Threads + Sync>(rt: &R, viewers: &mut [Viewer]) -> bool {
-    thread::join(rt, || sees(viewers, 2, &AT_8), || ()).0
-}
-
-// How often one looks, and another one publishes, beside one another.
-const TURNS: u32 = 1_000;
-
-fn looks_again(viewers: &mut [Viewer]) -> bool {
-    for _turn in 0..TURNS {
+fn looks_again(viewers: &mut [Viewer], times: u32) -> bool {
+    for _turn in 0..times {
         if !sees(viewers, 2, &AT_8) {
             return false;
         }
@@ -192,8 +184,8 @@ fn looks_again(viewers: &mut [Viewer]) -> bool {
     true
 }
 
-fn publishes_again<R: Wait + Drop>(publisher: &mut Publisher<R>) -> bool {
-    for _turn in 0..TURNS {
+fn publishes_again<R: Wait + Drop>(publisher: &mut Publisher<R>, times: u32) -> bool {
+    for _turn in 0..times {
         if !publishes(publisher) {
             return false;
         }
@@ -201,16 +193,19 @@ fn publishes_again<R: Wait + Drop>(publisher: &mut Publisher<R>) -> bool {
     true
 }
 
-// Looks on another thread are answered while this one publishes.
+// So many looks on another thread, which see what was published here before that thread began, are answered while this one publishes
+// so many times.
 fn goes_on<R: Threads + Sync, W: Wait + Drop>(
     rt: &R,
     publisher: &mut Publisher<W>,
     viewers: &mut [Viewer],
+    looks: u32,
+    publications: u32,
 ) -> bool {
     let (sees, publishes) = thread::join(
         rt,
-        || looks_again(viewers),
-        || publishes_again(publisher),
+        || looks_again(viewers, looks),
+        || publishes_again(publisher, publications),
     );
     sees && publishes
 }
@@ -237,8 +232,8 @@ fn follow<R: Threads + Sync, W: Wait + Drop>(
         && publishes(publisher)
         && sees(viewers, 0, &AFTER_ONE)
         && shows(&snapshot, viewers, Ok(Seen::Value(3)))
-        && is_read_back(rt, viewers)
-        && goes_on(rt, publisher, viewers)
+        && goes_on(rt, publisher, viewers, 1, 0)
+        && goes_on(rt, publisher, viewers, 1_000, 1_000)
 }
 
 // The board of shard 0 of two whose publisher has ended.

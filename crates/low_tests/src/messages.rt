@@ -196,8 +196,9 @@ fn envelope(alloc: Global, row: &Row) -> Envelope {
     }
 }
 
-// Puts a message into the bag, where it gets this number.
-fn is_put(bag: &mut Bag, number: u64, envelope: Envelope) -> bool {
+// Puts a message into the bag, where it gets the next number.
+fn is_put(bag: &mut Bag, envelope: Envelope) -> bool {
+    let number = bag.len();
     match bag.put(envelope) {
         Ok(found) => found == number,
         Err(_) => false,
@@ -211,21 +212,16 @@ fn has(alloc: Global, bag: &Bag, number: u64, line: &str) -> bool {
     }
 }
 
-// Goes over the rows, in an empty bag. Messages have numbers from 0 on.
-fn go_over_in(wrong: &mut WrongRows, alloc: Global, bag: &mut Bag) {
-    for (number, row) in ROWS.iter().enumerate() {
-        wrong.unless(is_put(bag, number as u64, envelope(alloc, row)), row.line);
-    }
-    for (number, row) in ROWS.iter().enumerate() {
-        wrong.unless(has(alloc, bag, number as u64, row.line), row.line);
-    }
-    wrong.unless(bag.len() == 16 && bag.nth(16).is_none(), "16 messages");
-}
-
-/// Goes over all rows.
+/// Goes over all rows, in one bag. Messages have numbers from 0 on.
 pub fn go_over(wrong: &mut WrongRows, alloc: Global) {
     let mut bag = Bag::new(alloc);
     wrong.unless(bag.len() == 0, "no message");
-    go_over_in(wrong, alloc, &mut bag);
+    for row in &ROWS {
+        wrong.unless(is_put(&mut bag, envelope(alloc, row)), row.line);
+    }
+    for (number, row) in ROWS.iter().enumerate() {
+        wrong.unless(has(alloc, &bag, number as u64, row.line), row.line);
+    }
+    wrong.unless(bag.len() == 16 && bag.nth(16).is_none(), "16 messages");
     drop(bag);
 }

@@ -1,17 +1,18 @@
 //! Files of version 1, and what they are migrated to.
-use crate::checks::{Named, Row};
+use crate::checks::Row;
 use crate::devices::crash;
 use crate::files::is_file;
 use crate::steps::read_back;
 use disk::{Disk, Fate};
 use gatelog::{GateLog, migrate};
-use made::{ONE_COMMIT, in_version_1};
+use made::{ONE_COMMIT, WrongRows, in_version_1};
 use simdisk::SimDisk;
 use std::alloc::Global;
 use units::Fault;
 
 /// A file, what stands on the second disk before, and the file that is there then, told without its slots; or why it is refused.
 pub struct Migrated {
+    what: &'static str,
     old: &'static [u8],
     before: &'static [u8],
     new: Result<&'static [u8], Fault>,
@@ -19,6 +20,7 @@ pub struct Migrated {
 
 // A log without records.
 const EMPTY: Migrated = Migrated {
+    what: "a log without records",
     old: b"SPNLOG01\0",
     before: b"",
     new: Ok(b"SPNLOG02\0"),
@@ -29,106 +31,82 @@ const OPENED: Result<&[u8], Fault> = Ok(b"SPNLOG02\xa5\0\0\0\x09\x01\0\0\0\0\0\0
 
 const DAMAGED: Result<&[u8], Fault> = Err(Fault::Damaged { offset: 8 });
 
-pub static MIGRATED: [Named<Migrated>; 13] = [
-    Named {
+pub static MIGRATED: [Migrated; 13] = [
+    Migrated {
         what: "no record",
-        row: EMPTY,
+        ..EMPTY
     },
-    Named {
+    Migrated {
         what: "one record",
-        row: Migrated {
-            old: b"SPNLOG01\xa5\0\0\0\x09\x01\0\0\0\0\0\0\0\x01\0",
-            new: OPENED,
-            ..EMPTY
-        },
+        old: b"SPNLOG01\xa5\0\0\0\x09\x01\0\0\0\0\0\0\0\x01\0",
+        new: OPENED,
+        ..EMPTY
     },
-    Named {
+    Migrated {
         what: "what is left of a record that was not finished is left out",
-        row: Migrated {
-            old: b"SPNLOG01\xa5\0\0\0\x09\x01\0\0\0\0\0\0\0\x01\0\0\0\0\x09\x01\0\0",
-            new: OPENED,
-            ..EMPTY
-        },
+        old: b"SPNLOG01\xa5\0\0\0\x09\x01\0\0\0\0\0\0\0\x01\0\0\0\0\x09\x01\0\0",
+        new: OPENED,
+        ..EMPTY
     },
-    Named {
+    Migrated {
         what: "a filled gate is closed",
-        row: Migrated {
-            old: b"SPNLOG01\xa5\0\0\0\x09\x01\0\0\0\0\0\0\0\x01\x37",
-            new: OPENED,
-            ..EMPTY
-        },
+        old: b"SPNLOG01\xa5\0\0\0\x09\x01\0\0\0\0\0\0\0\x01\x37",
+        new: OPENED,
+        ..EMPTY
     },
-    Named {
+    Migrated {
         what: "another file is cut",
-        row: Migrated {
-            before: &[0xa5; 10_000],
-            ..EMPTY
-        },
+        before: &[0xa5; 10_000],
+        ..EMPTY
     },
     // Whether its records follow one another is not asked: an opening does.
-    Named {
+    Migrated {
         what: "a record out of turn",
-        row: Migrated {
-            old: b"SPNLOG01\xa5\0\0\0\x09\x01\0\0\0\0\0\0\0\x07\0",
-            new: Ok(b"SPNLOG02\xa5\0\0\0\x09\x01\0\0\0\0\0\0\0\x07\0"),
-            ..EMPTY
-        },
+        old: b"SPNLOG01\xa5\0\0\0\x09\x01\0\0\0\0\0\0\0\x07\0",
+        new: Ok(b"SPNLOG02\xa5\0\0\0\x09\x01\0\0\0\0\0\0\0\x07\0"),
+        ..EMPTY
     },
-    Named {
+    Migrated {
         what: "no byte",
-        row: Migrated {
-            old: b"",
-            before: b"before",
-            new: Err(Fault::NotALog),
-        },
+        old: b"",
+        before: b"before",
+        new: Err(Fault::NotALog),
     },
-    Named {
+    Migrated {
         what: "a part of the header",
-        row: Migrated {
-            old: b"SPNLOG0",
-            before: b"before",
-            new: Err(Fault::NotALog),
-        },
+        old: b"SPNLOG0",
+        before: b"before",
+        new: Err(Fault::NotALog),
     },
-    Named {
+    Migrated {
         what: "version 2",
-        row: Migrated {
-            old: b"SPNLOG02\0",
-            before: b"before",
-            new: Err(Fault::NotALog),
-        },
+        old: b"SPNLOG02\0",
+        before: b"before",
+        new: Err(Fault::NotALog),
     },
-    Named {
+    Migrated {
         what: "no gate",
-        row: Migrated {
-            old: b"SPNLOG01",
-            before: b"before",
-            new: DAMAGED,
-        },
+        old: b"SPNLOG01",
+        before: b"before",
+        new: DAMAGED,
     },
-    Named {
+    Migrated {
         what: "past the end",
-        row: Migrated {
-            old: b"SPNLOG01\xa5\0\0\0\x09",
-            before: b"before",
-            new: DAMAGED,
-        },
+        old: b"SPNLOG01\xa5\0\0\0\x09",
+        before: b"before",
+        new: DAMAGED,
     },
-    Named {
+    Migrated {
         what: "no record behind an open gate",
-        row: Migrated {
-            old: b"SPNLOG01\xa5\0\0\0\x01\x09\0",
-            before: b"before",
-            new: DAMAGED,
-        },
+        old: b"SPNLOG01\xa5\0\0\0\x01\x09\0",
+        before: b"before",
+        new: DAMAGED,
     },
-    Named {
+    Migrated {
         what: "no gate behind a record",
-        row: Migrated {
-            old: b"SPNLOG01\xa5\0\0\0\x09\x01\0\0\0\0\0\0\0\x01",
-            before: b"before",
-            new: Err(Fault::Damaged { offset: 22 }),
-        },
+        old: b"SPNLOG01\xa5\0\0\0\x09\x01\0\0\0\0\0\0\0\x01",
+        before: b"before",
+        new: Err(Fault::Damaged { offset: 22 }),
     },
 ];
 
@@ -180,56 +158,48 @@ fn is_right(
 }
 
 impl Row for Migrated {
-    fn holds(&self, rt: &HostRuntime) -> bool {
+    fn tell(&self, wrong: &mut WrongRows, rt: &HostRuntime) {
         let alloc = rt.alloc();
         let Some(mut old) = disk_of(alloc, self.old) else {
-            return false;
+            return wrong.unless(false, self.what);
         };
-        let Some(second) = disk_of(alloc, self.before) else {
-            drop(old);
-            return false;
+        let right = match disk_of(alloc, self.before) {
+            Some(second) => is_right(alloc, migrate(alloc, &mut old, second), self),
+            None => false,
         };
-        let right = is_right(alloc, migrate(alloc, &mut old, second), self);
         let same = read_back(alloc, &mut old, self.old).is_ok();
         drop(old);
-        right && same
+        wrong.unless(right && same, self.what);
     }
 }
 
 /// Which disk has a call that fails, and with which fate of its oldest change that is not synced it crashes then.
 pub struct Failing {
+    what: &'static str,
     is_old: bool,
     fate: Fate,
 }
 
-pub static FAILING: [Named<Failing>; 4] = [
-    Named {
+pub static FAILING: [Failing; 4] = [
+    Failing {
         what: "a call of the first disk fails",
-        row: Failing {
-            is_old: true,
-            fate: Fate::Old,
-        },
+        is_old: true,
+        fate: Fate::Old,
     },
-    Named {
+    Failing {
         what: "a call of the second disk fails, and its change is lost",
-        row: Failing {
-            is_old: false,
-            fate: Fate::Old,
-        },
+        is_old: false,
+        fate: Fate::Old,
     },
-    Named {
+    Failing {
         what: "a call of the second disk fails, and its change is kept",
-        row: Failing {
-            is_old: false,
-            fate: Fate::New,
-        },
+        is_old: false,
+        fate: Fate::New,
     },
-    Named {
+    Failing {
         what: "a call of the second disk fails, and its change is filled",
-        row: Failing {
-            is_old: false,
-            fate: Fate::Filled(0x37),
-        },
+        is_old: false,
+        fate: Fate::Filled(0x37),
     },
 ];
 
@@ -279,14 +249,14 @@ fn goes(alloc: Global, row: &Failing, call: u64) -> Option<bool> {
 
 impl Row for Failing {
     // A call more each time, until none fails.
-    fn holds(&self, rt: &HostRuntime) -> bool {
+    fn tell(&self, wrong: &mut WrongRows, rt: &HostRuntime) {
         for call in 0..20 {
             match goes(rt.alloc(), self, call) {
                 Some(true) => {}
-                Some(false) => return false,
-                None => return call > 0,
+                Some(false) => break,
+                None => return wrong.unless(call > 0, self.what),
             }
         }
-        false
+        wrong.unless(false, self.what);
     }
 }

@@ -6,24 +6,24 @@ use made::{WrongRows, id};
 use std::alloc::Global;
 use units::{Asked, Lock, Mode, TxnId};
 
-// How a transaction holds or wants each account.
-type Modes = [Option<Mode>; 5];
+/// How a transaction holds or wants each account.
+pub type Modes = [Option<Mode>; 5];
 
-// A transaction, by place in the plain table its number. Each has a claim all the time.
+/// A transaction, by place in the plain table its number. Each has a claim all the time.
 #[derive(Clone, Copy)]
-struct Plain {
+pub struct Plain {
     held: Modes,
-    waits: Modes,
+    pub waits: Modes,
     firm: bool,
 }
 
-const NOTHING: Plain = Plain {
+pub const NOTHING: Plain = Plain {
     held: [None; 5],
     waits: [None; 5],
     firm: false,
 };
 
-type Plains = [Plain; 7];
+pub type Plains = [Plain; 7];
 
 // Some account is held by the one and wanted by the other, and not shared by both.
 fn clash(held: &Modes, wanted: &Modes) -> bool {
@@ -39,8 +39,8 @@ fn clash(held: &Modes, wanted: &Modes) -> bool {
     false
 }
 
-// The one at a place is ended by a request of another.
-fn gives_way(plains: &Plains, at: usize, number: usize, wanted: &Modes) -> bool {
+/// The one at a place is ended by a request of another.
+pub fn gives_way(plains: &Plains, at: usize, number: usize, wanted: &Modes) -> bool {
     let other = &plains[at % 7];
     number < at && !other.firm && clash(&other.held, wanted)
 }
@@ -51,8 +51,8 @@ fn is_in_way(plains: &Plains, at: usize, number: usize, wanted: &Modes) -> bool 
     at != number && (clash(&other.held, wanted) || (at < number && clash(&other.waits, wanted)))
 }
 
-// These are the ones that a request ends, by ascending number.
-fn ends(plains: &Plains, number: usize, wanted: &Modes, ids: &[TxnId]) -> bool {
+/// These are the ones that a request ends, by ascending number.
+pub fn ends(plains: &Plains, number: usize, wanted: &Modes, ids: &[TxnId]) -> bool {
     let mut count = 0;
     for at in 0..7 {
         if gives_way(plains, at, number, wanted) {
@@ -65,8 +65,8 @@ fn ends(plains: &Plains, number: usize, wanted: &Modes, ids: &[TxnId]) -> bool {
     count == ids.len()
 }
 
-// Whether nobody is in the way but those that are ended.
-fn opens(plains: &Plains, number: usize, wanted: &Modes) -> bool {
+/// Whether nobody is in the way but those that are ended.
+pub fn opens(plains: &Plains, number: usize, wanted: &Modes) -> bool {
     for at in 0..7 {
         if is_in_way(plains, at, number, wanted) && !gives_way(plains, at, number, wanted) {
             return false;
@@ -75,32 +75,23 @@ fn opens(plains: &Plains, number: usize, wanted: &Modes) -> bool {
     true
 }
 
-fn is_waiting(plain: &Plain) -> bool {
-    for mode in &plain.waits {
-        if mode.is_some() {
-            return true;
-        }
-    }
-    false
-}
-
-// The first that waits, with nobody in its way.
-fn first_ready(plains: &Plains) -> Option<usize> {
+/// The first that waits, with nobody in its way.
+pub fn first_ready(plains: &Plains) -> Option<TxnId> {
     for number in 0..7 {
         let waits = plains[number].waits;
-        let mut blocked = !is_waiting(&plains[number]);
+        let mut blocked = waits == [None; 5];
         for at in 0..7 {
             blocked = blocked || is_in_way(plains, at, number, &waits);
         }
         if !blocked {
-            return Some(number);
+            return Some(id(number as u16));
         }
     }
     None
 }
 
-// It holds what it wants, and waits no longer.
-fn is_granted(plain: &mut Plain, wanted: &Modes) {
+/// It holds what it wants, and waits no longer.
+pub fn is_granted(plain: &mut Plain, wanted: &Modes) {
     for at in 0..5 {
         if plain.held[at] != Some(Mode::Exclusive) && wanted[at].is_some() {
             plain.held[at] = wanted[at];
@@ -242,11 +233,12 @@ fn asks(
 // Whoever is ready goes on.
 fn resumes(table: &mut Table, tokens: &mut Vec<Held>, plains: &mut Plains) -> bool {
     match first_ready(plains) {
-        Some(number) => {
-            let at = number % 7;
-            let wanted = plains[at].waits;
-            is_granted(&mut plains[at], &wanted);
-            goes_on(table, tokens, at as u16)
+        Some(txn) => {
+            let number = (txn.number() % 7) as usize;
+            let plain = &mut plains[number];
+            let wanted = plain.waits;
+            is_granted(plain, &wanted);
+            goes_on(table, tokens, number as u16)
         }
         None => table.ready().is_none(),
     }
@@ -293,11 +285,7 @@ fn agrees(table: &mut Table, alloc: Global, tokens: &mut Vec<Held>, turns: u64) 
         if !agrees_once(table, alloc, tokens, &mut plains, state >> 33) {
             return false;
         }
-        let ready = match first_ready(&plains) {
-            Some(number) => Some(id((number % 7) as u16)),
-            None => None,
-        };
-        if table.ready() != ready {
+        if table.ready() != first_ready(&plains) {
             return false;
         }
     }

@@ -89,12 +89,14 @@ look key_1 0 =1
 ];
 
 fn are_printed(alloc: Global, found: &[Line], texts: &str) -> bool {
-    for (line, text) in found.iter().zip(texts.split('\n')) {
-        if !is_printed(alloc, &Text(line), text) {
-            return false;
+    let mut wanted = texts.lines();
+    for line in found {
+        match wanted.next() {
+            Some(text) if is_printed(alloc, &Text(line), text) => {}
+            _ => return false,
         }
     }
-    true
+    wanted.next().is_none()
 }
 
 // So many lines are read, and each is printed as it was; or the text is refused.

@@ -1,678 +1,478 @@
 //! Renewed logs that are opened again: what they leave, and which are refused.
-use crate::checks::Named;
 use crate::left::{NOTHING, Reopened, Shown};
-use crate::lines::Line;
 use made::FIRST_GATE;
 use units::Fault;
 
 // A frame has 5 bytes and its record: an opening takes 14, a base 30, a version of one letter 20, what is settled 32, what is closed
 // by an abort 24, an abort 22, a decision of one letter 42, a promise of one letter 41.
-pub static TAKEN: [Named<Reopened>; 11] = [
-    Named {
+pub static TAKEN: [Reopened; 11] = [
+    Reopened {
         what: "one settled commit",
-        row: Reopened {
-            shard: 0,
-            lines: &[
-                Line::Base(1, 111, 0),
-                Line::Version(111, b'a'),
-                Line::Settled(1, 111, 1),
-            ],
-            promises: 0,
-            left: Ok(Some(Shown {
-                last: 111,
-                safe: 111,
-                installs: 1,
-                ..NOTHING
-            })),
-        },
+        shard: 0,
+        lines: "base 1 111 0\nversion 111 a=1\nsettled 1.1 111 0",
+        promises: 0,
+        left: Ok(Some(Shown {
+            last: 111,
+            safe: 111,
+            installs: 1,
+            ..NOTHING
+        })),
     },
-    Named {
+    Reopened {
         what: "a renewed log that is opened",
-        row: Reopened {
-            shard: 0,
-            lines: &[
-                Line::Base(1, 111, 0),
-                Line::Version(111, b'a'),
-                Line::Settled(1, 111, 1),
-                Line::Opened(2),
-            ],
-            promises: 0,
-            left: Ok(Some(Shown {
-                last: 111,
-                safe: 111,
-                epoch: 2,
-                installs: 1,
-                ..NOTHING
-            })),
-        },
+        shard: 0,
+        lines: "base 1 111 0\nversion 111 a=1\nsettled 1.1 111 0\nopened 2",
+        promises: 0,
+        left: Ok(Some(Shown {
+            last: 111,
+            safe: 111,
+            epoch: 2,
+            installs: 1,
+            ..NOTHING
+        })),
     },
-    Named {
+    Reopened {
         what: "a base alone",
-        row: Reopened {
-            shard: 0,
-            lines: &[Line::Base(3, 111, 0)],
-            promises: 0,
-            left: Ok(Some(Shown {
-                last: 111,
-                safe: 111,
-                epoch: 3,
-                ..NOTHING
-            })),
-        },
+        shard: 0,
+        lines: "base 3 111 0",
+        promises: 0,
+        left: Ok(Some(Shown {
+            last: 111,
+            safe: 111,
+            epoch: 3,
+            ..NOTHING
+        })),
     },
-    Named {
+    Reopened {
         what: "the next epoch behind a base",
-        row: Reopened {
-            shard: 0,
-            lines: &[Line::Base(3, 111, 0), Line::Opened(4)],
-            promises: 0,
-            left: Ok(Some(Shown {
-                last: 111,
-                safe: 111,
-                epoch: 4,
-                ..NOTHING
-            })),
-        },
+        shard: 0,
+        lines: "base 3 111 0\nopened 4",
+        promises: 0,
+        left: Ok(Some(Shown {
+            last: 111,
+            safe: 111,
+            epoch: 4,
+            ..NOTHING
+        })),
     },
-    Named {
+    Reopened {
         what: "a horizon at the greatest timestamp",
-        row: Reopened {
-            shard: 0,
-            lines: &[Line::Base(1, 111, 111)],
-            promises: 0,
-            left: Ok(Some(Shown {
-                last: 111,
-                safe: 111,
-                horizon: 111,
-                ..NOTHING
-            })),
-        },
+        shard: 0,
+        lines: "base 1 111 111",
+        promises: 0,
+        left: Ok(Some(Shown {
+            last: 111,
+            safe: 111,
+            horizon: 111,
+            ..NOTHING
+        })),
     },
-    Named {
+    Reopened {
         what: "versions by key and by timestamp",
-        row: Reopened {
-            shard: 0,
-            lines: &[
-                Line::Base(1, 111, 0),
-                Line::Version(90, b'a'),
-                Line::Erased(100, b'a'),
-                Line::Version(50, b'b'),
-            ],
-            promises: 0,
-            left: Ok(Some(Shown {
-                last: 111,
-                safe: 111,
-                installs: 3,
-                ..NOTHING
-            })),
-        },
+        shard: 0,
+        lines: "base 1 111 0\nversion 90 a=1\nversion 100 a!\nversion 50 b=1",
+        promises: 0,
+        left: Ok(Some(Shown {
+            last: 111,
+            safe: 111,
+            installs: 3,
+            ..NOTHING
+        })),
     },
-    Named {
+    Reopened {
         what: "a version above the greatest timestamp of its base",
-        row: Reopened {
-            shard: 0,
-            lines: &[Line::Base(1, 111, 0), Line::Version(200, b'a')],
-            promises: 0,
-            left: Ok(Some(Shown {
-                last: 200,
-                safe: 200,
-                installs: 1,
-                ..NOTHING
-            })),
-        },
+        shard: 0,
+        lines: "base 1 111 0\nversion 200 a=1",
+        promises: 0,
+        left: Ok(Some(Shown {
+            last: 200,
+            safe: 200,
+            installs: 1,
+            ..NOTHING
+        })),
     },
-    Named {
+    Reopened {
         what: "promises that are closed, one that stands",
-        row: Reopened {
-            shard: 1,
-            lines: &[
-                Line::Base(2, 200, 50),
-                Line::Version(111, b'z'),
-                Line::Abort(9),
-                Line::Closed(1, 0, 111),
-                Line::ClosedAborted(3, 0),
-                Line::Prepare(2, 200, b'y', 0),
-            ],
-            promises: 0,
-            left: Ok(Some(Shown {
-                prepared: (2, 200),
-                last: 200,
-                safe: 199,
-                horizon: 50,
-                epoch: 2,
-                installs: 1,
-                ..NOTHING
-            })),
-        },
+        shard: 1,
+        lines: "base 2 200 50\nversion 111 z=1\nabort 1.9\nclosed 1.1 0 committed 111\n\
+            closed 1.3 0 aborted\nprepare 1.2 0 200 - y=1",
+        promises: 0,
+        left: Ok(Some(Shown {
+            prepared: (2, 200),
+            last: 200,
+            safe: 199,
+            horizon: 50,
+            epoch: 2,
+            installs: 1,
+            ..NOTHING
+        })),
     },
-    Named {
+    Reopened {
         what: "a decision that stands behind one that is settled",
-        row: Reopened {
-            shard: 0,
-            lines: &[
-                Line::Base(1, 111, 0),
-                Line::Version(111, b'a'),
-                Line::Settled(1, 111, 1),
-                Line::Commit(2, 112, b'a', 1),
-                Line::Opened(2),
-                Line::Committed(2, 112),
-            ],
-            promises: 0,
-            left: Ok(Some(Shown {
-                last: 112,
-                safe: 112,
-                epoch: 2,
-                installs: 2,
-                ..NOTHING
-            })),
-        },
+        shard: 0,
+        lines: "base 1 111 0\nversion 111 a=1\nsettled 1.1 111 0\ncommit 1.2 112 0 - a=1\n\
+            opened 2\noutcome 1.2 committed 112",
+        promises: 0,
+        left: Ok(Some(Shown {
+            last: 112,
+            safe: 112,
+            epoch: 2,
+            installs: 2,
+            ..NOTHING
+        })),
     },
-    Named {
+    Reopened {
         what: "what stands may come before what has ended",
-        row: Reopened {
-            shard: 0,
-            lines: &[
-                Line::Base(1, 111, 0),
-                Line::Commit(2, 112, b'b', 1),
-                Line::Settled(1, 111, 1),
-            ],
-            promises: 0,
-            left: Ok(Some(Shown {
-                decided: (2, 112),
-                last: 112,
-                safe: 111,
-                ..NOTHING
-            })),
-        },
+        shard: 0,
+        lines: "base 1 111 0\ncommit 1.2 112 0 - b=1\nsettled 1.1 111 0",
+        promises: 0,
+        left: Ok(Some(Shown {
+            decided: (2, 112),
+            last: 112,
+            safe: 111,
+            ..NOTHING
+        })),
     },
-    Named {
+    Reopened {
         what: "a horizon behind a base",
-        row: Reopened {
-            shard: 0,
-            lines: &[Line::Base(1, 300, 50), Line::Opened(2), Line::Horizon(51)],
-            promises: 0,
-            left: Ok(Some(Shown {
-                last: 300,
-                safe: 300,
-                horizon: 51,
-                epoch: 2,
-                ..NOTHING
-            })),
-        },
+        shard: 0,
+        lines: "base 1 300 50\nopened 2\nhorizon 51",
+        promises: 0,
+        left: Ok(Some(Shown {
+            last: 300,
+            safe: 300,
+            horizon: 51,
+            epoch: 2,
+            ..NOTHING
+        })),
     },
 ];
 
 /// Bases and versions that are out of place.
-pub static MISPLACED: [Named<Reopened>; 14] = [
-    Named {
+pub static MISPLACED: [Reopened; 14] = [
+    Reopened {
         what: "a base behind an opening",
-        row: Reopened {
-            shard: 0,
-            lines: &[Line::Opened(1), Line::Base(1, 111, 0)],
-            promises: 0,
-            left: Err(Fault::Damaged {
-                offset: FIRST_GATE + 14,
-            }),
-        },
+        shard: 0,
+        lines: "opened 1\nbase 1 111 0",
+        promises: 0,
+        left: Err(Fault::Damaged {
+            offset: FIRST_GATE + 14,
+        }),
     },
-    Named {
+    Reopened {
         what: "a second base",
-        row: Reopened {
-            shard: 0,
-            lines: &[Line::Base(1, 111, 0), Line::Base(1, 111, 0)],
-            promises: 0,
-            left: Err(Fault::Damaged {
-                offset: FIRST_GATE + 30,
-            }),
-        },
+        shard: 0,
+        lines: "base 1 111 0\nbase 1 111 0",
+        promises: 0,
+        left: Err(Fault::Damaged {
+            offset: FIRST_GATE + 30,
+        }),
     },
-    Named {
+    Reopened {
         what: "a horizon above the greatest timestamp of its base",
-        row: Reopened {
-            shard: 0,
-            lines: &[Line::Base(1, 111, 112)],
-            promises: 0,
-            left: Err(Fault::Damaged { offset: FIRST_GATE }),
-        },
+        shard: 0,
+        lines: "base 1 111 112",
+        promises: 0,
+        left: Err(Fault::Damaged { offset: FIRST_GATE }),
     },
-    Named {
+    Reopened {
         what: "an opening of the base's epoch",
-        row: Reopened {
-            shard: 0,
-            lines: &[Line::Base(1, 111, 0), Line::Opened(1)],
-            promises: 0,
-            left: Err(Fault::Damaged {
-                offset: FIRST_GATE + 30,
-            }),
-        },
+        shard: 0,
+        lines: "base 1 111 0\nopened 1",
+        promises: 0,
+        left: Err(Fault::Damaged {
+            offset: FIRST_GATE + 30,
+        }),
     },
-    Named {
+    Reopened {
         what: "another epoch behind a base",
-        row: Reopened {
-            shard: 0,
-            lines: &[Line::Base(1, 111, 0), Line::Opened(3)],
-            promises: 0,
-            left: Err(Fault::Damaged {
-                offset: FIRST_GATE + 30,
-            }),
-        },
+        shard: 0,
+        lines: "base 1 111 0\nopened 3",
+        promises: 0,
+        left: Err(Fault::Damaged {
+            offset: FIRST_GATE + 30,
+        }),
     },
-    Named {
+    Reopened {
         what: "a version without a base",
-        row: Reopened {
-            shard: 0,
-            lines: &[Line::Version(111, b'a')],
-            promises: 0,
-            left: Err(Fault::Damaged { offset: FIRST_GATE }),
-        },
+        shard: 0,
+        lines: "version 111 a=1",
+        promises: 0,
+        left: Err(Fault::Damaged { offset: FIRST_GATE }),
     },
-    Named {
+    Reopened {
         what: "a version behind an opening",
-        row: Reopened {
-            shard: 0,
-            lines: &[Line::Opened(1), Line::Version(111, b'a')],
-            promises: 0,
-            left: Err(Fault::Damaged {
-                offset: FIRST_GATE + 14,
-            }),
-        },
+        shard: 0,
+        lines: "opened 1\nversion 111 a=1",
+        promises: 0,
+        left: Err(Fault::Damaged {
+            offset: FIRST_GATE + 14,
+        }),
     },
-    Named {
+    Reopened {
         what: "a version behind the opening of a renewed log",
-        row: Reopened {
-            shard: 0,
-            lines: &[
-                Line::Base(1, 111, 0),
-                Line::Opened(2),
-                Line::Version(111, b'a'),
-            ],
-            promises: 0,
-            left: Err(Fault::Damaged {
-                offset: FIRST_GATE + 44,
-            }),
-        },
+        shard: 0,
+        lines: "base 1 111 0\nopened 2\nversion 111 a=1",
+        promises: 0,
+        left: Err(Fault::Damaged {
+            offset: FIRST_GATE + 44,
+        }),
     },
-    Named {
+    Reopened {
         what: "a version behind a settled decision",
-        row: Reopened {
-            shard: 0,
-            lines: &[
-                Line::Base(1, 111, 0),
-                Line::Settled(1, 111, 1),
-                Line::Version(111, b'a'),
-            ],
-            promises: 0,
-            left: Err(Fault::Damaged {
-                offset: FIRST_GATE + 62,
-            }),
-        },
+        shard: 0,
+        lines: "base 1 111 0\nsettled 1.1 111 0\nversion 111 a=1",
+        promises: 0,
+        left: Err(Fault::Damaged {
+            offset: FIRST_GATE + 62,
+        }),
     },
-    Named {
+    Reopened {
         what: "a version of an earlier key",
-        row: Reopened {
-            shard: 0,
-            lines: &[
-                Line::Base(1, 111, 0),
-                Line::Version(50, b'b'),
-                Line::Version(60, b'a'),
-            ],
-            promises: 0,
-            left: Err(Fault::Damaged {
-                offset: FIRST_GATE + 50,
-            }),
-        },
+        shard: 0,
+        lines: "base 1 111 0\nversion 50 b=1\nversion 60 a=1",
+        promises: 0,
+        left: Err(Fault::Damaged {
+            offset: FIRST_GATE + 50,
+        }),
     },
-    Named {
+    Reopened {
         what: "a version of an earlier timestamp",
-        row: Reopened {
-            shard: 0,
-            lines: &[
-                Line::Base(1, 111, 0),
-                Line::Version(50, b'b'),
-                Line::Version(49, b'b'),
-            ],
-            promises: 0,
-            left: Err(Fault::Damaged {
-                offset: FIRST_GATE + 50,
-            }),
-        },
+        shard: 0,
+        lines: "base 1 111 0\nversion 50 b=1\nversion 49 b=1",
+        promises: 0,
+        left: Err(Fault::Damaged {
+            offset: FIRST_GATE + 50,
+        }),
     },
-    Named {
+    Reopened {
         what: "the same version again",
-        row: Reopened {
-            shard: 0,
-            lines: &[
-                Line::Base(1, 111, 0),
-                Line::Version(50, b'b'),
-                Line::Erased(50, b'b'),
-            ],
-            promises: 0,
-            left: Err(Fault::Damaged {
-                offset: FIRST_GATE + 50,
-            }),
-        },
+        shard: 0,
+        lines: "base 1 111 0\nversion 50 b=1\nversion 50 b!",
+        promises: 0,
+        left: Err(Fault::Damaged {
+            offset: FIRST_GATE + 50,
+        }),
     },
-    Named {
+    Reopened {
         what: "a version of another shard's key",
-        row: Reopened {
-            shard: 0,
-            lines: &[Line::Base(1, 111, 0), Line::Version(111, b'z')],
-            promises: 0,
-            left: Err(Fault::Stranger),
-        },
+        shard: 0,
+        lines: "base 1 111 0\nversion 111 z=1",
+        promises: 0,
+        left: Err(Fault::Stranger),
     },
-    Named {
+    Reopened {
         what: "a version of another shard's key before damage",
-        row: Reopened {
-            shard: 0,
-            lines: &[Line::Version(111, b'z')],
-            promises: 0,
-            left: Err(Fault::Stranger),
-        },
+        shard: 0,
+        lines: "version 111 z=1",
+        promises: 0,
+        left: Err(Fault::Stranger),
     },
 ];
 
 /// What ended, and what may not stand beside it.
-pub static ENDED: [Named<Reopened>; 23] = [
-    Named {
+pub static ENDED: [Reopened; 23] = [
+    Reopened {
         what: "settled twice",
-        row: Reopened {
-            shard: 0,
-            lines: &[
-                Line::Base(1, 111, 0),
-                Line::Settled(1, 111, 1),
-                Line::Settled(1, 111, 1),
-            ],
-            promises: 0,
-            left: Err(Fault::Damaged {
-                offset: FIRST_GATE + 62,
-            }),
-        },
+        shard: 0,
+        lines: "base 1 111 0\nsettled 1.1 111 0\nsettled 1.1 111 0",
+        promises: 0,
+        left: Err(Fault::Damaged {
+            offset: FIRST_GATE + 62,
+        }),
     },
-    Named {
+    Reopened {
         what: "settled and aborted",
-        row: Reopened {
-            shard: 0,
-            lines: &[
-                Line::Base(1, 111, 0),
-                Line::Abort(1),
-                Line::Settled(1, 111, 1),
-            ],
-            promises: 0,
-            left: Err(Fault::Damaged {
-                offset: FIRST_GATE + 52,
-            }),
-        },
+        shard: 0,
+        lines: "base 1 111 0\nabort 1.1\nsettled 1.1 111 0",
+        promises: 0,
+        left: Err(Fault::Damaged {
+            offset: FIRST_GATE + 52,
+        }),
     },
-    Named {
+    Reopened {
         what: "settled and decided",
-        row: Reopened {
-            shard: 0,
-            lines: &[
-                Line::Base(1, 111, 0),
-                Line::Commit(1, 111, b'a', 1),
-                Line::Settled(1, 111, 1),
-            ],
-            promises: 0,
-            left: Err(Fault::Damaged {
-                offset: FIRST_GATE + 72,
-            }),
-        },
+        shard: 0,
+        lines: "base 1 111 0\ncommit 1.1 111 0 - a=1\nsettled 1.1 111 0",
+        promises: 0,
+        left: Err(Fault::Damaged {
+            offset: FIRST_GATE + 72,
+        }),
     },
-    Named {
+    Reopened {
         what: "closed twice",
-        row: Reopened {
-            shard: 1,
-            lines: &[
-                Line::Base(1, 111, 0),
-                Line::ClosedAborted(1, 0),
-                Line::Closed(1, 0, 111),
-            ],
-            promises: 0,
-            left: Err(Fault::Damaged {
-                offset: FIRST_GATE + 54,
-            }),
-        },
+        shard: 1,
+        lines: "base 1 111 0\nclosed 1.1 0 aborted\nclosed 1.1 0 committed 111",
+        promises: 0,
+        left: Err(Fault::Damaged {
+            offset: FIRST_GATE + 54,
+        }),
     },
-    Named {
+    Reopened {
         what: "closed and promised",
-        row: Reopened {
-            shard: 1,
-            lines: &[
-                Line::Base(1, 111, 0),
-                Line::Prepare(1, 111, b'z', 0),
-                Line::Closed(1, 0, 111),
-            ],
-            promises: 0,
-            left: Err(Fault::Damaged {
-                offset: FIRST_GATE + 71,
-            }),
-        },
+        shard: 1,
+        lines: "base 1 111 0\nprepare 1.1 0 111 - z=1\nclosed 1.1 0 committed 111",
+        promises: 0,
+        left: Err(Fault::Damaged {
+            offset: FIRST_GATE + 71,
+        }),
     },
-    Named {
+    Reopened {
         what: "decided behind what is settled",
-        row: Reopened {
-            shard: 0,
-            lines: &[
-                Line::Base(1, 111, 0),
-                Line::Settled(1, 111, 1),
-                Line::Commit(1, 111, b'a', 1),
-            ],
-            promises: 0,
-            left: Err(Fault::Damaged {
-                offset: FIRST_GATE + 62,
-            }),
-        },
+        shard: 0,
+        lines: "base 1 111 0\nsettled 1.1 111 0\ncommit 1.1 111 0 - a=1",
+        promises: 0,
+        left: Err(Fault::Damaged {
+            offset: FIRST_GATE + 62,
+        }),
     },
-    Named {
+    Reopened {
         what: "promised behind what is closed",
-        row: Reopened {
-            shard: 1,
-            lines: &[
-                Line::Base(1, 111, 0),
-                Line::ClosedAborted(1, 0),
-                Line::Prepare(1, 112, b'z', 0),
-            ],
-            promises: 0,
-            left: Err(Fault::Damaged {
-                offset: FIRST_GATE + 54,
-            }),
-        },
+        shard: 1,
+        lines: "base 1 111 0\nclosed 1.1 0 aborted\nprepare 1.1 0 112 - z=1",
+        promises: 0,
+        left: Err(Fault::Damaged {
+            offset: FIRST_GATE + 54,
+        }),
     },
-    Named {
+    Reopened {
         what: "aborted behind what is settled",
-        row: Reopened {
-            shard: 0,
-            lines: &[
-                Line::Base(1, 111, 0),
-                Line::Settled(1, 111, 1),
-                Line::Abort(1),
-            ],
-            promises: 0,
-            left: Err(Fault::Damaged {
-                offset: FIRST_GATE + 62,
-            }),
-        },
+        shard: 0,
+        lines: "base 1 111 0\nsettled 1.1 111 0\nabort 1.1",
+        promises: 0,
+        left: Err(Fault::Damaged {
+            offset: FIRST_GATE + 62,
+        }),
     },
-    Named {
+    Reopened {
         what: "ended behind what is settled",
-        row: Reopened {
-            shard: 0,
-            lines: &[
-                Line::Base(1, 111, 0),
-                Line::Settled(1, 111, 1),
-                Line::Committed(1, 111),
-            ],
-            promises: 0,
-            left: Err(Fault::Damaged {
-                offset: FIRST_GATE + 62,
-            }),
-        },
+        shard: 0,
+        lines: "base 1 111 0\nsettled 1.1 111 0\noutcome 1.1 committed 111",
+        promises: 0,
+        left: Err(Fault::Damaged {
+            offset: FIRST_GATE + 62,
+        }),
     },
-    Named {
+    Reopened {
         what: "ended behind what is closed",
-        row: Reopened {
-            shard: 1,
-            lines: &[
-                Line::Base(1, 111, 0),
-                Line::ClosedAborted(1, 0),
-                Line::Aborted(1),
-            ],
-            promises: 0,
-            left: Err(Fault::Damaged {
-                offset: FIRST_GATE + 54,
-            }),
-        },
+        shard: 1,
+        lines: "base 1 111 0\nclosed 1.1 0 aborted\noutcome 1.1 aborted",
+        promises: 0,
+        left: Err(Fault::Damaged {
+            offset: FIRST_GATE + 54,
+        }),
     },
-    Named {
+    Reopened {
         what: "a least part that is another shard",
-        row: Reopened {
-            shard: 1,
-            lines: &[Line::Base(1, 111, 0), Line::Settled(1, 111, 1)],
-            promises: 0,
-            left: Err(Fault::Damaged {
-                offset: FIRST_GATE + 30,
-            }),
-        },
+        shard: 1,
+        lines: "base 1 111 0\nsettled 1.1 111 0",
+        promises: 0,
+        left: Err(Fault::Damaged {
+            offset: FIRST_GATE + 30,
+        }),
     },
-    Named {
+    Reopened {
         what: "a coordinator that is this shard",
-        row: Reopened {
-            shard: 1,
-            lines: &[Line::Base(1, 111, 0), Line::Closed(1, 1, 111)],
-            promises: 0,
-            left: Err(Fault::Damaged {
-                offset: FIRST_GATE + 30,
-            }),
-        },
+        shard: 1,
+        lines: "base 1 111 0\nclosed 1.1 1 committed 111",
+        promises: 0,
+        left: Err(Fault::Damaged {
+            offset: FIRST_GATE + 30,
+        }),
     },
-    Named {
+    Reopened {
         what: "a coordinator above the first shard",
-        row: Reopened {
-            shard: 0,
-            lines: &[Line::Base(1, 111, 0), Line::ClosedAborted(1, 0)],
-            promises: 0,
-            left: Err(Fault::Damaged {
-                offset: FIRST_GATE + 30,
-            }),
-        },
+        shard: 0,
+        lines: "base 1 111 0\nclosed 1.1 0 aborted",
+        promises: 0,
+        left: Err(Fault::Damaged {
+            offset: FIRST_GATE + 30,
+        }),
     },
-    Named {
+    Reopened {
         what: "settled at 0",
-        row: Reopened {
-            shard: 0,
-            lines: &[Line::Base(1, 111, 0), Line::Settled(1, 0, 1)],
-            promises: 0,
-            left: Err(Fault::Damaged {
-                offset: FIRST_GATE + 30,
-            }),
-        },
+        shard: 0,
+        lines: "base 1 111 0\nsettled 1.1 0 0",
+        promises: 0,
+        left: Err(Fault::Damaged {
+            offset: FIRST_GATE + 30,
+        }),
     },
-    Named {
+    Reopened {
         what: "closed at 0",
-        row: Reopened {
-            shard: 1,
-            lines: &[Line::Base(1, 111, 0), Line::Closed(1, 0, 0)],
-            promises: 0,
-            left: Err(Fault::Damaged {
-                offset: FIRST_GATE + 30,
-            }),
-        },
+        shard: 1,
+        lines: "base 1 111 0\nclosed 1.1 0 committed 0",
+        promises: 0,
+        left: Err(Fault::Damaged {
+            offset: FIRST_GATE + 30,
+        }),
     },
-    Named {
+    Reopened {
         what: "settled without a base",
-        row: Reopened {
-            shard: 0,
-            lines: &[Line::Settled(1, 111, 1)],
-            promises: 0,
-            left: Err(Fault::Damaged { offset: FIRST_GATE }),
-        },
+        shard: 0,
+        lines: "settled 1.1 111 0",
+        promises: 0,
+        left: Err(Fault::Damaged { offset: FIRST_GATE }),
     },
-    Named {
+    Reopened {
         what: "settled behind an opening",
-        row: Reopened {
-            shard: 0,
-            lines: &[Line::Opened(1), Line::Settled(1, 111, 1)],
-            promises: 0,
-            left: Err(Fault::Damaged {
-                offset: FIRST_GATE + 14,
-            }),
-        },
+        shard: 0,
+        lines: "opened 1\nsettled 1.1 111 0",
+        promises: 0,
+        left: Err(Fault::Damaged {
+            offset: FIRST_GATE + 14,
+        }),
     },
-    Named {
+    Reopened {
         what: "settled behind the opening of a renewed log",
-        row: Reopened {
-            shard: 0,
-            lines: &[
-                Line::Base(1, 111, 0),
-                Line::Opened(2),
-                Line::Settled(1, 111, 1),
-            ],
-            promises: 0,
-            left: Err(Fault::Damaged {
-                offset: FIRST_GATE + 44,
-            }),
-        },
+        shard: 0,
+        lines: "base 1 111 0\nopened 2\nsettled 1.1 111 0",
+        promises: 0,
+        left: Err(Fault::Damaged {
+            offset: FIRST_GATE + 44,
+        }),
     },
-    Named {
+    Reopened {
         what: "closed without a base",
-        row: Reopened {
-            shard: 1,
-            lines: &[Line::ClosedAborted(1, 0)],
-            promises: 0,
-            left: Err(Fault::Damaged { offset: FIRST_GATE }),
-        },
+        shard: 1,
+        lines: "closed 1.1 0 aborted",
+        promises: 0,
+        left: Err(Fault::Damaged { offset: FIRST_GATE }),
     },
-    Named {
+    Reopened {
         what: "closed behind an opening",
-        row: Reopened {
-            shard: 1,
-            lines: &[Line::Opened(1), Line::ClosedAborted(1, 0)],
-            promises: 0,
-            left: Err(Fault::Damaged {
-                offset: FIRST_GATE + 14,
-            }),
-        },
+        shard: 1,
+        lines: "opened 1\nclosed 1.1 0 aborted",
+        promises: 0,
+        left: Err(Fault::Damaged {
+            offset: FIRST_GATE + 14,
+        }),
     },
-    Named {
+    Reopened {
         what: "closed behind the opening of a renewed log",
-        row: Reopened {
-            shard: 1,
-            lines: &[
-                Line::Base(1, 111, 0),
-                Line::Opened(2),
-                Line::Closed(1, 0, 111),
-            ],
-            promises: 0,
-            left: Err(Fault::Damaged {
-                offset: FIRST_GATE + 44,
-            }),
-        },
+        shard: 1,
+        lines: "base 1 111 0\nopened 2\nclosed 1.1 0 committed 111",
+        promises: 0,
+        left: Err(Fault::Damaged {
+            offset: FIRST_GATE + 44,
+        }),
     },
-    Named {
+    Reopened {
         what: "a promise that is not above the horizon of its base",
-        row: Reopened {
-            shard: 1,
-            lines: &[Line::Base(1, 200, 100), Line::Prepare(2, 100, b'z', 0)],
-            promises: 0,
-            left: Err(Fault::Damaged {
-                offset: FIRST_GATE + 30,
-            }),
-        },
+        shard: 1,
+        lines: "base 1 200 100\nprepare 1.2 0 100 - z=1",
+        promises: 0,
+        left: Err(Fault::Damaged {
+            offset: FIRST_GATE + 30,
+        }),
     },
-    Named {
+    Reopened {
         what: "a promise that is not above a version",
-        row: Reopened {
-            shard: 1,
-            lines: &[
-                Line::Base(1, 111, 0),
-                Line::Version(111, b'z'),
-                Line::Prepare(2, 111, b'z', 0),
-            ],
-            promises: 0,
-            left: Err(Fault::Damaged {
-                offset: FIRST_GATE + 50,
-            }),
-        },
+        shard: 1,
+        lines: "base 1 111 0\nversion 111 z=1\nprepare 1.2 0 111 - z=1",
+        promises: 0,
+        left: Err(Fault::Damaged {
+            offset: FIRST_GATE + 50,
+        }),
     },
 ];

@@ -1,4 +1,5 @@
 //! Screens that are told of turns at given moments.
+use crate::checks::Row;
 use made::WrongRows;
 use progress::{Ended, Screen, Turn};
 use std::alloc::Global;
@@ -26,9 +27,9 @@ impl Write for Paper {
     }
 }
 
-// The moments at which turns commit of a drive of three, in microseconds, of which a fourth is one too many, and what is written
-// where so many writes fail. Behind the first two turns looks are answered.
-struct Row {
+/// The moments at which turns commit of a drive of three, in microseconds, of which a fourth is one too many, and what is written
+/// where so many writes fail. Behind the first two turns looks are answered.
+pub struct Shown {
     name: &'static str,
     moments: &'static [u64],
     end: u64,
@@ -36,8 +37,8 @@ struct Row {
     written: &'static str,
 }
 
-static ROWS: [Row; 7] = [
-    Row {
+pub static ROWS: [Shown; 7] = [
+    Shown {
         name: "too short to show a line",
         moments: &[1, 2, 199_999, 199_999],
         end: 300_000,
@@ -48,7 +49,7 @@ static ROWS: [Row; 7] = [
                   \x20aborts           0           -           -           -           -\n\
                   \x20 looks           2           4           4           4           4\n",
     },
-    Row {
+    Shown {
         name: "each is late enough",
         moments: &[200_000, 400_000, 600_000, 799_999],
         end: 800_000,
@@ -62,7 +63,7 @@ static ROWS: [Row; 7] = [
                   \x20aborts           0           -           -           -           -\n\
                   \x20 looks           2           4           4           4           4\n",
     },
-    Row {
+    Shown {
         name: "one is too early",
         moments: &[250_000, 449_999, 450_000, 450_001],
         end: 1_000_000,
@@ -75,7 +76,7 @@ static ROWS: [Row; 7] = [
                   \x20aborts           0           -           -           -           -\n\
                   \x20 looks           2           4           4           4           4\n",
     },
-    Row {
+    Shown {
         name: "nothing is left of a longer line",
         moments: &[1, 200_000, 200_001],
         end: 1_000_000,
@@ -87,7 +88,7 @@ static ROWS: [Row; 7] = [
                   \x20aborts           0           -           -           -           -\n\
                   \x20 looks           2           4           4           4           4\n",
     },
-    Row {
+    Shown {
         name: "a write fails",
         moments: &[200_000, 200_001, 400_000, 400_001],
         end: 1_000_000,
@@ -99,14 +100,14 @@ static ROWS: [Row; 7] = [
                   \x20aborts           0           -           -           -           -\n\
                   \x20 looks           2           4           4           4           4\n",
     },
-    Row {
+    Shown {
         name: "each write fails",
         moments: &[200_000, 200_001, 400_000, 400_001],
         end: 1_000_000,
         failures: 4,
         written: "",
     },
-    Row {
+    Shown {
         name: "nothing was counted",
         moments: &[],
         end: 1,
@@ -115,31 +116,27 @@ static ROWS: [Row; 7] = [
     },
 ];
 
-fn shows_its_lines(alloc: Global, row: &Row) -> bool {
-    let paper = Paper {
-        failures: row.failures,
-        written: Vec::new(alloc),
-    };
-    let mut screen = Screen::new(alloc, paper, 3);
-    for (turns, moment) in row.moments.iter().enumerate() {
-        let turn = Turn {
-            ended: Ended::Committed,
-            micros: 5,
+impl Row for Shown {
+    fn tell(&self, wrong: &mut WrongRows, rt: &HostRuntime) {
+        let alloc = rt.alloc();
+        let paper = Paper {
+            failures: self.failures,
+            written: Vec::new(alloc),
         };
-        screen.turned(alloc, turn, *moment);
-        if turns < 2 {
-            screen.looked(4);
+        let mut screen = Screen::new(alloc, paper, 3);
+        for (turns, moment) in self.moments.iter().enumerate() {
+            let turn = Turn {
+                ended: Ended::Committed,
+                micros: 5,
+            };
+            screen.turned(alloc, turn, *moment);
+            if turns < 2 {
+                screen.looked(4);
+            }
         }
-    }
-    let paper = screen.finish(alloc, row.end);
-    let same = paper.written.as_slice() == row.written.as_bytes();
-    drop(paper);
-    same
-}
-
-/// Goes over all rows.
-pub fn go_over(wrong: &mut WrongRows, alloc: Global) {
-    for row in &ROWS {
-        wrong.unless(shows_its_lines(alloc, row), row.name);
+        let paper = screen.finish(alloc, self.end);
+        let same = paper.written.as_slice() == self.written.as_bytes();
+        drop(paper);
+        wrong.unless(same, self.name);
     }
 }

@@ -148,7 +148,10 @@ fn spend(rows: &mut Rows, logged: Logged) -> Record {
 
 // The record of a line is logged, and is the one that 1.1 hands back.
 fn goes_by(rows: &mut Rows, log: &mut Log, alloc: Global, line: &str) -> bool {
-    let Some(logged) = logged(log, alloc, record_of(alloc, line)) else {
+    let Some(record) = record_of(alloc, line) else {
+        return false;
+    };
+    let Some(logged) = logged(log, alloc, record) else {
         return false;
     };
     let record = spend(rows, logged);
@@ -279,20 +282,13 @@ fn is_told(log: &mut Log, alloc: Global, steps: &[Step]) -> bool {
     told
 }
 
-// Goes over the stories, with a log of all records.
-fn go_over_with(wrong: &mut WrongRows, log: &mut Log, alloc: Global) {
-    for story in &STORIES {
-        wrong.unless(is_told(log, alloc, story.steps), story.name);
-    }
-}
-
-/// Goes over all rows.
+/// Goes over all rows, with a log of all records.
 pub fn go_over(wrong: &mut WrongRows, alloc: Global) {
-    match GateLog::format(SimDisk::new(alloc)) {
-        Ok(mut log) => {
-            go_over_with(wrong, &mut log, alloc);
-            drop(log);
-        }
-        Err(_) => wrong.unless(false, "no log"),
+    let Ok(mut log) = GateLog::format(SimDisk::new(alloc)) else {
+        return wrong.unless(false, "no log");
+    };
+    for story in &STORIES {
+        wrong.unless(is_told(&mut log, alloc, story.steps), story.name);
     }
+    drop(log);
 }

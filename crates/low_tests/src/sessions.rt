@@ -349,21 +349,14 @@ fn are_drawn(alloc: Global, splits: &Splits) -> bool {
     drawn
 }
 
-// Goes over the stories.
-fn go_over_with(wrong: &mut WrongRows, alloc: Global, splits: &Splits) {
-    for story in &STORIES {
-        wrong.unless(is_told(alloc, splits, story), story.name);
-    }
-    wrong.unless(are_drawn(alloc, splits), "7.0 and 7.1");
-}
-
 /// Goes over all rows.
 pub fn go_over(wrong: &mut WrongRows, alloc: Global) {
-    match Splits::new(alloc, &[key(b'm')]) {
-        Ok(splits) => {
-            go_over_with(wrong, alloc, &splits);
-            drop(splits);
-        }
-        Err(_) => wrong.unless(false, "no splits"),
+    let Ok(splits) = Splits::new(alloc, &[key(b'm')]) else {
+        return wrong.unless(false, "no splits");
+    };
+    for story in &STORIES {
+        wrong.unless(is_told(alloc, &splits, story), story.name);
     }
+    wrong.unless(are_drawn(alloc, &splits), "7.0 and 7.1");
+    drop(splits);
 }

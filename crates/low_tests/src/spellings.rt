@@ -1,13 +1,15 @@
 //! The bytes of records.
-use crate::checks::{Named, Row};
-use crate::lines::{Line, is_spelled, record_of};
+use crate::checks::{Row, is_spelled};
+use crate::text_logs::record_of;
+use made::WrongRows;
 use record::Record;
 use spelling::{decode, encoded_len};
 use std::alloc::Global;
 
 /// A record, and its bytes.
 pub struct Vector {
-    pub line: Line,
+    pub what: &'static str,
+    pub line: &'static str,
     pub bytes: &'static [u8],
 }
 
@@ -39,55 +41,41 @@ const READS: &[u8] = &[
     0x61, 1, 0x62, 0, 0,
 ];
 
-pub static VECTORS: [Named<Vector>; 7] = [
-    Named {
+pub static VECTORS: [Vector; 7] = [
+    Vector {
         what: "an opening",
-        row: Vector {
-            line: Line::Opened(1),
-            bytes: OPENED,
-        },
+        line: "opened 1",
+        bytes: OPENED,
     },
-    Named {
+    Vector {
         what: "a ceiling",
-        row: Vector {
-            line: Line::Ceiling(200),
-            bytes: CEILING,
-        },
+        line: "ceiling 200",
+        bytes: CEILING,
     },
-    Named {
+    Vector {
         what: "a promise",
-        row: Vector {
-            line: Line::Prepare(2, 200, b'z', 0),
-            bytes: PREPARE,
-        },
+        line: "prepare 1.2 0 200 - z=1",
+        bytes: PREPARE,
     },
-    Named {
+    Vector {
         what: "a decision",
-        row: Vector {
-            line: Line::Commit(1, 111, b'a', 1),
-            bytes: COMMIT,
-        },
+        line: "commit 1.1 111 0 - a=1",
+        bytes: COMMIT,
     },
-    Named {
+    Vector {
         what: "an abort",
-        row: Vector {
-            line: Line::Abort(9),
-            bytes: &[5, 0, 0, 0, 0, 0, 0, 0, 1, 0, 0, 0, 0, 0, 0, 0, 9],
-        },
+        line: "abort 1.9",
+        bytes: &[5, 0, 0, 0, 0, 0, 0, 0, 1, 0, 0, 0, 0, 0, 0, 0, 9],
     },
-    Named {
+    Vector {
         what: "an outcome",
-        row: Vector {
-            line: Line::Committed(1, 111),
-            bytes: OUTCOME,
-        },
+        line: "outcome 1.1 committed 111",
+        bytes: OUTCOME,
     },
-    Named {
+    Vector {
         what: "a horizon",
-        row: Vector {
-            line: Line::Horizon(200),
-            bytes: &[7, 0, 0, 0, 0, 0, 0, 0, 0xc8],
-        },
+        line: "horizon 200",
+        bytes: &[7, 0, 0, 0, 0, 0, 0, 0, 0xc8],
     },
 ];
 
@@ -111,200 +99,163 @@ fn is_read_back(alloc: Global, bytes: &[u8]) -> bool {
 
 // It is spelled so, is read from that, and its copy is spelled so too.
 impl Row for Vector {
-    fn holds(&self, rt: &HostRuntime) -> bool {
+    fn tell(&self, wrong: &mut WrongRows, rt: &HostRuntime) {
         let alloc = rt.alloc();
-        let Some(item) = record_of(alloc, self.line) else {
-            return false;
+        let spelled = match record_of(alloc, self.line) {
+            Some(item) => {
+                let spelled = is_spelled(alloc, &item, self.bytes);
+                drop(item);
+                spelled
+            }
+            None => false,
         };
-        let spelled = is_spelled(alloc, &item, self.bytes);
-        drop(item);
-        spelled && is_read_back(alloc, self.bytes)
+        wrong.unless(spelled && is_read_back(alloc, self.bytes), self.what);
     }
 }
 
 /// Bytes that are a record, or not.
 pub struct Read {
+    pub what: &'static str,
     pub bytes: &'static [u8],
     pub is_record: bool,
 }
 
-pub static READ: [Named<Read>; 21] = [
-    Named {
+pub static READ: [Read; 21] = [
+    Read {
         what: "no byte",
-        row: Read {
-            bytes: &[],
-            is_record: false,
-        },
+        bytes: &[],
+        is_record: false,
     },
-    Named {
+    Read {
         what: "kind 0",
-        row: Read {
-            bytes: &[0, 0, 0, 0, 0, 0, 0, 0, 1],
-            is_record: false,
-        },
+        bytes: &[0, 0, 0, 0, 0, 0, 0, 0, 1],
+        is_record: false,
     },
-    Named {
+    Read {
         what: "kind 12",
-        row: Read {
-            bytes: &[12, 0, 0, 0, 0, 0, 0, 0, 1],
-            is_record: false,
-        },
+        bytes: &[12, 0, 0, 0, 0, 0, 0, 0, 1],
+        is_record: false,
     },
-    Named {
+    Read {
         what: "a byte left over",
-        row: Read {
-            bytes: &[2, 0, 0, 0, 0, 0, 0, 0, 0xc8, 0],
-            is_record: false,
-        },
+        bytes: &[2, 0, 0, 0, 0, 0, 0, 0, 0xc8, 0],
+        is_record: false,
     },
-    Named {
+    Read {
         what: "a byte too few",
-        row: Read {
-            bytes: &[
-                4, 0, 0, 0, 0, 0, 0, 0, 1, 0, 0, 0, 0, 0, 0, 0, 1, 0, 0, 0, 0, 0, 0, 0, 0x6f, 0, 1,
-                0, 0, 0, 1, 1, 0x61, 1, 0, 1,
-            ],
-            is_record: false,
-        },
+        bytes: &[
+            4, 0, 0, 0, 0, 0, 0, 0, 1, 0, 0, 0, 0, 0, 0, 0, 1, 0, 0, 0, 0, 0, 0, 0, 0x6f, 0, 1, 0,
+            0, 0, 1, 1, 0x61, 1, 0, 1,
+        ],
+        is_record: false,
     },
-    Named {
+    Read {
         what: "epoch 0",
-        row: Read {
-            bytes: &[1, 0, 0, 0, 0, 0, 0, 0, 0],
-            is_record: false,
-        },
+        bytes: &[1, 0, 0, 0, 0, 0, 0, 0, 0],
+        is_record: false,
     },
-    Named {
+    Read {
         what: "epoch 2^62",
-        row: Read {
-            bytes: &[1, 0x40, 0, 0, 0, 0, 0, 0, 0],
-            is_record: false,
-        },
+        bytes: &[1, 0x40, 0, 0, 0, 0, 0, 0, 0],
+        is_record: false,
     },
-    Named {
+    Read {
         what: "stamp 2^62",
-        row: Read {
-            bytes: &[2, 0x40, 0, 0, 0, 0, 0, 0, 0],
-            is_record: false,
-        },
+        bytes: &[2, 0x40, 0, 0, 0, 0, 0, 0, 0],
+        is_record: false,
     },
-    Named {
+    Read {
         what: "the last stamp",
-        row: Read {
-            bytes: &[2, 0x3f, 255, 255, 255, 255, 255, 255, 255],
-            is_record: true,
-        },
+        bytes: &[2, 0x3f, 255, 255, 255, 255, 255, 255, 255],
+        is_record: true,
     },
-    Named {
+    Read {
         what: "a horizon at 0",
-        row: Read {
-            bytes: &[7, 0, 0, 0, 0, 0, 0, 0, 0],
-            is_record: true,
-        },
+        bytes: &[7, 0, 0, 0, 0, 0, 0, 0, 0],
+        is_record: true,
     },
-    Named {
+    Read {
         what: "a horizon at the last stamp",
-        row: Read {
-            bytes: &[7, 0x3f, 255, 255, 255, 255, 255, 255, 255],
-            is_record: true,
-        },
+        bytes: &[7, 0x3f, 255, 255, 255, 255, 255, 255, 255],
+        is_record: true,
     },
-    Named {
+    Read {
         what: "a horizon at 2^62",
-        row: Read {
-            bytes: &[7, 0x40, 0, 0, 0, 0, 0, 0, 0],
-            is_record: false,
-        },
+        bytes: &[7, 0x40, 0, 0, 0, 0, 0, 0, 0],
+        is_record: false,
     },
-    Named {
+    Read {
         what: "a horizon with a byte left over",
-        row: Read {
-            bytes: &[7, 0, 0, 0, 0, 0, 0, 0, 0xc8, 0],
-            is_record: false,
-        },
+        bytes: &[7, 0, 0, 0, 0, 0, 0, 0, 0xc8, 0],
+        is_record: false,
     },
-    Named {
+    Read {
         what: "a horizon with a byte too few",
-        row: Read {
-            bytes: &[7, 0, 0, 0, 0, 0, 0, 0xc8],
-            is_record: false,
-        },
+        bytes: &[7, 0, 0, 0, 0, 0, 0, 0xc8],
+        is_record: false,
     },
-    Named {
+    Read {
         what: "a horizon of its kind alone",
-        row: Read {
-            bytes: &[7],
-            is_record: false,
-        },
+        bytes: &[7],
+        is_record: false,
     },
-    Named {
+    Read {
         what: "reads a and b",
-        row: Read {
-            bytes: READS,
-            is_record: true,
-        },
+        bytes: READS,
+        is_record: true,
     },
-    Named {
+    Read {
         what: "coordinator 15",
-        row: Read {
-            bytes: &[
-                3, 0, 0, 0, 0, 0, 0, 0, 1, 0, 0, 0, 0, 0, 0, 0, 2, 15, 0, 0, 0, 0, 0, 0, 0, 0xc8,
-                0, 0, 0, 1, 1, 0x7a, 1, 0, 1, 0x31,
-            ],
-            is_record: true,
-        },
+        bytes: &[
+            3, 0, 0, 0, 0, 0, 0, 0, 1, 0, 0, 0, 0, 0, 0, 0, 2, 15, 0, 0, 0, 0, 0, 0, 0, 0xc8, 0, 0,
+            0, 1, 1, 0x7a, 1, 0, 1, 0x31,
+        ],
+        is_record: true,
     },
-    Named {
+    Read {
         what: "coordinator 16",
-        row: Read {
-            bytes: &[
-                3, 0, 0, 0, 0, 0, 0, 0, 1, 0, 0, 0, 0, 0, 0, 0, 2, 16, 0, 0, 0, 0, 0, 0, 0, 0xc8,
-                0, 0, 0, 1, 1, 0x7a, 1, 0, 1, 0x31,
-            ],
-            is_record: false,
-        },
+        bytes: &[
+            3, 0, 0, 0, 0, 0, 0, 0, 1, 0, 0, 0, 0, 0, 0, 0, 2, 16, 0, 0, 0, 0, 0, 0, 0, 0xc8, 0, 0,
+            0, 1, 1, 0x7a, 1, 0, 1, 0x31,
+        ],
+        is_record: false,
     },
-    Named {
+    Read {
         what: "no shard takes part",
-        row: Read {
-            bytes: &[
-                4, 0, 0, 0, 0, 0, 0, 0, 1, 0, 0, 0, 0, 0, 0, 0, 1, 0, 0, 0, 0, 0, 0, 0, 0x6f, 0, 0,
-                0, 0, 0, 1, 1, 0x61, 1, 0, 1, 0x31,
-            ],
-            is_record: false,
-        },
+        bytes: &[
+            4, 0, 0, 0, 0, 0, 0, 0, 1, 0, 0, 0, 0, 0, 0, 0, 1, 0, 0, 0, 0, 0, 0, 0, 0x6f, 0, 0, 0,
+            0, 0, 1, 1, 0x61, 1, 0, 1, 0x31,
+        ],
+        is_record: false,
     },
-    Named {
+    Read {
         what: "reads b and b",
-        row: Read {
-            bytes: &[
-                4, 0, 0, 0, 0, 0, 0, 0, 1, 0, 0, 0, 0, 0, 0, 0, 1, 0, 0, 0, 0, 0, 0, 0, 0x6f, 0, 1,
-                0, 2, 1, 0x62, 1, 0x62, 0, 0,
-            ],
-            is_record: false,
-        },
+        bytes: &[
+            4, 0, 0, 0, 0, 0, 0, 0, 1, 0, 0, 0, 0, 0, 0, 0, 1, 0, 0, 0, 0, 0, 0, 0, 0x6f, 0, 1, 0,
+            2, 1, 0x62, 1, 0x62, 0, 0,
+        ],
+        is_record: false,
     },
-    Named {
+    Read {
         what: "reads c and b",
-        row: Read {
-            bytes: &[
-                4, 0, 0, 0, 0, 0, 0, 0, 1, 0, 0, 0, 0, 0, 0, 0, 1, 0, 0, 0, 0, 0, 0, 0, 0x6f, 0, 1,
-                0, 2, 1, 0x63, 1, 0x62, 0, 0,
-            ],
-            is_record: false,
-        },
+        bytes: &[
+            4, 0, 0, 0, 0, 0, 0, 0, 1, 0, 0, 0, 0, 0, 0, 0, 1, 0, 0, 0, 0, 0, 0, 0, 0x6f, 0, 1, 0,
+            2, 1, 0x63, 1, 0x62, 0, 0,
+        ],
+        is_record: false,
     },
 ];
 
 impl Row for Read {
-    fn holds(&self, rt: &HostRuntime) -> bool {
-        match decode(rt.alloc(), self.bytes) {
+    fn tell(&self, wrong: &mut WrongRows, rt: &HostRuntime) {
+        let right = match decode(rt.alloc(), self.bytes) {
             Ok(Some(item)) => {
                 drop(item);
                 self.is_record
             }
             Ok(None) => !self.is_record,
             Err(_) => false,
-        }
+        };
+        wrong.unless(right, self.what);
     }
 }

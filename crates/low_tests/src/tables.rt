@@ -3,6 +3,7 @@ ghost use Rattle.std.specs.Prelude.{◌≡◌, ◌<◌, ◌^◌, [], false, true
 ghost use Rattle.locks.specs.Table.{has_claim};
 ghost use Rattle.low_tests.specs.Seats.{nth, Sits, AreSeated, KeepsClaims, KeepsOthers};
 
+use crate::checks::Row;
 use crate::ids::needs;
 use locks::{Held, Table};
 use made::{WrongRows, key};
@@ -36,12 +37,13 @@ struct Step {
     ready: Option<u64>,
 }
 
-struct Story {
+/// What happens to a new table.
+pub struct Story {
     name: &'static str,
     steps: &'static [Step],
 }
 
-static STORIES: [Story; 5] = [
+pub static STORIES: [Story; 5] = [
     // 1.1 holds a shared. 1.3 asks for it exclusive and waits, 1.2 asks for it shared and is granted. When 1.1 is released
     // nobody is ready; when 1.2 is released 1.3 is.
     Story {
@@ -340,12 +342,11 @@ fn is_told(table: &mut Table, alloc: Global, steps: &[Step]) -> bool
     told
 }
 
-/// Goes over all rows.
-pub fn go_over(wrong: &mut WrongRows, alloc: Global) {
-    for story in &STORIES {
-        let mut table = Table::new(alloc);
-        let told = is_told(&mut table, alloc, story.steps);
+impl Row for Story {
+    fn tell(&self, wrong: &mut WrongRows, rt: &HostRuntime) {
+        let mut table = Table::new(rt.alloc());
+        let told = is_told(&mut table, rt.alloc(), self.steps);
         drop(table);
-        wrong.unless(told, story.name);
+        wrong.unless(told, self.name);
     }
 }

@@ -18,15 +18,21 @@ fn low_crates(rt: HostRuntime) {
     messages::go_over(wrong.of("messages"), alloc);
     documents::go_over(wrong.of("settings"), alloc);
     verdicts::go_over(wrong.of("verdicts"), alloc);
-    clocks::go_over(wrong.of("clocks"), alloc);
-    tables::go_over(wrong.of("the lock table"), alloc);
+    go_over(&mut wrong, &rt, "clocks", &clocks::BESIDE);
+    go_over(&mut wrong, &rt, "ceilings", &clocks::AHEAD);
+    wrong.of("safe times").unless(
+        clocks::is_held_below(alloc),
+        "below a promise until it is settled",
+    );
+    wrong.unless(clocks::are_lifted(alloc), "one hold is lifted at a time");
+    go_over(&mut wrong, &rt, "the lock table", &tables::STORIES);
     seated::go_over(wrong.of("rows"), alloc);
     sessions::go_over(wrong.of("sessions"), alloc);
     drawers::go_over(wrong.of("tickets"), &rt, alloc);
     looks::go_over(wrong.of("looks"), &rt, alloc);
     figures::go_over(wrong.of("figures"));
-    drive_lines::go_over(wrong.of("lines"), alloc);
-    screens::go_over(wrong.of("screens"), alloc);
+    go_over(&mut wrong, &rt, "lines", &drive_lines::ROWS);
+    go_over(&mut wrong, &rt, "screens", &screens::ROWS);
     terminals::go_over(wrong.of("terminals"), &rt, alloc);
     end(&rt, wrong);
 }
@@ -55,7 +61,7 @@ fn disks_and_logs(rt: HostRuntime) {
 }
 
 #[test]
-fn turned_logs(rt: HostRuntime) {
+fn turned_and_migrated_logs(rt: HostRuntime) {
     let mut wrong = WrongRows::none(rt.alloc());
     go_over(
         &mut wrong,
@@ -64,12 +70,6 @@ fn turned_logs(rt: HostRuntime) {
         &turned::TURNED,
     );
     wrong.unless(turned::ends(&rt), "a log without a slot left");
-    end(&rt, wrong);
-}
-
-#[test]
-fn migrated_files(rt: HostRuntime) {
-    let mut wrong = WrongRows::none(rt.alloc());
     go_over(&mut wrong, &rt, "files of version 1", &migrated::MIGRATED);
     go_over(&mut wrong, &rt, "migrations that fail", &migrated::FAILING);
     end(&rt, wrong);
@@ -90,12 +90,6 @@ fn forgotten_versions(rt: HostRuntime) {
         "many versions behind a horizon",
         &horizons::MANY,
     );
-    go_over(
-        &mut wrong,
-        &rt,
-        "drawn versions behind horizons",
-        &horizons::DRAWN,
-    );
     end(&rt, wrong);
 }
 
@@ -110,12 +104,6 @@ fn renewed_logs(rt: HostRuntime) {
         "what renewed logs determine",
         &known::RENEWED,
     );
-    end(&rt, wrong);
-}
-
-#[test]
-fn records_of_renewed_logs(rt: HostRuntime) {
-    let mut wrong = WrongRows::none(rt.alloc());
     go_over(
         &mut wrong,
         &rt,

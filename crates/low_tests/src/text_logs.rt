@@ -9,14 +9,26 @@ use units::{Epoch, Install, Key, Keys, Parts, Stamp, TxnId, Value, Write, Writes
 
 /// Adds the records of a text to a log, one a line. Says whether each is printed as its line.
 pub fn reads(alloc: Global, text: &str, log: &mut Vec<Record>) -> bool {
-    let mut printed = true;
-    for line in text.split_inclusive('\n') {
-        let line = line.strip_suffix('\n').unwrap_or("no end");
-        let record = record_of(alloc, line);
-        printed = is_printed(alloc, &Text(&record), line) && printed;
-        printed = log.push(record).is_ok() && printed;
+    for line in text.lines() {
+        let Some(record) = record_of(alloc, line) else {
+            return false;
+        };
+        if log.push(record).is_err() {
+            return false;
+        }
     }
-    printed
+    true
+}
+
+/// The record of a line, where it is printed as that line.
+pub fn record_of(alloc: Global, line: &str) -> Option<Record> {
+    let record = read(alloc, line);
+    if is_printed(alloc, &Text(&record), line) {
+        Some(record)
+    } else {
+        drop(record);
+        None
+    }
 }
 
 // The pieces of a text between separators, and empty ones behind them.
@@ -32,72 +44,68 @@ fn pieces(text: &str, separator: char) -> [&str; 6] {
     pieces
 }
 
-/// The record of a line.
-pub fn record_of(alloc: Global, line: &str) -> Record {
+// The record of a line, as far as its words can be read.
+fn read(alloc: Global, line: &str) -> Record {
     let words = pieces(line, ' ');
     let txn = txn_of(words[1]);
-    let (first, second, third) = (number(words[1]), number(words[2]), number(words[3]));
+    let epoch = Epoch::new(number(words[1])).unwrap_or(Epoch::first());
+    let coordinator = shard((number(words[2]) % 16) as u8);
+    let (first, second, third) = (stamp_of(words[1]), stamp_of(words[2]), stamp_of(words[3]));
     match words[0] {
-        "opened" => Record::Opened {
-            epoch: Epoch::new(first).unwrap_or(Epoch::first()),
-        },
-        "ceiling" => Record::Ceiling {
-            at: stamp_of(first),
-        },
-        "horizon" => Record::Horizon {
-            at: stamp_of(first),
-        },
+        "opened" => Record::Opened { epoch },
+        "ceiling" => Record::Ceiling { at: first },
+        "horizon" => Record::Horizon { at: first },
         "prepare" => Record::Prepare(Prepared {
             txn,
-            coordinator: shard((second % 16) as u8),
-            at: stamp_of(third),
+            coordinator,
+            at: third,
             reads: keys_of(alloc, words[4]),
             writes: writes_of(alloc, words[5]),
         }),
         "commit" => Record::Commit(Committed {
             txn,
-            at: stamp_of(second),
+            at: second,
             parts: parts_of(words[3]),
             reads: keys_of(alloc, words[4]),
             writes: writes_of(alloc, words[5]),
         }),
-        "outcome" if words[2] == "committed" => Record::Outcome {
+        "outcome" => Record::Outcome {
             txn,
-            outcome: Some(stamp_of(third)),
+            outcome: outcome_of(words[2], words[3]),
         },
-        "outcome" => Record::Outcome { txn, outcome: None },
         "base" => Record::Base {
-            epoch: Epoch::new(first).unwrap_or(Epoch::first()),
-            floor: stamp_of(second),
-            horizon: stamp_of(third),
+            epoch,
+            floor: second,
+            horizon: third,
         },
         "version" => version_of(alloc, first, words[2]),
         "settled" => Record::Settled {
             txn,
-            at: stamp_of(second),
+            at: second,
             parts: parts_of(words[3]),
         },
         "closed" => Record::Closed {
             txn,
-            coordinator: shard((second % 16) as u8),
-            outcome: if words[3] == "committed" {
-                Some(stamp_of(number(words[4])))
-            } else {
-                None
-            },
+            coordinator,
+            outcome: outcome_of(words[3], words[4]),
         },
         _ => Record::Abort { txn },
     }
 }
 
 // The version that a word writes.
-fn version_of(alloc: Global, at: u64, word: &str) -> Record {
-    let write = write_of(alloc, word);
-    Record::Version(Install {
-        key: write.key,
-        at: stamp_of(at),
-        value: write.value,
-    })
+fn version_of(alloc: Global, at: Stamp, word: &str) -> Record {
+    let Write { key, value } = write_of(alloc, word);
+    Record::Version(Install { key, at, value })
+}
+
+// What two words tell of an end.
+fn outcome_of(word: &str, at: &str) -> Option<Stamp> {
+    if word == "committed" {
+        Some(stamp_of(at))
+    } else {
+        None
+    }
 }
 
 /// The id of a word.
@@ -105,8 +113,8 @@ pub fn txn_of(word: &str) -> TxnId {
     texts::txn(word).unwrap_or(made::id(0))
 }
 
-fn stamp_of(micros: u64) -> Stamp {
-    Stamp::new(micros).unwrap_or(Stamp::zero())
+fn stamp_of(word: &str) -> Stamp {
+    Stamp::new(number(word)).unwrap_or(Stamp::zero())
 }
 
 fn number(word: &str) -> u64 {

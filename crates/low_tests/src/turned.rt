@@ -1,22 +1,18 @@
 //! Logs that are turned over.
-use crate::checks::{Named, Row};
+use crate::checks::Row;
 use crate::devices::crash;
 use crate::files::{Place, open, put_lines};
-use crate::lines::{Line, record_of};
 use crate::spellings::{COMMIT, OPENED, OUTCOME};
+use crate::text_logs::record_of;
 use disk::{Disk, Fate};
 use gatelog::{Area, GateLog, HEADER};
-use made::FIRST_GATE;
+use made::{FIRST_GATE, WrongRows};
 use simdisk::SimDisk;
 use std::alloc::Global;
 use units::Fault;
 
 // A log of one commit has its closed gate at 9,311.
-const LINES: &[Line] = &[
-    Line::Opened(1),
-    Line::Commit(1, 111, b'a', 1),
-    Line::Committed(1, 111),
-];
+const LINES: &str = "opened 1\ncommit 1.1 111 0 - a=1\noutcome 1.1 committed 111";
 
 const OLD: &[Place] = &[
     (FIRST_GATE, OPENED),
@@ -25,7 +21,7 @@ const OLD: &[Place] = &[
 ];
 
 // The area behind it, and then another behind this one.
-const AREA: &[Line] = &[Line::Opened(2), Line::Ceiling(300)];
+const AREA: &str = "opened 2\nceiling 300";
 
 const SECOND: &[u8] = &[1, 0, 0, 0, 0, 0, 0, 0, 2];
 
@@ -40,12 +36,13 @@ const NEXT: &[Place] = &[(9341, SECOND), (9355, HIGHER)];
 /// A log of one commit that is turned over, while a call may be to fail, how this is answered, and what is left of it.
 #[derive(Clone, Copy)]
 pub struct Turned {
-    areas: &'static [&'static [Line]],
+    what: &'static str,
+    areas: &'static [&'static str],
     call: Option<u64>,
     answer: Result<(), Fault>,
     fate: Option<Fate>,
     // Records that are logged then.
-    more: &'static [Line],
+    more: &'static str,
     places: &'static [Place],
     gate: u64,
     slot: u64,
@@ -54,11 +51,12 @@ pub struct Turned {
 }
 
 const WHOLE: Turned = Turned {
+    what: "one turnover",
     areas: &[AREA],
     call: None,
     answer: Ok(()),
     fate: None,
-    more: &[],
+    more: "",
     places: NEW,
     gate: 9340,
     slot: 1,
@@ -66,6 +64,7 @@ const WHOLE: Turned = Turned {
 };
 
 const FAILED: Turned = Turned {
+    what: "a turnover that fails",
     answer: Err(Fault::Device),
     places: OLD,
     gate: 9311,
@@ -73,156 +72,124 @@ const FAILED: Turned = Turned {
     ..WHOLE
 };
 
-pub static TURNED: [Named<Turned>; 16] = [
-    Named {
+pub static TURNED: [Turned; 16] = [
+    Turned {
         what: "one turnover, byte for byte",
-        row: Turned {
-            slots: Some((
-                &[
-                    0xa5, 0, 0, 0, 0, 0, 0, 0x24, 0x60, 0, 0, 0, 0, 0, 0, 0, 0, 0,
-                ],
-                9341,
-            )),
-            ..WHOLE
-        },
+        slots: Some((
+            &[
+                0xa5, 0, 0, 0, 0, 0, 0, 0x24, 0x60, 0, 0, 0, 0, 0, 0, 0, 0, 0,
+            ],
+            9341,
+        )),
+        ..WHOLE
     },
-    Named {
+    Turned {
         what: "a crash behind it",
-        row: Turned {
-            fate: Some(Fate::Old),
-            ..WHOLE
-        },
+        fate: Some(Fate::Old),
+        ..WHOLE
     },
-    Named {
+    Turned {
         what: "an area of no record",
-        row: Turned {
-            areas: &[&[]],
-            places: &[],
-            gate: 9312,
-            ..WHOLE
-        },
+        areas: &[""],
+        places: &[],
+        gate: 9312,
+        ..WHOLE
     },
-    Named {
+    Turned {
         what: "an append behind it",
-        row: Turned {
-            more: &[Line::Ceiling(300)],
-            places: NEW_WITH_ONE,
-            gate: 9354,
-            ..WHOLE
-        },
+        more: "ceiling 300",
+        places: NEW_WITH_ONE,
+        gate: 9354,
+        ..WHOLE
     },
-    Named {
+    Turned {
         what: "two turnovers",
-        row: Turned {
-            areas: &[AREA, AREA],
-            places: NEXT,
-            gate: 9369,
-            slot: 2,
-            slots: Some((
-                &[
-                    0xa5, 0, 0, 0, 0, 0, 0, 0x24, 0x60, 0xa5, 0, 0, 0, 0, 0, 0, 0x24, 0x7d,
-                ],
-                9370,
-            )),
-            ..WHOLE
-        },
+        areas: &[AREA, AREA],
+        places: NEXT,
+        gate: 9369,
+        slot: 2,
+        slots: Some((
+            &[
+                0xa5, 0, 0, 0, 0, 0, 0, 0x24, 0x60, 0xa5, 0, 0, 0, 0, 0, 0, 0x24, 0x7d,
+            ],
+            9370,
+        )),
+        ..WHOLE
     },
-    Named {
+    Turned {
         what: "the first call fails",
-        row: Turned {
-            call: Some(0),
-            fate: Some(Fate::New),
-            ..FAILED
-        },
+        call: Some(0),
+        fate: Some(Fate::New),
+        ..FAILED
     },
-    Named {
+    Turned {
         what: "the second call fails",
-        row: Turned {
-            call: Some(1),
-            fate: Some(Fate::Filled(0xa5)),
-            ..FAILED
-        },
+        call: Some(1),
+        fate: Some(Fate::Filled(0xa5)),
+        ..FAILED
     },
-    Named {
+    Turned {
         what: "the third call fails",
-        row: Turned {
-            call: Some(2),
-            fate: Some(Fate::New),
-            ..FAILED
-        },
+        call: Some(2),
+        fate: Some(Fate::New),
+        ..FAILED
     },
-    Named {
+    Turned {
         what: "the fourth call fails, with its change lost",
-        row: Turned {
-            call: Some(3),
-            fate: Some(Fate::Old),
-            ..FAILED
-        },
+        call: Some(3),
+        fate: Some(Fate::Old),
+        ..FAILED
     },
-    Named {
+    Turned {
         what: "the fourth call fails, with its change filled",
-        row: Turned {
-            call: Some(3),
-            fate: Some(Fate::Filled(0x37)),
-            ..FAILED
-        },
+        call: Some(3),
+        fate: Some(Fate::Filled(0x37)),
+        ..FAILED
     },
-    Named {
+    Turned {
         what: "the fourth call fails, with its change kept",
-        row: Turned {
-            call: Some(3),
-            answer: Err(Fault::Device),
-            fate: Some(Fate::New),
-            ..WHOLE
-        },
+        call: Some(3),
+        answer: Err(Fault::Device),
+        fate: Some(Fate::New),
+        ..WHOLE
     },
-    Named {
+    Turned {
         what: "the fourth call fails, and there is no crash",
-        row: Turned {
-            call: Some(3),
-            ..FAILED
-        },
+        call: Some(3),
+        ..FAILED
     },
-    Named {
+    Turned {
         what: "the fifth call fails, with its change lost",
-        row: Turned {
-            call: Some(4),
-            fate: Some(Fate::Old),
-            ..FAILED
-        },
+        call: Some(4),
+        fate: Some(Fate::Old),
+        ..FAILED
     },
-    Named {
+    Turned {
         what: "the fifth call fails, with its change kept",
-        row: Turned {
-            call: Some(4),
-            answer: Err(Fault::Device),
-            fate: Some(Fate::New),
-            ..WHOLE
-        },
+        call: Some(4),
+        answer: Err(Fault::Device),
+        fate: Some(Fate::New),
+        ..WHOLE
     },
-    Named {
+    Turned {
         what: "the fifth call fails, and there is no crash",
-        row: Turned {
-            call: Some(4),
-            answer: Err(Fault::Device),
-            ..WHOLE
-        },
+        call: Some(4),
+        answer: Err(Fault::Device),
+        ..WHOLE
     },
-    Named {
+    Turned {
         what: "the sixth call fails, which is none of its own",
-        row: Turned {
-            call: Some(5),
-            fate: Some(Fate::Old),
-            ..WHOLE
-        },
+        call: Some(5),
+        fate: Some(Fate::Old),
+        ..WHOLE
     },
 ];
 
 // A new area of these records.
-fn area_of(alloc: Global, lines: &[Line]) -> Option<Area> {
+fn area_of(alloc: Global, lines: &str) -> Option<Area> {
     let mut area = Area::new(alloc);
-    for line in lines {
-        let Some(item) = record_of(alloc, *line) else {
+    for line in lines.lines() {
+        let Some(item) = record_of(alloc, line) else {
             drop(area);
             return None;
         };
@@ -240,7 +207,7 @@ fn area_of(alloc: Global, lines: &[Line]) -> Option<Area> {
 fn turn(
     alloc: Global,
     log: &mut GateLog<SimDisk>,
-    lines: &[Line],
+    lines: &str,
     call: Option<u64>,
 ) -> Result<(), Fault> {
     let Some(area) = area_of(alloc, lines) else {
@@ -257,7 +224,7 @@ fn is_turned(alloc: Global, log: &mut GateLog<SimDisk>, row: &Turned) -> bool {
         return false;
     }
     for lines in row.areas {
-        if turn(alloc, log, lines, row.call) != row.answer {
+        if turn(alloc, log, *lines, row.call) != row.answer {
             return false;
         }
     }
@@ -275,10 +242,10 @@ fn has_slots(disk: &mut SimDisk, slots: &[u8; 18], len: u64) -> bool {
 }
 
 impl Row for Turned {
-    fn holds(&self, rt: &HostRuntime) -> bool {
+    fn tell(&self, wrong: &mut WrongRows, rt: &HostRuntime) {
         let alloc = rt.alloc();
         let Ok(mut log) = GateLog::format(SimDisk::new(alloc)) else {
-            return false;
+            return wrong.unless(false, self.what);
         };
         let turned = is_turned(alloc, &mut log, self);
         let mut disk = log.into_disk();
@@ -290,11 +257,11 @@ impl Row for Turned {
             None => true,
         };
         let Ok(again) = open(alloc, disk, self.places) else {
-            return false;
+            return wrong.unless(false, self.what);
         };
         let ends = again.gate() == self.gate && again.slot() == self.slot;
         drop(again);
-        turned && slots && ends
+        wrong.unless(turned && slots && ends, self.what);
     }
 }
 
@@ -329,7 +296,7 @@ pub fn ends(rt: &HostRuntime) -> bool {
         return false;
     };
     let spent = log.slot() == 1024 && turn(alloc, &mut log, AREA, None) == Err(Fault::TimeSpent);
-    let goes_on = !log.is_stopped() && put_lines(alloc, &mut log, &[Line::Opened(1)]);
+    let goes_on = !log.is_stopped() && put_lines(alloc, &mut log, "opened 1");
     drop(log);
     spent && goes_on
 }

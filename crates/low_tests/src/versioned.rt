@@ -1,21 +1,17 @@
 //! The versions of keys.
 ghost use Rattle.std.specs.Prelude.{◌≡◌, ◌<◌, []};
 
-use crate::checks::{Named, Row};
-use crate::lines::byte;
+use crate::checks::{Row, byte};
+use crate::horizons::forget_both;
 use counts::Count;
-use made::{key, stamp};
+use made::{WrongRows, key, stamp};
 use std::alloc::Global;
 use std::cmp::Ordering;
 use units::{Key, Stamp, Value, Write, Writes};
 use versions::Versions;
 
-// A version of a key, by its letter: the timestamp, and a value of one letter or an erasure.
-pub struct Version {
-    pub key: u8,
-    pub at: u32,
-    pub value: Option<u8>,
-}
+/// A version of a key, by its letter: the timestamp, and a value of one letter or an erasure.
+pub type Version = (u8, u32, Option<u8>);
 
 // A version in a plain list of all, ascending by key and timestamp.
 #[derive(Clone, Copy)]
@@ -49,11 +45,11 @@ pub fn install(alloc: Global, versions: &mut Versions, new: &Plain) -> Option<bo
 
 // Installs each that its key takes.
 pub fn install_rows(alloc: Global, versions: &mut Versions, rows: &[Version]) -> bool {
-    for row in rows {
+    for (letter, at, value) in rows {
         let new = Plain {
-            key: key(row.key),
-            at: row.at,
-            value: row.value,
+            key: key(*letter),
+            at: *at,
+            value: *value,
         };
         if install(alloc, versions, &new).is_none() {
             return false;
@@ -91,260 +87,99 @@ fn install_two(alloc: Global, versions: &mut Versions) -> bool
     true
 }
 
-// What is found of a key at a timestamp, or of all where there is none: how many versions stand up to there, and how many of
-// all are compared at most, where that is looked at.
-pub struct Lookup {
-    pub key: u8,
-    pub at: Option<u64>,
-    pub value: Option<u8>,
-    pub place: Option<(usize, u32)>,
-}
+/// The letter of a key, a timestamp or none for the latest, and the value that is found; and where that is looked at, how many
+/// versions stand up to there, and how many of all are compared at most.
+pub type Lookup = (u8, Option<u64>, Option<u8>, Option<(usize, u32)>);
 
 /// Versions, and what is found of them.
 pub struct Looked {
+    what: &'static str,
     versions: &'static [Version],
     // Instead of them, a value of `1` is written to `a` and `z` is erased, by writes at 200.
     written: bool,
     lookups: &'static [Lookup],
 }
 
-pub static LOOKED: [Named<Looked>; 5] = [
-    Named {
+pub static LOOKED: [Looked; 5] = [
+    Looked {
         what: "a value from its timestamp on",
-        row: Looked {
-            versions: &[
-                Version {
-                    key: b'a',
-                    at: 111,
-                    value: Some(b'1'),
-                },
-                Version {
-                    key: b'z',
-                    at: 200,
-                    value: Some(b'2'),
-                },
-            ],
-            written: false,
-            lookups: &[
-                Lookup {
-                    key: b'a',
-                    at: Some(110),
-                    value: None,
-                    place: None,
-                },
-                Lookup {
-                    key: b'a',
-                    at: Some(111),
-                    value: Some(b'1'),
-                    place: None,
-                },
-                Lookup {
-                    key: b'a',
-                    at: Some(Stamp::MAX),
-                    value: Some(b'1'),
-                    place: None,
-                },
-                Lookup {
-                    key: b'z',
-                    at: Some(199),
-                    value: None,
-                    place: None,
-                },
-                Lookup {
-                    key: b'z',
-                    at: Some(200),
-                    value: Some(b'2'),
-                    place: None,
-                },
-                Lookup {
-                    key: b'k',
-                    at: Some(200),
-                    value: None,
-                    place: None,
-                },
-                Lookup {
-                    key: b'z',
-                    at: None,
-                    value: Some(b'2'),
-                    place: None,
-                },
-                Lookup {
-                    key: b'k',
-                    at: None,
-                    value: None,
-                    place: None,
-                },
-            ],
-        },
+        versions: &[(b'a', 111, Some(b'1')), (b'z', 200, Some(b'2'))],
+        written: false,
+        lookups: &[
+            (b'a', Some(110), None, None),
+            (b'a', Some(111), Some(b'1'), None),
+            (b'a', Some(Stamp::MAX), Some(b'1'), None),
+            (b'z', Some(199), None, None),
+            (b'z', Some(200), Some(b'2'), None),
+            (b'k', Some(200), None, None),
+            (b'z', None, Some(b'2'), None),
+            (b'k', None, None, None),
+        ],
     },
-    Named {
+    Looked {
         what: "an erasure hides older values",
-        row: Looked {
-            versions: &[
-                Version {
-                    key: b'a',
-                    at: 111,
-                    value: Some(b'1'),
-                },
-                Version {
-                    key: b'a',
-                    at: 200,
-                    value: None,
-                },
-            ],
-            written: false,
-            lookups: &[
-                Lookup {
-                    key: b'a',
-                    at: Some(199),
-                    value: Some(b'1'),
-                    place: None,
-                },
-                Lookup {
-                    key: b'a',
-                    at: Some(200),
-                    value: None,
-                    place: None,
-                },
-                Lookup {
-                    key: b'a',
-                    at: None,
-                    value: None,
-                    place: None,
-                },
-            ],
-        },
+        versions: &[(b'a', 111, Some(b'1')), (b'a', 200, None)],
+        written: false,
+        lookups: &[
+            (b'a', Some(199), Some(b'1'), None),
+            (b'a', Some(200), None, None),
+            (b'a', None, None, None),
+        ],
     },
     // Keys and timestamps without an order, one of them twice. Four versions are below 2^3.
-    Named {
+    Looked {
         what: "in order by key and timestamp",
-        row: Looked {
-            versions: &[
-                Version {
-                    key: b'b',
-                    at: 30,
-                    value: None,
-                },
-                Version {
-                    key: b'a',
-                    at: 10,
-                    value: None,
-                },
-                Version {
-                    key: b'c',
-                    at: 5,
-                    value: None,
-                },
-                Version {
-                    key: b'a',
-                    at: 20,
-                    value: None,
-                },
-                Version {
-                    key: b'a',
-                    at: 20,
-                    value: None,
-                },
-            ],
-            written: false,
-            lookups: &[
-                Lookup {
-                    key: b'b',
-                    at: Some(30),
-                    value: None,
-                    place: Some((3, 3)),
-                },
-                Lookup {
-                    key: b'a',
-                    at: Some(10),
-                    value: None,
-                    place: Some((1, 3)),
-                },
-                Lookup {
-                    key: b'c',
-                    at: Some(5),
-                    value: None,
-                    place: Some((4, 3)),
-                },
-                Lookup {
-                    key: b'a',
-                    at: Some(20),
-                    value: None,
-                    place: Some((2, 3)),
-                },
-                Lookup {
-                    key: b'b',
-                    at: Some(29),
-                    value: None,
-                    place: Some((2, 3)),
-                },
-            ],
-        },
+        versions: &[
+            (b'b', 30, None),
+            (b'a', 10, None),
+            (b'c', 5, None),
+            (b'a', 20, None),
+            (b'a', 20, None),
+        ],
+        written: false,
+        lookups: &[
+            (b'b', Some(30), None, Some((3, 3))),
+            (b'a', Some(10), None, Some((1, 3))),
+            (b'c', Some(5), None, Some((4, 3))),
+            (b'a', Some(20), None, Some((2, 3))),
+            (b'b', Some(29), None, Some((2, 3))),
+        ],
     },
-    Named {
+    Looked {
         what: "no version",
-        row: Looked {
-            versions: &[],
-            written: false,
-            lookups: &[Lookup {
-                key: b'b',
-                at: Some(29),
-                value: None,
-                place: Some((0, 0)),
-            }],
-        },
+        versions: &[],
+        written: false,
+        lookups: &[(b'b', Some(29), None, Some((0, 0)))],
     },
-    Named {
+    Looked {
         what: "writes at one timestamp",
-        row: Looked {
-            versions: &[],
-            written: true,
-            lookups: &[
-                Lookup {
-                    key: b'a',
-                    at: Some(199),
-                    value: None,
-                    place: None,
-                },
-                Lookup {
-                    key: b'a',
-                    at: Some(200),
-                    value: Some(b'1'),
-                    place: None,
-                },
-                Lookup {
-                    key: b'z',
-                    at: None,
-                    value: None,
-                    place: None,
-                },
-                Lookup {
-                    key: b'z',
-                    at: Some(200),
-                    value: None,
-                    place: Some((2, 2)),
-                },
-            ],
-        },
+        versions: &[],
+        written: true,
+        lookups: &[
+            (b'a', Some(199), None, None),
+            (b'a', Some(200), Some(b'1'), None),
+            (b'z', None, None, None),
+            (b'z', Some(200), None, Some((2, 2))),
+        ],
     },
 ];
 
 pub fn all_found(versions: &Versions, rows: &[Lookup]) -> bool {
-    for row in rows {
-        let key = key(row.key);
-        let Ok(at) = Stamp::new(row.at.unwrap_or(Stamp::MAX)) else {
+    for (letter, at, value, place) in rows {
+        let key = key(*letter);
+        let Ok(by) = Stamp::new(at.unwrap_or(Stamp::MAX)) else {
             return false;
         };
-        let found = match row.at {
-            Some(_) => versions.at(&key, at),
+        let found = match at {
+            Some(_) => versions.at(&key, by),
             None => versions.latest(&key),
         };
-        let (count, probes) = versions.find(&key, at, &mut Count::none());
-        let placed = match row.place {
-            Some((place, most)) => count == place && probes <= most,
+        let (count, probes) = versions.find(&key, by, &mut Count::none());
+        let placed = match place {
+            Some((place, most)) => count == *place && probes <= *most,
             None => true,
         };
-        if byte(found) != row.value || !placed {
+        if byte(found) != *value || !placed {
             return false;
         }
     }
@@ -352,7 +187,7 @@ pub fn all_found(versions: &Versions, rows: &[Lookup]) -> bool {
 }
 
 impl Row for Looked {
-    fn holds(&self, rt: &HostRuntime) -> bool {
+    fn tell(&self, wrong: &mut WrongRows, rt: &HostRuntime) {
         let alloc = rt.alloc();
         let mut versions = Versions::none(alloc);
         let installed = if self.written {
@@ -362,12 +197,12 @@ impl Row for Looked {
         };
         let shown = installed && all_found(&versions, self.lookups);
         drop(versions);
-        shown
+        wrong.unless(shown, self.what);
     }
 }
 
 // Draws a number below a limit.
-pub fn draw(state: &mut u64, limit: u64) -> u64
+fn draw(state: &mut u64, limit: u64) -> u64
     requires { 0 < limit }
     ensures { result < limit }
 {
@@ -400,7 +235,7 @@ fn draw_key(state: &mut u64, letters: usize) -> Key {
 }
 
 // Draws a version of a key behind that many letters, one of these numbers.
-pub fn draw_version(state: &mut u64, letters: &[usize; 5], turn: u32) -> Plain {
+fn draw_version(state: &mut u64, letters: &[usize; 5], turn: u32) -> Plain {
     let chosen = draw(state, 5) as usize;
     let key = draw_key(state, letters[chosen]);
     let at = turn.saturating_add(draw(state, 60) as u32);
@@ -446,7 +281,7 @@ fn told(all: &[Plain], key: &Key, at: u32) -> Listed {
 }
 
 // The versions and the plain list take the new one, or neither does.
-pub fn take(alloc: Global, versions: &mut Versions, all: &mut Vec<Plain>, new: &Plain) -> bool {
+fn take(alloc: Global, versions: &mut Versions, all: &mut Vec<Plain>, new: &Plain) -> bool {
     let listed = told(all, &new.key, new.at);
     match install(alloc, versions, new) {
         Some(true) => listed.is_above && all.insert(listed.count.min(all.len()), *new).is_ok(),
@@ -468,64 +303,74 @@ pub fn agree_at(versions: &Versions, all: &[Plain], sought: &Plain) -> bool {
 }
 
 /// So many drawn versions of keys behind one of these numbers of letters. At each so many-th turn the new one is looked for, and
-/// another drawn one.
+/// another drawn one; or those below a drawn horizon are forgotten, and each that there was is looked for.
 pub struct Drawn {
+    what: &'static str,
+    forgets: bool,
     letters: [usize; 5],
     turns: u32,
     apart: u32,
 }
 
 // Lengths of what keys begin with.
-pub const PREFIXES: [usize; 5] = [0, 3, 8, 9, 20];
+const PREFIXES: [usize; 5] = [0, 3, 8, 9, 20];
 
-pub static DRAWN: [Named<Drawn>; 6] = [
-    Named {
+pub static DRAWN: [Drawn; 8] = [
+    Drawn {
         what: "behind no letter",
-        row: Drawn {
-            letters: [0; 5],
-            turns: 600,
-            apart: 4,
-        },
+        forgets: false,
+        letters: [0; 5],
+        turns: 600,
+        apart: 4,
     },
-    Named {
+    Drawn {
         what: "behind 3 letters",
-        row: Drawn {
-            letters: [3; 5],
-            turns: 600,
-            apart: 4,
-        },
+        forgets: false,
+        letters: [3; 5],
+        turns: 600,
+        apart: 4,
     },
-    Named {
+    Drawn {
         what: "behind 8 letters",
-        row: Drawn {
-            letters: [8; 5],
-            turns: 600,
-            apart: 4,
-        },
+        forgets: false,
+        letters: [8; 5],
+        turns: 600,
+        apart: 4,
     },
-    Named {
+    Drawn {
         what: "behind 9 letters",
-        row: Drawn {
-            letters: [9; 5],
-            turns: 600,
-            apart: 4,
-        },
+        forgets: false,
+        letters: [9; 5],
+        turns: 600,
+        apart: 4,
     },
-    Named {
+    Drawn {
         what: "behind 20 letters",
-        row: Drawn {
-            letters: [20; 5],
-            turns: 600,
-            apart: 4,
-        },
+        forgets: false,
+        letters: [20; 5],
+        turns: 600,
+        apart: 4,
     },
-    Named {
+    Drawn {
         what: "behind several prefixes",
-        row: Drawn {
-            letters: PREFIXES,
-            turns: 3_000,
-            apart: 32,
-        },
+        forgets: false,
+        letters: PREFIXES,
+        turns: 3_000,
+        apart: 32,
+    },
+    Drawn {
+        what: "behind 8 letters, with horizons",
+        forgets: true,
+        letters: [8; 5],
+        turns: 600,
+        apart: 40,
+    },
+    Drawn {
+        what: "behind several prefixes, with horizons",
+        forgets: true,
+        letters: PREFIXES,
+        turns: 2_000,
+        apart: 150,
     },
 ];
 
@@ -535,10 +380,16 @@ fn agree(alloc: Global, versions: &mut Versions, all: &mut Vec<Plain>, row: &Dra
         let new = draw_version(&mut state, &row.letters, turn);
         let before = draw(&mut state, u64::from(turn) + 1) as u32;
         let sought = draw_version(&mut state, &PREFIXES, before);
-        let agreed = take(alloc, versions, all, &new)
-            && (turn % row.apart.max(1) != 0
-                || (agree_at(versions, all, &new) && agree_at(versions, all, &sought)));
-        if !agreed {
+        let taken = take(alloc, versions, all, &new);
+        let agreed = if turn % row.apart.max(1) != 0 {
+            true
+        } else if row.forgets {
+            let horizon = turn.saturating_add(draw(&mut state, 60) as u32);
+            forget_both(alloc, versions, all, horizon)
+        } else {
+            agree_at(versions, all, &new) && agree_at(versions, all, &sought)
+        };
+        if !taken || !agreed {
             return false;
         }
     }
@@ -546,12 +397,12 @@ fn agree(alloc: Global, versions: &mut Versions, all: &mut Vec<Plain>, row: &Dra
 }
 
 impl Row for Drawn {
-    fn holds(&self, rt: &HostRuntime) -> bool {
+    fn tell(&self, wrong: &mut WrongRows, rt: &HostRuntime) {
         let alloc = rt.alloc();
         let (mut versions, mut all) = (Versions::none(alloc), Vec::new(alloc));
         let agreed = agree(alloc, &mut versions, &mut all, self);
         drop(versions);
         drop(all);
-        agreed
+        wrong.unless(agreed, self.what);
     }
 }
