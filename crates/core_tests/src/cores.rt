@@ -1,4 +1,5 @@
 //! How cores of tests are opened.
+use disk::Disk;
 use gatelog::GateLog;
 use made::key;
 use shard::Core;
@@ -49,6 +50,22 @@ pub fn setup(rt: &impl Abort, alloc: Global, setting: Setting) -> Setup {
 pub fn formatted(rt: &impl Abort, alloc: Global) -> SimDisk {
     let log = GateLog::format(SimDisk::new(alloc)).ok();
     log.expect(rt, "a log").into_disk()
+}
+
+/// A disk with these bytes.
+pub fn disk_with(rt: &impl Abort, alloc: Global, bytes: &[u8]) -> SimDisk {
+    let mut disk = SimDisk::new(alloc);
+    disk.write_at(0, bytes).ok().expect(rt, "a write");
+    disk
+}
+
+/// The bytes of a disk.
+pub fn bytes_on(rt: &impl Abort, alloc: Global, disk: &mut SimDisk) -> Vec<u8> {
+    let mut bytes = vec![in alloc; 0u8; disk.len() as usize]
+        .ok()
+        .expect(rt, "memory");
+    disk.read_at(0, &mut bytes).expect(rt, "a read");
+    bytes
 }
 
 /// The core of a shard on a disk; or why it is not opened, and the disk.

@@ -2,7 +2,7 @@
 ghost use Rattle.std.specs.Prelude.{◌≡◌};
 
 use crate::cores::{Setting, plain};
-use crate::given::{Given, message_of, reading};
+use crate::given::{Given, Standing, message_of, reading};
 use crate::nodes::fresh_node;
 use crate::verdict::end;
 use client::{Ended, Halt, Stop, Wire};
@@ -20,7 +20,6 @@ use std::thread::Threads;
 use std::time::{Duration, Instant};
 use std::{thread, time};
 use tickets::{Drawer, Tickets};
-use truetime::{Clock, Reading};
 use units::{Fault, Run, ShardNo, Splits, Value};
 
 // How a transaction ends.
@@ -98,18 +97,6 @@ static ROWS: [Row; 5] = [
         writes: None,
     },
 ];
-
-// Always has this reading.
-#[derive(Clone, Copy)]
-struct Standing {
-    now: Reading,
-}
-
-impl Clock for Standing {
-    fn now(&mut self) -> Option<Reading> {
-        Some(self.now)
-    }
-}
 
 // Lets all letters through.
 #[derive(Clone, Copy)]
