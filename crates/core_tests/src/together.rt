@@ -2,6 +2,7 @@
 use crate::cores::{disk_with, formatted, opened, plain, setup};
 use crate::strained::Strained;
 use crate::verdict::end;
+use disk::Disk;
 use made::{FIRST_GATE, WrongRows};
 use node::open_all;
 use shard::Core;

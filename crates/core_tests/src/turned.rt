@@ -71,7 +71,7 @@ const TAKEN: &[Asked] = &[COMMIT, SETTLE, (112, 121, Ask::Turn(Ok(())))];
 const AGAIN: &[Asked] = &[(112, 121, Ask::Given(A, DONE))];
 
 // A turnover of which that call fails.
-fn failing(row: &Failing, call: u64) -> Row {
+fn turnover_of(row: &Failing, call: u64) -> Row {
     Row {
         name: "a call of a turnover fails",
         fails: Some(call.saturating_add(BEFORE)),
@@ -185,7 +185,7 @@ fn turnovers_that_fail(rt: HostRuntime) {
     let mut wrong = WrongRows::none(rt.alloc());
     for row in &FAILING {
         for call in 0..6 {
-            go(&mut wrong, &rt, rt.alloc(), &failing(row, call));
+            go(&mut wrong, &rt, rt.alloc(), &turnover_of(row, call));
         }
     }
     spend(&mut wrong, &rt, rt.alloc(), Kind::Core, &SPENT_ROWS[0]);

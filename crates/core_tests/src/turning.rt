@@ -204,7 +204,7 @@ fn is_answered<R: Wait + Abort>(
     }
 }
 
-fn ask<R: Wait + Abort>(
+fn ask_all<R: Wait + Abort>(
     wrong: &mut WrongRows,
     rt: &R,
     alloc: Global,
@@ -230,7 +230,7 @@ pub fn left<R: Wait + Abort>(
     asks: &[Asked],
 ) -> SimDisk {
     let mut shard = shard_of(rt, alloc, kind, disk, setting);
-    ask(wrong, rt, alloc, &mut shard, name, asks);
+    ask_all(wrong, rt, alloc, &mut shard, name, asks);
     shard.close()
 }
 
@@ -290,8 +290,8 @@ pub fn go_on<R: Wait + Abort>(
     };
     let name = row.name;
     let mut shard = shard_of(rt, alloc, kind, disk, setting);
-    ask(wrong, rt, alloc, &mut shard, name, row.before);
-    ask(wrong, rt, alloc, &mut shard, name, row.asks);
+    ask_all(wrong, rt, alloc, &mut shard, name, row.before);
+    ask_all(wrong, rt, alloc, &mut shard, name, row.asks);
     let mut disk = shard.close();
     if let Some(wanted) = row.bytes {
         compare_bytes(wrong, rt, alloc, &mut disk, name, wanted);

