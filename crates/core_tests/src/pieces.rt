@@ -1,5 +1,5 @@
 //! Logs that are read in pieces, on a disk that fails every longer read.
-use crate::cores::formatted;
+use crate::cores::{Setting, formatted, opened, setup};
 use crate::given::{Given, commit, input_of, reading};
 use crate::strained::Strained;
 use crate::verdict::end;
@@ -12,7 +12,7 @@ use std::alloc::Global;
 use std::process::Abort;
 use std::sync::atomic::AtomicBool;
 use std::time;
-use units::{Book, Key, Parts, Setup, Splits, Stride, Value, Write, Writes};
+use units::{Key, Parts, Value, Write, Writes};
 
 // The longest read that is given.
 const LONGEST: usize = 65_536;
@@ -81,15 +81,14 @@ static ROWS: [Row; 7] = [
     },
 ];
 
-// A shard alone, that keeps no book.
-fn alone(rt: &impl Abort, alloc: Global) -> Setup {
-    Setup {
-        shard: shard(0),
-        splits: Splits::new(alloc, &[]).expect(rt, "no splits"),
-        stride: Stride::new(0).expect(rt, "a stride"),
-        book: Book::Off,
-    }
-}
+// A shard alone.
+const ALONE: Setting = Setting {
+    shard: 0,
+    stride: 0,
+    alone: true,
+    capacity: 0,
+    fails: None,
+};
 
 // The letters of the keys, and the bytes of the longest value.
 static LETTERS: [u8; 26] = *b"abcdefghijklmnopqrstuvwxyz";
@@ -129,7 +128,7 @@ fn open_in_pieces<R: time::Clock + Abort>(
         own: &synced,
         other: &synced,
     };
-    let core = match Core::open(alloc, narrow, alone(rt, alloc)) {
+    let core = match Core::open(alloc, narrow, setup(rt, alloc, ALONE)) {
         Ok(core) => core,
         Err((_, narrow)) => {
             drop(narrow);
@@ -148,7 +147,9 @@ fn open_in_pieces<R: time::Clock + Abort>(
 
 // The disk with the log of the row.
 fn written(rt: &impl Abort, alloc: Global, row: &Row) -> SimDisk {
-    let mut core = opened(rt, alloc);
+    let mut core = opened(rt, alloc, formatted(rt, alloc), ALONE)
+        .ok()
+        .expect(rt, row.name);
     let full = usize::from(row.full);
     let mut number = 0u16;
     for place in 0..full + row.lengths.len() {
@@ -163,16 +164,6 @@ fn written(rt: &impl Abort, alloc: Global, row: &Row) -> SimDisk {
         give(rt, alloc, &mut core, &input_of(rt, alloc, commit));
     }
     core.stop()
-}
-
-fn opened(rt: &impl Abort, alloc: Global) -> Core<SimDisk> {
-    match Core::open(alloc, formatted(rt, alloc), alone(rt, alloc)) {
-        Ok(core) => core,
-        Err((_, disk)) => {
-            drop(disk);
-            rt.panic("a core")
-        }
-    }
 }
 
 #[test]
@@ -209,7 +200,9 @@ fn a_long_body_is_gathered(rt: HostRuntime) {
     }
     let writes = Writes::from_vec(writes).ok().expect(&rt, "writes");
     let input = Input::Deliver(commit(alloc, 1, Parts::only(shard(0)), writes));
-    let mut core = opened(&rt, alloc);
+    let mut core = opened(&rt, alloc, formatted(&rt, alloc), ALONE)
+        .ok()
+        .expect(&rt, LONG.name);
     give(&rt, alloc, &mut core, &input);
     drop(input);
     open_in_pieces(&mut wrong, &rt, alloc, core.stop(), &LONG);

@@ -1,9 +1,9 @@
 //! Drives over two disks in memory, one of which fails.
 use crate::disks::{failing, settings_of};
+use crate::gates::Meeting;
 use crate::verdict::end;
 use drive::drive;
 use made::WrongRows;
-use node::Gate;
 use progress::{Turn, Watch};
 use std::alloc::Global;
 use std::process::Abort;
@@ -12,7 +12,7 @@ use std::sync::atomic::{AtomicU64, Ordering};
 use std::thread::Threads;
 use std::time;
 use std::time::{Duration, Instant};
-use units::{Fault, ShardNo};
+use units::Fault;
 
 // Which shard's disk fails, at which of its calls from the opening on, and whether the drive has begun by then.
 #[derive(Clone, Copy)]
@@ -117,16 +117,6 @@ impl Watch for Told {
     }
 }
 
-// Lets all letters through.
-#[derive(Clone, Copy)]
-struct Open;
-
-impl Gate for Open {
-    fn before(&self, _shard: ShardNo, _n: u64) {}
-
-    fn after(&self, _shard: ShardNo, _n: u64) {}
-}
-
 // Whether a drive as the row says is refused as `Device` within ten seconds, though each turn that waits for a shard in vain takes two; and
 // each turn is told, and the stop of the shard.
 fn goes<R: Threads + Wait + time::Clock + Sync + Abort>(rt: &R, alloc: Global, row: &Row) -> bool {
@@ -134,8 +124,10 @@ fn goes<R: Threads + Wait + time::Clock + Sync + Abort>(rt: &R, alloc: Global, r
     let told = Told::new();
     let start = Instant::now(rt).ok().expect(rt, "a clock");
     let disks = failing(rt, alloc, row.shard, row.call);
-    let driven = drive(rt, alloc, &settings, disks, &Open, &told);
+    let gate = Meeting::new(rt, false);
+    let driven = drive(rt, alloc, &settings, disks, &gate, &told);
     drop(settings);
+    drop(gate);
     let took = start.elapsed(rt).ok().expect(rt, "a clock");
     let is_refused = match driven {
         Ok(driven) => {
