@@ -317,7 +317,37 @@ fn prints<
     right
 }
 
-/// Goes over some commands, one after another. Each is named by its line and its place among them.
+// Goes over some commands, one after another. Each is named by its line and its place among them.
+fn follow<
+    F: Hints,
+    D: Fn(Global, &Settings) -> Result<Driven, NoVerdict>,
+    P: Fn(Global, Put<'_>) -> Result<Ended, Fault>,
+>(
+    wrong: &mut WrongRows,
+    rt: &HostRuntime,
+    test: &impl Abort,
+    system: &System<F, Engine<D, P>>,
+    folder: &Folder,
+    steps: &[Step],
+)
+    requires drives { D.IsAlwaysCallable system.now.drive.run }
+    requires puts { P.IsAlwaysCallable system.now.drive.put }
+{
+    let mut place = 0u64;
+    for step in steps {
+        for line in step.lines {
+            let whole = words_of(rt, test, folder, line);
+            let words = lent(test, rt.alloc(), whole.as_slice());
+            let right = prints(rt.alloc(), system, words.as_slice(), step);
+            drop(words);
+            drop(whole);
+            wrong.unless_at(right, line, place);
+            place = place.saturating_add(1);
+        }
+    }
+}
+
+/// Goes over some commands as the program carries them out.
 pub fn go_over<T: Files<File = File> + RandomSource + Threads + Wait + time::Clock + Sync + Abort>(
     wrong: &mut WrongRows,
     rt: &HostRuntime,
@@ -325,7 +355,6 @@ pub fn go_over<T: Files<File = File> + RandomSource + Threads + Wait + time::Clo
     folder: &Folder,
     steps: &[Step],
 ) {
-    let alloc = rt.alloc();
     let system = System {
         files: HostFiles {
             rt,
@@ -338,18 +367,7 @@ pub fn go_over<T: Files<File = File> + RandomSource + Threads + Wait + time::Clo
             put: |alloc: Global, write: Put<'_>| put_in_store(test, alloc, write),
         },
     };
-    let mut place = 0u64;
-    for step in steps {
-        for line in step.lines {
-            let whole = words_of(rt, test, folder, line);
-            let words = lent(test, alloc, whole.as_slice());
-            let right = prints(alloc, &system, words.as_slice(), step);
-            drop(words);
-            drop(whole);
-            wrong.unless_at(right, line, place);
-            place = place.saturating_add(1);
-        }
-    }
+    follow(wrong, rt, test, &system, folder, steps);
 }
 
 #[test]

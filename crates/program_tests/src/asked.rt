@@ -6,7 +6,7 @@ use showing::stats_files;
 use std::alloc::Global;
 
 // What is printed, also beside a fault.
-pub static ANSWERED: [Asked; 43] = [
+static ANSWERED: [Asked; 43] = [
     Asked {
         lines: &[
             "once a 1 100 110 112 121",
@@ -310,7 +310,7 @@ pub static ANSWERED: [Asked; 43] = [
 ];
 
 // Refusals: nothing but a fault is told.
-pub static REFUSALS: [Asked; 14] = [
+static REFUSALS: [Asked; 14] = [
     Asked {
         lines: &[
             "once a 1 110 100 112 121",
@@ -488,7 +488,7 @@ pub static REFUSALS: [Asked; 14] = [
 ];
 
 // Help is printed before anything else is looked at. It begins like this.
-pub static HELP: [Asked; 1] = [Asked {
+static HELP: [Asked; 1] = [Asked {
     lines: &["--help", "-h", "once --help", "once a -h -- 1", "-x --help"],
     printed: "usage: shards COMMAND",
     writes: Writes {
@@ -504,7 +504,7 @@ const ONCE: Asked = Asked {
 };
 
 // After a failed write nothing more is printed, also no fault.
-pub static FAILING: [Asked; 4] = [
+static FAILING: [Asked; 4] = [
     Asked {
         writes: Writes { out: 0, ..AMPLE },
         ..ONCE
@@ -528,13 +528,25 @@ pub static FAILING: [Asked; 4] = [
     },
 ];
 
-/// Goes over the lines of some rows.
-pub fn go_over(wrong: &mut WrongRows, alloc: Global, rows: &[Asked]) {
+// Goes over the lines of some rows.
+fn go_over(wrong: &mut WrongRows, alloc: Global, rows: &[Asked]) {
     for row in rows {
         for line in row.lines {
             wrong.unless(comes_to(alloc, &FILES, line, row), line);
         }
     }
+}
+
+/// Goes over what is answered, also of help and where a write fails.
+pub fn go_over_answers(wrong: &mut WrongRows, alloc: Global) {
+    go_over(wrong, alloc, &ANSWERED);
+    go_over(wrong, alloc, &HELP);
+    go_over(wrong, alloc, &FAILING);
+}
+
+/// Goes over what is refused.
+pub fn go_over_refusals(wrong: &mut WrongRows, alloc: Global) {
+    go_over(wrong, alloc, &REFUSALS);
 }
 
 /// Of no log nothing is told. No command line asks for that.

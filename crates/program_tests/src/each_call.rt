@@ -266,10 +266,8 @@ fn is_so(alloc: Global, stopped: &Stopped, stop: &Stop, call: u64, turned: bool)
 // as the fate `new` does, and is not tried.
 fn go_over_calls(wrong: &mut WrongRows, alloc: Global, stopped: &Stopped, turned: bool) {
     for (number, stop) in STOPS.iter().enumerate() {
-        if stop.fate == " a5" {
-            continue;
-        }
-        for call in 0..CALLS {
+        let calls = if stop.fate == " a5" { 0 } else { CALLS };
+        for call in 0..calls {
             let place = (number as u64).saturating_mul(10).saturating_add(call);
             let right = is_so(alloc, stopped, stop, call, turned);
             wrong.unless_at(right, stopped.name, place);

@@ -19,12 +19,10 @@ fn end(rt: &impl Abort, wrong: WrongRows) {
 fn answers(rt: HostRuntime) {
     let alloc = rt.alloc();
     let mut wrong = WrongRows::none(alloc);
-    asked::go_over(wrong.of("what is printed"), alloc, &asked::ANSWERED);
-    asked::go_over(wrong.of("refusals"), alloc, &asked::REFUSALS);
-    asked::go_over(wrong.of("help"), alloc, &asked::HELP);
-    asked::go_over(wrong.of("writes that fail"), alloc, &asked::FAILING);
-    let none = wrong.of("numbers");
-    none.unless(asked::counts_no_log(alloc), "no log");
+    asked::go_over_answers(wrong.of("answers"), alloc);
+    asked::go_over_refusals(wrong.of("refusals"), alloc);
+    let told = asked::counts_no_log(alloc);
+    wrong.of("numbers").unless(told, "no log");
     words::go_over(wrong.of("words"), alloc);
     played::go_over(wrong.of("files that are played"), alloc);
     places::go_over(wrong.of("places of faults"), alloc);
