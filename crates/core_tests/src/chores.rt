@@ -397,7 +397,11 @@ static SILENT: [Row; 3] = [
         tells: 1,
         end: Some(End {
             served: 1_010,
-            log: &[Line::Opened(1), Line::Decided(1_011), Line::Ceiling(1_015)],
+            log: &[
+                Line::Opened(1),
+                Line::Decided(2, 1_011),
+                Line::Ceiling(1_015),
+            ],
         }),
     },
 ];

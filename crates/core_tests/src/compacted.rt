@@ -1,9 +1,9 @@
 //! Logs that are compacted: the new file, byte for byte where it is told, with each failing call; and the old one, which stays as it is.
-use crate::compacted_rows::{COMPACTED, Compacted, FAILING, Holds, REFUSED, Refused};
-use crate::cores::{formatted, plain};
+use crate::compacted_rows::{COMPACTED, Compacted, FAILING, Failing, REFUSED, Refused};
+use crate::cores::{bytes_on, disk_with, formatted, plain};
 use crate::logs::with_log;
-use crate::turned_rows::{COMMIT, SETTLE, TURN};
-use crate::turning::{Kind, compare_bytes, crashed, left};
+use crate::turned_rows::{COMMIT, REOPENED, SETTLE, TURN};
+use crate::turning::{Asked, Kind, compare_bytes, crashed, left};
 use crate::verdict::end;
 use compaction::{Gathered, compact};
 use disk::{Disk, Fate};
@@ -14,15 +14,6 @@ use std::alloc::Global;
 use std::process::Abort;
 use std::sync::Wait;
 use units::Fault;
-
-// The bytes of a file.
-fn bytes_on(rt: &impl Abort, alloc: Global, disk: &mut SimDisk) -> Vec<u8> {
-    let mut bytes = vec![in alloc; 0u8; disk.len() as usize]
-        .ok()
-        .expect(rt, "memory");
-    disk.read_at(0, &mut bytes).expect(rt, "a read");
-    bytes
-}
 
 // The file still holds these bytes.
 fn compare_old(
@@ -59,38 +50,32 @@ fn compacted(
     log.into_disk()
 }
 
+// The disk of a log that a core on a new one left, which was asked that.
+fn old_log<R: Wait + Abort>(
+    wrong: &mut WrongRows,
+    rt: &R,
+    alloc: Global,
+    name: &str,
+    asks: &[Asked],
+) -> SimDisk {
+    let new = formatted(rt, alloc);
+    left(wrong, rt, alloc, Kind::Core, new, plain(0, 0), name, asks)
+}
+
 fn go<R: Wait + Abort>(wrong: &mut WrongRows, rt: &R, alloc: Global, row: &Compacted) {
     let name = row.name;
-    let new = formatted(rt, alloc);
-    let old = left(
-        wrong,
-        rt,
-        alloc,
-        Kind::Core,
-        new,
-        plain(0, 0),
-        name,
-        row.asks,
-    );
+    let old = old_log(wrong, rt, alloc, name, row.asks);
     wrong.unless_at(old.len() == row.old_size, name, old.len());
     let mut disk = compacted(wrong, rt, alloc, old, name);
     wrong.unless_at(disk.len() == row.new_size, name, disk.len());
     if let Some(wanted) = row.bytes {
         compare_bytes(wrong, rt, alloc, &mut disk, name, wanted);
     }
-    let disk = crashed(rt, alloc, disk, Fate::Old);
-    let disk = with_log(wrong, alloc, disk, name, row.log);
-    let disk = left(
-        wrong,
-        rt,
-        alloc,
-        Kind::Core,
-        disk,
-        plain(0, 0),
-        name,
-        row.again,
-    );
-    drop(with_log(wrong, alloc, disk, name, row.then));
+    let disk = crashed(rt, alloc, disk, Some(Fate::Old));
+    let disk = with_log(wrong, alloc, disk, name, row.log, &[]);
+    let setting = plain(0, 0);
+    let disk = left(wrong, rt, alloc, Kind::Core, disk, setting, name, row.again);
+    drop(with_log(wrong, alloc, disk, name, row.log, REOPENED));
 }
 
 // Of a log without records, and of what it is compacted to.
@@ -98,53 +83,37 @@ fn go_empty(wrong: &mut WrongRows, rt: &impl Abort, alloc: Global) {
     let name = "a log without records";
     let disk = compacted(wrong, rt, alloc, formatted(rt, alloc), name);
     wrong.unless_at(disk.len() == 9_226, name, disk.len());
-    let disk = with_log(wrong, alloc, disk, name, &[]);
+    let disk = with_log(wrong, alloc, disk, name, &[], &[]);
     let disk = compacted(wrong, rt, alloc, disk, name);
     wrong.unless_at(disk.len() == 9_226, name, disk.len());
-    drop(with_log(wrong, alloc, disk, name, &[]));
+    drop(with_log(wrong, alloc, disk, name, &[], &[]));
 }
 
-// What a file holds of the renewed log of one settled commit.
-fn held(alloc: Global, disk: SimDisk) -> Option<Holds> {
+// How many records a file holds.
+fn held(alloc: Global, disk: SimDisk) -> Result<usize, Fault> {
     match GateLog::open(alloc, disk) {
         Ok((log, entries)) => {
             let count = entries.len();
             drop(log);
             drop(entries);
-            match count {
-                0 => Some(Holds::Empty),
-                3 => Some(Holds::All),
-                _ => None,
-            }
+            Ok(count)
         }
         Err((fault, disk)) => {
             drop(disk);
-            if fault == Fault::NotALog {
-                Some(Holds::NoLog)
-            } else {
-                None
-            }
+            Err(fault)
         }
     }
 }
 
-// Which call of the new file fails, where one does: it is not laid out before call 5.
-fn fail<R: Wait + Abort>(
-    wrong: &mut WrongRows,
-    rt: &R,
-    alloc: Global,
-    row: &(u64, Option<Fate>, Holds),
-) {
+// A call of the new file fails, where there is one: it is not laid out before call 5.
+fn fail<R: Wait + Abort>(wrong: &mut WrongRows, rt: &R, alloc: Global, row: &Failing, call: u64) {
     let name = "a call of the new file fails";
-    let (call, fate, holds) = *row;
-    let asks = [COMMIT, SETTLE, TURN];
-    let new = formatted(rt, alloc);
-    let mut old = left(wrong, rt, alloc, Kind::Core, new, plain(0, 0), name, &asks);
+    let mut old = old_log(wrong, rt, alloc, name, &[COMMIT, SETTLE, TURN]);
     let before = bytes_on(rt, alloc, &mut old);
     let gathered = Gathered::of(alloc, old).ok().expect(rt, name);
     let mut to = SimDisk::new(alloc);
     to.fail_next(call);
-    let (old, mut disk, right) = match compact(gathered, to) {
+    let (old, disk, right) = match compact(gathered, to) {
         Ok((old, log)) => (old, log.into_disk(), call == 10),
         Err((fault, old, second)) => {
             let (disk, calls) = match second {
@@ -156,11 +125,15 @@ fn fail<R: Wait + Abort>(
     };
     wrong.unless_at(right, name, call);
     compare_old(wrong, rt, alloc, old, name, before);
-    disk.arm(None);
-    if let Some(fate) = fate {
-        disk = crashed(rt, alloc, disk, fate);
-    }
-    wrong.unless_at(held(alloc, disk) == Some(holds), name, call);
+    let disk = crashed(rt, alloc, disk, row.fate);
+    let holds = if call < row.empty_from {
+        Err(Fault::NotALog)
+    } else if call < row.all_from {
+        Ok(0)
+    } else {
+        Ok(3)
+    };
+    wrong.unless_at(held(alloc, disk) == holds, name, call);
 }
 
 // The file is refused, and stays as it is.
@@ -169,8 +142,7 @@ fn refuse(wrong: &mut WrongRows, rt: &impl Abort, alloc: Global, row: &Refused) 
     if let Some(place) = bytes.get_mut(8) {
         *place = row.slot;
     }
-    let mut old = SimDisk::new(alloc);
-    old.write_at(0, &bytes).ok().expect(rt, "memory");
+    let mut old = disk_with(rt, alloc, &bytes);
     if let Some(call) = row.fails {
         old.fail_next(call);
     }
@@ -202,7 +174,9 @@ fn logs_are_compacted(rt: HostRuntime) {
 fn compactions_that_fail(rt: HostRuntime) {
     let mut wrong = WrongRows::none(rt.alloc());
     for row in &FAILING {
-        fail(&mut wrong, &rt, rt.alloc(), row);
+        for call in 0..11 {
+            fail(&mut wrong, &rt, rt.alloc(), row, call);
+        }
     }
     for row in &REFUSED {
         refuse(&mut wrong, &rt, rt.alloc(), row);

@@ -1,8 +1,6 @@
 //! Logs that are compacted, what the new file holds, and logs of which none is made.
 use crate::logs::Line;
-use crate::turned_rows::{
-    A, COMMIT, DONE, NEW, NEW_AGAIN, OLD, OLD_AGAIN, SECOND, SETTLE, SETTLE_SECOND, TURN,
-};
+use crate::turned_rows::{A, COMMIT, DONE, NEW, OLD, SECOND, SETTLE, SETTLE_SECOND, TURN};
 use crate::turning::{Ask, Asked, Bytes};
 use disk::Fate;
 use units::Fault;
@@ -15,10 +13,9 @@ pub struct Compacted {
     pub new_size: u64,
     // The bytes of the new file, where they are told.
     pub bytes: Option<&'static Bytes>,
-    // Its records, once it was opened and asked so, and then.
+    // Its records, and what is asked once it was opened.
     pub log: &'static [Line],
     pub again: &'static [Asked],
-    pub then: &'static [Line],
 }
 
 // The file of the renewed log of one settled commit: no record in the first area, whose closed gate is byte 9,224; behind it Base 1 111 0,
@@ -43,7 +40,6 @@ const SETTLED: Compacted = Compacted {
     bytes: Some(SHORT),
     log: NEW,
     again: &[(230, 240, Ask::Given(A, DONE))],
-    then: NEW_AGAIN,
 };
 
 pub static COMPACTED: [Compacted; 4] = [
@@ -61,7 +57,6 @@ pub static COMPACTED: [Compacted; 4] = [
         new_size: 9_313,
         bytes: None,
         log: OLD,
-        then: OLD_AGAIN,
         ..SETTLED
     },
     Compacted {
@@ -74,79 +69,52 @@ pub static COMPACTED: [Compacted; 4] = [
             Line::Base(1, 111, 0),
             Line::Version(111, b'a', b'1'),
             Line::Settled(1, 111),
-            Line::Decided(211),
-            Line::Committed(211),
+            Line::Decided(2, 211),
+            Line::Committed(2, 211),
         ],
         again: &[
             (230, 240, Ask::Given(A, DONE)),
             (230, 240, Ask::Look(b'a', 211, Ok(b'2'))),
         ],
-        then: &[
-            Line::Base(1, 111, 0),
-            Line::Version(111, b'a', b'1'),
-            Line::Settled(1, 111),
-            Line::Decided(211),
-            Line::Committed(211),
-            Line::Opened(2),
-        ],
     },
 ];
 
-/// What a file holds: no log, the empty one, or all records.
-#[derive(Clone, Copy, PartialEq, Eq)]
-pub enum Holds {
-    NoLog,
-    Empty,
-    All,
+/// What becomes of the oldest change that is not synced, where there is a crash once a call of the new file has failed, and from which call
+/// on, counted from 0, the file holds the empty log, and all three records. Calls 0 to 4 lay it out, and 5 to 9 turn it over. Call 10 is none of its
+/// own.
+pub struct Failing {
+    pub fate: Option<Fate>,
+    pub empty_from: u64,
+    pub all_from: u64,
 }
 
-/// A call of the new file that fails, counted from 0, what becomes then of the oldest change that is not synced, where there is a crash, and
-/// what the file holds. Calls 0 to 4 lay it out, and 5 to 9 turn it over. Call 10 is none of its own.
-pub static FAILING: [(u64, Option<Fate>, Holds); 44] = [
-    (0, None, Holds::NoLog),
-    (0, Some(Fate::Old), Holds::NoLog),
-    (0, Some(Fate::New), Holds::NoLog),
-    (0, Some(Fate::Filled(0xa5)), Holds::NoLog),
-    (1, None, Holds::NoLog),
-    (1, Some(Fate::Old), Holds::NoLog),
-    (1, Some(Fate::New), Holds::NoLog),
-    (1, Some(Fate::Filled(0xa5)), Holds::NoLog),
-    (2, None, Holds::NoLog),
-    (2, Some(Fate::Old), Holds::NoLog),
-    (2, Some(Fate::New), Holds::NoLog),
-    (2, Some(Fate::Filled(0xa5)), Holds::NoLog),
-    (3, None, Holds::NoLog),
-    (3, Some(Fate::Old), Holds::NoLog),
-    (3, Some(Fate::New), Holds::Empty),
-    (3, Some(Fate::Filled(0xa5)), Holds::NoLog),
-    (4, None, Holds::Empty),
-    (4, Some(Fate::Old), Holds::NoLog),
-    (4, Some(Fate::New), Holds::Empty),
-    (4, Some(Fate::Filled(0xa5)), Holds::NoLog),
-    (5, None, Holds::Empty),
-    (5, Some(Fate::Old), Holds::Empty),
-    (5, Some(Fate::New), Holds::Empty),
-    (5, Some(Fate::Filled(0xa5)), Holds::Empty),
-    (6, None, Holds::Empty),
-    (6, Some(Fate::Old), Holds::Empty),
-    (6, Some(Fate::New), Holds::Empty),
-    (6, Some(Fate::Filled(0xa5)), Holds::Empty),
-    (7, None, Holds::Empty),
-    (7, Some(Fate::Old), Holds::Empty),
-    (7, Some(Fate::New), Holds::Empty),
-    (7, Some(Fate::Filled(0xa5)), Holds::Empty),
-    (8, None, Holds::Empty),
-    (8, Some(Fate::Old), Holds::Empty),
-    (8, Some(Fate::New), Holds::All),
-    (8, Some(Fate::Filled(0xa5)), Holds::All),
-    (8, Some(Fate::Filled(0x37)), Holds::Empty),
-    (9, None, Holds::All),
-    (9, Some(Fate::Old), Holds::Empty),
-    (9, Some(Fate::New), Holds::All),
-    (9, Some(Fate::Filled(0xa5)), Holds::All),
-    (9, Some(Fate::Filled(0x37)), Holds::Empty),
-    (10, None, Holds::All),
-    (10, Some(Fate::Old), Holds::All),
+pub static FAILING: [Failing; 5] = [
+    Failing {
+        fate: None,
+        empty_from: 4,
+        all_from: 9,
+    },
+    Failing {
+        fate: Some(Fate::Old),
+        empty_from: 5,
+        all_from: 10,
+    },
+    Failing {
+        fate: Some(Fate::New),
+        empty_from: 3,
+        all_from: 8,
+    },
+    // The byte of an open gate.
+    Failing {
+        fate: Some(Fate::Filled(0xa5)),
+        empty_from: 5,
+        all_from: 8,
+    },
+    Failing {
+        fate: Some(Fate::Filled(0x37)),
+        empty_from: 5,
+        all_from: 10,
+    },
 ];
 
 /// A file that is told without its slots, the gate of its first slot, where it has slots, a call of it that fails, and why it is refused.

@@ -1,4 +1,5 @@
 //! How cores of tests are opened.
+use disk::Disk;
 use gatelog::GateLog;
 use made::key;
 use shard::Core;
@@ -12,6 +13,8 @@ use units::{Book, Capacity, Fault, Setup, ShardNo, Splits, Stride};
 pub struct Setting {
     pub shard: u8,
     pub stride: u64,
+    // It has all keys.
+    pub alone: bool,
     // Of its book; 0 where it keeps none.
     pub capacity: u32,
     // A device call of its next append that is to fail, by its number from 0.
@@ -23,12 +26,13 @@ pub fn plain(shard: u8, stride: u64) -> Setting {
     Setting {
         shard,
         stride,
+        alone: false,
         capacity: 0,
         fails: None,
     }
 }
 
-/// What a shard of two, which are split at `m`, is told.
+/// What a shard is told: one of two, which are split at `m`, or one alone.
 pub fn setup(rt: &impl Abort, alloc: Global, setting: Setting) -> Setup {
     let shard = ShardNo::new(setting.shard).expect(rt, "a shard");
     let stride = Stride::new(setting.stride).expect(rt, "a stride");
@@ -36,7 +40,9 @@ pub fn setup(rt: &impl Abort, alloc: Global, setting: Setting) -> Setup {
         Some(capacity) => Book::On(capacity),
         None => Book::Off,
     };
-    let splits = Splits::new(alloc, &[key(b'm')]).expect(rt, "splits");
+    let split = [key(b'm')];
+    let parts: usize = if setting.alone { 0 } else { 1 };
+    let splits = Splits::new(alloc, &split[..parts]).expect(rt, "splits");
     Setup {
         shard,
         splits,
@@ -49,6 +55,22 @@ pub fn setup(rt: &impl Abort, alloc: Global, setting: Setting) -> Setup {
 pub fn formatted(rt: &impl Abort, alloc: Global) -> SimDisk {
     let log = GateLog::format(SimDisk::new(alloc)).ok();
     log.expect(rt, "a log").into_disk()
+}
+
+/// A disk with these bytes.
+pub fn disk_with(rt: &impl Abort, alloc: Global, bytes: &[u8]) -> SimDisk {
+    let mut disk = SimDisk::new(alloc);
+    disk.write_at(0, bytes).ok().expect(rt, "a write");
+    disk
+}
+
+/// The bytes of a disk.
+pub fn bytes_on(rt: &impl Abort, alloc: Global, disk: &mut SimDisk) -> Vec<u8> {
+    let mut bytes = vec![in alloc; 0u8; disk.len() as usize]
+        .ok()
+        .expect(rt, "memory");
+    disk.read_at(0, &mut bytes).expect(rt, "a read");
+    bytes
 }
 
 /// The core of a shard on a disk; or why it is not opened, and the disk.

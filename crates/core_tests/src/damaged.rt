@@ -1,8 +1,7 @@
 //! Files of one commit that are cut, or have another byte, or slots that are damaged: what the opening of each answers, and what the migration
 //! of such a file of version 1.
-use crate::cores::{opened, plain};
+use crate::cores::{disk_with, opened, plain};
 use crate::logs::{Line, compare_log};
-use disk::Disk;
 use gatelog::migrate;
 use made::{FIRST_GATE, OLD_FIRST_GATE, ONE_COMMIT, SLOTS, WrongRows, in_version_1, with_slots};
 use simdisk::SimDisk;
@@ -173,15 +172,8 @@ static SLOTTED: [Slots; 9] = [
     },
 ];
 
-// A disk with this file.
-fn disk_of(rt: &impl Abort, alloc: Global, bytes: &[u8]) -> SimDisk {
-    let mut disk = SimDisk::new(alloc);
-    disk.write_at(0, bytes).ok().expect(rt, "memory");
-    disk
-}
-
-// How a disk is opened as that of shard 0.
-fn opening(rt: &impl Abort, alloc: Global, disk: SimDisk) -> Result<(), Fault> {
+/// How a disk is opened as that of shard 0.
+pub fn opening(rt: &impl Abort, alloc: Global, disk: SimDisk) -> Result<(), Fault> {
     match opened(rt, alloc, disk, plain(0, 0)) {
         Ok(core) => {
             drop(core.stop());
@@ -195,12 +187,12 @@ fn opening(rt: &impl Abort, alloc: Global, disk: SimDisk) -> Result<(), Fault> {
 }
 
 fn answer(rt: &impl Abort, alloc: Global, bytes: &[u8]) -> Result<(), Fault> {
-    opening(rt, alloc, disk_of(rt, alloc, bytes))
+    opening(rt, alloc, disk_with(rt, alloc, bytes))
 }
 
 // The disk to which a file is migrated, where it is.
 fn migrated(rt: &impl Abort, alloc: Global, bytes: &[u8]) -> Result<SimDisk, Fault> {
-    let mut old = disk_of(rt, alloc, bytes);
+    let mut old = disk_with(rt, alloc, bytes);
     let answer = migrate(alloc, &mut old, SimDisk::new(alloc));
     drop(old);
     match answer {
@@ -324,7 +316,7 @@ pub fn with_one_byte_altered(wrong: &mut WrongRows, rt: &impl Abort, alloc: Glob
     drop(whole);
     wrong.unless_at(new == Err(Fault::NotALog), "a log that is migrated", 7);
     let bytes = with_byte(rt, alloc, FIRST_GATE + COMMIT, 0);
-    let closed = disk_of(rt, alloc, &bytes);
+    let closed = disk_with(rt, alloc, &bytes);
     drop(bytes);
     let records = [Line::Opened(1)];
     compare_log(
@@ -347,7 +339,10 @@ pub fn with_slots_altered(wrong: &mut WrongRows, rt: &impl Abort, alloc: Global)
         }
         let said = answer(rt, alloc, &bytes);
         drop(bytes);
-        let fault = row.damaged.map(|offset| Fault::Damaged { offset });
+        let fault = match row.damaged {
+            Some(offset) => Some(Fault::Damaged { offset }),
+            None => None,
+        };
         wrong.unless_at(said.err() == fault, row.name, row.at);
     }
 }

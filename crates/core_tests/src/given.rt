@@ -3,7 +3,7 @@ use made::{id, shard, stamp};
 use message::{Ask, Commit, GiveUp, Input, Message, Outcome, Prepare, Read, Reads, Vote};
 use std::alloc::Global;
 use std::process::Abort;
-use truetime::Reading;
+use truetime::{Clock, Reading};
 use units::{Epoch, Key, Keys, Parts, ShardNo, Stamp, Value, Write, Writes};
 
 // The greatest timestamp.
@@ -36,6 +36,18 @@ pub enum Given {
     Resume,
 }
 
+/// A clock that always has this reading.
+#[derive(Clone, Copy)]
+pub struct Standing {
+    pub now: Reading,
+}
+
+impl Clock for Standing {
+    fn now(&mut self) -> Option<Reading> {
+        Some(self.now)
+    }
+}
+
 fn time(rt: &impl Abort, micros: u64) -> Stamp {
     Stamp::new(micros).expect(rt, "a timestamp")
 }
@@ -62,7 +74,7 @@ fn has_read(rt: &impl Abort, alloc: Global, key: &[u8]) -> Reads {
     Reads::new(Epoch::first(), keys).ok().expect(rt, "reads")
 }
 
-fn commit(alloc: Global, number: u16, parts: Parts, writes: Writes) -> Message {
+pub fn commit(alloc: Global, number: u16, parts: Parts, writes: Writes) -> Message {
     Message::Commit(Commit {
         txn: id(number),
         parts,

@@ -1,6 +1,6 @@
 //! Nodes that are served by the letters of their inboxes, each on a thread of its own.
 use crate::cores::plain;
-use crate::given::{Given, message_of, reading};
+use crate::given::{Given, Standing, message_of, reading};
 use crate::nodes::fresh_node;
 use crossbeam_channel::{Receiver, unbounded};
 use letters::{Letter, Post};
@@ -15,7 +15,6 @@ use std::sync::atomic::{AtomicU64, Ordering};
 use std::thread::Threads;
 use std::time::Duration;
 use std::{thread, time};
-use truetime::{Clock, Reading};
 use units::ShardNo;
 
 // Nodes of fresh shards, each with a key of its own, and how many letters come to each: reads of that key, of 1.1 and on, and where the row
@@ -29,18 +28,6 @@ struct Row {
     meet: bool,
     // How many answers there are.
     answers: u64,
-}
-
-// Always has this reading.
-#[derive(Clone, Copy)]
-struct Standing {
-    now: Reading,
-}
-
-impl Clock for Standing {
-    fn now(&mut self) -> Option<Reading> {
-        Some(self.now)
-    }
 }
 
 // Counts what is posted, and of that each answer which comes in its turn.

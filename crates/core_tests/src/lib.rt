@@ -4,8 +4,6 @@
 #[cfg(test)]
 mod answers;
 #[cfg(test)]
-mod awaiting;
-#[cfg(test)]
 mod booked;
 #[cfg(test)]
 mod chores;
@@ -28,8 +26,6 @@ mod inboxes;
 #[cfg(test)]
 mod logs;
 #[cfg(test)]
-mod narrow;
-#[cfg(test)]
 mod nodes;
 #[cfg(test)]
 mod one_commit;
@@ -49,6 +45,8 @@ mod restarts;
 mod served;
 #[cfg(test)]
 mod stories;
+#[cfg(test)]
+mod strained;
 #[cfg(test)]
 mod tests;
 #[cfg(test)]

@@ -6,20 +6,16 @@ use simdisk::SimDisk;
 use std::alloc::Global;
 use units::Install;
 
-/// A record: an opening with its epoch, a ceiling, a horizon, or a promise, a decision or a commit of 1.2 with its timestamp; the same
-/// of any number, or an abort; and what only a renewed log has: a base, a version of a letter with a value of one, and what is settled
-/// or closed at a timestamp.
+/// A record: an opening with its epoch, a ceiling, a horizon, or a promise, a decision or a commit of 1.number with its timestamp, or an
+/// abort; and what only a renewed log has: a base, a version of a letter with a value of one, and what is settled or closed at a timestamp.
 #[derive(Clone, Copy)]
 pub enum Line {
     Opened(u64),
     Ceiling(u64),
     Horizon(u64),
-    Promised(u64),
-    Decided(u64),
-    Committed(u64),
-    PromisedBy(u64, u64),
-    DecidedBy(u64, u64),
-    CommittedBy(u64, u64),
+    Promised(u64, u64),
+    Decided(u64, u64),
+    Committed(u64, u64),
     Aborted(u64),
     Base(u64, u64, u64),
     Version(u64, u8, u8),
@@ -75,21 +71,10 @@ fn is_line(record: &Record, line: Line) -> bool {
         (Record::Opened { epoch }, Line::Opened(number)) => epoch.number() == number,
         (Record::Ceiling { at }, Line::Ceiling(micros)) => at.micros() == micros,
         (Record::Horizon { at }, Line::Horizon(micros)) => at.micros() == micros,
-        (Record::Prepare(part), Line::Promised(micros)) => part.txn.number() == 2
-            && part.at.micros() == micros,
-        (Record::Commit(commit), Line::Decided(micros)) => commit.txn.number() == 2
-            && commit.at.micros() == micros,
-        (
-            Record::Outcome {
-                txn,
-                outcome: Some(at),
-            },
-            Line::Committed(micros),
-        ) => txn.number() == 2 && at.micros() == micros,
-        (Record::Prepare(part), Line::PromisedBy(number, micros)) => {
+        (Record::Prepare(part), Line::Promised(number, micros)) => {
             part.txn.number() == number && part.at.micros() == micros
         }
-        (Record::Commit(commit), Line::DecidedBy(number, micros)) => {
+        (Record::Commit(commit), Line::Decided(number, micros)) => {
             commit.txn.number() == number && commit.at.micros() == micros
         }
         (
@@ -97,7 +82,7 @@ fn is_line(record: &Record, line: Line) -> bool {
                 txn,
                 outcome: Some(at),
             },
-            Line::CommittedBy(number, micros),
+            Line::Committed(number, micros),
         ) => txn.number() == number && at.micros() == micros,
         (Record::Abort { txn }, Line::Aborted(number)) => txn.number() == number,
         _ => is_renewed(record, line),
@@ -112,16 +97,28 @@ pub fn compare_log(
     name: &str,
     lines: &[Line],
 ) {
-    drop(with_log(wrong, alloc, disk, name, lines));
+    drop(with_log(wrong, alloc, disk, name, lines, &[]));
 }
 
-/// The disk, whose log has these records.
+// The line at a place among some, and those behind them.
+fn line_at(lines: &[Line], behind: &[Line], place: usize) -> Option<Line> {
+    match lines.get(place) {
+        Some(line) => Some(*line),
+        None => match behind.get(place.saturating_sub(lines.len())) {
+            Some(line) => Some(*line),
+            None => None,
+        },
+    }
+}
+
+/// The disk, whose log has these records, and those behind them.
 pub fn with_log(
     wrong: &mut WrongRows,
     alloc: Global,
     disk: SimDisk,
     name: &str,
     lines: &[Line],
+    behind: &[Line],
 ) -> SimDisk {
     let (log, entries) = match GateLog::open(alloc, disk) {
         Ok(opened) => opened,
@@ -130,11 +127,16 @@ pub fn with_log(
             return disk;
         }
     };
-    let mut held = entries.len() == lines.len();
-    for (entry, line) in entries.iter().zip(lines) {
-        held = held && is_line(entry.item(), *line);
+    let count = lines.len().saturating_add(behind.len());
+    let mut held = entries.len() == count;
+    for (place, entry) in entries.iter().enumerate() {
+        held = held
+            && match line_at(lines, behind, place) {
+                Some(line) => is_line(entry.item(), line),
+                None => false,
+            };
     }
     drop(entries);
-    wrong.unless_at(held, name, lines.len() as u64);
+    wrong.unless_at(held, name, count as u64);
     log.into_disk()
 }

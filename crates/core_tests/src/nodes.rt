@@ -23,21 +23,11 @@ pub type Look = (u32, Result<Seen, Fault>);
 #[derive(Clone, Copy)]
 pub enum Ask {
     Deliver(Given, Told),
-    Advance {
-        to: u32,
-        tells: Result<u64, Fault>,
-    },
+    Advance(u32, Result<u64, Fault>),
     Turn(Result<(), Fault>),
     // To keep so many microseconds, and to turn over what has grown by so many bytes.
-    Renew {
-        micros: u64,
-        least: u64,
-        gives: Result<(), Fault>,
-    },
-    Restart {
-        viewers: usize,
-        gives: Result<usize, Fault>,
-    },
+    Renew(u64, u64, Result<(), Fault>),
+    Restart(usize, Result<usize, Fault>),
     Look(Look),
     LookThere(Look),
 }
@@ -112,20 +102,13 @@ fn is_answered<'a, R: Threads + Wait + Sync + Abort>(
             drop(input);
             is_told(answer, wanted)
         }
-        Ask::Advance { to, tells } => match node.advance(rt, &now, stamp(to)) {
+        Ask::Advance(to, tells) => match node.advance(rt, &now, stamp(to)) {
             Ok(told) => tells == Ok(told.safe().micros()),
             Err(fault) => tells == Err(fault),
         },
         Ask::Turn(gives) => node.turn_over(rt) == gives,
-        Ask::Renew {
-            micros,
-            least,
-            gives,
-        } => node.renew(rt, &now, micros, least) == gives,
-        Ask::Restart {
-            viewers: count,
-            gives,
-        } => match node.restart(rt, rt, alloc, count) {
+        Ask::Renew(micros, least, gives) => node.renew(rt, &now, micros, least) == gives,
+        Ask::Restart(count, gives) => match node.restart(rt, rt, alloc, count) {
             Ok(opened) => {
                 let ended = is_seen(viewers, (0, Err(Fault::Stopped)));
                 *viewers = opened;

@@ -1,16 +1,21 @@
 //! Logs that are read in pieces, on a disk that fails every longer read.
-use crate::cores::formatted;
-use crate::given::reading;
-use crate::narrow::Narrow;
+use crate::cores::{Setting, formatted, opened, setup};
+use crate::given::{Given, commit, input_of, reading};
+use crate::strained::Strained;
 use crate::verdict::end;
 use disk::Disk;
-use made::{WrongRows, id, key, shard};
-use message::{Commit, Input, Message, Reads};
+use made::{WrongRows, shard};
+use message::Input;
 use shard::Core;
 use simdisk::SimDisk;
 use std::alloc::Global;
 use std::process::Abort;
-use units::{Book, Key, Parts, Setup, Splits, Stride, Value, Write, Writes};
+use std::sync::atomic::AtomicBool;
+use std::time;
+use units::{Key, Parts, Value, Write, Writes};
+
+// The longest read that is given.
+const LONGEST: usize = 65_536;
 
 // Commits of one value each: the n-th is of 1.n, and writes the n-th letter.
 struct Row {
@@ -76,44 +81,19 @@ static ROWS: [Row; 7] = [
     },
 ];
 
-// A shard alone, that keeps no book.
-fn alone(rt: &impl Abort, alloc: Global) -> Setup {
-    Setup {
-        shard: shard(0),
-        splits: Splits::new(alloc, &[]).expect(rt, "no splits"),
-        stride: Stride::new(0).expect(rt, "a stride"),
-        book: Book::Off,
-    }
-}
+// A shard alone.
+const ALONE: Setting = Setting {
+    shard: 0,
+    stride: 0,
+    alone: true,
+    capacity: 0,
+    fails: None,
+};
 
-fn value(rt: &impl Abort, alloc: Global, length: usize) -> Value {
-    Value::new(alloc, &[7; 4_096][..length.min(4_096)]).expect(rt, "a value")
-}
+// The letters of the keys, and the bytes of the longest value.
+static LETTERS: [u8; 26] = *b"abcdefghijklmnopqrstuvwxyz";
 
-// The commit of 1.number.
-fn commit(rt: &impl Abort, alloc: Global, number: u16, writes: Vec<Write>) -> Input {
-    Input::Deliver(Message::Commit(Commit {
-        txn: id(number),
-        parts: Parts::only(shard(0)),
-        reads: Reads::none(alloc),
-        writes: Writes::from_vec(writes).ok().expect(rt, "writes"),
-    }))
-}
-
-// Makes the commit of the number, of one value.
-fn write_one(rt: &impl Abort, alloc: Global, core: &mut Core<SimDisk>, number: u8, length: usize) {
-    let write = Write {
-        key: key(b'`'.saturating_add(number)),
-        value: Some(value(rt, alloc, length)),
-    };
-    let writes = vec![in alloc; write].ok().expect(rt, "memory");
-    give(
-        rt,
-        alloc,
-        core,
-        &commit(rt, alloc, u16::from(number), writes),
-    );
-}
+static SEVENS: [u8; 4_096] = [7; 4_096];
 
 fn give(rt: &impl Abort, alloc: Global, core: &mut Core<SimDisk>, input: &Input) {
     let out = core.on(alloc, &reading(rt, 100, 110), input);
@@ -131,10 +111,24 @@ fn decided<D: Disk>(core: &Core<D>) -> usize {
 }
 
 // Opens the log of the row, which was written over another disk, and counts.
-fn open_in_pieces(wrong: &mut WrongRows, rt: &impl Abort, alloc: Global, disk: SimDisk, row: &Row) {
+fn open_in_pieces<R: time::Clock + Abort>(
+    wrong: &mut WrongRows,
+    rt: &R,
+    alloc: Global,
+    disk: SimDisk,
+    row: &Row,
+) {
     wrong.unless_at(disk.len() == row.size, row.name, disk.len());
-    let narrow = Narrow { disk, reads: 0 };
-    let core = match Core::open(alloc, narrow, alone(rt, alloc)) {
+    let synced = AtomicBool::new(false);
+    let narrow = Strained {
+        disk,
+        rt,
+        longest: LONGEST,
+        reads: 0,
+        own: &synced,
+        other: &synced,
+    };
+    let core = match Core::open(alloc, narrow, setup(rt, alloc, ALONE)) {
         Ok(core) => core,
         Err((_, narrow)) => {
             drop(narrow);
@@ -153,27 +147,23 @@ fn open_in_pieces(wrong: &mut WrongRows, rt: &impl Abort, alloc: Global, disk: S
 
 // The disk with the log of the row.
 fn written(rt: &impl Abort, alloc: Global, row: &Row) -> SimDisk {
-    let mut core = opened(rt, alloc);
-    let mut number = 0u8;
-    for _full in 0..row.full {
+    let mut core = opened(rt, alloc, formatted(rt, alloc), ALONE)
+        .ok()
+        .expect(rt, row.name);
+    let full = usize::from(row.full);
+    let mut number = 0u16;
+    for place in 0..full + row.lengths.len() {
+        let length = match row.lengths.get(place.saturating_sub(full)) {
+            Some(length) if place >= full => *length,
+            _ => 4_096,
+        };
         number = number.saturating_add(1);
-        write_one(rt, alloc, &mut core, number, 4_096);
-    }
-    for length in row.lengths {
-        number = number.saturating_add(1);
-        write_one(rt, alloc, &mut core, number, *length);
+        let key = LETTERS.get(place..place + 1).expect(rt, row.name);
+        let value = SEVENS.get(..length).expect(rt, row.name);
+        let commit = Given::Commit(number, 0, key, value);
+        give(rt, alloc, &mut core, &input_of(rt, alloc, commit));
     }
     core.stop()
-}
-
-fn opened(rt: &impl Abort, alloc: Global) -> Core<SimDisk> {
-    match Core::open(alloc, formatted(rt, alloc), alone(rt, alloc)) {
-        Ok(core) => core,
-        Err((_, disk)) => {
-            drop(disk);
-            rt.panic("a core")
-        }
-    }
 }
 
 #[test]
@@ -204,12 +194,17 @@ fn a_long_body_is_gathered(rt: HostRuntime) {
     for number in 0..128u8 {
         let write = Write {
             key: Key::new(&[number]).expect(&rt, "a key"),
-            value: Some(value(&rt, alloc, 4_096)),
+            value: Some(Value::new(alloc, &SEVENS).expect(&rt, "a value")),
         };
         writes.push(write).ok().expect(&rt, "memory");
     }
-    let mut core = opened(&rt, alloc);
-    give(&rt, alloc, &mut core, &commit(&rt, alloc, 1, writes));
+    let writes = Writes::from_vec(writes).ok().expect(&rt, "writes");
+    let input = Input::Deliver(commit(alloc, 1, Parts::only(shard(0)), writes));
+    let mut core = opened(&rt, alloc, formatted(&rt, alloc), ALONE)
+        .ok()
+        .expect(&rt, LONG.name);
+    give(&rt, alloc, &mut core, &input);
+    drop(input);
     open_in_pieces(&mut wrong, &rt, alloc, core.stop(), &LONG);
     end(&rt, wrong);
 }

@@ -1,7 +1,7 @@
 //! Files that are refused: which of two faults counts, and that a long body is no record.
-use crate::cores::{opened, plain};
+use crate::cores::disk_with;
+use crate::damaged::opening;
 use crate::verdict::end;
-use disk::Disk;
 use made::{FIRST_GATE, WrongRows, with_slots};
 use simdisk::SimDisk;
 use std::alloc::Global;
@@ -118,28 +118,18 @@ fn written(rt: &impl Abort, alloc: Global, row: &Row) -> SimDisk {
         .ok()
         .expect(rt, "memory");
     bytes.extend_from_slice(&zeros).ok().expect(rt, "memory");
-    let mut disk = SimDisk::new(alloc);
-    disk.reserve(bytes.len() as u64).expect(rt, "room");
-    disk.write_at(0, &bytes).expect(rt, "a write");
+    let disk = disk_with(rt, alloc, &bytes);
+    drop(bytes);
     disk
 }
 
 #[test]
 fn the_first_fault_counts(rt: HostRuntime) {
     let mut wrong = WrongRows::none(rt.alloc());
-    let alloc = rt.alloc();
     for row in &ROWS {
-        let disk = written(&rt, alloc, row);
-        match opened(&rt, alloc, disk, plain(0, 0)) {
-            Ok(core) => {
-                drop(core.stop());
-                wrong.unless_at(false, row.name, 0);
-            }
-            Err((fault, disk)) => {
-                wrong.unless_at(fault == row.fault, row.name, disk.len());
-                drop(disk);
-            }
-        }
+        let disk = written(&rt, rt.alloc(), row);
+        let said = opening(&rt, rt.alloc(), disk);
+        wrong.unless(said == Err(row.fault), row.name);
     }
     end(&rt, wrong);
 }

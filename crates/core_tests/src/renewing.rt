@@ -2,15 +2,12 @@
 use crate::answers::Told;
 use crate::given::Given;
 use crate::logs::Line;
-use crate::turned_rows::{COMMIT, OLD, OLD_AGAIN, SAID, SECOND, SETTLE, SETTLE_SECOND, TURN};
+use crate::turned_rows::{COMMIT, LEFT, OLD, SAID, SECOND, SETTLE, SETTLE_SECOND, TURN};
 use crate::turning::{Ask, Row};
-use disk::Fate;
 use units::Fault;
 
 const KEPT: Row = Row {
     name: "what a viewer sees stays, and it sees what comes then",
-    shard: 0,
-    fails: None,
     asks: &[
         COMMIT,
         SETTLE,
@@ -25,27 +22,16 @@ const KEPT: Row = Row {
         (230, 240, Ask::View(b'a', 210, Ok(b'1'))),
         (230, 240, Ask::View(b'a', 211, Ok(b'2'))),
     ],
-    bytes: None,
-    size: None,
-    fate: Some(Fate::Old),
     log: &[
         Line::Base(1, 130, 0),
         Line::Version(111, b'a', b'1'),
         Line::Settled(1, 111),
-        Line::Decided(211),
-        Line::Committed(211),
+        Line::Decided(2, 211),
+        Line::Committed(2, 211),
         Line::Ceiling(220),
     ],
     again: &[],
-    then: &[
-        Line::Base(1, 130, 0),
-        Line::Version(111, b'a', b'1'),
-        Line::Settled(1, 111),
-        Line::Decided(211),
-        Line::Committed(211),
-        Line::Ceiling(220),
-        Line::Opened(2),
-    ],
+    ..LEFT
 };
 
 // A log of one opening ends at 9,238, a commit takes 42 bytes, its outcome 31, a ceiling 14. Of a renewed log a base takes 30, a version of one
@@ -67,10 +53,10 @@ const FORGOTTEN: &[Line] = &[
 
 const NOT_TURNED: &[Line] = &[
     Line::Opened(1),
-    Line::DecidedBy(1, 111),
-    Line::CommittedBy(1, 111),
-    Line::Decided(211),
-    Line::Committed(211),
+    Line::Decided(1, 111),
+    Line::Committed(1, 111),
+    Line::Decided(2, 211),
+    Line::Committed(2, 211),
     Line::Horizon(211),
 ];
 
@@ -104,14 +90,6 @@ pub static RENEWED: [Row; 5] = [
         ],
         size: Some(9_617),
         log: GROWN,
-        then: &[
-            Line::Base(1, 300, 0),
-            Line::Version(111, b'a', b'1'),
-            Line::Version(211, b'b', b'1'),
-            Line::Settled(1, 111),
-            Line::Settled(2, 211),
-            Line::Opened(2),
-        ],
         ..KEPT
     },
     // So far behind 400 is 211, where the second commit is.
@@ -127,13 +105,6 @@ pub static RENEWED: [Row; 5] = [
             (400, 410, Ask::Look(b'a', 211, Ok(b'2'))),
         ],
         log: FORGOTTEN,
-        then: &[
-            Line::Base(1, 211, 211),
-            Line::Version(211, b'a', b'2'),
-            Line::Settled(1, 111),
-            Line::Settled(2, 211),
-            Line::Opened(2),
-        ],
         ..KEPT
     },
     Row {
@@ -147,15 +118,6 @@ pub static RENEWED: [Row; 5] = [
             (400, 410, Ask::Look(b'a', 210, Err(Fault::TooOld))),
         ],
         log: NOT_TURNED,
-        then: &[
-            Line::Opened(1),
-            Line::DecidedBy(1, 111),
-            Line::CommittedBy(1, 111),
-            Line::Decided(211),
-            Line::Committed(211),
-            Line::Horizon(211),
-            Line::Opened(2),
-        ],
         ..KEPT
     },
     // The device fails while the horizon is logged. A look is answered all the same.
@@ -179,7 +141,6 @@ pub static RENEWED: [Row; 5] = [
                 Told::Says(&[(b'd', 9, 1, 111)]),
             ),
         )],
-        then: OLD_AGAIN,
         ..KEPT
     },
 ];

@@ -5,40 +5,16 @@ use crate::logs::Line;
 use crate::nodes::{Ask, Asked, Moment, Story};
 use units::{Fault, Reason, Seen};
 
-const FAILS: Asked = (
-    250,
-    260,
-    Ask::Advance {
-        to: 250,
-        tells: Err(Fault::Device),
-    },
-);
+const FAILS: Asked = (250, 260, Ask::Advance(250, Err(Fault::Device)));
 
-const STOPPED: Asked = (
-    250,
-    260,
-    Ask::Advance {
-        to: 250,
-        tells: Err(Fault::Stopped),
-    },
-);
+const STOPPED: Asked = (250, 260, Ask::Advance(250, Err(Fault::Stopped)));
 
-const OPENS: Asked = (
-    250,
-    260,
-    Ask::Restart {
-        viewers: 1,
-        gives: Ok(1),
-    },
-);
+const OPENS: Asked = (250, 260, Ask::Restart(1, Ok(1)));
 
 const SERVES: Asked = (
     250,
     260,
-    Ask::Restart {
-        viewers: 1,
-        gives: Err(Fault::BadRequest(Reason::Again)),
-    },
+    Ask::Restart(1, Err(Fault::BadRequest(Reason::Again))),
 );
 
 pub static NODES: [Story; 6] = [
@@ -47,14 +23,7 @@ pub static NODES: [Story; 6] = [
         room: 0,
         asks: &[
             SERVES,
-            (
-                250,
-                260,
-                Ask::Advance {
-                    to: 250,
-                    tells: Ok(250),
-                },
-            ),
+            (250, 260, Ask::Advance(250, Ok(250))),
             (250, 260, Ask::Look((250, Ok(Seen::Absent)))),
         ],
         moments: &[Moment {
@@ -100,14 +69,7 @@ pub static NODES: [Story; 6] = [
         asks: &[
             FAILS,
             OPENS,
-            (
-                250,
-                260,
-                Ask::Advance {
-                    to: 260,
-                    tells: Ok(260),
-                },
-            ),
+            (250, 260, Ask::Advance(260, Ok(260))),
             (250, 260, Ask::Look((260, Ok(Seen::Absent)))),
         ],
         moments: &[Moment {
@@ -129,10 +91,7 @@ pub static NODES: [Story; 6] = [
             (
                 250,
                 260,
-                Ask::Restart {
-                    viewers: 0,
-                    gives: Err(Fault::BadRequest(Reason::Many)),
-                },
+                Ask::Restart(0, Err(Fault::BadRequest(Reason::Many))),
             ),
             STOPPED,
             OPENS,
@@ -163,14 +122,7 @@ pub static NODES: [Story; 6] = [
                 210,
                 Ask::Deliver(Given::Outcome(2, 200), Told::Says(&[])),
             ),
-            (
-                200,
-                210,
-                Ask::Advance {
-                    to: 210,
-                    tells: Ok(210),
-                },
-            ),
+            (200, 210, Ask::Advance(210, Ok(210))),
             (200, 210, Ask::LookThere((210, Ok(Seen::Value(1))))),
         ],
         moments: &[Moment {
@@ -178,8 +130,8 @@ pub static NODES: [Story; 6] = [
             after: 4,
             log: &[
                 Line::Opened(1),
-                Line::Promised(200),
-                Line::Committed(200),
+                Line::Promised(2, 200),
+                Line::Committed(2, 200),
                 Line::Ceiling(210),
             ],
         }],
@@ -201,14 +153,7 @@ pub static ONCE: [Story; 1] = [Story {
             122,
             Ask::Deliver(Given::Settle(2), Told::Says(&[(b'd', 9, 2, 111)])),
         ),
-        (
-            112,
-            122,
-            Ask::Advance {
-                to: 120,
-                tells: Ok(120),
-            },
-        ),
+        (112, 122, Ask::Advance(120, Ok(120))),
         (
             112,
             122,
@@ -221,8 +166,8 @@ pub static ONCE: [Story; 1] = [Story {
         after: 5,
         log: &[
             Line::Opened(1),
-            Line::Decided(111),
-            Line::Committed(111),
+            Line::Decided(2, 111),
+            Line::Committed(2, 111),
             Line::Ceiling(120),
         ],
     }],

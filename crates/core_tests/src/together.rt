@@ -1,6 +1,6 @@
 //! Shards that are opened side by side.
-use crate::awaiting::Awaiting;
-use crate::cores::{formatted, opened, plain, setup};
+use crate::cores::{disk_with, formatted, opened, plain, setup};
+use crate::strained::Strained;
 use crate::verdict::end;
 use disk::Disk;
 use made::{FIRST_GATE, WrongRows};
@@ -113,9 +113,7 @@ static ROWS: [Row; 4] = [
 
 fn disk_of(rt: &impl Abort, alloc: Global, given: &Given) -> SimDisk {
     let Some(before) = given.before else {
-        let mut disk = SimDisk::new(alloc);
-        disk.write_at(0, b"log").ok().expect(rt, "a write");
-        return disk;
+        return disk_with(rt, alloc, b"log");
     };
     let mut disk = formatted(rt, alloc);
     for _ in 0..before {
@@ -139,9 +137,11 @@ fn open<R: Threads + time::Clock + Sync + Abort>(
         let is_first = disks.is_empty();
         let own = if is_first { &first } else { &second };
         let other = if is_first { &second } else { &first };
-        let disk = Awaiting {
+        let disk = Strained {
             disk: disk_of(rt, alloc, given),
             rt,
+            longest: usize::MAX,
+            reads: 0,
             own,
             other: if given.waits { other } else { own },
         };
@@ -154,8 +154,8 @@ fn open<R: Threads + time::Clock + Sync + Abort>(
 fn opened_all<'a, R: Threads + time::Clock + Sync + Abort>(
     rt: &'a R,
     alloc: Global,
-    disks: Vec<(Awaiting<'a, R>, Setup)>,
-) -> Vec<Result<Core<Awaiting<'a, R>>, (Fault, Awaiting<'a, R>)>> {
+    disks: Vec<(Strained<'a, R>, Setup)>,
+) -> Vec<Result<Core<Strained<'a, R>>, (Fault, Strained<'a, R>)>> {
     match open_all(rt, alloc, disks) {
         Ok(opened) => opened,
         Err(refused) => {
@@ -169,7 +169,7 @@ fn compare<R: time::Clock + Abort>(
     wrong: &mut WrongRows,
     rt: &R,
     row: &Row,
-    opened: Vec<Result<Core<Awaiting<R>>, (Fault, Awaiting<R>)>>,
+    opened: Vec<Result<Core<Strained<R>>, (Fault, Strained<R>)>>,
 ) {
     let mut opened = opened;
     wrong.unless_at(opened.len() == row.disks.len(), row.name, 0);
@@ -187,7 +187,7 @@ fn compare<R: time::Clock + Abort>(
 
 // The result is a core of this shard in this epoch, or this refusal, and its disk has this length.
 fn is_given<R: time::Clock>(
-    opening: Result<Core<Awaiting<R>>, (Fault, Awaiting<R>)>,
+    opening: Result<Core<Strained<R>>, (Fault, Strained<R>)>,
     given: &Given,
 ) -> bool {
     match opening {

@@ -1,13 +1,13 @@
 //! Logs that are turned over: of cores and desks, with each of its device calls failing, and where no slot is left.
 use crate::answers::Told;
-use crate::cores::{Setting, formatted, plain};
+use crate::cores::formatted;
 use crate::given::Given;
-use crate::logs::{Line, with_log};
+use crate::logs::Line;
 use crate::renewing::RENEWED;
 use crate::turned_rows::{
-    A, COMMIT, DONE, LOOKED, NEW, NEW_AGAIN, OLD, OLD_AGAIN, SAID, SETTLE, SETTLED, STANDING,
+    A, COMMIT, DONE, LEFT, LOOKED, NEW, OLD, SAID, SETTLE, SETTLED, STANDING,
 };
-use crate::turning::{Ask, Asked, Kind, Row, crashed, go_on, left};
+use crate::turning::{Ask, Asked, Kind, Row, go_on};
 use crate::verdict::end;
 use disk::{Disk, Fate};
 use gatelog::HEADER;
@@ -18,45 +18,41 @@ use std::process::Abort;
 use std::sync::Wait;
 use units::Fault;
 
-// A turnover one of whose calls fails, counted from 0, what becomes then of the change that is not synced, where there is a crash, and
-// whether an opening finds the new log. Call 5 is none of its own.
-type Failing = (u64, Option<Fate>, bool);
+// What becomes of the change that is not synced, where there is a crash once a call of a turnover has failed, and from which call on, counted
+// from 0, an opening finds the new log. Call 5 is none of its own.
+struct Failing {
+    fate: Option<Fate>,
+    new_from: u64,
+}
 
-static FAILING: [Failing; 28] = [
-    (0, Some(Fate::Old), false),
-    (0, Some(Fate::Filled(0x37)), false),
-    (0, Some(Fate::Filled(0xa5)), false),
-    (0, Some(Fate::New), false),
-    (1, Some(Fate::Old), false),
-    (1, Some(Fate::Filled(0x37)), false),
-    (1, Some(Fate::Filled(0xa5)), false),
-    (1, Some(Fate::New), false),
-    (2, Some(Fate::Old), false),
-    (2, Some(Fate::Filled(0x37)), false),
-    (2, Some(Fate::Filled(0xa5)), false),
-    (2, Some(Fate::New), false),
-    (3, Some(Fate::Old), false),
-    (3, Some(Fate::Filled(0x37)), false),
-    (3, Some(Fate::Filled(0xa5)), true),
-    (3, Some(Fate::New), true),
-    (4, Some(Fate::Old), false),
-    (4, Some(Fate::Filled(0x37)), false),
-    (4, Some(Fate::Filled(0xa5)), true),
-    (4, Some(Fate::New), true),
-    (5, Some(Fate::Old), true),
-    (5, Some(Fate::New), true),
-    (0, None, false),
-    (1, None, false),
-    (2, None, false),
-    (3, None, false),
-    (4, None, true),
-    (5, None, true),
+static FAILING: [Failing; 5] = [
+    Failing {
+        fate: Some(Fate::Old),
+        new_from: 5,
+    },
+    Failing {
+        fate: Some(Fate::Filled(0x37)),
+        new_from: 5,
+    },
+    // The byte of an open slot.
+    Failing {
+        fate: Some(Fate::Filled(0xa5)),
+        new_from: 3,
+    },
+    Failing {
+        fate: Some(Fate::New),
+        new_from: 3,
+    },
+    Failing {
+        fate: None,
+        new_from: 4,
+    },
 ];
 
 // The commit and its outcome make four calls each.
 const BEFORE: u64 = 8;
 
-const REFUSED: [Asked; 6] = [
+const REFUSED: &[Asked] = &[
     COMMIT,
     SETTLE,
     (112, 121, Ask::Turn(Err(Fault::Device))),
@@ -69,41 +65,22 @@ const REFUSED: [Asked; 6] = [
     (112, 121, Ask::Look(b'a', 111, Ok(b'1'))),
 ];
 
-const TAKEN: [Asked; 3] = [COMMIT, SETTLE, (112, 121, Ask::Turn(Ok(())))];
+const TAKEN: &[Asked] = &[COMMIT, SETTLE, (112, 121, Ask::Turn(Ok(())))];
 
 // The same commit again is done, whichever log is found.
-const AGAIN: [Asked; 1] = [(112, 121, Ask::Given(A, DONE))];
+const AGAIN: &[Asked] = &[(112, 121, Ask::Given(A, DONE))];
 
-fn fail<R: Wait + Abort>(wrong: &mut WrongRows, rt: &R, alloc: Global, kind: Kind, row: &Failing) {
-    let name = "a call of a turnover fails";
-    let (call, fate, new) = *row;
-    let setting = Setting {
+// A turnover of which that call fails.
+fn turnover_of(row: &Failing, call: u64) -> Row {
+    Row {
+        name: "a call of a turnover fails",
         fails: Some(call.saturating_add(BEFORE)),
-        ..plain(0, 0)
-    };
-    let asks: &[Asked] = if call < 5 { &REFUSED } else { &TAKEN };
-    let mut disk = left(
-        wrong,
-        rt,
-        alloc,
-        kind,
-        formatted(rt, alloc),
-        setting,
-        name,
-        asks,
-    );
-    disk.arm(None);
-    if let Some(fate) = fate {
-        disk = crashed(rt, alloc, disk, fate);
+        asks: if call < 5 { REFUSED } else { TAKEN },
+        fate: row.fate,
+        log: if call < row.new_from { OLD } else { NEW },
+        again: AGAIN,
+        ..LEFT
     }
-    let (log, then): (&[Line], &[Line]) = if new {
-        (NEW, NEW_AGAIN)
-    } else {
-        (OLD, OLD_AGAIN)
-    };
-    let disk = with_log(wrong, alloc, disk, name, log);
-    let disk = left(wrong, rt, alloc, kind, disk, plain(0, 0), name, &AGAIN);
-    drop(with_log(wrong, alloc, disk, name, then));
 }
 
 // Writes a file whose slots are all open, each of which names an area of no record. The last begins at 10,248.
@@ -121,7 +98,7 @@ fn open_all(disk: &mut SimDisk) -> bool {
 }
 
 // With no slot left a turnover is refused, and all goes on.
-const SPENT: [Asked; 7] = [
+const SPENT: &[Asked] = &[
     COMMIT,
     SETTLE,
     (112, 121, Ask::Turn(Err(Fault::TimeSpent))),
@@ -132,7 +109,7 @@ const SPENT: [Asked; 7] = [
 ];
 
 // A desk asks for it again once the log has grown.
-const SPENT_DESK: [Asked; 8] = [
+const SPENT_DESK: &[Asked] = &[
     COMMIT,
     SETTLE,
     (112, 121, Ask::Renew(1_000_000, 73, Err(Fault::TimeSpent))),
@@ -145,46 +122,61 @@ const SPENT_DESK: [Asked; 8] = [
 
 const SPENT_LOG: &[Line] = &[
     Line::Opened(1),
-    Line::DecidedBy(1, 111),
-    Line::CommittedBy(1, 111),
-    Line::Decided(122),
+    Line::Decided(1, 111),
+    Line::Committed(1, 111),
+    Line::Decided(2, 122),
 ];
 
-fn spend<R: Wait + Abort>(
-    wrong: &mut WrongRows,
-    rt: &R,
-    alloc: Global,
-    kind: Kind,
-    asks: &[Asked],
-) {
-    let name = "no slot is left";
+static SPENT_ROWS: [Row; 2] = [
+    Row {
+        name: "no slot is left",
+        asks: SPENT,
+        size: Some(10_378),
+        fate: None,
+        log: SPENT_LOG,
+        again: &[],
+        ..LEFT
+    },
+    Row {
+        name: "no slot is left to a desk",
+        asks: SPENT_DESK,
+        size: Some(10_378),
+        fate: None,
+        log: SPENT_LOG,
+        again: &[],
+        ..LEFT
+    },
+];
+
+fn spend<R: Wait + Abort>(wrong: &mut WrongRows, rt: &R, alloc: Global, kind: Kind, row: &Row) {
     let mut disk = SimDisk::new(alloc);
-    let whole = open_all(&mut disk);
-    wrong.unless_at(whole, name, 0);
-    let disk = left(wrong, rt, alloc, kind, disk, plain(0, 0), name, asks);
-    wrong.unless_at(disk.len() == 10_378, name, disk.len());
-    drop(with_log(wrong, alloc, disk, name, SPENT_LOG));
+    wrong.unless(open_all(&mut disk), row.name);
+    go_on(wrong, rt, alloc, kind, disk, row);
 }
 
-fn go<R: Wait + Abort>(wrong: &mut WrongRows, rt: &R, alloc: Global, rows: &[Row]) {
-    for row in rows {
-        go_on(wrong, rt, alloc, Kind::Core, formatted(rt, alloc), row);
-        go_on(wrong, rt, alloc, Kind::Desk, formatted(rt, alloc), row);
-    }
+fn go<R: Wait + Abort>(wrong: &mut WrongRows, rt: &R, alloc: Global, row: &Row) {
+    go_on(wrong, rt, alloc, Kind::Core, formatted(rt, alloc), row);
+    go_on(wrong, rt, alloc, Kind::Desk, formatted(rt, alloc), row);
 }
 
 #[test]
 fn logs_are_turned_over(rt: HostRuntime) {
     let mut wrong = WrongRows::none(rt.alloc());
-    go(&mut wrong, &rt, rt.alloc(), &SETTLED);
+    for row in &SETTLED {
+        go(&mut wrong, &rt, rt.alloc(), row);
+    }
     end(&rt, wrong);
 }
 
 #[test]
 fn what_stands_is_there_behind_a_turnover(rt: HostRuntime) {
     let mut wrong = WrongRows::none(rt.alloc());
-    go(&mut wrong, &rt, rt.alloc(), &LOOKED);
-    go(&mut wrong, &rt, rt.alloc(), &STANDING);
+    for row in &LOOKED {
+        go(&mut wrong, &rt, rt.alloc(), row);
+    }
+    for row in &STANDING {
+        go(&mut wrong, &rt, rt.alloc(), row);
+    }
     end(&rt, wrong);
 }
 
@@ -192,18 +184,14 @@ fn what_stands_is_there_behind_a_turnover(rt: HostRuntime) {
 fn turnovers_that_fail(rt: HostRuntime) {
     let mut wrong = WrongRows::none(rt.alloc());
     for row in &FAILING {
-        fail(&mut wrong, &rt, rt.alloc(), Kind::Core, row);
-        fail(&mut wrong, &rt, rt.alloc(), Kind::Desk, row);
+        for call in 0..6 {
+            go(&mut wrong, &rt, rt.alloc(), &turnover_of(row, call));
+        }
     }
-    end(&rt, wrong);
-}
-
-#[test]
-fn turnovers_without_a_slot(rt: HostRuntime) {
-    let mut wrong = WrongRows::none(rt.alloc());
-    spend(&mut wrong, &rt, rt.alloc(), Kind::Core, &SPENT);
-    spend(&mut wrong, &rt, rt.alloc(), Kind::Desk, &SPENT);
-    spend(&mut wrong, &rt, rt.alloc(), Kind::Desk, &SPENT_DESK);
+    spend(&mut wrong, &rt, rt.alloc(), Kind::Core, &SPENT_ROWS[0]);
+    for row in &SPENT_ROWS {
+        spend(&mut wrong, &rt, rt.alloc(), Kind::Desk, row);
+    }
     end(&rt, wrong);
 }
 
@@ -211,15 +199,13 @@ fn turnovers_without_a_slot(rt: HostRuntime) {
 #[test]
 fn desks_renew_their_logs(rt: HostRuntime) {
     let mut wrong = WrongRows::none(rt.alloc());
-    for row in &RENEWED {
-        go_on(
-            &mut wrong,
-            &rt,
-            rt.alloc(),
-            Kind::Desk,
-            formatted(&rt, rt.alloc()),
-            row,
-        );
-    }
+    desks(&mut wrong, &rt, rt.alloc(), &RENEWED);
     end(&rt, wrong);
+}
+
+/// The rows of desks alone.
+pub fn desks<R: Wait + Abort>(wrong: &mut WrongRows, rt: &R, alloc: Global, rows: &[Row]) {
+    for row in rows {
+        go_on(wrong, rt, alloc, Kind::Desk, formatted(rt, alloc), row);
+    }
 }

@@ -20,40 +20,18 @@ const CLOSE: Asked = (
     Ask::Deliver(Given::Outcome(2, 200), Told::Says(&[])),
 );
 
-const SERVE: Asked = (
-    200,
-    210,
-    Ask::Advance {
-        to: 210,
-        tells: Ok(210),
-    },
-);
+const SERVE: Asked = (200, 210, Ask::Advance(210, Ok(210)));
 
 const SEES: Asked = (200, 210, Ask::Look((210, Ok(Seen::Value(1)))));
 
-const OPENS: Asked = (
-    250,
-    260,
-    Ask::Restart {
-        viewers: 1,
-        gives: Ok(1),
-    },
-);
+const OPENS: Asked = (250, 260, Ask::Restart(1, Ok(1)));
 
 const STOPPED: Asked = (250, 260, Ask::Turn(Err(Fault::Stopped)));
 
 const FAILS: &[Asked] = &[
     (250, 260, Ask::Turn(Err(Fault::Device))),
     STOPPED,
-    (
-        250,
-        260,
-        Ask::Renew {
-            micros: 0,
-            least: 0,
-            gives: Ok(()),
-        },
-    ),
+    (250, 260, Ask::Renew(0, 0, Ok(()))),
     (
         250,
         260,
@@ -112,14 +90,7 @@ pub static TURNING: [Story; 4] = [
                 260,
                 Ask::Deliver(Given::Outcome(3, 250), Told::Says(&[])),
             ),
-            (
-                250,
-                260,
-                Ask::Advance {
-                    to: 255,
-                    tells: Ok(255),
-                },
-            ),
+            (250, 260, Ask::Advance(255, Ok(255))),
             (250, 260, Ask::Look((255, Ok(Seen::Value(1))))),
         ],
         moments: &[
@@ -139,8 +110,8 @@ pub static TURNING: [Story; 4] = [
                     Line::Base(1, 210, 0),
                     Line::Version(200, b'z', b'2'),
                     Line::Closed(2, 200),
-                    Line::PromisedBy(3, 250),
-                    Line::CommittedBy(3, 250),
+                    Line::Promised(3, 250),
+                    Line::Committed(3, 250),
                     Line::Ceiling(255),
                 ],
             },
@@ -176,24 +147,8 @@ pub static TURNING: [Story; 4] = [
             PROMISE,
             CLOSE,
             SERVE,
-            (
-                210,
-                220,
-                Ask::Renew {
-                    micros: 10,
-                    least: 115,
-                    gives: Ok(()),
-                },
-            ),
-            (
-                210,
-                220,
-                Ask::Renew {
-                    micros: 10,
-                    least: 100,
-                    gives: Ok(()),
-                },
-            ),
+            (210, 220, Ask::Renew(10, 115, Ok(()))),
+            (210, 220, Ask::Renew(10, 100, Ok(()))),
             SEES,
         ],
         moments: &[
@@ -202,8 +157,8 @@ pub static TURNING: [Story; 4] = [
                 after: 4,
                 log: &[
                     Line::Opened(1),
-                    Line::Promised(200),
-                    Line::Committed(200),
+                    Line::Promised(2, 200),
+                    Line::Committed(2, 200),
                     Line::Ceiling(210),
                     Line::Horizon(200),
                 ],

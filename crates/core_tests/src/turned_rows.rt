@@ -30,31 +30,20 @@ pub const TURN: Asked = (230, 240, Ask::Turn(Ok(())));
 // The same commit again.
 const AGAIN: Asked = (230, 240, Ask::Given(A, DONE));
 
+/// What the next opening adds.
+pub const REOPENED: &[Line] = &[Line::Opened(2)];
+
 /// The log of the commit, and that of its turnover.
 pub const OLD: &[Line] = &[
     Line::Opened(1),
-    Line::DecidedBy(1, 111),
-    Line::CommittedBy(1, 111),
+    Line::Decided(1, 111),
+    Line::Committed(1, 111),
 ];
 
 pub const NEW: &[Line] = &[
     Line::Base(1, 111, 0),
     Line::Version(111, b'a', b'1'),
     Line::Settled(1, 111),
-];
-
-pub const OLD_AGAIN: &[Line] = &[
-    Line::Opened(1),
-    Line::DecidedBy(1, 111),
-    Line::CommittedBy(1, 111),
-    Line::Opened(2),
-];
-
-pub const NEW_AGAIN: &[Line] = &[
-    Line::Base(1, 111, 0),
-    Line::Version(111, b'a', b'1'),
-    Line::Settled(1, 111),
-    Line::Opened(2),
 ];
 
 // The file of the commit without its slots, and behind its closed gate, which is byte 9,311 of the file: Base 1 111 0, Version 111 a=1,
@@ -97,13 +86,14 @@ const WHOLE: Row = Row {
     name: "one settled commit, byte for byte",
     shard: 0,
     fails: None,
+    before: &[],
     asks: &[COMMIT, SETTLE, TURN],
     bytes: Some(TURNED),
     size: Some(9_395),
     fate: None,
     log: NEW,
     again: &[AGAIN],
-    then: NEW_AGAIN,
+    then: REOPENED,
 };
 
 pub static SETTLED: [Row; 6] = [
@@ -134,18 +124,10 @@ pub static SETTLED: [Row; 6] = [
             Line::Base(1, 111, 0),
             Line::Version(111, b'a', b'1'),
             Line::Settled(1, 111),
-            Line::Decided(211),
-            Line::Committed(211),
+            Line::Decided(2, 211),
+            Line::Committed(2, 211),
         ],
         again: &[(230, 240, Ask::Look(b'a', 211, Ok(b'2')))],
-        then: &[
-            Line::Base(1, 111, 0),
-            Line::Version(111, b'a', b'1'),
-            Line::Settled(1, 111),
-            Line::Decided(211),
-            Line::Committed(211),
-            Line::Opened(2),
-        ],
         ..WHOLE
     },
     Row {
@@ -160,7 +142,6 @@ pub static SETTLED: [Row; 6] = [
         fate: Some(Fate::Old),
         log: &[Line::Opened(1)],
         again: &[],
-        then: &[Line::Opened(1), Line::Opened(2)],
         ..WHOLE
     },
 ];
@@ -175,7 +156,7 @@ const NEWER: Asked = (230, 240, Ask::Look(b'a', 211, Ok(b'2')));
 
 const NOT_YET: Asked = (230, 240, Ask::Look(b'a', 212, Err(Fault::NotYet)));
 
-const LEFT: Row = Row {
+pub const LEFT: Row = Row {
     bytes: None,
     size: None,
     fate: Some(Fate::Old),
@@ -209,14 +190,6 @@ pub static LOOKED: [Row; 2] = [
             Line::Settled(2, 211),
         ],
         again: &[TOO_OLD, OLDER, NEWER, NOT_YET],
-        then: &[
-            Line::Base(1, 211, 150),
-            Line::Version(111, b'a', b'1'),
-            Line::Version(211, b'a', b'2'),
-            Line::Settled(1, 111),
-            Line::Settled(2, 211),
-            Line::Opened(2),
-        ],
         ..LEFT
     },
     Row {
@@ -238,13 +211,6 @@ pub static LOOKED: [Row; 2] = [
             Line::Settled(2, 211),
         ],
         again: &[TOO_OLD_FOR_THE_SECOND, NEWER],
-        then: &[
-            Line::Base(1, 211, 211),
-            Line::Version(211, b'a', b'2'),
-            Line::Settled(1, 111),
-            Line::Settled(2, 211),
-            Line::Opened(2),
-        ],
         ..LEFT
     },
 ];
@@ -269,20 +235,14 @@ pub static STANDING: [Row; 4] = [
                 Told::Says(&[(b'd', 9, 9, 0)]),
             ),
         )],
-        then: &[Line::Base(1, 0, 0), Line::Aborted(9), Line::Opened(2)],
         ..LEFT
     },
     Row {
         name: "a decision stays, and is settled then",
         asks: &[COMMIT, TURN],
-        log: &[Line::Base(1, 111, 0), Line::DecidedBy(1, 111)],
+        log: &[Line::Base(1, 111, 0), Line::Decided(1, 111)],
         again: &[SETTLE, (230, 240, Ask::Look(b'a', 111, Ok(b'1')))],
-        then: &[
-            Line::Base(1, 111, 0),
-            Line::DecidedBy(1, 111),
-            Line::Opened(2),
-            Line::CommittedBy(1, 111),
-        ],
+        then: &[Line::Opened(2), Line::Committed(1, 111)],
         ..LEFT
     },
     Row {
@@ -299,17 +259,12 @@ pub static STANDING: [Row; 4] = [
             ),
             TURN,
         ],
-        log: &[Line::Base(1, 200, 0), Line::Promised(200)],
+        log: &[Line::Base(1, 200, 0), Line::Promised(2, 200)],
         again: &[
             (230, 240, Ask::Given(Given::Outcome(2, 200), SAID)),
             (230, 240, Ask::Look(b'z', 200, Ok(b'7'))),
         ],
-        then: &[
-            Line::Base(1, 200, 0),
-            Line::Promised(200),
-            Line::Opened(2),
-            Line::Committed(200),
-        ],
+        then: &[Line::Opened(2), Line::Committed(2, 200)],
         ..LEFT
     },
     Row {
@@ -333,12 +288,6 @@ pub static STANDING: [Row; 4] = [
             Line::Closed(2, 200),
         ],
         again: &[(230, 240, Ask::Look(b'z', 200, Ok(b'7')))],
-        then: &[
-            Line::Base(1, 200, 0),
-            Line::Version(200, b'z', b'7'),
-            Line::Closed(2, 200),
-            Line::Opened(2),
-        ],
         ..LEFT
     },
 ];

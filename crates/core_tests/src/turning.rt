@@ -1,6 +1,6 @@
 //! Cores and desks that are asked, and turned over between: what they answer, what the file holds then, and what an opening finds in it.
 use crate::answers::{Told, is_told};
-use crate::cores::{Setting, opened};
+use crate::cores::{Setting, bytes_on, opened, plain};
 use crate::given::{Given, input_of, reading};
 use crate::logs::{Line, with_log};
 use board::Viewer;
@@ -29,10 +29,13 @@ pub enum Ask {
     // The rest is asked of desks alone. To keep so many microseconds, and to turn over what has grown by so many bytes.
     Renew(u64, u64, Result<(), Fault>),
     Advance(u32),
+    // To let go what is older than so many microseconds.
+    KeepFor(u64, Result<(), Fault>),
     // What the viewer sees.
     View(u8, u32, Sees),
-    // How far the log reaches.
+    // How far the log reaches, and what the horizon is.
     Gate(u64),
+    Horizon(u64),
 }
 
 // The two ends of a reading, and what is asked at it.
@@ -44,11 +47,13 @@ pub struct Bytes {
     pub slots: [u8; 18],
 }
 
+#[derive(Clone, Copy)]
 pub struct Row {
     pub name: &'static str,
     pub shard: u8,
     // A device call that is to fail, counted from the first write behind the opening.
     pub fails: Option<u64>,
+    pub before: &'static [Asked],
     pub asks: &'static [Asked],
     // The bytes of the file, or as much of it as its length.
     pub bytes: Option<&'static Bytes>,
@@ -56,7 +61,7 @@ pub struct Row {
     // What becomes then of the change that is not synced, where there is a crash.
     pub fate: Option<Fate>,
     pub log: &'static [Line],
-    // Once the shard is opened again.
+    // What is asked once the shard is opened again, and what the log holds then behind that.
     pub again: &'static [Asked],
     pub then: &'static [Line],
 }
@@ -152,6 +157,7 @@ fn sees(seen: Result<Seen, Fault>, buffer: &[u8]) -> Sees {
 fn is_served<R: Wait>(watched: &mut Watched<'_, R>, now: &Reading, ask: Ask) -> bool {
     match ask {
         Ask::Renew(micros, least, wanted) => watched.desk.renew(now, micros, least) == wanted,
+        Ask::KeepFor(micros, wanted) => watched.desk.keep_for(now, micros) == wanted,
         Ask::Advance(to) => match watched.desk.advance(now, stamp(to)) {
             Ok(told) => told.safe() == stamp(to),
             Err(_) => false,
@@ -190,10 +196,25 @@ fn is_answered<R: Wait + Abort>(
             sees(seen, &buffer) == wanted
         }
         Ask::Gate(gate) => shard.core().gate() == gate,
+        Ask::Horizon(at) => shard.core().horizon().micros() == at,
         ask => match shard {
             Shard::Core(_) => false,
             Shard::Desk(watched) => is_served(watched, &now, ask),
         },
+    }
+}
+
+fn ask_all<R: Wait + Abort>(
+    wrong: &mut WrongRows,
+    rt: &R,
+    alloc: Global,
+    shard: &mut Shard<'_, R>,
+    name: &str,
+    asks: &[Asked],
+) {
+    for (place, asked) in asks.iter().enumerate() {
+        let held = is_answered(rt, alloc, shard, asked);
+        wrong.unless_at(held, name, place as u64);
     }
 }
 
@@ -209,10 +230,7 @@ pub fn left<R: Wait + Abort>(
     asks: &[Asked],
 ) -> SimDisk {
     let mut shard = shard_of(rt, alloc, kind, disk, setting);
-    for (place, asked) in asks.iter().enumerate() {
-        let held = is_answered(rt, alloc, &mut shard, asked);
-        wrong.unless_at(held, name, place as u64);
-    }
+    ask_all(wrong, rt, alloc, &mut shard, name, asks);
     shard.close()
 }
 
@@ -234,10 +252,7 @@ pub fn compare_bytes(
     name: &str,
     wanted: &Bytes,
 ) {
-    let mut bytes = vec![in alloc; 0u8; disk.len() as usize]
-        .ok()
-        .expect(rt, "memory");
-    disk.read_at(0, &mut bytes).expect(rt, "a read");
+    let bytes = bytes_on(rt, alloc, disk);
     let told_bytes = bytes_of(rt, alloc, wanted);
     let same = bytes.as_slice() == told_bytes.as_slice();
     drop(told_bytes);
@@ -245,8 +260,13 @@ pub fn compare_bytes(
     wrong.unless_at(same, name, disk.len());
 }
 
-// What a crash leaves by this fate of the oldest change that is not synced.
-pub fn crashed(rt: &impl Abort, alloc: Global, disk: SimDisk, fate: Fate) -> SimDisk {
+// What a crash leaves by this fate of the oldest change that is not synced. Where none is told the disk stays, and no call of it is to fail.
+pub fn crashed(rt: &impl Abort, alloc: Global, disk: SimDisk, fate: Option<Fate>) -> SimDisk {
+    let mut disk = disk;
+    disk.arm(None);
+    let Some(fate) = fate else {
+        return disk;
+    };
     let fates = vec![in alloc; fate].ok().expect(rt, "memory");
     let choice = Choice::from_vec(fates);
     let disk = disk.crash(&choice);
@@ -263,25 +283,24 @@ pub fn go_on<R: Wait + Abort>(
     disk: SimDisk,
     row: &Row,
 ) {
+    let again = plain(row.shard, 0);
     let setting = Setting {
         fails: row.fails,
-        ..crate::cores::plain(row.shard, 0)
+        ..again
     };
-    let mut disk = left(wrong, rt, alloc, kind, disk, setting, row.name, row.asks);
+    let name = row.name;
+    let mut shard = shard_of(rt, alloc, kind, disk, setting);
+    ask_all(wrong, rt, alloc, &mut shard, name, row.before);
+    ask_all(wrong, rt, alloc, &mut shard, name, row.asks);
+    let mut disk = shard.close();
     if let Some(wanted) = row.bytes {
-        compare_bytes(wrong, rt, alloc, &mut disk, row.name, wanted);
+        compare_bytes(wrong, rt, alloc, &mut disk, name, wanted);
     }
     if let Some(size) = row.size {
-        wrong.unless_at(disk.len() == size, row.name, disk.len());
+        wrong.unless_at(disk.len() == size, name, disk.len());
     }
-    if let Some(fate) = row.fate {
-        disk = crashed(rt, alloc, disk, fate);
-    }
-    let disk = with_log(wrong, alloc, disk, row.name, row.log);
-    let plain = Setting {
-        fails: None,
-        ..setting
-    };
-    let disk = left(wrong, rt, alloc, kind, disk, plain, row.name, row.again);
-    drop(with_log(wrong, alloc, disk, row.name, row.then));
+    let disk = crashed(rt, alloc, disk, row.fate);
+    let disk = with_log(wrong, alloc, disk, name, row.log, &[]);
+    let disk = left(wrong, rt, alloc, kind, disk, again, name, row.again);
+    drop(with_log(wrong, alloc, disk, name, row.log, row.then));
 }

@@ -2,7 +2,7 @@
 ghost use Rattle.std.specs.Prelude.{◌≡◌};
 
 use crate::cores::{Setting, plain};
-use crate::given::{Given, message_of, reading};
+use crate::given::{Given, Standing, message_of, reading};
 use crate::nodes::fresh_node;
 use crate::verdict::end;
 use client::{Ended, Halt, Stop, Wire};
@@ -20,7 +20,6 @@ use std::thread::Threads;
 use std::time::{Duration, Instant};
 use std::{thread, time};
 use tickets::{Drawer, Tickets};
-use truetime::{Clock, Reading};
 use units::{Fault, Run, ShardNo, Splits, Value};
 
 // How a transaction ends.
@@ -99,18 +98,6 @@ static ROWS: [Row; 5] = [
     },
 ];
 
-// Always has this reading.
-#[derive(Clone, Copy)]
-struct Standing {
-    now: Reading,
-}
-
-impl Clock for Standing {
-    fn now(&mut self) -> Option<Reading> {
-        Some(self.now)
-    }
-}
-
 // Lets all letters through.
 #[derive(Clone, Copy)]
 struct Through;
@@ -179,33 +166,28 @@ impl<'s, R: Wait + time::Clock + Abort> Caller<'s, R> {
         ends_of(self.wire.finish(tx, Err(Halt::Abandon))) == Ends::Aborted
     }
 
-    // Once a read has ended, the row's rows are taken.
-    fn wait_for_rows(&mut self, row: &Row) {
+    // Whether a transaction that reads, or one that writes, ends as it has to within a second: a fraction of the four that its client would
+    // wait.
+    fn ends_as(&mut self, reads: bool, wanted: Ends) -> bool {
+        let start = Instant::now(self.rt).ok().expect(self.rt, "a clock");
+        let ends = if reads { self.read() } else { self.write() };
+        let took = start.elapsed(self.rt).ok().expect(self.rt, "a clock");
+        ends == wanted && took < Duration::from_secs(1)
+    }
+
+    // Whether each transaction ends as the row says: what is late, what reads, and what writes. Once a read has ended, the row's rows are
+    // taken.
+    fn goes(&mut self, network: &Network, row: &Row) -> [bool; 3] {
         if row.rows > 0 {
             self.read();
         }
-    }
-
-    // A late refusal, where the row has one.
-    fn hears_late(&mut self, network: &Network, row: &Row) -> bool {
-        !row.late || self.be_late(network)
-    }
-
-    // A transaction that reads ends as the row says.
-    fn reads_as(&mut self, row: &Row) -> bool {
-        let start = Instant::now(self.rt).ok().expect(self.rt, "a clock");
-        let ends = self.read();
-        ends_soon(self.rt, start, ends, row.reads)
-    }
-
-    // So does one that writes, where one does.
-    fn writes_as(&mut self, row: &Row) -> bool {
-        let Some(wanted) = row.writes else {
-            return true;
+        let late = !row.late || self.be_late(network);
+        let reads = self.ends_as(true, row.reads);
+        let writes = match row.writes {
+            Some(wanted) => self.ends_as(false, wanted),
+            None => true,
         };
-        let start = Instant::now(self.rt).ok().expect(self.rt, "a clock");
-        let ends = self.write();
-        ends_soon(self.rt, start, ends, wanted)
+        [late, reads, writes]
     }
 }
 
@@ -259,12 +241,6 @@ fn ends_of(ended: Result<Ended, Fault>) -> Ends {
     }
 }
 
-// Whether a transaction ends as it has to, within a second: a fraction of the four that its client would wait.
-fn ends_soon<R: time::Clock + Abort>(rt: &R, since: Instant, ends: Ends, wanted: Ends) -> bool {
-    let took = since.elapsed(rt).ok().expect(rt, "a clock");
-    ends == wanted && took < Duration::from_secs(1)
-}
-
 // Whether each of the client's transactions ends as the row says: what is late, what reads, and what writes. Then the network closes.
 fn call<R: Wait + time::Clock + Abort>(
     rt: &R,
@@ -298,17 +274,14 @@ fn call<R: Wait + time::Clock + Abort>(
         drawer,
         run: Run::new(2).expect(rt, "a run"),
     };
-    caller.wait_for_rows(row);
-    let late = caller.hears_late(network, row);
-    let reads = caller.reads_as(row);
-    let writes = caller.writes_as(row);
+    let ends = caller.goes(network, row);
     drop(caller);
     drop(drawers);
     drop(ids);
     drop(stop);
     drop(splits);
     network.close(rt);
-    [late, reads, writes]
+    ends
 }
 
 // A client beside a node on a thread, as the row says.

@@ -22,14 +22,7 @@ pub static VIEWED: [Story; 1] = [Story {
         ),
         (200, 210, Ask::Look((0, Ok(Seen::Absent)))),
         (200, 210, Ask::Look((1, Err(Fault::NotYet)))),
-        (
-            250,
-            260,
-            Ask::Advance {
-                to: 250,
-                tells: Ok(199),
-            },
-        ),
+        (250, 260, Ask::Advance(250, Ok(199))),
         (250, 260, Ask::Look((199, Ok(Seen::Absent)))),
         (250, 260, Ask::Look((200, Err(Fault::NotYet)))),
         (
@@ -39,14 +32,7 @@ pub static VIEWED: [Story; 1] = [Story {
         ),
         (260, 270, Ask::Look((199, Ok(Seen::Absent)))),
         (260, 270, Ask::Look((200, Err(Fault::NotYet)))),
-        (
-            270,
-            280,
-            Ask::Advance {
-                to: 250,
-                tells: Ok(250),
-            },
-        ),
+        (270, 280, Ask::Advance(250, Ok(250))),
         (270, 280, Ask::Look((199, Ok(Seen::Absent)))),
         (270, 280, Ask::Look((200, Ok(Seen::Value(1))))),
         (270, 280, Ask::Look((250, Ok(Seen::Value(1))))),
@@ -61,21 +47,21 @@ pub static VIEWED: [Story; 1] = [Story {
         Moment {
             name: "a promise is not shown",
             after: 5,
-            log: &[Line::Opened(1), Line::Promised(200)],
+            log: &[Line::Opened(1), Line::Promised(2, 200)],
         },
         Moment {
             name: "an advance shows what is below the promise",
             after: 8,
-            log: &[Line::Opened(1), Line::Promised(200), Line::Ceiling(250)],
+            log: &[Line::Opened(1), Line::Promised(2, 200), Line::Ceiling(250)],
         },
         Moment {
             name: "an outcome is not shown",
             after: 11,
             log: &[
                 Line::Opened(1),
-                Line::Promised(200),
+                Line::Promised(2, 200),
                 Line::Ceiling(250),
-                Line::Committed(200),
+                Line::Committed(2, 200),
             ],
         },
         // Nothing was logged.
@@ -84,9 +70,9 @@ pub static VIEWED: [Story; 1] = [Story {
             after: 16,
             log: &[
                 Line::Opened(1),
-                Line::Promised(200),
+                Line::Promised(2, 200),
                 Line::Ceiling(250),
-                Line::Committed(200),
+                Line::Committed(2, 200),
             ],
         },
     ],

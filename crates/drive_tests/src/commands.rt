@@ -8,7 +8,13 @@ use made::{ONE_COMMIT, WrongRows, in_version_1, with_slots};
 use settings::Settings;
 use simdisk::SimDisk;
 use std::alloc::Global;
+use std::fs::File;
 use std::process::Abort;
+use std::random::RandomSource;
+use std::rt::Files;
+use std::sync::Wait;
+use std::thread::Threads;
+use std::time;
 use units::Fault;
 
 // What is printed: of a drive its counts, whose first three are of so many transactions together, and the verdict yes; of a write that it is
@@ -23,373 +29,186 @@ pub enum Output {
     Ends(&'static str),
 }
 
-// A command with the names of its files in the folder and the words behind them, what is printed, the fault, and the status.
+// Command lines, one after another, that come to the same: what is printed, the fault, and the status. Single spaces part the words of a line,
+// and a word that begins with `./` names something in the folder.
 #[derive(Clone, Copy)]
 pub struct Step {
-    pub command: &'static str,
-    pub names: &'static [&'static str],
-    pub more: &'static [&'static str],
+    pub lines: &'static [&'static str],
     pub output: Output,
     pub fault: &'static str,
     pub status: u8,
 }
 
-static STEPS: [Step; 23] = [
+/// Nothing is printed, and all is well.
+pub const DONE: Step = Step {
+    lines: &[],
+    output: Output::Nothing,
+    fault: "",
+    status: 0,
+};
+
+pub const NO_DEVICE: Step = Step {
+    fault: "fault: 2 Device\n",
+    status: 2,
+    ..DONE
+};
+
+pub const NO_LOG: Step = Step {
+    fault: "fault: 12 NotALog\n",
+    status: 2,
+    ..DONE
+};
+
+static STEPS: [Step; 14] = [
     Step {
-        command: "format",
-        names: &["a.log"],
-        more: &[],
-        output: Output::Nothing,
-        fault: "",
-        status: 0,
+        lines: &["format ./a.log"],
+        ..DONE
     },
     Step {
-        command: "format",
-        names: &["a.log"],
-        more: &[],
-        output: Output::Nothing,
-        fault: "fault: 2 Device\n",
-        status: 2,
+        lines: &["format ./a.log"],
+        ..NO_DEVICE
     },
     Step {
-        command: "inspect",
-        names: &["no.lines", "a.log"],
-        more: &[],
+        lines: &[
+            "inspect ./no.lines ./a.log",
+            "inspect ./no.lines ./a.log ./a.log",
+        ],
         output: Output::Yes,
-        fault: "",
-        status: 0,
+        ..DONE
     },
     Step {
-        command: "inspect",
-        names: &["no.lines", "a.log", "a.log"],
-        more: &[],
+        lines: &["inspect ./no.lines ./no.lines"],
+        ..NO_LOG
+    },
+    Step {
+        lines: &[
+            "inspect ./no.lines ./missing.log",
+            "inspect ./no.lines ./folder",
+            "inspect ./folder ./a.log",
+            "drive ./folder",
+            "drive ./missing.settings",
+        ],
+        ..NO_DEVICE
+    },
+    Step {
+        lines: &[
+            "drive ./memory.settings",
+            "drive ./files.settings",
+            "drive ./files.settings",
+        ],
+        output: Output::Driven(200),
+        ..DONE
+    },
+    Step {
+        lines: &["inspect ./no.lines ./shard-0.log ./shard-1.log"],
         output: Output::Yes,
-        fault: "",
-        status: 0,
+        ..DONE
     },
     Step {
-        command: "inspect",
-        names: &["no.lines", "missing.log"],
-        more: &[],
-        output: Output::Nothing,
-        fault: "fault: 2 Device\n",
-        status: 2,
-    },
-    Step {
-        command: "inspect",
-        names: &["no.lines", "folder"],
-        more: &[],
-        output: Output::Nothing,
-        fault: "fault: 2 Device\n",
-        status: 2,
-    },
-    Step {
-        command: "inspect",
-        names: &["folder", "a.log"],
-        more: &[],
-        output: Output::Nothing,
-        fault: "fault: 2 Device\n",
-        status: 2,
-    },
-    Step {
-        command: "inspect",
-        names: &["no.lines", "no.lines"],
-        more: &[],
-        output: Output::Nothing,
-        fault: "fault: 12 NotALog\n",
-        status: 2,
-    },
-    Step {
-        command: "drive",
-        names: &["folder"],
-        more: &[],
-        output: Output::Nothing,
-        fault: "fault: 2 Device\n",
-        status: 2,
-    },
-    Step {
-        command: "drive",
-        names: &["missing.settings"],
-        more: &[],
-        output: Output::Nothing,
-        fault: "fault: 2 Device\n",
-        status: 2,
-    },
-    Step {
-        command: "drive",
-        names: &["memory.settings"],
-        more: &[],
-        output: Output::Driven(200),
-        fault: "",
-        status: 0,
-    },
-    Step {
-        command: "drive",
-        names: &["files.settings"],
-        more: &[],
-        output: Output::Driven(200),
-        fault: "",
-        status: 0,
-    },
-    Step {
-        command: "drive",
-        names: &["files.settings"],
-        more: &[],
-        output: Output::Driven(200),
-        fault: "",
-        status: 0,
-    },
-    Step {
-        command: "inspect",
-        names: &["no.lines", "shard-0.log", "shard-1.log"],
-        more: &[],
-        output: Output::Yes,
-        fault: "",
-        status: 0,
-    },
-    Step {
-        command: "put",
-        names: &["."],
-        more: &["k0001", "once"],
+        lines: &["put ./. k0001 once"],
         output: Output::Committed,
-        fault: "",
-        status: 0,
+        ..DONE
     },
     Step {
-        command: "get",
-        names: &["."],
-        more: &["k0001"],
+        lines: &["get ./. k0001"],
         output: Output::Is("=once\n"),
-        fault: "",
-        status: 0,
+        ..DONE
     },
     Step {
-        command: "put",
-        names: &["."],
-        more: &["k0007", "far"],
+        lines: &["put ./. k0007 far", "put ./. k0001 twice"],
         output: Output::Committed,
-        fault: "",
-        status: 0,
+        ..DONE
     },
     Step {
-        command: "put",
-        names: &["."],
-        more: &["k0001", "twice"],
-        output: Output::Committed,
-        fault: "",
-        status: 0,
-    },
-    Step {
-        command: "get",
-        names: &["."],
-        more: &["k0001"],
+        lines: &["get ./. k0001"],
         output: Output::Is("=twice\n"),
-        fault: "",
-        status: 0,
+        ..DONE
     },
     Step {
-        command: "history",
-        names: &["."],
-        more: &["k0007"],
+        lines: &["history ./. k0007"],
         output: Output::Ends(" =far\n"),
-        fault: "",
-        status: 0,
+        ..DONE
     },
     Step {
-        command: "inspect",
-        names: &["no.lines", "shard-0.log", "shard-1.log"],
-        more: &[],
+        lines: &["inspect ./no.lines ./shard-0.log ./shard-1.log"],
         output: Output::Yes,
-        fault: "",
-        status: 0,
+        ..DONE
     },
     Step {
-        command: "put",
-        names: &["folder"],
-        more: &["k0001", "none"],
-        output: Output::Nothing,
-        fault: "fault: 2 Device\n",
-        status: 2,
-    },
-    Step {
-        command: "dump",
-        names: &["folder/store.toml"],
-        more: &[],
-        output: Output::Nothing,
-        fault: "fault: 2 Device\n",
-        status: 2,
+        lines: &["put ./folder k0001 none", "dump ./folder/store.toml"],
+        ..NO_DEVICE
     },
 ];
 
 // Commands that ask for a file without rights.
-static CLOSED: [Step; 5] = [
-    Step {
-        command: "format",
-        names: &["closed"],
-        more: &[],
-        output: Output::Nothing,
-        fault: "fault: 2 Device\n",
-        status: 2,
-    },
-    Step {
-        command: "play",
-        names: &["closed"],
-        more: &[],
-        output: Output::Nothing,
-        fault: "fault: 2 Device\n",
-        status: 2,
-    },
-    Step {
-        command: "inspect",
-        names: &["closed", "no.lines"],
-        more: &[],
-        output: Output::Nothing,
-        fault: "fault: 2 Device\n",
-        status: 2,
-    },
-    Step {
-        command: "inspect",
-        names: &["no.lines", "closed"],
-        more: &[],
-        output: Output::Nothing,
-        fault: "fault: 2 Device\n",
-        status: 2,
-    },
-    Step {
-        command: "drive",
-        names: &["closed"],
-        more: &[],
-        output: Output::Nothing,
-        fault: "fault: 2 Device\n",
-        status: 2,
-    },
-];
+static CLOSED: [Step; 1] = [Step {
+    lines: &[
+        "format ./closed",
+        "play ./closed",
+        "inspect ./closed ./no.lines",
+        "inspect ./no.lines ./closed",
+        "drive ./closed",
+    ],
+    ..NO_DEVICE
+}];
 
 // What is printed of the log of one commit.
 const DUMPED: &str =
     "9224 opened 1\n9238 commit 1.1 111 0 - a=1\n9280 outcome 1.1 committed 111\nclosed at 9311\n";
 
 // Logs of version 1, one of which is cut. What is refused makes nothing.
-static MIGRATIONS: [Step; 15] = [
+static MIGRATIONS: [Step; 9] = [
     Step {
-        command: "migrate",
-        names: &["old.log", "new.log"],
-        more: &[],
-        output: Output::Nothing,
-        fault: "",
-        status: 0,
+        lines: &["migrate ./old.log ./new.log"],
+        ..DONE
     },
     Step {
-        command: "dump",
-        names: &["new.log"],
-        more: &[],
+        lines: &["dump ./new.log"],
         output: Output::Is(DUMPED),
-        fault: "",
-        status: 0,
+        ..DONE
     },
     Step {
-        command: "migrate",
-        names: &["old.log", "new.log"],
-        more: &[],
-        output: Output::Nothing,
-        fault: "fault: 2 Device\n",
-        status: 2,
+        lines: &["migrate ./old.log ./new.log"],
+        ..NO_DEVICE
     },
     Step {
-        command: "dump",
-        names: &["new.log"],
-        more: &[],
+        lines: &["dump ./new.log"],
         output: Output::Is(DUMPED),
-        fault: "",
-        status: 0,
+        ..DONE
     },
     Step {
-        command: "inspect",
-        names: &["no.lines", "new.log"],
-        more: &[],
+        lines: &["inspect ./no.lines ./new.log"],
         output: Output::Yes,
-        fault: "",
-        status: 0,
+        ..DONE
     },
     Step {
-        command: "migrate",
-        names: &["old.log", "old.log"],
-        more: &[],
-        output: Output::Nothing,
-        fault: "fault: 2 Device\n",
-        status: 2,
+        lines: &["migrate ./old.log ./old.log"],
+        ..NO_DEVICE
     },
     Step {
-        command: "dump",
-        names: &["old.log"],
-        more: &[],
-        output: Output::Nothing,
-        fault: "fault: 12 NotALog\n",
-        status: 2,
+        lines: &[
+            "dump ./old.log",
+            "migrate ./new.log ./other.log",
+            "migrate ./no.lines ./other.log",
+        ],
+        ..NO_LOG
     },
     Step {
-        command: "migrate",
-        names: &["new.log", "other.log"],
-        more: &[],
-        output: Output::Nothing,
-        fault: "fault: 12 NotALog\n",
-        status: 2,
-    },
-    Step {
-        command: "migrate",
-        names: &["no.lines", "other.log"],
-        more: &[],
-        output: Output::Nothing,
-        fault: "fault: 12 NotALog\n",
-        status: 2,
-    },
-    Step {
-        command: "migrate",
-        names: &["cut.log", "other.log"],
-        more: &[],
-        output: Output::Nothing,
+        lines: &[
+            "migrate ./cut.log ./other.log",
+            "migrate ./cut.log ./new.log",
+        ],
         fault: "fault: 11 Damaged at 95\n",
-        status: 2,
+        ..NO_LOG
     },
     Step {
-        command: "migrate",
-        names: &["cut.log", "new.log"],
-        more: &[],
-        output: Output::Nothing,
-        fault: "fault: 11 Damaged at 95\n",
-        status: 2,
-    },
-    Step {
-        command: "migrate",
-        names: &["missing.log", "other.log"],
-        more: &[],
-        output: Output::Nothing,
-        fault: "fault: 2 Device\n",
-        status: 2,
-    },
-    Step {
-        command: "migrate",
-        names: &["folder", "other.log"],
-        more: &[],
-        output: Output::Nothing,
-        fault: "fault: 2 Device\n",
-        status: 2,
-    },
-    Step {
-        command: "migrate",
-        names: &["old.log", "missing/new.log"],
-        more: &[],
-        output: Output::Nothing,
-        fault: "fault: 2 Device\n",
-        status: 2,
-    },
-    Step {
-        command: "dump",
-        names: &["other.log"],
-        more: &[],
-        output: Output::Nothing,
-        fault: "fault: 2 Device\n",
-        status: 2,
+        lines: &[
+            "migrate ./missing.log ./other.log",
+            "migrate ./folder ./other.log",
+            "migrate ./old.log ./missing/new.log",
+            "dump ./other.log",
+        ],
+        ..NO_DEVICE
     },
 ];
 
@@ -447,31 +266,25 @@ fn is_printed(text: &str, output: Output) -> bool {
     }
 }
 
-fn paths_of(rt: &HostRuntime, test: &impl Abort, folder: &Folder, names: &[&str]) -> Vec<String> {
-    let mut paths = Vec::new(rt.alloc());
-    for name in names {
-        let pushed = paths.push(folder.path(rt, test, name));
-        pushed.ok().expect(test, "memory");
-    }
-    paths
-}
-
-fn words_of<'w>(
-    test: &impl Abort,
-    alloc: Global,
-    command: &'w str,
-    paths: &'w [String],
-    more: &'w [&'w str],
-) -> Vec<&'w str> {
-    let mut words = Vec::new(alloc);
-    words.push(command).ok().expect(test, "memory");
-    for path in paths {
-        words.push(path.as_str()).ok().expect(test, "memory");
-    }
-    for word in more {
-        words.push(word).ok().expect(test, "memory");
+// The words of a line, with the paths of what they name in the folder.
+fn words_of(rt: &HostRuntime, test: &impl Abort, folder: &Folder, line: &str) -> Vec<String> {
+    let mut words = Vec::new(rt.alloc());
+    for word in line.split(' ') {
+        let whole = match word.strip_prefix("./") {
+            Some(name) => folder.path(rt, test, name),
+            None => format!(in rt.alloc(); "{word}").ok().expect(test, "memory"),
+        };
+        words.push(whole).ok().expect(test, "memory");
     }
     words
+}
+
+fn lent<'w>(test: &impl Abort, alloc: Global, words: &'w [String]) -> Vec<&'w str> {
+    let mut lent = Vec::new(alloc);
+    for word in words {
+        lent.push(word.as_str()).ok().expect(test, "memory");
+    }
+    lent
 }
 
 // Whether this is printed to both outputs.
@@ -504,31 +317,8 @@ fn prints<
     right
 }
 
-// Whether a command prints what it should, and gives its status.
-fn is_answered<
-    F: Hints,
-    D: Fn(Global, &Settings) -> Result<Driven, NoVerdict>,
-    P: Fn(Global, Put<'_>) -> Result<Ended, Fault>,
->(
-    rt: &HostRuntime,
-    test: &impl Abort,
-    system: &System<F, Engine<D, P>>,
-    folder: &Folder,
-    step: &Step,
-) -> bool
-    requires drives { D.IsAlwaysCallable system.now.drive.run }
-    requires puts { P.IsAlwaysCallable system.now.drive.put }
-{
-    let paths = paths_of(rt, test, folder, step.names);
-    let words = words_of(test, rt.alloc(), step.command, paths.as_slice(), step.more);
-    let right = prints(rt.alloc(), system, words.as_slice(), step);
-    drop(words);
-    drop(paths);
-    right
-}
-
-// Goes over some commands, one after another. Each is named by its word and its place among them.
-pub fn go_over<
+// Goes over some commands, one after another. Each is named by its line and its place among them.
+fn follow<
     F: Hints,
     D: Fn(Global, &Settings) -> Result<Driven, NoVerdict>,
     P: Fn(Global, Put<'_>) -> Result<Ended, Fault>,
@@ -545,32 +335,49 @@ pub fn go_over<
 {
     let mut place = 0u64;
     for step in steps {
-        let right = is_answered(rt, test, system, folder, step);
-        wrong.unless_at(right, step.command, place);
-        place = place.saturating_add(1);
+        for line in step.lines {
+            let whole = words_of(rt, test, folder, line);
+            let words = lent(test, rt.alloc(), whole.as_slice());
+            let right = prints(rt.alloc(), system, words.as_slice(), step);
+            drop(words);
+            drop(whole);
+            wrong.unless_at(right, line, place);
+            place = place.saturating_add(1);
+        }
     }
+}
+
+/// Goes over some commands as the program carries them out.
+pub fn go_over<T: Files<File = File> + RandomSource + Threads + Wait + time::Clock + Sync + Abort>(
+    wrong: &mut WrongRows,
+    rt: &HostRuntime,
+    test: &T,
+    folder: &Folder,
+    steps: &[Step],
+) {
+    let system = System {
+        files: HostFiles {
+            rt,
+            is_watched: false,
+        },
+        drive: Engine {
+            run: |alloc: Global, settings: &Settings| {
+                drive_shards(test, alloc, settings, Some(Vec::<u8>::new(alloc)))
+            },
+            put: |alloc: Global, write: Put<'_>| put_in_store(test, alloc, write),
+        },
+    };
+    follow(wrong, rt, test, &system, folder, steps);
 }
 
 #[test]
 fn commands_over_files(rt: HostRuntime) {
     let folder = furnished(&rt, &rt);
-    let system = System {
-        files: HostFiles {
-            rt: &rt,
-            is_watched: false,
-        },
-        drive: Engine {
-            run: |alloc: Global, settings: &Settings| {
-                drive_shards(&rt, alloc, settings, Some(Vec::<u8>::new(alloc)))
-            },
-            put: |alloc: Global, write: Put<'_>| put_in_store(&rt, alloc, write),
-        },
-    };
     let mut wrong = WrongRows::none(rt.alloc());
-    go_over(&mut wrong, &rt, &rt, &system, &folder, &STEPS);
+    go_over(&mut wrong, &rt, &rt, &folder, &STEPS);
     folder.put(&rt, &rt, "closed", Some(""));
     if folder.close(&rt, &rt, "closed") {
-        go_over(wrong.of("closed"), &rt, &rt, &system, &folder, &CLOSED);
+        go_over(wrong.of("closed"), &rt, &rt, &folder, &CLOSED);
     }
     wrong.unless(folder.remove(&rt), "the folder");
     end(&rt, wrong);
@@ -588,20 +395,8 @@ fn migrated_logs(rt: HostRuntime) {
     let old = in_version_1(ONE_COMMIT);
     folder.put_bytes(&rt, &rt, "old.log", &old);
     folder.put_bytes(&rt, &rt, "cut.log", without_its_end(&old));
-    let system = System {
-        files: HostFiles {
-            rt: &rt,
-            is_watched: false,
-        },
-        drive: Engine {
-            run: |alloc: Global, settings: &Settings| {
-                drive_shards(&rt, alloc, settings, Some(Vec::<u8>::new(alloc)))
-            },
-            put: |alloc: Global, write: Put<'_>| put_in_store(&rt, alloc, write),
-        },
-    };
     let mut wrong = WrongRows::none(rt.alloc());
-    go_over(&mut wrong, &rt, &rt, &system, &folder, &MIGRATIONS);
+    go_over(&mut wrong, &rt, &rt, &folder, &MIGRATIONS);
     let stays = folder.has(&rt, &rt, "old.log", &old);
     let whole = with_slots(rt.alloc(), &ONE_COMMIT)
         .ok()

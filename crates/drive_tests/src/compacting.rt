@@ -1,133 +1,91 @@
 //! Logs that are compacted, and take the names of the old ones.
-use crate::commands::{Output, Step, furnished, go_over};
+use crate::commands::{DONE, NO_DEVICE, NO_LOG, Output, Step, furnished, go_over};
 use crate::folder::Folder;
 use crate::verdict::end;
-use cli::{Engine, Put, System, put_in_store};
-use drive::drive_shards;
-use host_files::HostFiles;
 use made::{ONE_COMMIT, WrongRows, in_version_1, with_slots};
-use settings::Settings;
 use std::alloc::Global;
 use std::process::Abort;
 
 const DRIVE: Step = Step {
-    command: "drive",
-    names: &["files.settings"],
-    more: &[],
+    lines: &["drive ./files.settings"],
     output: Output::Driven(200),
-    fault: "",
-    status: 0,
-};
-
-const COMPACT: Step = Step {
-    command: "compact",
-    names: &["shard-0.log", "shard-0.new"],
-    more: &[],
-    output: Output::Nothing,
-    fault: "",
-    status: 0,
-};
-
-const NO_DEVICE: Step = Step {
-    fault: "fault: 2 Device\n",
-    status: 2,
-    ..COMPACT
-};
-
-const NO_LOG: Step = Step {
-    fault: "fault: 12 NotALog\n",
-    status: 2,
-    ..COMPACT
-};
-
-const PUT: Step = Step {
-    command: "put",
-    names: &["."],
-    more: &["k0001", "once"],
-    output: Output::Committed,
-    fault: "",
-    status: 0,
-};
-
-const GET: Step = Step {
-    command: "get",
-    names: &["."],
-    more: &["k0001"],
-    output: Output::Is("=once\n"),
-    fault: "",
-    status: 0,
+    ..DONE
 };
 
 const INSPECT: Step = Step {
-    command: "inspect",
-    names: &["no.lines", "shard-0.log", "shard-1.log"],
-    more: &[],
+    lines: &["inspect ./no.lines ./shard-0.log ./shard-1.log"],
     output: Output::Yes,
-    fault: "",
-    status: 0,
+    ..DONE
 };
 
 // A store, and new files of its logs. What is refused makes nothing.
-static STEPS: [Step; 14] = [
+static STEPS: [Step; 9] = [
     DRIVE,
-    PUT,
-    COMPACT,
     Step {
-        names: &["shard-1.log", "shard-1.new"],
-        ..COMPACT
+        lines: &["put ./. k0001 once"],
+        output: Output::Committed,
+        ..DONE
     },
     Step {
-        names: &["no.lines", "shard-0.new", "shard-1.new"],
-        ..INSPECT
+        lines: &[
+            "compact ./shard-0.log ./shard-0.new",
+            "compact ./shard-1.log ./shard-1.new",
+        ],
+        ..DONE
     },
-    NO_DEVICE,
     Step {
-        names: &["shard-0.log", "shard-0.log"],
+        lines: &["inspect ./no.lines ./shard-0.new ./shard-1.new"],
+        output: Output::Yes,
+        ..DONE
+    },
+    Step {
+        lines: &[
+            "compact ./shard-0.log ./shard-0.new",
+            "compact ./shard-0.log ./shard-0.log",
+            "compact ./missing.log ./other.log",
+            "compact ./shard-0.log ./missing/new.log",
+        ],
         ..NO_DEVICE
     },
     Step {
-        names: &["missing.log", "other.log"],
-        ..NO_DEVICE
-    },
-    Step {
-        names: &["shard-0.log", "missing/new.log"],
-        ..NO_DEVICE
-    },
-    Step {
-        names: &["no.lines", "other.log"],
+        lines: &[
+            "compact ./no.lines ./other.log",
+            "compact ./old.log ./other.log",
+        ],
         ..NO_LOG
     },
     Step {
-        names: &["old.log", "other.log"],
-        ..NO_LOG
-    },
-    Step {
-        names: &["cut.log", "other.log"],
+        lines: &["compact ./cut.log ./other.log"],
         fault: "fault: 11 Damaged at 9224\n",
         ..NO_LOG
     },
     Step {
-        command: "dump",
-        names: &["other.log"],
+        lines: &["dump ./other.log"],
         ..NO_DEVICE
     },
     Step {
-        names: &["turned.log", "short.log"],
-        ..COMPACT
+        lines: &["compact ./turned.log ./short.log"],
+        ..DONE
     },
 ];
 
 // Once the new files have the names of the old ones.
 static SWAPPED: [Step; 6] = [
     INSPECT,
-    GET,
     Step {
-        more: &["k0001", "twice"],
-        ..PUT
+        lines: &["get ./. k0001"],
+        output: Output::Is("=once\n"),
+        ..DONE
     },
     Step {
+        lines: &["put ./. k0001 twice"],
+        output: Output::Committed,
+        ..DONE
+    },
+    Step {
+        lines: &["get ./. k0001"],
         output: Output::Is("=twice\n"),
-        ..GET
+        ..DONE
     },
     DRIVE,
     INSPECT,
@@ -181,26 +139,13 @@ fn is_short(rt: &HostRuntime, test: &impl Abort, folder: &Folder) -> bool {
 fn compacted_logs(rt: HostRuntime) {
     let folder = furnished(&rt, &rt);
     put_files(&rt, &rt, &folder);
-    let system = System {
-        files: HostFiles {
-            rt: &rt,
-            is_watched: false,
-        },
-        drive: Engine {
-            run: |alloc: Global, settings: &Settings| {
-                drive_shards(&rt, alloc, settings, Some(Vec::<u8>::new(alloc)))
-            },
-            put: |alloc: Global, write: Put<'_>| put_in_store(&rt, alloc, write),
-        },
-    };
     let mut wrong = WrongRows::none(rt.alloc());
-    go_over(&mut wrong, &rt, &rt, &system, &folder, &STEPS);
+    go_over(&mut wrong, &rt, &rt, &folder, &STEPS);
     wrong.unless(is_short(&rt, &rt, &folder), "the files");
     if wrong.is_none() {
         folder.rename(&rt, &rt, "shard-0.new", "shard-0.log");
         folder.rename(&rt, &rt, "shard-1.new", "shard-1.log");
-        let swapped = wrong.of("swapped");
-        go_over(swapped, &rt, &rt, &system, &folder, &SWAPPED);
+        go_over(wrong.of("swapped"), &rt, &rt, &folder, &SWAPPED);
     }
     wrong.unless(folder.remove(&rt), "the folder");
     end(&rt, wrong);

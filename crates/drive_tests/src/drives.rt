@@ -1,13 +1,12 @@
 //! Drives of two shards, which part at `k0005`, with a stride of 1,000 and a clock that is within 100.
+use crate::disks::{disks_of, settings_of};
 use crate::gates::Meeting;
 use crate::kept::Kept;
 use crate::verdict::end;
 use cli::run;
 use drive::{Driven, drive, drive_by};
-use gatelog::GateLog;
 use made::WrongRows;
 use progress::{Ended, NoWatch, Turn, Watch};
-use settings::Settings;
 use simdisk::SimDisk;
 use std::alloc::Global;
 use std::process::Abort;
@@ -16,7 +15,7 @@ use std::sync::atomic::{AtomicU64, Ordering};
 use std::thread::Threads;
 use std::time;
 use truetime::{Clock, Reading};
-use units::{Fault, Key, Line, Reason, Splits, Stride, Verdict};
+use units::{Fault, Line, Reason, Stride, Verdict};
 use workers::Summary;
 
 // Why a drive is refused; or how many transactions are tried, how many commits and answered looks there are at least, and of
@@ -47,142 +46,7 @@ struct Row {
 
 const SETTINGS: Comes = Comes::Refused(Fault::BadRequest(Reason::Settings));
 
-static ROWS: [Row; 10] = [
-    Row {
-        name: "four workers",
-        workers: 4,
-        transactions: 50,
-        keys: 10,
-        logs: 2,
-        blank: false,
-        comes: Comes::Driven {
-            tried: 200,
-            committed: 1,
-            looks: 0,
-            run: 1,
-        },
-    },
-    // For the verdict alone: how many of these commit, and see anything, is by chance.
-    Row {
-        name: "many workers",
-        workers: 16,
-        transactions: 5,
-        keys: 10,
-        logs: 2,
-        blank: false,
-        comes: Comes::Driven {
-            tried: 80,
-            committed: 0,
-            looks: 0,
-            run: 1,
-        },
-    },
-    Row {
-        name: "no worker",
-        workers: 0,
-        transactions: 1,
-        keys: 1,
-        logs: 2,
-        blank: false,
-        comes: SETTINGS,
-    },
-    Row {
-        name: "65 workers",
-        workers: 65,
-        transactions: 1,
-        keys: 1,
-        logs: 2,
-        blank: false,
-        comes: SETTINGS,
-    },
-    Row {
-        name: "no transaction",
-        workers: 1,
-        transactions: 0,
-        keys: 1,
-        logs: 2,
-        blank: false,
-        comes: SETTINGS,
-    },
-    Row {
-        name: "no key",
-        workers: 1,
-        transactions: 1,
-        keys: 0,
-        logs: 2,
-        blank: false,
-        comes: SETTINGS,
-    },
-    Row {
-        name: "10,001 keys",
-        workers: 1,
-        transactions: 1,
-        keys: 10_001,
-        logs: 2,
-        blank: false,
-        comes: SETTINGS,
-    },
-    Row {
-        name: "one disk for two shards",
-        workers: 1,
-        transactions: 1,
-        keys: 1,
-        logs: 1,
-        blank: false,
-        comes: SETTINGS,
-    },
-    Row {
-        name: "three disks for two shards",
-        workers: 1,
-        transactions: 1,
-        keys: 1,
-        logs: 3,
-        blank: false,
-        comes: SETTINGS,
-    },
-    Row {
-        name: "a disk without a log",
-        workers: 1,
-        transactions: 1,
-        keys: 10,
-        logs: 1,
-        blank: true,
-        comes: Comes::Refused(Fault::NotALog),
-    },
-];
-
-// Two drives, one after the other over the same disks.
-static AGAIN: [Row; 2] = [
-    Row {
-        name: "a drive",
-        workers: 1,
-        transactions: 5,
-        keys: 10,
-        logs: 2,
-        blank: false,
-        comes: Comes::Driven {
-            tried: 5,
-            committed: 1,
-            looks: 0,
-            run: 1,
-        },
-    },
-    Row {
-        name: "a second one over the same disks",
-        workers: 1,
-        transactions: 5,
-        keys: 10,
-        logs: 2,
-        blank: false,
-        comes: Comes::Driven {
-            tried: 5,
-            committed: 1,
-            looks: 0,
-            run: 2,
-        },
-    },
-];
-
+// A drive of one worker over two logs, and one that is refused.
 const ONE_WORKER: Row = Row {
     name: "one worker",
     workers: 1,
@@ -198,39 +62,108 @@ const ONE_WORKER: Row = Row {
     },
 };
 
-// Its settings alone: what is printed of it is compared, and that both nodes have met.
-const MEETING: Row = Row {
-    name: "six workers",
-    workers: 6,
+const REFUSED: Row = Row {
+    transactions: 1,
+    keys: 1,
+    comes: SETTINGS,
     ..ONE_WORKER
 };
 
-fn settings_of(rt: &impl Abort, alloc: Global, row: &Row) -> Settings {
-    let split = Key::new(b"k0005").expect(rt, "a key");
-    Settings {
-        splits: Splits::new(alloc, &[split]).expect(rt, "splits"),
-        stride: Stride::new(1_000).expect(rt, "a stride"),
-        epsilon: 100,
-        workers: row.workers,
-        transactions: row.transactions,
-        keys: row.keys,
-        dir: None,
-    }
-}
+static ROWS: [Row; 10] = [
+    Row {
+        name: "four workers",
+        workers: 4,
+        comes: Comes::Driven {
+            tried: 200,
+            committed: 1,
+            looks: 0,
+            run: 1,
+        },
+        ..ONE_WORKER
+    },
+    // For the verdict alone: how many of these commit, and see anything, is by chance.
+    Row {
+        name: "many workers",
+        workers: 16,
+        transactions: 5,
+        comes: Comes::Driven {
+            tried: 80,
+            committed: 0,
+            looks: 0,
+            run: 1,
+        },
+        ..ONE_WORKER
+    },
+    Row {
+        name: "no worker",
+        workers: 0,
+        ..REFUSED
+    },
+    Row {
+        name: "65 workers",
+        workers: 65,
+        ..REFUSED
+    },
+    Row {
+        name: "no transaction",
+        transactions: 0,
+        ..REFUSED
+    },
+    Row {
+        name: "no key",
+        keys: 0,
+        ..REFUSED
+    },
+    Row {
+        name: "10,001 keys",
+        keys: 10_001,
+        ..REFUSED
+    },
+    Row {
+        name: "one disk for two shards",
+        logs: 1,
+        ..REFUSED
+    },
+    Row {
+        name: "three disks for two shards",
+        logs: 3,
+        ..REFUSED
+    },
+    Row {
+        name: "a disk without a log",
+        keys: 10,
+        logs: 1,
+        blank: true,
+        comes: Comes::Refused(Fault::NotALog),
+        ..REFUSED
+    },
+];
 
-fn disks_of(rt: &impl Abort, alloc: Global, row: &Row) -> Vec<SimDisk> {
-    let mut disks = Vec::new(alloc);
-    for _shard in 0..row.logs {
-        let log = GateLog::format(SimDisk::new(alloc))
-            .ok()
-            .expect(rt, "a log");
-        disks.push(log.into_disk()).ok().expect(rt, "memory");
-    }
-    if row.blank {
-        disks.push(SimDisk::new(alloc)).ok().expect(rt, "memory");
-    }
-    disks
-}
+// Two drives, one after the other over the same disks.
+const FIRST: Row = Row {
+    name: "a drive",
+    transactions: 5,
+    comes: Comes::Driven {
+        tried: 5,
+        committed: 1,
+        looks: 0,
+        run: 1,
+    },
+    ..ONE_WORKER
+};
+
+const SECOND: Row = Row {
+    name: "a second one over the same disks",
+    comes: Comes::Driven {
+        tried: 5,
+        committed: 1,
+        looks: 0,
+        run: 2,
+    },
+    ..FIRST
+};
+
+static AGAIN: [Row; 2] = [FIRST, SECOND];
 
 // Whether each transaction was counted, and the verdict is yes.
 fn is_sound(summary: &Summary, tried: u64) -> bool {
@@ -295,7 +228,7 @@ fn go<R: Threads + Wait + time::Clock + Sync + Abort>(
     disks: Vec<SimDisk>,
     gate: &Meeting<R>,
 ) -> Vec<SimDisk> {
-    let settings = settings_of(rt, alloc, row);
+    let settings = settings_of(rt, alloc, row.workers, row.transactions, row.keys);
     let driven = drive(rt, alloc, &settings, disks, gate, &NoWatch);
     drop(settings);
     let (held, disks) = match driven {
@@ -327,10 +260,10 @@ fn drives(rt: HostRuntime) {
     let gate = Meeting::new(&rt, false);
     let mut wrong = WrongRows::none(rt.alloc());
     for row in &ROWS {
-        let disks = disks_of(&rt, rt.alloc(), row);
+        let disks = disks_of(&rt, rt.alloc(), row.logs, row.blank);
         drop(go(&mut wrong, &rt, rt.alloc(), row, disks, &gate));
     }
-    let mut left = disks_of(&rt, rt.alloc(), &AGAIN[0]);
+    let mut left = disks_of(&rt, rt.alloc(), 2, false);
     for row in &AGAIN {
         left = go(&mut wrong, &rt, rt.alloc(), row, left, &gate);
     }
@@ -341,32 +274,14 @@ fn drives(rt: HostRuntime) {
 // A drive over keys of shard 0 alone.
 static LOW_KEYS: Row = Row {
     name: "a drive of four keys",
-    workers: 1,
-    transactions: 5,
     keys: 4,
-    logs: 2,
-    blank: false,
-    comes: Comes::Driven {
-        tried: 5,
-        committed: 1,
-        looks: 0,
-        run: 1,
-    },
+    ..FIRST
 };
 
 static LOW_KEYS_AGAIN: Row = Row {
     name: "a second one, beside a new log of shard 1",
-    workers: 1,
-    transactions: 5,
     keys: 4,
-    logs: 2,
-    blank: false,
-    comes: Comes::Driven {
-        tried: 5,
-        committed: 1,
-        looks: 0,
-        run: 2,
-    },
+    ..SECOND
 };
 
 // It fails where the run of all ids is not the greatest epoch of the shards, but that of the last one.
@@ -374,10 +289,10 @@ static LOW_KEYS_AGAIN: Row = Row {
 fn greatest_epoch(rt: HostRuntime) {
     let gate = Meeting::new(&rt, false);
     let mut wrong = WrongRows::none(rt.alloc());
-    let fresh = disks_of(&rt, rt.alloc(), &LOW_KEYS);
+    let fresh = disks_of(&rt, rt.alloc(), 2, false);
     let mut left = go(&mut wrong, &rt, rt.alloc(), &LOW_KEYS, fresh, &gate);
     drop(left.pop());
-    let mut others = disks_of(&rt, rt.alloc(), &LOW_KEYS);
+    let mut others = disks_of(&rt, rt.alloc(), 2, false);
     left.push(others.pop().expect(&rt, "a disk"))
         .ok()
         .expect(&rt, "memory");
@@ -423,17 +338,15 @@ fn last_look(lines: &[Line]) -> u64 {
 // each shard that is looked at, since all is over within five seconds. And what was written behind a number is the next one.
 #[test]
 fn as_settings_say(rt: HostRuntime) {
-    let mut settings = settings_of(&rt, rt.alloc(), &ONE_WORKER);
+    let mut settings = settings_of(&rt, rt.alloc(), 1, 6, 3);
     settings.stride = Stride::new(10_000_000).expect(&rt, "a stride");
     settings.epsilon = 100_000;
-    settings.transactions = 6;
-    settings.keys = 3;
     let gate = Meeting::new(&rt, false);
     let watch = Shortest {
         micros: AtomicU64::new(u64::MAX),
         looks: AtomicU64::new(0),
     };
-    let disks = disks_of(&rt, rt.alloc(), &ONE_WORKER);
+    let disks = disks_of(&rt, rt.alloc(), 2, false);
     let driven = drive(&rt, rt.alloc(), &settings, disks, &gate, &watch);
     drop(settings);
     let Driven {
@@ -467,10 +380,10 @@ fn as_settings_say(rt: HostRuntime) {
 #[test]
 fn nodes_in_turn(rt: HostRuntime) {
     let gate = Meeting::new(&rt, true);
-    let settings = settings_of(&rt, rt.alloc(), &MEETING);
+    let settings = settings_of(&rt, rt.alloc(), 6, 50, 10);
     let told = run(&rt, rt.alloc(), &settings, &gate);
     drop(settings);
-    let text = told.expect(&rt, MEETING.name);
+    let text = told.expect(&rt, "six workers");
     let sound = text.starts_with("committed ") && text.ends_with("\nverdict yes\n");
     drop(text);
     assert!(rt; sound && gate.have_met());
@@ -486,32 +399,28 @@ impl Clock for Stopped {
     }
 }
 
-const LOST: Row = Row {
-    name: "one transaction",
-    transactions: 1,
-    comes: Comes::Driven {
-        tried: 1,
-        committed: 1,
-        looks: 1,
-        run: 1,
-    },
-    ..ONE_WORKER
+// What one worker of one transaction comes to else.
+const ELSE: Comes = Comes::Driven {
+    tried: 1,
+    committed: 1,
+    looks: 1,
+    run: 1,
 };
 
 // Whether a drive of one worker and one transaction, whose nodes lose each letter, commits nothing and has no look answered,
 // so that it does not come to what one worker comes to.
 fn loses<R: Threads + Wait + time::Clock + Sync + Abort>(rt: &R, alloc: Global) -> bool {
-    let settings = settings_of(rt, alloc, &LOST);
+    let settings = settings_of(rt, alloc, 1, 1, 10);
     let gate = Meeting::new(rt, false);
-    let disks = disks_of(rt, alloc, &LOST);
+    let disks = disks_of(rt, alloc, 2, false);
     let driven = drive_by(rt, alloc, &settings, disks, Stopped, &gate, &NoWatch);
     drop(settings);
-    let driven = driven.expect(rt, LOST.name);
+    let driven = driven.expect(rt, "one transaction");
     let counts = driven.summary.counts;
     let lost = is_sound(&driven.summary, 1)
         && counts.aborted == 1
         && counts.looks == 0
-        && !is_driven(&driven.summary, driven.lines.as_slice(), LOST.comes);
+        && !is_driven(&driven.summary, driven.lines.as_slice(), ELSE);
     drop(driven);
     lost
 }
@@ -526,7 +435,7 @@ fn lose_every_letter(rt: HostRuntime) {
         &rt,
         rt.alloc(),
         &ONE_WORKER,
-        disks_of(&rt, rt.alloc(), &ONE_WORKER),
+        disks_of(&rt, rt.alloc(), 2, false),
         &gate,
     ));
     wrong.unless(loses(&rt, rt.alloc()), "a clock without a reading");

@@ -2,9 +2,13 @@
 #![tactic(auto)]
 
 #[cfg(test)]
+mod clients;
+#[cfg(test)]
 mod commands;
 #[cfg(test)]
 mod compacting;
+#[cfg(test)]
+mod disks;
 #[cfg(test)]
 mod drives;
 #[cfg(test)]

@@ -1,4 +1,6 @@
 //! Stores that renew their logs: what the log of a shard begins with, and what is seen once it is opened again.
+use crate::clients::{of_one_shard, store_of, tells, write};
+use crate::disks::disks_of;
 use crate::verdict::end;
 use gatelog::GateLog;
 use made::WrongRows;
@@ -10,8 +12,7 @@ use std::sync::Wait;
 use std::thread::Threads;
 use std::time::Duration;
 use std::{thread, time};
-use store::{Client, Halt, Options, Store, Transaction};
-use units::{Key, Splits, Value};
+use store::{Client, Store};
 
 // By how many bytes a log has to grow, and whether it was turned over behind a second of commits.
 struct Row {
@@ -43,35 +44,28 @@ const COMMITS: u32 = 100;
 
 const PAUSE: u64 = 10;
 
-// A store of one shard and one client.
+// A store of one client, as the row says.
 fn open<'r, R: Threads + Wait + Sync + Abort>(
     rt: &'r R,
     alloc: Global,
     disks: Vec<SimDisk>,
     row: &Row,
 ) -> Store<'r, R, SimDisk> {
-    let splits = Splits::new(alloc, &[]).ok().expect(rt, "splits");
-    let mut options = Options::new(splits, 1);
+    let mut options = of_one_shard(rt, alloc, 1);
     options.keep = Some(200_000);
     options.renew = row.renew;
-    Store::open(rt, alloc, disks, options)
-        .ok()
-        .expect(rt, row.name)
+    store_of(rt, alloc, disks, options)
 }
 
 // Whether all commits were made.
-fn write<R: Wait + time::Clock>(rt: &R, alloc: Global, clients: Vec<Client<'_, R>>) -> bool {
+fn write_all<R: Wait + time::Clock>(rt: &R, alloc: Global, clients: Vec<Client<'_, R>>) -> bool {
     let mut clients = clients;
     let Some(mut client) = clients.pop() else {
         return false;
     };
     let mut wrote = true;
     for _commit in 0..COMMITS {
-        let ended = client.transact(5, |tx: &mut Transaction<'_, R>| -> Result<(), Halt> {
-            tx.put(&Key::new(b"a")?, Value::new(alloc, b"1")?)?;
-            Ok(())
-        });
-        wrote = wrote && ended.is_ok();
+        wrote = wrote && write(alloc, &mut client, 5, &[b"a"], b"1").is_ok();
         thread::sleep(rt, Duration::from_millis(PAUSE));
     }
     drop(client);
@@ -85,16 +79,9 @@ fn sees<R: Wait + time::Clock>(clients: Vec<Client<'_, R>>) -> bool {
     let Some(mut client) = clients.pop() else {
         return false;
     };
-    let seen = match (client.view(), Key::new(b"a")) {
-        (Some(mut view), Ok(key)) => match view.get(&key) {
-            Ok(Some(found)) => {
-                let same = found.as_bytes() == b"1".as_slice();
-                drop(found);
-                same
-            }
-            _ => false,
-        },
-        _ => false,
+    let seen = match client.view() {
+        Some(mut view) => tells(&mut view, b"1").is_ok(),
+        None => false,
     };
     drop(client);
     drop(clients);
@@ -117,11 +104,8 @@ fn is_renewed(rt: &impl Abort, alloc: Global, disks: Vec<SimDisk>) -> (bool, Vec
 
 // Whether a store's log is renewed as the row says, and what was written is seen over it.
 fn goes<R: Threads + Wait + time::Clock + Sync + Abort>(rt: &R, alloc: Global, row: &Row) -> bool {
-    let log = GateLog::format(SimDisk::new(alloc)).ok();
-    let disk = log.expect(rt, "a log").into_disk();
-    let disks = vec![in alloc; disk].ok().expect(rt, "memory");
-    let store = open(rt, alloc, disks, row);
-    let served = store.serve(|clients: Vec<Client<'_, R>>| write(rt, alloc, clients));
+    let store = open(rt, alloc, disks_of(rt, alloc, 1, false), row);
+    let served = store.serve(|clients: Vec<Client<'_, R>>| write_all(rt, alloc, clients));
     let Ok((wrote, disks)) = served else {
         return false;
     };

@@ -1,6 +1,7 @@
 //! Services over disks in memory: what a client is told where a shard's device fails, and what a store goes on from that is opened again.
+use crate::clients::{of_two_shards, store_of, write};
+use crate::disks::{disks_of, failing};
 use crate::verdict::end;
-use gatelog::GateLog;
 use made::WrongRows;
 use simdisk::SimDisk;
 use std::alloc::Global;
@@ -9,8 +10,8 @@ use std::sync::Wait;
 use std::thread::Threads;
 use std::time;
 use std::time::{Duration, Instant};
-use store::{Client, Ended, Halt, Options, Store, Transaction, Unopened};
-use units::{Fault, Key, ShardNo, Splits, Stride, Value};
+use store::{Client, Ended, Halt, Store, Transaction, Unopened};
+use units::{Fault, Key, ShardNo};
 
 // Which shard's disk fails, at which of its calls from the opening on, and how a transaction ends that writes there and on the other shard:
 // shard 0 decides.
@@ -55,49 +56,15 @@ const KEYS: [&[u8]; 2] = [b"a", b"z"];
 // Further ones: what is in doubt holds its locks.
 const FREE: [&[u8]; 2] = [b"b", b"y"];
 
-// A store of one client over two shards, which part at `m`. A client waits two seconds, so that what it hears in one was told.
-fn options_of(rt: &impl Abort, alloc: Global, stride: u64) -> Options {
-    let split = Key::new(b"m").ok().expect(rt, "a key");
-    let splits = Splits::new(alloc, &[split]).ok().expect(rt, "splits");
-    let mut options = Options::new(splits, 1);
-    options.stride = Stride::new(stride).expect(rt, "a stride");
-    options.patience = 100;
-    options
-}
-
-// An empty log on a disk.
-fn formatted(rt: &impl Abort, alloc: Global) -> SimDisk {
-    let log = GateLog::format(SimDisk::new(alloc)).ok();
-    log.expect(rt, "a log").into_disk()
-}
-
-// Two disks with an empty log, one of which fails as the row says.
-fn disks_of(rt: &impl Abort, alloc: Global, row: &Row) -> Vec<SimDisk> {
-    let mut disks = Vec::new(alloc);
-    for shard in 0..2 {
-        let mut disk = formatted(rt, alloc);
-        if shard == row.shard {
-            disk.fail_next(row.call);
-        }
-        disks.push(disk).ok().expect(rt, "memory");
-    }
-    disks
-}
-
 // A transaction that writes keys, and how it ended, where that took less than a second.
-fn write<R: Wait + time::Clock>(
+fn write_soon<R: Wait + time::Clock>(
     rt: &R,
     alloc: Global,
     client: &mut Client<'_, R>,
     keys: &[&[u8]],
 ) -> Option<Ended> {
     let start = Instant::now(rt).ok()?;
-    let ended = client.transact(1, |tx: &mut Transaction<'_, R>| -> Result<(), Halt> {
-        for key in keys {
-            tx.put(&Key::new(key)?, Value::new(alloc, b"1")?)?;
-        }
-        Ok(())
-    });
+    let ended = write(alloc, client, 1, keys, b"1");
     if start.elapsed(rt).ok()? < Duration::from_secs(1) {
         ended.ok()
     } else {
@@ -131,12 +98,12 @@ fn goes_on<R: Wait + time::Clock>(
     let Some(mut client) = clients.pop() else {
         return false;
     };
-    let mut last = write(rt, alloc, &mut client, &KEYS);
+    let mut last = write_soon(rt, alloc, &mut client, &KEYS);
     for _transaction in 0..100 {
         if !matches!(last, Some(Ended::Committed(_))) {
             break;
         }
-        last = write(rt, alloc, &mut client, &KEYS);
+        last = write_soon(rt, alloc, &mut client, &KEYS);
     }
     let ended = match last {
         Some(Ended::Aborted) => row.commits,
@@ -150,7 +117,7 @@ fn goes_on<R: Wait + time::Clock>(
     };
     let refused = is_refused(rt, &mut client, failed);
     let commits = matches!(
-        write(rt, alloc, &mut client, &[other]),
+        write_soon(rt, alloc, &mut client, &[other]),
         Some(Ended::Committed(_))
     );
     let told = match ShardNo::new(row.shard) {
@@ -164,10 +131,8 @@ fn goes_on<R: Wait + time::Clock>(
 
 // Whether that is so of a store over the disks of the row.
 fn goes<R: Threads + Wait + time::Clock + Sync + Abort>(rt: &R, alloc: Global, row: &Row) -> bool {
-    let disks = disks_of(rt, alloc, row);
-    let Ok(store) = Store::open(rt, alloc, disks, options_of(rt, alloc, 100_000)) else {
-        return false;
-    };
+    let disks = failing(rt, alloc, row.shard, row.call);
+    let store = store_of(rt, alloc, disks, of_two_shards(rt, alloc, 100_000));
     let served = store.serve(|clients: Vec<Client<'_, R>>| goes_on(rt, alloc, clients, row));
     match served {
         Ok((went, disks)) => {
@@ -217,8 +182,7 @@ fn opened<R: Threads + Wait + time::Clock + Sync + Abort>(
     alloc: Global,
     disks: Vec<SimDisk>,
 ) -> ((u64, u64), Vec<SimDisk>) {
-    let store = Store::open(rt, alloc, disks, options_of(rt, alloc, 10_000_000));
-    let store = store.ok().expect(rt, "a store");
+    let store = store_of(rt, alloc, disks, of_two_shards(rt, alloc, 10_000_000));
     let served = store.serve(|clients: Vec<Client<'_, R>>| seen(clients));
     let (seen, disks) = served.ok().expect(rt, "a service");
     (seen.expect(rt, "a client"), disks)
@@ -227,13 +191,7 @@ fn opened<R: Threads + Wait + time::Clock + Sync + Abort>(
 // It fails where a store's ids begin anew, or its clock does, which the logs are ten seconds ahead of.
 #[test]
 fn stores_go_on_from_their_logs(rt: HostRuntime) {
-    let row = Row {
-        name: "no call",
-        shard: 2,
-        call: 0,
-        commits: true,
-    };
-    let disks = disks_of(&rt, rt.alloc(), &row);
+    let disks = disks_of(&rt, rt.alloc(), 2, false);
     let ((first, at), disks) = opened(&rt, rt.alloc(), disks);
     let ((second, later), disks) = opened(&rt, rt.alloc(), disks);
     drop(disks);
@@ -248,11 +206,8 @@ fn stores_go_on_from_their_logs(rt: HostRuntime) {
 #[test]
 fn refused_shards_are_named(rt: HostRuntime) {
     let alloc = rt.alloc();
-    let mut disks = vec![in alloc; formatted(&rt, alloc)]
-        .ok()
-        .expect(&rt, "memory");
-    disks.push(SimDisk::new(alloc)).ok().expect(&rt, "memory");
-    let unopened = match Store::open(&rt, alloc, disks, options_of(&rt, alloc, 0)) {
+    let disks = disks_of(&rt, alloc, 1, true);
+    let unopened = match Store::open(&rt, alloc, disks, of_two_shards(&rt, alloc, 0)) {
         Ok(store) => {
             drop(store);
             rt.panic("a store over no log")

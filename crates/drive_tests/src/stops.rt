@@ -1,12 +1,10 @@
 //! Drives over two disks in memory, one of which fails.
+use crate::disks::{failing, settings_of};
+use crate::gates::Meeting;
 use crate::verdict::end;
 use drive::drive;
-use gatelog::GateLog;
 use made::WrongRows;
-use node::Gate;
 use progress::{Turn, Watch};
-use settings::Settings;
-use simdisk::SimDisk;
 use std::alloc::Global;
 use std::process::Abort;
 use std::sync::Wait;
@@ -14,13 +12,13 @@ use std::sync::atomic::{AtomicU64, Ordering};
 use std::thread::Threads;
 use std::time;
 use std::time::{Duration, Instant};
-use units::{Fault, Key, ShardNo, Splits, Stride};
+use units::Fault;
 
 // Which shard's disk fails, at which of its calls from the opening on, and whether the drive has begun by then.
 #[derive(Clone, Copy)]
 struct Row {
     name: &'static str,
-    shard: usize,
+    shard: u8,
     call: u64,
     begins: bool,
 }
@@ -119,51 +117,17 @@ impl Watch for Told {
     }
 }
 
-// Lets all letters through.
-#[derive(Clone, Copy)]
-struct Open;
-
-impl Gate for Open {
-    fn before(&self, _shard: ShardNo, _n: u64) {}
-
-    fn after(&self, _shard: ShardNo, _n: u64) {}
-}
-
-fn settings_of(rt: &impl Abort, alloc: Global) -> Settings {
-    let split = Key::new(b"k0005").expect(rt, "a key");
-    Settings {
-        splits: Splits::new(alloc, &[split]).expect(rt, "splits"),
-        stride: Stride::new(1_000).expect(rt, "a stride"),
-        epsilon: 100,
-        workers: WORKERS,
-        transactions: TRANSACTIONS,
-        keys: 10,
-        dir: None,
-    }
-}
-
-// Two disks with an empty log, one of which fails as the row says.
-fn disks_of(rt: &impl Abort, alloc: Global, row: &Row) -> Vec<SimDisk> {
-    let mut disks = Vec::new(alloc);
-    for shard in 0..2 {
-        let log = GateLog::format(SimDisk::new(alloc)).ok();
-        let mut disk = log.expect(rt, "a log").into_disk();
-        if shard == row.shard {
-            disk.fail_next(row.call);
-        }
-        disks.push(disk).ok().expect(rt, "memory");
-    }
-    disks
-}
-
 // Whether a drive as the row says is refused as `Device` within ten seconds, though each turn that waits for a shard in vain takes two; and
 // each turn is told, and the stop of the shard.
 fn goes<R: Threads + Wait + time::Clock + Sync + Abort>(rt: &R, alloc: Global, row: &Row) -> bool {
-    let settings = settings_of(rt, alloc);
+    let settings = settings_of(rt, alloc, WORKERS, TRANSACTIONS, 10);
     let told = Told::new();
     let start = Instant::now(rt).ok().expect(rt, "a clock");
-    let driven = drive(rt, alloc, &settings, disks_of(rt, alloc, row), &Open, &told);
+    let disks = failing(rt, alloc, row.shard, row.call);
+    let gate = Meeting::new(rt, false);
+    let driven = drive(rt, alloc, &settings, disks, &gate, &told);
     drop(settings);
+    drop(gate);
     let took = start.elapsed(rt).ok().expect(rt, "a clock");
     let is_refused = match driven {
         Ok(driven) => {
@@ -173,7 +137,7 @@ fn goes<R: Threads + Wait + time::Clock + Sync + Abort>(rt: &R, alloc: Global, r
         Err(fault) => fault == Fault::Device,
     };
     let is_told = if row.begins {
-        told.has(WORKERS * TRANSACTIONS, Some(row.shard))
+        told.has(WORKERS * TRANSACTIONS, Some(usize::from(row.shard)))
     } else {
         told.has(0, None)
     };

@@ -1,684 +1,562 @@
-//! Commands that ask the system for files.
-use crate::given::{AMPLE, Asked, File, comes_to};
+//! Commands that ask the system for files, and some that do not; in rows of lines that come to the same.
+use crate::files::FILES;
+use crate::given::{AMPLE, Asked, Memory, REFUSED, TAKEN, Writes, comes_to};
 use made::WrongRows;
+use showing::stats_files;
 use std::alloc::Global;
 
-pub static FILES: [File<'static>; 24] = [
-    File {
-        path: "empty",
-        bytes: b"",
-    },
-    File {
-        path: "no_text",
-        bytes: b"begin \xff",
-    },
-    File {
-        path: "wrong.lines",
-        bytes: b"begin 1.2 0\nbegin 1.2\n",
-    },
-    File {
-        path: "lost.lines",
-        bytes: b"ack 1.3 200 7\n",
-    },
-    File {
-        path: "read.lines",
-        bytes: b"ack 1.2 200 3\nlook a 200 =2\n",
-    },
-    File {
-        path: "order.lines",
-        bytes: b"ack 1.2 200 3\nbegin 1.2 5\n",
-    },
-    File {
-        path: "right.lines",
-        bytes: b"begin 1.2 2\nack 1.2 200 3\nlook a 200 =1\nlook a 199 none\n",
-    },
-    // Opened 1.
-    File {
-        path: "opened.log",
-        bytes: b"SPNLOG02\xa5\0\0\0\x09\x01\0\0\0\0\0\0\0\x01\0",
-    },
-    // Opened 1; Commit 1.2 at 200 by shards 0 and 1.
-    File {
-        path: "torn.log",
-        bytes: b"SPNLOG02\xa5\0\0\0\x09\x01\0\0\0\0\0\0\0\x01\
-            \xa5\0\0\0\x1f\x04\0\0\0\0\0\0\0\x01\0\0\0\0\0\0\0\x02\0\0\0\0\0\0\0\xc8\0\x03\0\0\0\0\0",
-    },
-    // Opened 1; Commit 1.2 at 200 by shard 0, with a=1; its outcome.
-    File {
-        path: "done.log",
-        bytes: b"SPNLOG02\xa5\0\0\0\x09\x01\0\0\0\0\0\0\0\x01\
-            \xa5\0\0\0%\x04\0\0\0\0\0\0\0\x01\0\0\0\0\0\0\0\x02\0\0\0\0\0\0\0\xc8\0\x01\0\0\0\x01\x01a\x01\0\x011\
-            \xa5\0\0\0\x1a\x06\0\0\0\0\0\0\0\x01\0\0\0\0\0\0\0\x02\x01\0\0\0\0\0\0\0\xc8\0",
-    },
-    // Opened 1; Prepare 1.2 of coordinator 0 at 200.
-    File {
-        path: "promised.log",
-        bytes: b"SPNLOG02\xa5\0\0\0\x09\x01\0\0\0\0\0\0\0\x01\
-            \xa5\0\0\0\x1e\x03\0\0\0\0\0\0\0\x01\0\0\0\0\0\0\0\x02\0\0\0\0\0\0\0\0\xc8\0\0\0\0\0",
-    },
-    File {
-        path: "old_version.log",
-        bytes: b"SPNLOG01\xa5\0\0\0\x09\x01\0\0\0\0\0\0\0\x01\0",
-    },
-    File {
-        path: "old_cut.log",
-        bytes: b"SPNLOG01\xa5\0\0\0\x09",
-    },
-    File {
-        path: "cut.log",
-        bytes: b"SPNLOG02\xa5\0\0\0\x09",
-    },
-    // No opening.
-    File {
-        path: "unopened.log",
-        bytes: b"SPNLOG02\xa5\0\0\0\x09\x02\0\0\0\0\0\0\0\xc8\0",
-    },
-    File {
-        path: "bare.log",
-        bytes: b"SPNLOG02\0",
-    },
-    // Opened 1, and behind the closed gate what a crash left of Opened 2.
-    File {
-        path: "unfinished.log",
-        bytes: b"SPNLOG02\xa5\0\0\0\x09\x01\0\0\0\0\0\0\0\x01\0\0\0\0\x09\x01\0\0",
-    },
-    // Opened 1, and a gate that a crash filled.
-    File {
-        path: "filled.log",
-        bytes: b"SPNLOG02\xa5\0\0\0\x09\x01\0\0\0\0\0\0\0\x01\x5a",
-    },
-    // Opened 1; Commit 1.2 at 200 by shard 0, with a=1; Abort 1.3; Ceiling 300; Opened 2.
-    File {
-        path: "many.log",
-        bytes: b"SPNLOG02\xa5\0\0\0\x09\x01\0\0\0\0\0\0\0\x01\
-            \xa5\0\0\0%\x04\0\0\0\0\0\0\0\x01\0\0\0\0\0\0\0\x02\0\0\0\0\0\0\0\xc8\0\x01\0\0\0\x01\x01a\x01\0\x011\
-            \xa5\0\0\0\x11\x05\0\0\0\0\0\0\0\x01\0\0\0\0\0\0\0\x03\
-            \xa5\0\0\0\x09\x02\0\0\0\0\0\0\x01,\
-            \xa5\0\0\0\x09\x01\0\0\0\0\0\0\0\x02\0",
-    },
-    // Opened 1; Ceiling 300; Horizon 200.
-    File {
-        path: "forgotten.log",
-        bytes: b"SPNLOG02\xa5\0\0\0\x09\x01\0\0\0\0\0\0\0\x01\
-            \xa5\0\0\0\x09\x02\0\0\0\0\0\0\x01,\
-            \xa5\0\0\0\x09\x07\0\0\0\0\0\0\0\xc8\0",
-    },
-    File {
-        path: "good.settings",
-        bytes: b"shards = 2\nsplits = [\"k0005\"]\nstride = 1000\nepsilon = 100\nworkers = 4\ntransactions = 50\nkeys = 10\n",
-    },
-    File {
-        path: "torn.settings",
-        bytes: b"shards = 1\nsplits = []\nstride = 0\nepsilon = 0\nworkers = 1\ntransactions = 1\nkeys = 1\n",
-    },
-    File {
-        path: "stopped.settings",
-        bytes: b"shards = 1\nsplits = []\nstride = 0\nepsilon = 0\nworkers = 1\ntransactions = 1\nkeys = 2\n",
-    },
-    File {
-        path: "unknown.settings",
-        bytes: b"shards = 1\nsplits = []\nstride = 0\nepsilon = 0\nworkers = 1\ntransactions = 1\nkeys = 1\nkey = 1\n",
-    },
-];
-
-// Commands that make, judge or drive logs.
-pub static ASKED: [Asked; 38] = [
+// What is printed, also beside a fault.
+static ANSWERED: [Asked; 43] = [
     Asked {
-        text: "format new.log",
-        words: &["format", "new.log"],
-        printed: "",
-        refused: "",
-        status: 0,
+        lines: &[
+            "once a 1 100 110 112 121",
+            // Words behind `--` ask for no help.
+            "once -- -h --help 100 110 112 121",
+        ],
+        printed: "commit 1.1 at 111\ndone 1.1 committed 111\n",
+        ..TAKEN
     },
     Asked {
-        text: "format opened.log",
-        words: &["format", "opened.log"],
-        printed: "",
-        refused: "fault: 2 Device\n",
-        status: 2,
+        lines: &["once a 1 100 110 111 120"],
+        printed: "commit 1.1 at 111\nearly\n",
+        status: 1,
+        ..TAKEN
     },
     Asked {
-        text: "play a.schedule",
-        words: &["play", "a.schedule"],
-        printed: "",
-        refused: "fault: 2 Device\n",
-        status: 2,
+        lines: &[
+            "format new.log",
+            "migrate old_version.log new.log",
+            "compact done.log new.log",
+            "compact bare.log new.log",
+            "history one b",
+            "history two y",
+            "history bare a",
+            "history renewed b",
+        ],
+        ..TAKEN
     },
     Asked {
-        text: "format",
-        words: &["format"],
-        printed: "",
-        refused: "fault: 7 BadRequest(command)\n",
-        status: 2,
-    },
-    Asked {
-        text: "format a b",
-        words: &["format", "a", "b"],
-        printed: "",
-        refused: "fault: 7 BadRequest(command)\n",
-        status: 2,
-    },
-    Asked {
-        text: "inspect empty opened.log",
-        words: &["inspect", "empty", "opened.log"],
+        lines: &[
+            "inspect empty opened.log",
+            "inspect empty opened.log promised.log",
+            "inspect empty done.log",
+            "inspect empty forgotten.log",
+            "inspect right.lines done.log",
+            "inspect empty opened.log opened.log opened.log opened.log opened.log opened.log opened.log opened.log \
+                opened.log opened.log opened.log opened.log opened.log opened.log opened.log opened.log",
+            "inspect renewed/right.lines renewed/shard-0.log renewed/shard-1.log",
+        ],
         printed: "yes\n",
-        refused: "",
-        status: 0,
+        ..TAKEN
     },
     Asked {
-        text: "inspect empty opened.log promised.log",
-        words: &["inspect", "empty", "opened.log", "promised.log"],
-        printed: "yes\n",
-        refused: "",
-        status: 0,
-    },
-    Asked {
-        text: "inspect empty done.log",
-        words: &["inspect", "empty", "done.log"],
-        printed: "yes\n",
-        refused: "",
-        status: 0,
-    },
-    Asked {
-        text: "inspect empty forgotten.log",
-        words: &["inspect", "empty", "forgotten.log"],
-        printed: "yes\n",
-        refused: "",
-        status: 0,
-    },
-    Asked {
-        text: "inspect right.lines done.log",
-        words: &["inspect", "right.lines", "done.log"],
-        printed: "yes\n",
-        refused: "",
-        status: 0,
-    },
-    Asked {
-        text: "inspect empty torn.log opened.log",
-        words: &["inspect", "empty", "torn.log", "opened.log"],
+        lines: &["inspect empty torn.log opened.log"],
         printed: "no torn 1.2\n",
-        refused: "",
         status: 1,
+        ..TAKEN
     },
     Asked {
-        text: "inspect lost.lines opened.log",
-        words: &["inspect", "lost.lines", "opened.log"],
+        lines: &["inspect lost.lines opened.log"],
         printed: "no lost 1.3\n",
-        refused: "",
         status: 1,
+        ..TAKEN
     },
     Asked {
-        text: "inspect read.lines done.log",
-        words: &["inspect", "read.lines", "done.log"],
+        lines: &["inspect read.lines done.log"],
         printed: "no read 1\n",
-        refused: "",
         status: 1,
+        ..TAKEN
     },
     Asked {
-        text: "inspect order.lines done.log",
-        words: &["inspect", "order.lines", "done.log"],
+        lines: &["inspect order.lines done.log"],
         printed: "no order 1 0\n",
-        refused: "",
         status: 1,
+        ..TAKEN
     },
     Asked {
-        text: "inspect empty, and opened.log 16 times",
-        words: &[
-            "inspect",
-            "empty",
-            "opened.log",
-            "opened.log",
-            "opened.log",
-            "opened.log",
-            "opened.log",
-            "opened.log",
-            "opened.log",
-            "opened.log",
-            "opened.log",
-            "opened.log",
-            "opened.log",
-            "opened.log",
-            "opened.log",
-            "opened.log",
-            "opened.log",
-            "opened.log",
-        ],
-        printed: "yes\n",
-        refused: "",
-        status: 0,
-    },
-    Asked {
-        text: "inspect empty, and opened.log 17 times",
-        words: &[
-            "inspect",
-            "empty",
-            "opened.log",
-            "opened.log",
-            "opened.log",
-            "opened.log",
-            "opened.log",
-            "opened.log",
-            "opened.log",
-            "opened.log",
-            "opened.log",
-            "opened.log",
-            "opened.log",
-            "opened.log",
-            "opened.log",
-            "opened.log",
-            "opened.log",
-            "opened.log",
-            "opened.log",
-        ],
-        printed: "",
-        refused: "fault: 7 BadRequest(command)\n",
-        status: 2,
-    },
-    Asked {
-        text: "inspect empty",
-        words: &["inspect", "empty"],
-        printed: "",
-        refused: "fault: 7 BadRequest(command)\n",
-        status: 2,
-    },
-    Asked {
-        text: "inspect",
-        words: &["inspect"],
-        printed: "",
-        refused: "fault: 7 BadRequest(command)\n",
-        status: 2,
-    },
-    Asked {
-        text: "inspect missing opened.log",
-        words: &["inspect", "missing", "opened.log"],
-        printed: "",
-        refused: "fault: 2 Device\n",
-        status: 2,
-    },
-    Asked {
-        text: "inspect empty opened.log missing",
-        words: &["inspect", "empty", "opened.log", "missing"],
-        printed: "",
-        refused: "fault: 2 Device\n",
-        status: 2,
-    },
-    Asked {
-        text: "inspect no_text opened.log",
-        words: &["inspect", "no_text", "opened.log"],
-        printed: "",
-        refused: "fault: 7 BadRequest(syntax 1)\n",
-        status: 2,
-    },
-    Asked {
-        text: "inspect wrong.lines opened.log",
-        words: &["inspect", "wrong.lines", "opened.log"],
-        printed: "",
-        refused: "fault: 7 BadRequest(syntax 2)\n",
-        status: 2,
-    },
-    Asked {
-        text: "inspect wrong.lines missing",
-        words: &["inspect", "wrong.lines", "missing"],
-        printed: "",
-        refused: "fault: 7 BadRequest(syntax 2)\n",
-        status: 2,
-    },
-    Asked {
-        text: "inspect empty promised.log",
-        words: &["inspect", "empty", "promised.log"],
-        printed: "",
-        refused: "fault: 11 Damaged at 9238\n",
-        status: 2,
-    },
-    Asked {
-        text: "inspect empty opened.log done.log",
-        words: &["inspect", "empty", "opened.log", "done.log"],
-        printed: "",
-        refused: "fault: 11 Damaged at 9238\n",
-        status: 2,
-    },
-    Asked {
-        text: "inspect empty unopened.log",
-        words: &["inspect", "empty", "unopened.log"],
-        printed: "",
-        refused: "fault: 11 Damaged at 9224\n",
-        status: 2,
-    },
-    Asked {
-        text: "inspect empty cut.log",
-        words: &["inspect", "empty", "cut.log"],
-        printed: "",
-        refused: "fault: 11 Damaged at 9224\n",
-        status: 2,
-    },
-    Asked {
-        text: "inspect empty old_version.log",
-        words: &["inspect", "empty", "old_version.log"],
-        printed: "",
-        refused: "fault: 12 NotALog\n",
-        status: 2,
-    },
-    Asked {
-        text: "inspect empty empty",
-        words: &["inspect", "empty", "empty"],
-        printed: "",
-        refused: "fault: 12 NotALog\n",
-        status: 2,
-    },
-    Asked {
-        text: "inspect empty cut.log empty",
-        words: &["inspect", "empty", "cut.log", "empty"],
-        printed: "",
-        refused: "fault: 11 Damaged at 9224\n",
-        status: 2,
-    },
-    Asked {
-        text: "drive good.settings",
-        words: &["drive", "good.settings"],
+        lines: &["drive good.settings"],
         printed: "looks 10\nverdict yes\n",
-        refused: "",
-        status: 0,
+        ..TAKEN
     },
     Asked {
-        text: "drive torn.settings",
-        words: &["drive", "torn.settings"],
+        lines: &["drive torn.settings"],
         printed: "looks 1\nverdict no torn 1.2\n",
-        refused: "",
         status: 1,
+        ..TAKEN
     },
     Asked {
-        text: "drive stopped.settings",
-        words: &["drive", "stopped.settings"],
+        lines: &["drive stopped.settings"],
         printed: "looks 2\n",
         refused: "fault: 2 Device\n",
-        status: 2,
+        ..REFUSED
     },
     Asked {
-        text: "drive missing",
-        words: &["drive", "missing"],
-        printed: "",
-        refused: "fault: 2 Device\n",
-        status: 2,
-    },
-    Asked {
-        text: "drive empty",
-        words: &["drive", "empty"],
-        printed: "",
-        refused: "fault: 7 BadRequest(settings)\n",
-        status: 2,
-    },
-    Asked {
-        text: "drive no_text",
-        words: &["drive", "no_text"],
-        printed: "",
-        refused: "fault: 7 BadRequest(settings)\n",
-        status: 2,
-    },
-    Asked {
-        text: "drive unknown.settings",
-        words: &["drive", "unknown.settings"],
-        printed: "",
-        refused: "fault: 7 BadRequest(settings)\n",
-        status: 2,
-    },
-    Asked {
-        text: "drive",
-        words: &["drive"],
-        printed: "",
-        refused: "fault: 7 BadRequest(command)\n",
-        status: 2,
-    },
-];
-
-// What logs hold, as lines.
-pub static DUMPED: [Asked; 13] = [
-    Asked {
-        text: "dump done.log",
-        words: &["dump", "done.log"],
+        lines: &["dump done.log"],
         printed: "9224 opened 1\n9238 commit 1.2 200 0 - a=1\n9280 outcome 1.2 committed 200\nclosed at 9311\n",
-        refused: "",
-        status: 0,
+        ..TAKEN
     },
     Asked {
-        text: "dump many.log",
-        words: &["dump", "many.log"],
+        lines: &["dump many.log"],
         printed: "9224 opened 1\n9238 commit 1.2 200 0 - a=1\n9280 abort 1.3\n9302 ceiling 300\n9316 opened 2\nclosed at 9330\n",
-        refused: "",
-        status: 0,
+        ..TAKEN
     },
     Asked {
-        text: "dump forgotten.log",
-        words: &["dump", "forgotten.log"],
+        lines: &["dump forgotten.log"],
         printed: "9224 opened 1\n9238 ceiling 300\n9252 horizon 200\nclosed at 9266\n",
-        refused: "",
-        status: 0,
+        ..TAKEN
     },
     Asked {
-        text: "dump promised.log",
-        words: &["dump", "promised.log"],
+        lines: &["dump promised.log"],
         printed: "9224 opened 1\n9238 prepare 1.2 0 200 - -\nclosed at 9273\n",
-        refused: "",
-        status: 0,
+        ..TAKEN
     },
     Asked {
-        text: "dump bare.log",
-        words: &["dump", "bare.log"],
+        lines: &["dump bare.log"],
         printed: "closed at 9224\n",
-        refused: "",
-        status: 0,
+        ..TAKEN
     },
     Asked {
-        text: "dump unfinished.log",
-        words: &["dump", "unfinished.log"],
+        lines: &["dump unfinished.log", "dump filled.log"],
         printed: "9224 opened 1\ntorn at 9238\n",
-        refused: "",
-        status: 0,
+        ..TAKEN
     },
     Asked {
-        text: "dump filled.log",
-        words: &["dump", "filled.log"],
-        printed: "9224 opened 1\ntorn at 9238\n",
-        refused: "",
-        status: 0,
+        lines: &["stats done.log"],
+        printed: "log done.log\nbytes 9312\nrecords 3\nopened 1\nceiling 0\nprepare 0\ncommit 1\nabort 0\noutcome 1\n\
+            horizon 0\nbase 0\nversion 0\nsettled 0\nclosed 0\n\
+            keys 1\nversions 1\nepoch 1\nfloor 200\nin doubt 0\n",
+        ..TAKEN
     },
     Asked {
-        text: "dump missing",
-        words: &["dump", "missing"],
-        printed: "",
-        refused: "fault: 2 Device\n",
-        status: 2,
+        lines: &["stats promised.log done.log"],
+        printed: "log promised.log\nbytes 9274\nrecords 2\nopened 1\nceiling 0\nprepare 1\ncommit 0\nabort 0\noutcome 0\n\
+            horizon 0\nbase 0\nversion 0\nsettled 0\nclosed 0\n\
+            keys 0\nversions 0\nepoch 1\nfloor 200\nin doubt 1\npromised 1.2 200\n\
+            log done.log\nbytes 9312\nrecords 3\nopened 1\nceiling 0\nprepare 0\ncommit 1\nabort 0\noutcome 1\n\
+            horizon 0\nbase 0\nversion 0\nsettled 0\nclosed 0\n\
+            keys 1\nversions 1\nepoch 1\nfloor 200\nin doubt 0\n\
+            all 2\nbytes 18586\nrecords 5\nopened 2\nceiling 0\nprepare 1\ncommit 1\nabort 0\noutcome 1\n\
+            horizon 0\nbase 0\nversion 0\nsettled 0\nclosed 0\n\
+            keys 1\nversions 1\nin doubt 1\n",
+        ..TAKEN
     },
     Asked {
-        text: "dump cut.log",
-        words: &["dump", "cut.log"],
-        printed: "",
-        refused: "fault: 11 Damaged at 9224\n",
-        status: 2,
+        lines: &["stats forgotten.log"],
+        printed: "log forgotten.log\nbytes 9267\nrecords 3\nopened 1\nceiling 1\nprepare 0\ncommit 0\nabort 0\noutcome 0\n\
+            horizon 1\nbase 0\nversion 0\nsettled 0\nclosed 0\n\
+            keys 0\nversions 0\nepoch 1\nfloor 300\nin doubt 0\n",
+        ..TAKEN
     },
     Asked {
-        text: "dump old_version.log",
-        words: &["dump", "old_version.log"],
-        printed: "",
-        refused: "fault: 12 NotALog\n",
-        status: 2,
+        lines: &["stats one/shard-0.log"],
+        printed: "log one/shard-0.log\nbytes 9312\nrecords 3\nopened 1\nceiling 0\nprepare 0\ncommit 1\nabort 0\noutcome 1\n\
+            horizon 0\nbase 0\nversion 0\nsettled 0\nclosed 0\n\
+            keys 1\nversions 1\nepoch 1\nfloor 111\nin doubt 0\n",
+        ..TAKEN
     },
     Asked {
-        text: "dump empty",
-        words: &["dump", "empty"],
-        printed: "",
-        refused: "fault: 12 NotALog\n",
-        status: 2,
+        lines: &["stats two/shard-0.log two/shard-1.log"],
+        printed: "log two/shard-0.log\nbytes 9425\nrecords 6\nopened 1\nceiling 0\nprepare 0\ncommit 3\nabort 0\noutcome 2\n\
+            horizon 0\nbase 0\nversion 0\nsettled 0\nclosed 0\n\
+            keys 1\nversions 2\nepoch 1\nfloor 400\nin doubt 1\ndecided 1.4 400\n\
+            log two/shard-1.log\nbytes 9416\nrecords 6\nopened 1\nceiling 0\nprepare 3\ncommit 0\nabort 0\noutcome 2\n\
+            horizon 0\nbase 0\nversion 0\nsettled 0\nclosed 0\n\
+            keys 1\nversions 1\nepoch 1\nfloor 510\nin doubt 1\npromised 1.5 500\n\
+            all 2\nbytes 18841\nrecords 12\nopened 2\nceiling 0\nprepare 3\ncommit 3\nabort 0\noutcome 4\n\
+            horizon 0\nbase 0\nversion 0\nsettled 0\nclosed 0\n\
+            keys 2\nversions 3\nin doubt 2\n",
+        ..TAKEN
     },
     Asked {
-        text: "dump",
-        words: &["dump"],
-        printed: "",
-        refused: "fault: 7 BadRequest(command)\n",
-        status: 2,
+        lines: &["stats kinds.log"],
+        printed: "log kinds.log\nbytes 9334\nrecords 5\nopened 2\nceiling 1\nprepare 0\ncommit 1\nabort 1\noutcome 0\n\
+            horizon 0\nbase 0\nversion 0\nsettled 0\nclosed 0\n\
+            keys 0\nversions 0\nepoch 2\nfloor 300\nin doubt 1\ndecided 1.2 200\n",
+        ..TAKEN
     },
     Asked {
-        text: "dump opened.log done.log",
-        words: &["dump", "opened.log", "done.log"],
-        printed: "",
-        refused: "fault: 7 BadRequest(command)\n",
-        status: 2,
-    },
-];
-
-// And in numbers.
-pub static COUNTED: [Asked; 7] = [
-    Asked {
-        text: "stats done.log",
-        words: &["stats", "done.log"],
-        printed: "log done.log
-bytes 9312
-records 3
-opened 1
-ceiling 0
-prepare 0
-commit 1
-abort 0
-outcome 1
-horizon 0
-base 0
-version 0
-settled 0
-closed 0
-keys 1
-versions 1
-epoch 1
-floor 200
-in doubt 0
-",
-        refused: "",
-        status: 0,
+        lines: &["stats keys.log"],
+        printed: "log keys.log\nbytes 9315\nrecords 3\nopened 1\nceiling 0\nprepare 0\ncommit 1\nabort 0\noutcome 1\n\
+            horizon 0\nbase 0\nversion 0\nsettled 0\nclosed 0\n\
+            keys 2\nversions 2\nepoch 1\nfloor 100\nin doubt 0\n",
+        ..TAKEN
     },
     Asked {
-        text: "stats promised.log done.log",
-        words: &["stats", "promised.log", "done.log"],
-        printed: "log promised.log
-bytes 9274
-records 2
-opened 1
-ceiling 0
-prepare 1
-commit 0
-abort 0
-outcome 0
-horizon 0
-base 0
-version 0
-settled 0
-closed 0
-keys 0
-versions 0
-epoch 1
-floor 200
-in doubt 1
-promised 1.2 200
-log done.log
-bytes 9312
-records 3
-opened 1
-ceiling 0
-prepare 0
-commit 1
-abort 0
-outcome 1
-horizon 0
-base 0
-version 0
-settled 0
-closed 0
-keys 1
-versions 1
-epoch 1
-floor 200
-in doubt 0
-all 2
-bytes 18586
-records 5
-opened 2
-ceiling 0
-prepare 1
-commit 1
-abort 0
-outcome 1
-horizon 0
-base 0
-version 0
-settled 0
-closed 0
-keys 1
-versions 1
-in doubt 1
-",
-        refused: "",
-        status: 0,
+        lines: &["stats passed.log"],
+        printed: "log passed.log\nbytes 9354\nrecords 6\nopened 1\nceiling 1\nprepare 0\ncommit 1\nabort 0\noutcome 1\n\
+            horizon 2\nbase 0\nversion 0\nsettled 0\nclosed 0\n\
+            keys 1\nversions 1\nepoch 1\nfloor 300\nin doubt 0\n",
+        ..TAKEN
     },
     Asked {
-        text: "stats forgotten.log",
-        words: &["stats", "forgotten.log"],
-        printed: "log forgotten.log
-bytes 9267
-records 3
-opened 1
-ceiling 1
-prepare 0
-commit 0
-abort 0
-outcome 0
-horizon 1
-base 0
-version 0
-settled 0
-closed 0
-keys 0
-versions 0
-epoch 1
-floor 300
-in doubt 0
-",
-        refused: "",
-        status: 0,
+        lines: &["stats bare.log"],
+        printed: "log bare.log\nbytes 9225\nrecords 0\nopened 0\nceiling 0\nprepare 0\ncommit 0\nabort 0\noutcome 0\n\
+            horizon 0\nbase 0\nversion 0\nsettled 0\nclosed 0\n\
+            keys 0\nversions 0\nepoch 0\nfloor 0\nin doubt 0\n",
+        ..TAKEN
     },
     Asked {
-        text: "stats done.log missing",
-        words: &["stats", "done.log", "missing"],
-        printed: "",
-        refused: "fault: 2 Device\n",
-        status: 2,
+        lines: &["history one a"],
+        printed: "111 1.1 =1\n",
+        ..TAKEN
     },
     Asked {
-        text: "stats done.log old_version.log",
-        words: &["stats", "done.log", "old_version.log"],
-        printed: "",
-        refused: "fault: 12 NotALog\n",
-        status: 2,
+        lines: &["history two a"],
+        printed: "200 1.2 =1\n300 1.3 none\n400 1.4 =\\x0a\\x5c decided\n",
+        ..TAKEN
     },
     Asked {
-        text: "stats",
-        words: &["stats"],
-        printed: "",
-        refused: "fault: 7 BadRequest(command)\n",
-        status: 2,
+        lines: &["history two z"],
+        printed: "200 1.2 =2\n500 1.5 =3 in doubt\n",
+        ..TAKEN
     },
     Asked {
-        text: "stats of 17 logs",
-        words: &[
-            "stats", "done.log", "done.log", "done.log", "done.log", "done.log", "done.log",
-            "done.log", "done.log", "done.log", "done.log", "done.log", "done.log", "done.log",
-            "done.log", "done.log", "done.log", "done.log",
+        lines: &[
+            "get one a",
+            "get one a 111",
+            "get two a 299",
+            "get renewed a 199",
         ],
-        printed: "",
-        refused: "fault: 7 BadRequest(command)\n",
-        status: 2,
+        printed: "=1\n",
+        ..TAKEN
+    },
+    Asked {
+        lines: &[
+            "get one a 110",
+            "get one b",
+            "get two a",
+            "get two a 199",
+            "get two a 300",
+            "get two a 1000",
+            "get two z 199",
+            "get two y",
+            "get bare a",
+            "get bytes a",
+            "get renewed a",
+            "get renewed a 110",
+        ],
+        printed: "none\n",
+        ..TAKEN
+    },
+    Asked {
+        lines: &["get two z 1000", "get renewed z"],
+        printed: "=2\n",
+        ..TAKEN
+    },
+    Asked {
+        lines: &["put one a stands", "put two z stands", "put bytes a stands"],
+        printed: "committed 112\n",
+        ..TAKEN
+    },
+    Asked {
+        lines: &["put one a dropped"],
+        printed: "aborted\n",
+        status: 1,
+        ..TAKEN
+    },
+    Asked {
+        lines: &["put one a silent"],
+        printed: "unknown 1.2\n",
+        status: 1,
+        ..TAKEN
+    },
+    Asked {
+        lines: &["history renewed a"],
+        printed: "111 - =1\n200 - none\n400 1.4 =7 decided\n",
+        ..TAKEN
+    },
+    Asked {
+        lines: &["history renewed z"],
+        printed: "200 - =2\n500 1.5 =3 in doubt\n",
+        ..TAKEN
+    },
+    Asked {
+        lines: &["dump renewed/shard-0.log"],
+        printed: "9224 base 1 200 0\n9254 version 111 a=1\n9274 version 200 a!\n9291 settled 1.1 111 0\n9323 settled 1.2 200 0,1\n\
+            9355 opened 2\n9369 commit 1.4 400 0 - a=7\nclosed at 9411\n",
+        ..TAKEN
+    },
+    Asked {
+        lines: &["dump renewed/shard-1.log"],
+        printed: "9224 base 1 200 0\n9254 version 200 z=2\n9274 closed 1.2 0 committed 200\n9306 closed 1.6 0 aborted\n\
+            9330 prepare 1.5 0 500 - z=3\n9371 opened 2\nclosed at 9385\n",
+        ..TAKEN
+    },
+    Asked {
+        lines: &["dump misplaced.log"],
+        printed: "9224 opened 1\n9238 base 1 0 0\nclosed at 9268\n",
+        ..TAKEN
+    },
+    Asked {
+        lines: &["stats renewed/shard-0.log"],
+        printed: "log renewed/shard-0.log\nbytes 9412\nrecords 7\nopened 1\nceiling 0\nprepare 0\ncommit 1\nabort 0\noutcome 0\n\
+            horizon 0\nbase 1\nversion 2\nsettled 2\nclosed 0\n\
+            keys 1\nversions 2\nepoch 2\nfloor 400\nin doubt 1\ndecided 1.4 400\n",
+        ..TAKEN
+    },
+    Asked {
+        lines: &["stats renewed/shard-1.log"],
+        printed: "log renewed/shard-1.log\nbytes 9386\nrecords 6\nopened 1\nceiling 0\nprepare 1\ncommit 0\nabort 0\noutcome 0\n\
+            horizon 0\nbase 1\nversion 1\nsettled 0\nclosed 2\n\
+            keys 1\nversions 1\nepoch 2\nfloor 500\nin doubt 1\npromised 1.5 500\n",
+        ..TAKEN
+    },
+    Asked {
+        lines: &["inspect renewed/lost.lines renewed/shard-0.log renewed/shard-1.log"],
+        printed: "no lost 1.4\n",
+        status: 1,
+        ..TAKEN
     },
 ];
 
-/// Goes over commands over these files.
-pub fn go_over(wrong: &mut WrongRows, alloc: Global, rows: &[Asked]) {
+// Refusals: nothing but a fault is told.
+static REFUSALS: [Asked; 14] = [
+    Asked {
+        lines: &[
+            "once a 1 110 100 112 121",
+            "once a 1 100 4611686018427387904 112 0x",
+            "once a 1 100 99999999999999999999 112 121",
+            "get one a 4611686018427387904",
+        ],
+        refused: "fault: 7 BadRequest(stamp)\n",
+        ..REFUSED
+    },
+    Asked {
+        lines: &[
+            "once a 1 0x 110 112 121",
+            "once a 1 0100 110 121 112",
+            "format",
+            "format a b",
+            "inspect empty opened.log opened.log opened.log opened.log opened.log opened.log opened.log opened.log \
+                opened.log opened.log opened.log opened.log opened.log opened.log opened.log opened.log opened.log",
+            "inspect empty",
+            "inspect",
+            "drive",
+            "migrate",
+            "migrate old_version.log",
+            "migrate old_version.log new.log more",
+            "compact",
+            "compact done.log",
+            "compact done.log new.log more",
+            "dump",
+            "dump opened.log done.log",
+            "stats",
+            "stats done.log done.log done.log done.log done.log done.log done.log done.log done.log done.log done.log \
+                done.log done.log done.log done.log done.log done.log",
+            "history one",
+            "history one a 5",
+            "get one",
+            "get one a 5 6",
+            "get one a x",
+            "put one a",
+            "put one a stands 5",
+        ],
+        refused: "fault: 7 BadRequest(command)\n",
+        ..REFUSED
+    },
+    Asked {
+        lines: &["once a 1 100 4611686018427387903 112 121"],
+        refused: "fault: 4 TimeSpent\n",
+        ..REFUSED
+    },
+    Asked {
+        lines: &[
+            "once  1 0100 110 112 121",
+            "get one ",
+            "history one ",
+            "put one  stands",
+        ],
+        refused: "fault: 7 BadRequest(key)\n",
+        ..REFUSED
+    },
+    Asked {
+        lines: &[
+            "format opened.log",
+            "play missing",
+            "inspect missing opened.log",
+            "inspect empty opened.log missing",
+            "drive missing",
+            "migrate old_version.log opened.log",
+            "migrate old_version.log old_version.log",
+            "migrate missing new.log",
+            "migrate missing opened.log",
+            "compact done.log opened.log",
+            "compact done.log done.log",
+            "compact missing new.log",
+            "dump missing",
+            "stats done.log missing",
+            "stats one/shard-0.log missing",
+            "get missing a",
+            "get none a",
+            "history missing a",
+            "put missing a stands",
+        ],
+        refused: "fault: 2 Device\n",
+        ..REFUSED
+    },
+    Asked {
+        lines: &["inspect no_text opened.log"],
+        refused: "fault: 7 BadRequest(syntax 1)\n",
+        ..REFUSED
+    },
+    Asked {
+        lines: &[
+            "inspect wrong.lines opened.log",
+            "inspect wrong.lines missing",
+        ],
+        refused: "fault: 7 BadRequest(syntax 2)\n",
+        ..REFUSED
+    },
+    Asked {
+        lines: &[
+            "inspect empty promised.log",
+            "inspect empty opened.log done.log",
+            "stats unpromised/shard-0.log",
+            "stats early.log",
+            "get unpromised a",
+            "history unpromised a",
+            "stats misplaced.log",
+            "inspect renewed/right.lines misplaced.log",
+        ],
+        refused: "fault: 11 Damaged at 9238\n",
+        ..REFUSED
+    },
+    Asked {
+        lines: &[
+            "inspect empty unopened.log",
+            "inspect empty cut.log",
+            "inspect empty cut.log empty",
+            "compact cut.log new.log",
+            "compact cut.log opened.log",
+            "dump cut.log",
+            "stats cut.log",
+            "get cut a",
+        ],
+        refused: "fault: 11 Damaged at 9224\n",
+        ..REFUSED
+    },
+    Asked {
+        lines: &[
+            "inspect empty old_version.log",
+            "inspect empty empty",
+            "migrate opened.log new.log",
+            "migrate empty new.log",
+            "compact old_version.log new.log",
+            "compact empty new.log",
+            "dump old_version.log",
+            "dump empty",
+            "stats done.log old_version.log",
+            "stats old_version.log",
+        ],
+        refused: "fault: 12 NotALog\n",
+        ..REFUSED
+    },
+    Asked {
+        lines: &[
+            "drive empty",
+            "drive no_text",
+            "drive unknown.settings",
+            "get unnamed a",
+            "get later a",
+            "get unordered a",
+            "history unnamed a",
+            "put unnamed a stands",
+            "put later a stands",
+            "put unordered a stands",
+        ],
+        refused: "fault: 7 BadRequest(settings)\n",
+        ..REFUSED
+    },
+    Asked {
+        lines: &[
+            "migrate old_cut.log new.log",
+            "migrate old_cut.log opened.log",
+        ],
+        refused: "fault: 11 Damaged at 8\n",
+        ..REFUSED
+    },
+    Asked {
+        lines: &["stats mixed.log"],
+        refused: "fault: 11 Damaged at 9274\n",
+        ..REFUSED
+    },
+    Asked {
+        lines: &["get swapped a", "history swapped a", "put one a refused"],
+        refused: "fault: 14 Stranger\n",
+        ..REFUSED
+    },
+];
+
+// Help is printed before anything else is looked at. It begins like this.
+static HELP: [Asked; 1] = [Asked {
+    lines: &["--help", "-h", "once --help", "once a -h -- 1", "-x --help"],
+    printed: "usage: shards COMMAND",
+    writes: Writes {
+        whole: false,
+        ..AMPLE
+    },
+    ..TAKEN
+}];
+
+const ONCE: Asked = Asked {
+    lines: &["once a 1 100 110 112 121"],
+    ..REFUSED
+};
+
+// After a failed write nothing more is printed, also no fault.
+static FAILING: [Asked; 4] = [
+    Asked {
+        writes: Writes { out: 0, ..AMPLE },
+        ..ONCE
+    },
+    Asked {
+        writes: Writes { out: 1, ..AMPLE },
+        printed: "commit 1.1 at 111\n",
+        ..ONCE
+    },
+    Asked {
+        writes: Writes { out: 2, ..AMPLE },
+        printed: "commit 1.1 at 111\ndone 1.1 committed 111\n",
+        status: 0,
+        ..ONCE
+    },
+    // It is refused, and nothing says so.
+    Asked {
+        lines: &["once a 1 110 100 112 121"],
+        writes: Writes { err: 0, ..AMPLE },
+        ..REFUSED
+    },
+];
+
+// Goes over the lines of some rows.
+fn go_over(wrong: &mut WrongRows, alloc: Global, rows: &[Asked]) {
     for row in rows {
-        wrong.unless(comes_to(alloc, &FILES, row, AMPLE), row.text);
+        for line in row.lines {
+            wrong.unless(comes_to(alloc, &FILES, line, row), line);
+        }
+    }
+}
+
+/// Goes over what is answered, also of help and where a write fails.
+pub fn go_over_answers(wrong: &mut WrongRows, alloc: Global) {
+    go_over(wrong, alloc, &ANSWERED);
+    go_over(wrong, alloc, &HELP);
+    go_over(wrong, alloc, &FAILING);
+}
+
+/// Goes over what is refused.
+pub fn go_over_refusals(wrong: &mut WrongRows, alloc: Global) {
+    go_over(wrong, alloc, &REFUSALS);
+}
+
+/// Of no log nothing is told. No command line asks for that.
+pub fn counts_no_log(alloc: Global) -> bool {
+    match stats_files(alloc, &Memory { files: &[] }, &[]) {
+        Ok(text) => {
+            let nothing = text.is_empty();
+            drop(text);
+            nothing
+        }
+        Err(_) => false,
     }
 }

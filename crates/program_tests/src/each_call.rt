@@ -2,6 +2,7 @@
 //! Then the shard is opened, each message comes once more, the transaction is settled, and each message comes again. In the end it is
 //! committed on all three, at one timestamp. So it is too where each shard's log was turned over behind the decision.
 use crate::given::{AMPLE, File, PLAY, print};
+use crate::stops::{STOPS, Stop};
 use made::WrongRows;
 use std::alloc::{AllocError, Global};
 
@@ -69,80 +70,49 @@ static STEPS: [Step; 8] = [
 
 // A step in which its shard stops, by its place among the steps, and the transaction's timestamp: where the step's record is kept, and
 // where it is not.
-struct Stop {
+struct Stopped {
     name: &'static str,
     place: usize,
     kept: u64,
     lost: u64,
 }
 
-static STOPS: [Stop; 6] = [
-    Stop {
+static STOPPED: [Stopped; 6] = [
+    Stopped {
         name: "the promise of shard 1",
         place: 1,
         kept: 300,
         lost: 300,
     },
-    Stop {
+    Stopped {
         name: "the promise of shard 2",
         place: 2,
         kept: 210,
         lost: 300,
     },
-    Stop {
+    Stopped {
         name: "the decision",
         place: 4,
         kept: 210,
         lost: 311,
     },
-    Stop {
+    Stopped {
         name: "the settling",
         place: 5,
         kept: 210,
         lost: 210,
     },
-    Stop {
+    Stopped {
         name: "the outcome at shard 1",
         place: 6,
         kept: 210,
         lost: 210,
     },
-    Stop {
+    Stopped {
         name: "the outcome at shard 2",
         place: 7,
         kept: 210,
         lost: 210,
-    },
-];
-
-// A stop in a call of a step, with the fate of the write under way where it is a crash, and the first call from which on the record is
-// kept.
-struct Kind {
-    word: &'static str,
-    fate: &'static str,
-    kept_from: u64,
-}
-
-static KINDS: [Kind; 4] = [
-    Kind {
-        word: "crash",
-        fate: " old",
-        kept_from: 4,
-    },
-    Kind {
-        word: "crash",
-        fate: " new",
-        kept_from: 2,
-    },
-    Kind {
-        word: "crash",
-        fate: " 37",
-        kept_from: 4,
-    },
-    Kind {
-        word: "fail",
-        fate: "",
-        kept_from: 3,
     },
 ];
 
@@ -158,8 +128,8 @@ const TURNED: &str = "236 turn 0
 // Adds the events up to the stop, and the opening behind it.
 fn add_stop(
     text: &mut String,
+    stopped: &Stopped,
     stop: &Stop,
-    kind: &Kind,
     call: u64,
     turned: bool,
 ) -> Result<(), AllocError> {
@@ -169,10 +139,10 @@ fn add_stop(
         if turned && place == DECISION + 1 {
             text.push_str(TURNED)?;
         }
-        if place < stop.place {
+        if place < stopped.place {
             write!(text, "{time} {act}\n")?;
-        } else if place == stop.place {
-            let Kind { word, fate, .. } = kind;
+        } else if place == stopped.place {
+            let Stop { word, fate, .. } = stop;
             write!(
                 text,
                 "{time} {word} {shard} {call}{fate} {act}\n290 open {shard}\n"
@@ -264,53 +234,53 @@ verdict yes
 // The schedule of a stop, to its end.
 fn whole(
     alloc: Global,
+    stopped: &Stopped,
     stop: &Stop,
-    kind: &Kind,
     call: u64,
     turned: bool,
 ) -> Result<String, AllocError> {
     let mut text = String::new(alloc);
-    add_stop(&mut text, stop, kind, call, turned)?;
+    add_stop(&mut text, stopped, stop, call, turned)?;
     deliver_all(alloc, &mut text, 305, "300 310")?;
     text.push_str("405 settle 0 1.1 400 410\n")?;
     deliver_all(alloc, &mut text, 505, "500 510")?;
     Ok(text)
 }
 
-fn is_so(alloc: Global, stop: &Stop, kind: &Kind, call: u64, turned: bool) -> bool {
-    let Ok(text) = whole(alloc, stop, kind, call, turned) else {
+// The calls of an append.
+const CALLS: u64 = 4;
+
+fn is_so(alloc: Global, stopped: &Stopped, stop: &Stop, call: u64, turned: bool) -> bool {
+    let Ok(text) = whole(alloc, stopped, stop, call, turned) else {
         return false;
     };
-    let at = if call < kind.kept_from {
-        stop.lost
+    let at = if stop.keeps(call, CALLS) {
+        stopped.kept
     } else {
-        stop.kept
+        stopped.lost
     };
     is_committed(alloc, &played(alloc, text.as_str()), at)
 }
 
-// A stop in each call comes to what the row says. Its place is told by the kind of the stop, and the call.
-fn go_over_calls(wrong: &mut WrongRows, alloc: Global, stop: &Stop, turned: bool) {
-    for (number, kind) in KINDS.iter().enumerate() {
-        for call in 0..4 {
+// A stop in each call comes to what the row says. Its place is that of the stop, and the call. The byte of an open gate makes its write whole,
+// as the fate `new` does, and is not tried.
+fn go_over_calls(wrong: &mut WrongRows, alloc: Global, stopped: &Stopped, turned: bool) {
+    for (number, stop) in STOPS.iter().enumerate() {
+        let calls = if stop.fate == " a5" { 0 } else { CALLS };
+        for call in 0..calls {
             let place = (number as u64).saturating_mul(10).saturating_add(call);
-            wrong.unless_at(is_so(alloc, stop, kind, call, turned), stop.name, place);
+            let right = is_so(alloc, stopped, stop, call, turned);
+            wrong.unless_at(right, stopped.name, place);
         }
     }
 }
 
-/// Goes over all rows.
+/// Goes over all rows, and those behind the decision once more where each shard's log was turned over behind it.
 pub fn go_over(wrong: &mut WrongRows, alloc: Global) {
-    for stop in &STOPS {
-        go_over_calls(wrong, alloc, stop, false);
-    }
-}
-
-/// Goes over the rows behind the decision, where each shard's log was turned over behind it.
-pub fn go_over_turned(wrong: &mut WrongRows, alloc: Global) {
-    for stop in &STOPS {
-        if stop.place > DECISION {
-            go_over_calls(wrong, alloc, stop, true);
+    for stopped in &STOPPED {
+        go_over_calls(wrong, alloc, stopped, false);
+        if stopped.place > DECISION {
+            go_over_calls(wrong, alloc, stopped, true);
         }
     }
 }

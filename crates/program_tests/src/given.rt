@@ -3,9 +3,8 @@ use cli::{Driven, Ended, Engine, Files, Hints, NoVerdict, Put, Stream, System, a
 use disk::Disk;
 use made::{id, stamp, with_slots};
 use settings::Settings;
-use showing::stats_files;
 use simdisk::SimDisk;
-use std::alloc::Global;
+use std::alloc::{AllocError, Global};
 use std::io;
 use std::io::Write;
 use units::{Fault, Verdict};
@@ -141,13 +140,12 @@ pub struct Printed {
     pub status: u8,
 }
 
-/// Carries a command over some files out.
-pub fn print<'a>(
-    alloc: Global,
-    files: &[File<'_>],
-    words: &'a [&'a str],
-    writes: Writes,
-) -> Printed {
+/// Carries a command line over some files out. Where memory is wanting for its words it has none.
+pub fn print(alloc: Global, files: &[File<'_>], line: &str, writes: Writes) -> Printed {
+    let words = match words_of(alloc, line) {
+        Ok(words) => words,
+        Err(_) => Vec::new(alloc),
+    };
     let system = System {
         files: Memory { files },
         drive: Engine {
@@ -164,8 +162,9 @@ pub fn print<'a>(
         left: writes.err,
     });
     let disk = SimDisk::new(alloc);
-    let (status, disk) = answer(alloc, words, &system, disk, &mut out, &mut err);
+    let (status, disk) = answer(alloc, &words, &system, disk, &mut out, &mut err);
     drop(disk);
+    drop(words);
     Printed {
         out: out.into_writer().bytes,
         err: err.into_writer().bytes,
@@ -173,31 +172,49 @@ pub fn print<'a>(
     }
 }
 
-/// What the logs in some files hold, as numbers.
-pub fn stats(alloc: Global, files: &[File<'_>], logs: &[&str]) -> Result<String, Fault> {
-    stats_files(alloc, &Memory { files }, logs)
-}
-
-/// A command line, what is printed to both outputs, and the status.
+/// Command lines that come to the same: what is printed to both outputs, how many writes these take, and the status.
 #[derive(Clone, Copy)]
 pub struct Asked {
-    /// The words as one text, which names the row; many words of one kind are counted.
-    pub text: &'static str,
-    pub words: &'static [&'static str],
+    /// Single spaces part the words of a line.
+    pub lines: &'static [&'static str],
     pub printed: &'static str,
     pub refused: &'static str,
+    pub writes: Writes,
     pub status: u8,
 }
 
-/// The words that play the file `a.schedule`.
-pub const PLAY: &[&str] = &["play", "a.schedule"];
+/// Nothing is printed, and all is well.
+pub const TAKEN: Asked = Asked {
+    lines: &[],
+    printed: "",
+    refused: "",
+    writes: AMPLE,
+    status: 0,
+};
 
-/// Whether a command over some files comes to what the row says.
-pub fn comes_to(alloc: Global, files: &[File<'_>], row: &Asked, writes: Writes) -> bool {
-    let printed = print(alloc, files, row.words, writes);
+/// Nothing is printed, and it is refused.
+pub const REFUSED: Asked = Asked { status: 2, ..TAKEN };
+
+/// The words that play the file `a.schedule`.
+pub const PLAY: &str = "play a.schedule";
+
+/// The words of a line. An empty line has none.
+pub fn words_of(alloc: Global, line: &str) -> Result<Vec<&str>, AllocError> {
+    let mut words = Vec::new(alloc);
+    if !line.is_empty() {
+        for word in line.split(' ') {
+            words.push(word)?;
+        }
+    }
+    Ok(words)
+}
+
+/// Whether a line over some files comes to what the row says.
+pub fn comes_to(alloc: Global, files: &[File<'_>], line: &str, row: &Asked) -> bool {
+    let printed = print(alloc, files, line, row.writes);
     let wanted = row.printed.as_bytes();
     let right = printed.out.starts_with(wanted)
-        && (!writes.whole || printed.out.len() == wanted.len())
+        && (!row.writes.whole || printed.out.len() == wanted.len())
         && printed.err.as_slice() == row.refused.as_bytes()
         && printed.status == row.status;
     drop(printed);

@@ -12,27 +12,17 @@ mod crashes;
 #[cfg(test)]
 mod each_call;
 #[cfg(test)]
+mod files;
+#[cfg(test)]
 mod given;
 #[cfg(test)]
 mod horizons;
-#[cfg(test)]
-mod of_compactions;
-#[cfg(test)]
-mod of_keys;
-#[cfg(test)]
-mod of_logs;
-#[cfg(test)]
-mod of_migrations;
-#[cfg(test)]
-mod of_renewed;
 #[cfg(test)]
 mod outside;
 #[cfg(test)]
 mod places;
 #[cfg(test)]
 mod played;
-#[cfg(test)]
-mod printed;
 #[cfg(test)]
 mod schedule_texts;
 #[cfg(test)]
@@ -43,3 +33,5 @@ mod tests;
 mod turnovers;
 #[cfg(test)]
 mod unlawful;
+#[cfg(test)]
+mod words;

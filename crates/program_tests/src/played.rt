@@ -1,5 +1,5 @@
 //! What `play` prints of a file.
-use crate::given::{AMPLE, Asked, File, PLAY, comes_to};
+use crate::given::{Asked, File, PLAY, TAKEN, comes_to};
 use made::WrongRows;
 use std::alloc::Global;
 
@@ -39,6 +39,14 @@ stride 0
 216 deliver 4 210 220
 217 look 1 z 200
 ";
+
+const REFUSED: Played = Played {
+    name: "",
+    schedule: "",
+    printed: "",
+    refused: "",
+    status: 2,
+};
 
 static PLAYED: [Played; 18] = [
     // The timestamp is above the latest end of the reading.
@@ -247,9 +255,8 @@ verdict yes
     Played {
         name: "a horizon with a reading without the true time",
         schedule: "shards 1\nstride 0\n100 advance 0 100 100 110\n100 forget 0 50 101 110\n",
-        printed: "",
         refused: "fault: 7 BadRequest(unlawful 1)\n",
-        status: 2,
+        ..REFUSED
     },
     Played {
         name: "no events",
@@ -261,51 +268,44 @@ verdict yes
     Played {
         name: "an empty file",
         schedule: "",
-        printed: "",
         refused: "fault: 7 BadRequest(syntax 1)\n",
-        status: 2,
+        ..REFUSED
     },
     Played {
         name: "a number with a leading zero",
         schedule: "shards 1\nstride 0\n100 begin 1.1\n0100 begin 1.2\n",
-        printed: "",
         refused: "fault: 7 BadRequest(syntax 4)\n",
-        status: 2,
+        ..REFUSED
     },
     Played {
         name: "a reading with its ends exchanged",
         schedule: "shards 1\nstride 0\n100 resume 0 110 100\n",
-        printed: "",
         refused: "fault: 7 BadRequest(syntax 3)\n",
-        status: 2,
+        ..REFUSED
     },
     Played {
         name: "splits that do not ascend",
         schedule: "shards 3\nsplit m\nsplit m\nstride 0\n",
-        printed: "",
         refused: "fault: 7 BadRequest(splits)\n",
-        status: 2,
+        ..REFUSED
     },
     Played {
         name: "an id that is begun twice",
         schedule: "shards 1\nstride 0\n100 begin 1.1\n100 begin 1.1\n",
-        printed: "",
         refused: "fault: 7 BadRequest(unlawful 1)\n",
-        status: 2,
+        ..REFUSED
     },
     Played {
         name: "time that falls",
         schedule: "shards 1\nstride 0\n100 begin 1.1\n100 begin 1.2\n99 begin 1.3\n",
-        printed: "",
         refused: "fault: 7 BadRequest(unlawful 2)\n",
-        status: 2,
+        ..REFUSED
     },
     Played {
         name: "a reading without the true time",
         schedule: "shards 1\nstride 0\n100 resume 0 101 110\n",
-        printed: "",
         refused: "fault: 7 BadRequest(unlawful 0)\n",
-        status: 2,
+        ..REFUSED
     },
     Played {
         name: "a crash and an opening",
@@ -326,16 +326,14 @@ verdict yes
     Played {
         name: "an opening of a shard that is up",
         schedule: "shards 1\nstride 0\n100 begin 1.1\n101 open 0\n",
-        printed: "",
         refused: "fault: 7 BadRequest(unlawful 1)\n",
-        status: 2,
+        ..REFUSED
     },
     Played {
         name: "a crash of one shard in an event of another",
         schedule: "shards 2\nsplit m\nstride 0\n100 begin 1.1\n101 crash 0 0 old resume 1 90 110\n",
-        printed: "",
         refused: "fault: 7 BadRequest(unlawful 1)\n",
-        status: 2,
+        ..REFUSED
     },
     Played {
         name: "each kind of event, with crashes and failing calls",
@@ -490,19 +488,16 @@ verdict yes
     Played {
         name: "an event that may not happen, before a crash",
         schedule: "shards 1\nstride 0\n100 begin 1.1\n100 begin 1.1\n101 crash 0 2 fF open 0\n",
-        printed: "",
         refused: "fault: 7 BadRequest(unlawful 1)\n",
-        status: 2,
+        ..REFUSED
     },
 ];
 
 // What is said of bytes that are no schedule.
 static NO_TEXT: Played = Played {
     name: "bytes that are no text",
-    schedule: "",
-    printed: "",
     refused: "fault: 7 BadRequest(syntax 1)\n",
-    status: 2,
+    ..REFUSED
 };
 
 // Whether a file of these bytes is played as the row says.
@@ -512,13 +507,12 @@ fn is_played(alloc: Global, bytes: &[u8], row: &Played) -> bool {
         bytes,
     };
     let asked = Asked {
-        text: row.name,
-        words: PLAY,
         printed: row.printed,
         refused: row.refused,
         status: row.status,
+        ..TAKEN
     };
-    comes_to(alloc, &[file], &asked, AMPLE)
+    comes_to(alloc, &[file], PLAY, &asked)
 }
 
 /// Goes over all rows. Each of them is a file that is played.

@@ -1,19 +1,38 @@
-//! A disk in memory that gives no long reads.
+//! A disk in memory that waits for another, and gives no long reads.
 use disk::Disk;
 use simdisk::SimDisk;
+use std::sync::atomic::{AtomicBool, Ordering};
+use std::time::Duration;
+use std::{thread, time};
 use units::Fault;
 
-// The longest read that is given.
-const LONGEST: usize = 65_536;
-
-/// A disk in memory that fails each read of more than 65,536 bytes, and counts the reads that it gives.
+/// A disk in memory whose first sync waits until the other's has begun, for 10,000 turns at most, each a look and a millisecond's sleep.
+/// Where it waits in vain, it fails. So does a read that is too long; and it counts its reads.
 #[derive(Drop)]
-pub struct Narrow {
+pub struct Strained<'a, R> {
     pub disk: SimDisk,
+    pub rt: &'a R,
+    pub longest: usize,
     pub reads: u64,
+    // Whether its first sync has begun, and whether the other's has.
+    pub own: &'a AtomicBool,
+    pub other: &'a AtomicBool,
 }
 
-impl Disk for Narrow {
+impl<R: time::Clock> Strained<'_, R> {
+    // Whether the other's first sync begins in time.
+    fn has_come(&self) -> bool {
+        for _turn in 0..10_000 {
+            if self.other.load(Ordering::SeqCst) {
+                return true;
+            }
+            thread::sleep(self.rt, Duration::from_millis(1));
+        }
+        false
+    }
+}
+
+impl<R: time::Clock> Disk for Strained<'_, R> {
     ghost use Rattle.std.proofs.Common.{inl};
     ghost use Rattle.disk.proofs.Crashes.{seen_may};
     ghost use Rattle.disk.specs.declared.plan.FailurePlan.TheVariants.{Never};
@@ -22,7 +41,7 @@ impl Disk for Narrow {
 
     ghost keeps_model = { Unit {0} };
 
-    // Which reads fail, no plan says.
+    // Which calls fail, no plan says.
     ghost obeys = { ⊥ };
 
     ghost file = { λ d. disk_file d.disk };
@@ -55,7 +74,7 @@ impl Disk for Narrow {
 
     fn read_at(&mut self, at: u64, buffer: &mut [u8]) -> Result<(), Fault> {
         self.reads = self.reads.saturating_add(1);
-        if LONGEST < buffer.len() {
+        if self.longest < buffer.len() {
             self.disk.fail_next(0);
         }
         self.disk.read_at(at, buffer)
@@ -70,6 +89,12 @@ impl Disk for Narrow {
     }
 
     fn sync(&mut self) -> Result<(), Fault> {
+        if !self.own.load(Ordering::SeqCst) {
+            self.own.store(true, Ordering::SeqCst);
+            if !self.has_come() {
+                self.disk.fail_next(0);
+            }
+        }
         self.disk.sync()
     }
 
