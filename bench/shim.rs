@@ -30,20 +30,6 @@ pub mod sync {
         }
     }
 
-    /// A list with several owners, in two blocks as the library's is.
-    pub struct ArcSlice<T>(std::sync::Arc<Vec<T>>);
-    impl<T: Copy> ArcSlice<T> {
-        pub fn from_slice(_: Global, items: &[T]) -> Result<Self, AllocError> {
-            Ok(ArcSlice(std::sync::Arc::new(items.to_vec())))
-        }
-        pub fn clone(&self) -> Result<Self, AllocError> {
-            Ok(ArcSlice(self.0.clone()))
-        }
-        pub fn as_slice(&self) -> &[T] {
-            &self.0
-        }
-    }
-
     /// The right to wait.
     pub trait Wait {
         fn forever(&self) -> std::iter::Repeat<()> {
