@@ -35,18 +35,9 @@ same_rebuilt a b h = λ i. record { last = h.floor i; rows = gather standing_row
 -- the versions that a record adds stand behind those before it
 added : (facts : Facts) (logged : Option Record) → (more : List Install) × ((facts_after facts logged).installs ≡ facts.installs ++ more)
 unfolding learn
-added facts None = ([], sym (append-nil facts.installs))
-added facts (Some (Record.Opened epoch)) = ([], sym (append-nil facts.installs))
-added facts (Some (Record.Ceiling at)) = ([], sym (append-nil facts.installs))
-added facts (Some (Record.Horizon at)) = ([], sym (append-nil facts.installs))
-added facts (Some (Record.Base _ _ _)) = ([], sym (append-nil facts.installs))
 added facts (Some (Record.Version install)) = (install ∷ [], refl)
-added facts (Some (Record.Settled _ _ _)) = ([], sym (append-nil facts.installs))
-added facts (Some (Record.Closed _ _ _)) = ([], sym (append-nil facts.installs))
-added facts (Some (Record.Prepare p)) = ([], sym (append-nil facts.installs))
-added facts (Some (Record.Commit c)) = ([], sym (append-nil facts.installs))
-added facts (Some (Record.Abort t)) = ([], sym (append-nil facts.installs))
 added facts (Some (Record.Outcome t outcome)) = (installs_at (recorded facts t) outcome, refl)
+added facts _ = ([], sym (append-nil facts.installs))
 
 in_front : (xs ys : List Install) → take (length xs) (xs ++ ys) ≡ xs
 in_front xs ys = take-append-le (length xs) xs ys (omega arith) ∙ take_all (length xs) xs (omega arith)

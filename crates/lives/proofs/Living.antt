@@ -191,14 +191,8 @@ module _ (setup : Setup) (bag : List Envelope) (s : ShardNow) (call : Option ℕ
 -- ---- an opening
 
 is_open : (doing : Doing) → goes_on doing ≡ false → doing ≡ Doing.Open
-is_open (Doing.Take n now) g = absurd (false≢true (sym g))
-is_open (Doing.Resume now) g = absurd (false≢true (sym g))
-is_open (Doing.Settle t now) g = absurd (false≢true (sym g))
-is_open (Doing.Advance at now) g = absurd (false≢true (sym g))
-is_open (Doing.Forget at now) g = absurd (false≢true (sym g))
-is_open (Doing.Nudge t now) g = absurd (false≢true (sym g))
-is_open Doing.Turn g = absurd (false≢true (sym g))
 is_open Doing.Open g = refl
+is_open _ g = absurd (false≢true (sym g))
 
 module _ (setup : Setup) (bag : List Envelope) (s : ShardNow) where
   effect_opens : effect setup bag s Doing.Open ≡ where_room (gate_of (read_area s))

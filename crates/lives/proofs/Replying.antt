@@ -120,13 +120,6 @@ module _ (w : World) (old new : Run) (h : IsRun old w) where
 
   refused_is : (n : ℕ) (s : ShardNow) (doing : Doing) (fault : Fault) → slice_get w.shards n ≡ Some s
       → refused_doing w n s doing fault ≡ (record w { shards = replaced w.shards n (left_by_refusal s doing) }, Reply.Refused fault)
-  refused_is n s (Doing.Take m now) fault there = same_there n s fault there
-  refused_is n s (Doing.Resume now) fault there = same_there n s fault there
-  refused_is n s (Doing.Settle t now) fault there = same_there n s fault there
-  refused_is n s (Doing.Advance at now) fault there = same_there n s fault there
-  refused_is n s (Doing.Forget at now) fault there = same_there n s fault there
-  refused_is n s (Doing.Nudge t now) fault there = same_there n s fault there
-  refused_is n s Doing.Turn fault there = same_there n s fault there
   refused_is n s Doing.Open fault there = by_state s.state
     where
       by_state : (st : State) → elim st as (λ x. After) [
@@ -138,6 +131,7 @@ module _ (w : World) (old new : Run) (h : IsRun old w) where
       by_state (Runs m) = same_there n s fault there
       by_state (IsStopped m) = refl
       by_state IsDown = refl
+  refused_is n s _ fault there = same_there n s fault there
 
   -- what a step comes to, with a call that fails or with none
   abbrev did_by : ℕ → ShardNow → Option ℕ → Doing → Stepped → After

@@ -96,28 +96,20 @@ admitted_again rows (Some t) = admitted_twice rows t
 
 fits_again : (rows : List Row) (us : List Id) (needs : List Lock) (logged : Option Record) (h : Change) → Ascend rows → FitsRows rows us needs logged h
     → FitsRows (admitted rows (asker h)) us needs logged h
-fits_again rows us needs logged Keeps up fits = fits
-fits_again rows us needs logged (Ends t) up fits = fits
-fits_again rows us needs logged (Drops t) up fits = fits
 fits_again rows us needs logged (Reads t) up fits = (asks_the_same rows t us needs true up fits.0, fits.1)
 fits_again rows us needs logged (Waits t w) up fits = (asks_the_same rows t us needs false up fits.0, fits.1, fits.2)
 fits_again rows us needs logged (Collects t c) up fits = (asks_the_same rows t us needs true up fits.0, fits.1)
-fits_again rows us needs logged (Counts t n p) up fits = fits
 fits_again rows us needs logged (Stands t) up fits = (asks_the_same rows t us needs true up fits.0, fits.1)
-fits_again rows us needs logged (Decides t) up fits = fits
+fits_again rows us needs logged _ up fits = fits
 
 rows_the_same : (rows : List Row) (us : List Id) (needs : List Lock) (logged : Option Record) (h : Change) → Ascend rows → FitsRows rows us needs logged h
     → after_change (change_of (admitted rows (asker h)) needs logged h) (without_rows (admitted rows (asker h)) us) ≡
     after_change (change_of rows needs logged h) (without_rows rows us)
-rows_the_same rows us needs logged Keeps up fits = refl
-rows_the_same rows us needs logged (Ends t) up fits = refl
-rows_the_same rows us needs logged (Drops t) up fits = refl
 rows_the_same rows us needs logged (Reads t) up fits = put_the_same rows t needs needs us Idle up fits.0.1
 rows_the_same rows us needs logged (Waits t w) up fits = put_the_same rows t needs [] us (phase_of_wait (Some w)) up fits.0.1
 rows_the_same rows us needs logged (Collects t c) up fits = put_the_same rows t needs needs us (collecting c []) up fits.0.1
-rows_the_same rows us needs logged (Counts t n p) up fits = refl
 rows_the_same rows us needs logged (Stands t) up fits = put_the_same rows t needs needs us (phase_logged logged) up fits.0.1
-rows_the_same rows us needs logged (Decides t) up fits = refl
+rows_the_same rows us needs logged _ up fits = refl
 
 -- whom a change ends is not told by the rows
 ended_the_same : (one other : List Row) (needs : List Lock) (logged : Option Record) (h : Change) (ids : List Id)
@@ -136,15 +128,11 @@ ended_the_same one other needs logged (Decides t) ids = refl
 -- who asks by a change that fits may ask
 asks_by : (rows : List Row) (us : List Id) (needs : List Lock) (logged : Option Record) (h : Change) → FitsRows rows us needs logged h
     → MayAsk rows (asker h)
-asks_by rows us needs logged Keeps fits = tt
-asks_by rows us needs logged (Ends t) fits = tt
-asks_by rows us needs logged (Drops t) fits = tt
 asks_by rows us needs logged (Reads t) fits = fits.0.0
 asks_by rows us needs logged (Waits t w) fits = fits.0.0
 asks_by rows us needs logged (Collects t c) fits = fits.0.0
-asks_by rows us needs logged (Counts t n p) fits = tt
 asks_by rows us needs logged (Stands t) fits = fits.0.0
-asks_by rows us needs logged (Decides t) fits = tt
+asks_by rows us needs logged _ fits = tt
 
 pub may_ask_by : FitStepsMayAsk
 may_ask_by k s fit = asks_by k.memory.rows s.plan.wounded s.plan.needs.items s.logged s.plan.change fit.0

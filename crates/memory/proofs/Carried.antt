@@ -10,7 +10,7 @@ use Rattle.units.specs.Locks.{wounded, with_locks}
 use Rattle.units.specs.declared.lock.Lock.{Lock}
 use Rattle.units.proofs.ByIdLaws.{by_id-keep, first_none, without_none}
 use Rattle.record.specs.declared.record.Record.{Record}
-use Rattle.record.specs.declared.record.Record.TheVariants.{Opened, Ceiling, Prepare, Commit, Abort, Outcome, Horizon, Base, Version, Settled, Closed}
+use Rattle.record.specs.declared.record.Record.TheVariants.{Prepare, Commit}
 use Rattle.safetime.specs.Safe.{lifted}
 use Rattle.protocol.specs.Rows.{Row, Memory, Phase, Idle, WaitsRead, WaitsPrepare, WaitsCommit, Collecting, IsPrepared, IsDecided, claims, find_row}
 use Rattle.protocol.specs.Rows.{without_row, held_stamp, held_by, with_vote, held_in, without_rows}
@@ -65,31 +65,19 @@ asks_reading rows t r found may =
 -- ---- phases that hold nothing
 
 pub reading_holds_none : (p : Phase) → is_reading p ≡ true → held_stamp p ≡ None
-reading_holds_none Idle e = refl
-reading_holds_none (WaitsRead k) e = refl
-reading_holds_none (WaitsPrepare c rs ws) e = refl
-reading_holds_none (WaitsCommit l ps rs ws) e = refl
-reading_holds_none (Collecting l ps rs ws votes) e = refl
 reading_holds_none (IsPrepared c p) e = absurd (false≢true e)
 reading_holds_none (IsDecided s ps) e = absurd (false≢true e)
+reading_holds_none _ e = refl
 
 pub idle_holds_none : (p : Phase) → is_idle p ≡ true → held_stamp p ≡ None
-idle_holds_none Idle e = refl
-idle_holds_none (WaitsRead k) e = refl
-idle_holds_none (WaitsPrepare c rs ws) e = refl
-idle_holds_none (WaitsCommit l ps rs ws) e = refl
-idle_holds_none (Collecting l ps rs ws votes) e = refl
 idle_holds_none (IsPrepared c p) e = absurd (false≢true e)
 idle_holds_none (IsDecided s ps) e = absurd (false≢true e)
+idle_holds_none _ e = refl
 
 pub deciding_holds_none : (p : Phase) → may_decide p ≡ true → held_stamp p ≡ None
-deciding_holds_none Idle e = refl
-deciding_holds_none (WaitsRead k) e = refl
-deciding_holds_none (WaitsPrepare c rs ws) e = refl
-deciding_holds_none (WaitsCommit l ps rs ws) e = refl
-deciding_holds_none (Collecting l ps rs ws votes) e = refl
 deciding_holds_none (IsPrepared c p) e = absurd (false≢true e)
 deciding_holds_none (IsDecided s ps) e = absurd (false≢true e)
+deciding_holds_none _ e = refl
 
 -- nor does its row
 pub none_held : (test : Phase → Bool) → ((p : Phase) → test p ≡ true → held_stamp p ≡ None) → (rows : List Row) (t : Id) → has_phase test rows t ≡ true
@@ -252,13 +240,9 @@ counted_holds_none n p (Some r) e = by_phase r.phase e
     by_phase (IsDecided s ps) e = absurd (false≢true e)
 
 collecting_holds_none : (p : Phase) → is_collecting p ≡ true → held_stamp p ≡ None
-collecting_holds_none Idle e = refl
-collecting_holds_none (WaitsRead k) e = refl
-collecting_holds_none (WaitsPrepare c rs ws) e = refl
-collecting_holds_none (WaitsCommit l ps rs ws) e = refl
-collecting_holds_none (Collecting l ps rs ws votes) e = refl
 collecting_holds_none (IsPrepared c p) e = absurd (false≢true e)
 collecting_holds_none (IsDecided s ps) e = absurd (false≢true e)
+collecting_holds_none _ e = refl
 
 -- the phase with a yes
 counted_by : (n p : ℕ) (q : Phase) → with_yes n p q ≡ elim q as (λ _. Phase) [
@@ -307,15 +291,7 @@ idle_decides rows t h = by_row (find_row rows t) h
 pub can_stand : (rows : List Row) (t : Id) (r : Record) → MayStand t (Some r) → IsDated (Some r) → has_phase is_idle rows t ≡ true → CanStand rows t r
 can_stand rows t (Prepare p) may dated idle = (may, idle, dated)
 can_stand rows t (Commit c) may dated idle = (may, idle_decides rows t idle, dated)
-can_stand rows t (Abort u) may dated idle = absurd may
-can_stand rows t (Outcome u outcome) may dated idle = absurd may
-can_stand rows t (Opened e) may dated idle = absurd may
-can_stand rows t (Ceiling at) may dated idle = absurd may
-can_stand rows t (Horizon at) may dated idle = absurd may
-can_stand rows t (Base e f n) may dated idle = absurd may
-can_stand rows t (Version i) may dated idle = absurd may
-can_stand rows t (Settled u at parts) may dated idle = absurd may
-can_stand rows t (Closed u coordinator outcome) may dated idle = absurd may
+can_stand rows t _ may dated idle = absurd may
 
 -- nor does who waits
 pub wait_holds_none : (w : Wait) → held_stamp (phase_of_wait (Some w)) ≡ None

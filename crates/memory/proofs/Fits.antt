@@ -11,7 +11,7 @@ use Rattle.units.specs.Locks.{Claim, is_free, is_waiting, wounded, blockers, rea
 use Rattle.units.specs.LockLaws.{IsOldestReady}
 use Rattle.units.specs.declared.lock.Lock.{Lock}
 use Rattle.locks.proofs.Oldest.{ready_is_oldest}
-use Rattle.protocol.specs.Rows.{Row, Phase, Idle, WaitsRead, WaitsPrepare, WaitsCommit, Collecting, IsPrepared, IsDecided, claim_of, claims, find_row, needs_of}
+use Rattle.protocol.specs.Rows.{Row, Phase, Collecting, IsPrepared, IsDecided, claim_of, claims, find_row, needs_of}
 use Rattle.protocol.specs.Plan.{Before, is_crowded}
 use Rattle.protocol.proofs.RowTable.{claims-by_id, claims-find_row}
 use Rattle.protocol.proofs.InWay.{free_when_ready}
@@ -66,13 +66,10 @@ nobody_wounded table t needs e = rw (none_there (blockers table t needs) _ e) re
 
 -- who waits reads
 waits_reading : (phase : Phase) → list_any (λ (l : Lock). true) (needs_of phase) ≡ true → is_reading phase ≡ true
-waits_reading Idle e = refl
-waits_reading (WaitsRead k) e = refl
-waits_reading (WaitsPrepare c rs ws) e = refl
-waits_reading (WaitsCommit l ps rs ws) e = refl
 waits_reading (Collecting l ps rs ws votes) e = absurd (false≢true e)
 waits_reading (IsPrepared c p) e = absurd (false≢true e)
 waits_reading (IsDecided s ps) e = absurd (false≢true e)
+waits_reading _ e = refl
 
 -- its row
 waiting_row : (rows : List Row) (t : Id) (c : Claim) → find_member (λ (d : Claim). d.txn) (claims rows) t ≡ Some c → is_waiting c ≡ true

@@ -1,11 +1,11 @@
 -- What follows of a record that may come next, and the memory once a plan is carried out.
-use Rattle.std.proofs.Common.{◌≡◌, ℕ, ◌<◌, ◌≤◌, true, Option, Some, None, [], refl, ap, max, arith}
+use Rattle.std.proofs.Common.{◌≡◌, ℕ, ◌<◌, ◌≤◌, true, Option, Some, [], refl, ap, max, arith}
 use Rattle.std.specs.Prelude.{nat_lt, ◌||◌}
 use Rattle.std.proofs.lemmas.Bool.{and_from, and_parts, false≢true, le-leb, lt-ltb, ltb-true, or_right}
 use Rattle.std.proofs.lemmas.Bool.Decides.{nat_tests}
-use Rattle.record.specs.Facts.{Facts, facts_of, learn, or_floor}
+use Rattle.record.specs.Facts.{Facts, facts_of, learn}
 use Rattle.record.specs.declared.record.Record.{Record}
-use Rattle.record.specs.declared.record.Record.TheVariants.{Opened, Ceiling, Prepare, Commit, Abort, Outcome, Horizon, Base, Version, Settled, Closed}
+use Rattle.record.specs.declared.record.Record.TheVariants.{Opened, Prepare, Commit, Outcome, Base, Version, Settled, Closed}
 use Rattle.facts.specs.Rules.{follows_facts}
 use Rattle.facts.specs.Stages.{follows_head, follows_next, stage_of}
 use Rattle.facts.specs.declared.stage.Stage.TheVariants.{Head}
@@ -20,50 +20,28 @@ use Rattle.memory.specs.declared.plan.Step.{Step}
 -- a promise or a decision that may come next is above 0
 pub dated : (shard : ℕ) (facts : Facts) (o : Option Record) → MayFollow shard facts o → IsDated o
 unfolding follows_facts
-dated shard facts None follows = tt
 dated shard facts (Some (Prepare p)) follows = grind (arith, nat_tests)
 dated shard facts (Some (Commit c)) follows = grind (arith, nat_tests)
-dated shard facts (Some (Abort t)) follows = tt
-dated shard facts (Some (Outcome t outcome)) follows = tt
-dated shard facts (Some (Opened e)) follows = tt
-dated shard facts (Some (Ceiling at)) follows = tt
-dated shard facts (Some (Horizon at)) follows = tt
-dated shard facts (Some (Base e f n)) follows = tt
-dated shard facts (Some (Version i)) follows = tt
-dated shard facts (Some (Settled t at parts)) follows = tt
-dated shard facts (Some (Closed t coordinator outcome)) follows = tt
+dated shard facts _ follows = tt
 
 -- a log that was opened stays so
 pub stays_opened : (shard : ℕ) (facts : Facts) (r : Record) → 0 < facts.epoch → follows_facts shard facts r ≡ true → 0 < (learn facts r).epoch
 unfolding follows_facts learn
 stays_opened shard facts (Opened e) opened follows = grind (arith, nat_tests)
-stays_opened shard facts (Ceiling at) opened follows = opened
-stays_opened shard facts (Horizon at) opened follows = opened
-stays_opened shard facts (Prepare p) opened follows = opened
-stays_opened shard facts (Commit c) opened follows = opened
-stays_opened shard facts (Abort t) opened follows = opened
-stays_opened shard facts (Outcome t outcome) opened follows = opened
 stays_opened shard facts (Base e f n) opened follows = absurd (false≢true follows)
 stays_opened shard facts (Version i) opened follows = absurd (false≢true follows)
 stays_opened shard facts (Settled t at parts) opened follows = absurd (false≢true follows)
 stays_opened shard facts (Closed t coordinator outcome) opened follows = absurd (false≢true follows)
+stays_opened shard facts _ opened follows = opened
 
 -- so behind a record of a head
 pub stays_begun : (shard : ℕ) (stage : Stage) (facts : Facts) (r : Record) → 0 < facts.epoch → follows_head shard stage facts r ≡ true
     → 0 < (learn facts r).epoch
 unfolding follows_head learn
 stays_begun shard stage facts (Opened e) opened follows = absurd (false≢true follows)
-stays_begun shard stage facts (Ceiling at) opened follows = opened
-stays_begun shard stage facts (Horizon at) opened follows = opened
-stays_begun shard stage facts (Prepare p) opened follows = opened
-stays_begun shard stage facts (Commit c) opened follows = opened
-stays_begun shard stage facts (Abort t) opened follows = opened
-stays_begun shard stage facts (Outcome t outcome) opened follows = opened
 stays_begun shard stage facts (Base e f n) opened follows =
     let above : nat_lt 0 e ≡ true = (and_parts _ _ ((and_parts _ _ follows).0)).1 in ltb-true 0 e above
-stays_begun shard stage facts (Version i) opened follows = opened
-stays_begun shard stage facts (Settled t at parts) opened follows = opened
-stays_begun shard stage facts (Closed t coordinator outcome) opened follows = opened
+stays_begun shard stage facts _ opened follows = opened
 
 -- a record that a step may log may come next, and so may one of a head
 pub next_of : (shard : ℕ) (stage : Stage) (facts : Facts) (r : Record) → follows_facts shard facts r ≡ true → follows_next shard stage facts r ≡ true
@@ -78,18 +56,8 @@ next_in_head shard stage facts r follows = or_right (follows_facts shard facts r
 -- what it installs is told from the order of the versions
 pub can_in_head : (shard : ℕ) (stage : Stage) (facts : Facts) (r : Record) → follows_head shard stage facts r ≡ true → CanInstall facts r
 unfolding follows_head
-can_in_head shard stage facts (Opened e) follows = tt
-can_in_head shard stage facts (Ceiling at) follows = tt
-can_in_head shard stage facts (Horizon at) follows = tt
-can_in_head shard stage facts (Prepare p) follows = tt
-can_in_head shard stage facts (Commit c) follows = tt
-can_in_head shard stage facts (Abort t) follows = tt
-can_in_head shard stage facts (Outcome t None) follows = tt
 can_in_head shard stage facts (Outcome t (Some s)) follows = absurd (false≢true follows)
-can_in_head shard stage facts (Base e f n) follows = tt
-can_in_head shard stage facts (Version i) follows = tt
-can_in_head shard stage facts (Settled t at parts) follows = tt
-can_in_head shard stage facts (Closed t coordinator outcome) follows = tt
+can_in_head shard stage facts _ follows = tt
 
 -- the memory by its parts
 pub carried_is : (m next : Memory) (s : Step) → next.last ≡ s.plan.last
@@ -115,8 +83,3 @@ base_epoch e f n = refl
 pub none_stage : stage_of [] ≡ Head
 unfolding stage_of
 none_stage = refl
-
--- a timestamp that is raised to the later one
-pub raise_same : (last : ℕ) (o : Option ℕ) → max last (or_floor last o) ≡ or_floor last o
-raise_same last None = omega arith
-raise_same last (Some at) = omega arith

@@ -5,7 +5,7 @@ use Rattle.std.proofs.lemmas.Bool.{eqb-true, lt-ltb, ltb-true}
 use Rattle.units.specs.Lists.{gather, head, when}
 use Rattle.record.specs.Accepted.{begins, followed, followed_from, follows}
 use Rattle.record.specs.declared.record.Record.{Record}
-use Rattle.record.specs.declared.record.Record.TheVariants.{Opened, Ceiling, Prepare, Commit, Abort, Outcome, Horizon, Base, Version, Settled, Closed}
+use Rattle.record.specs.declared.record.Record.TheVariants.{Prepare, Commit, Settled, Closed}
 use Rattle.showing.specs.Stats.{decided_by, or_last, parts_in, shard_told}
 use Rattle.showing.specs.Whose.{TellsItsShard}
 use Rattle.showing.proofs.Accepting.{both}
@@ -19,42 +19,28 @@ never e = cc
 -- what a shard takes that is no decision is taken by each later shard
 taken_later : (s n : ℕ) (before : List Record) (r : Record) → s ≤ n → decided r ≡ None → follows s before r ≡ true → follows n before r ≡ true
 unfolding follows
-taken_later s n before (Opened epoch) less none takes = takes
-taken_later s n before (Ceiling at) less none takes = takes
-taken_later s n before (Horizon at) less none takes = takes
 taken_later s n before (Prepare p) less none takes =
     let parts = both _ (nat_lt p.coordinator s) takes in
     let below : p.coordinator < s = ltb-true p.coordinator s parts.1 in
     ap₂ (λ a b. a && b) parts.0 (lt-ltb p.coordinator n (omega (arith, below, less)))
 taken_later s n before (Commit c) less none takes =
     absurd (never (sym (ap (when (nat_eq s)) none) ∙ (both _ (when (nat_eq s) (head c.parts)) takes).1))
-taken_later s n before (Abort t) less none takes = takes
-taken_later s n before (Outcome t o) less none takes = takes
-taken_later s n before (Base epoch floor horizon) less none takes = takes
-taken_later s n before (Version install) less none takes = takes
 taken_later s n before (Settled t at parts) less none takes =
     absurd (never (sym (ap (when (nat_eq s)) none) ∙ (both _ (when (nat_eq s) (head parts)) takes).1))
 taken_later s n before (Closed t coordinator outcome) less none takes =
     let parts = both _ (nat_lt coordinator s) takes in
     let below : coordinator < s = ltb-true coordinator s parts.1 in
     ap₂ (λ a b. a && b) parts.0 (lt-ltb coordinator n (omega (arith, below, less)))
+taken_later s n before _ less none takes = takes
 
 -- a decision is that of the shard that takes it
 its_own : (s y : ℕ) (before : List Record) (r : Record) → decided r ≡ Some y → follows s before r ≡ true → y ≡ s
 unfolding follows
-its_own s y before (Opened epoch) is takes = cc
-its_own s y before (Ceiling at) is takes = cc
-its_own s y before (Horizon at) is takes = cc
-its_own s y before (Prepare p) is takes = cc
 its_own s y before (Commit c) is takes =
     sym (eqb-true s y (sym (ap (when (nat_eq s)) is) ∙ (both _ (when (nat_eq s) (head c.parts)) takes).1))
-its_own s y before (Abort t) is takes = cc
-its_own s y before (Outcome t o) is takes = cc
-its_own s y before (Base epoch floor horizon) is takes = cc
-its_own s y before (Version install) is takes = cc
 its_own s y before (Settled t at parts) is takes =
     sym (eqb-true s y (sym (ap (when (nat_eq s)) is) ∙ (both _ (when (nat_eq s) (head parts)) takes).1))
-its_own s y before (Closed t coordinator outcome) is takes = cc
+its_own s y before _ is takes = cc
 
 each_later : (s n : ℕ) (before rs : List Record) → s ≤ n → gather decided rs ≡ [] → followed_from s before rs ≡ true
     → followed_from n before rs ≡ true

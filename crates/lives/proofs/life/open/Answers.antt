@@ -20,7 +20,8 @@ returns-in-Ok-open c =
     (with_more c.args.call Doing.Open (opens_as s) (Ok []) tt
     (opened c.args.disk c.arm.new.self c.args.call (c.arm.ensures.plan tt) c.arm.ensures.same c.in-Ok.told s h down order (seen c.in-Ok-open.core)
     (seen c.arm-in-Ok-open.new.self)
-    (armed_from _ _ _ (c.arm-in-Ok-open.ensures.plan tt) c.arm-in-Ok-open.ensures.log c.arm-in-Ok-open.ensures.slot c.arm-in-Ok-open.ensures.state c.arm-in-Ok-open.ensures.file.0)
+    (armed_from _ _ _ (c.arm-in-Ok-open.ensures.plan tt) c.arm-in-Ok-open.ensures.log c.arm-in-Ok-open.ensures.slot
+    c.arm-in-Ok-open.ensures.state c.arm-in-Ok-open.ensures.file.0)
     c.in-Ok-open.ensures.opened)))
 
 pub returns-in-Err-open : goal.returns-in-Err-open

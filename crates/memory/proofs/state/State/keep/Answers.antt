@@ -1,12 +1,10 @@
-use Rattle.std.proofs.Common.{◌≡◌, ◌<◌, ◌∙◌, ℕ, true, max, Option, ap, sym, subst}
-use Rattle.record.specs.Facts.{Facts, learn, or_floor}
-use Rattle.record.specs.Records.{stamp_in}
-use Rattle.record.specs.declared.record.Record.{Record}
+use Rattle.std.proofs.Common.{◌≡◌, ◌<◌, ◌∙◌, true, sym, subst}
+use Rattle.record.specs.Facts.{Facts, learn}
 use Rattle.facts.specs.Stages.{follows_head}
 use Rattle.safetime.specs.Safe.{Times}
 use Rattle.memory.specs.Kept.{Kept}
 use Rattle.memory.specs.Served.{IsHolding}
-use Rattle.memory.proofs.Logged.{can_in_head, next_in_head, raise_same, stays_begun}
+use Rattle.memory.proofs.Logged.{can_in_head, next_in_head, stays_begun}
 use Rattle.memory.proofs.state.State.keep.Goals as goal
 
 pub learn-requires-clause-follows : goal.learn-requires-clause-follows
