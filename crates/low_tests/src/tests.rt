@@ -9,7 +9,7 @@ use crate::{
 use made::WrongRows;
 
 #[test]
-fn low_crates(rt: HostRuntime) {
+fn small_types_and_texts(rt: HostRuntime) {
     let alloc = rt.alloc();
     let mut wrong = WrongRows::none(alloc);
     limits::go_over(wrong.of("limits"), alloc);
@@ -25,6 +25,13 @@ fn low_crates(rt: HostRuntime) {
         "below a promise until it is settled",
     );
     wrong.unless(clocks::are_lifted(alloc), "one hold is lifted at a time");
+    end(&rt, wrong);
+}
+
+#[test]
+fn stories_and_what_is_shown(rt: HostRuntime) {
+    let alloc = rt.alloc();
+    let mut wrong = WrongRows::none(alloc);
     go_over(&mut wrong, &rt, "the lock table", &tables::STORIES);
     seated::go_over(wrong.of("rows"), alloc);
     sessions::go_over(wrong.of("sessions"), alloc);
