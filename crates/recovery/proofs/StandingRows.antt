@@ -60,7 +60,8 @@ no_row es t up own none = found es t up own ∙ by_entry (find_member (λ (e : T
     by_entry None k = refl
     by_entry (Some e) k = none e k
 
-module _ (es : List TxnStatus) (t : Id) (s : Status) (up : IsById (λ e. e.txn) es) (own : AllByRecursion IsOwn es) (new : IsOwn (record { txn = t; status = s })) where
+module _ (es : List TxnStatus) (t : Id) (s : Status) (up : IsById (λ e. e.txn) es) (own : AllByRecursion IsOwn es)
+    (new : IsOwn (record { txn = t; status = s })) where
   up_after : IsById (λ e. e.txn) (with_status es t s)
   up_after = by_id-status es t s up
 

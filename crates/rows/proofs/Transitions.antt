@@ -45,11 +45,13 @@ prepared {rows = rows} {t = t} {s = s} new table next z r out tied view idle min
 -- a phase of a transaction that reads
 pub reading_is_open : (w : Option Wait) → is_firm (phase_of_wait w) ≡ false
 reading_is_open None = refl
+reading_is_open (Some (Wait.Read k)) = refl
 reading_is_open _ = refl
 
 -- one that reads and may decide is idle
 reading_decides : (w : Option Wait) → may_decide (phase_of_wait w) ≡ true → phase_of_wait w ≡ Idle
 reading_decides None e = refl
+reading_decides (Some (Wait.Read k)) e = absurd (false≢true e)
 reading_decides _ e = absurd (false≢true e)
 
 -- who may decide reads or collects
