@@ -8,18 +8,18 @@ use std::marker::Model;
 use std::sync::Arc;
 
 // So many bytes stand beside the count of the owners, in one block, and more in a second one.
-const SHORT: usize = 23;
+const SHORT: usize = 24;
 
 /// A value of at most 4,096 bytes. Copies share its bytes, and count who shares them.
 pub struct Value {
-    text: Arc<Text>,
+    text: Text,
 }
 
-// The bytes: few of them at the front of a row, or a list.
+// The bytes. How many a short text has stands here, so that who copies them need not wait for its block.
 #[derive(Drop)]
 enum Text {
-    Short { bytes: [u8; SHORT], len: u8 },
-    Long(Vec<u8>),
+    Short { bytes: Arc<[u8; SHORT]>, len: u8 },
+    Long(Arc<Vec<u8>>),
 }
 
 impl Drop for Value {
@@ -30,14 +30,13 @@ impl Drop for Value {
 
 impl Model for Value {
     ghost use Rattle.std.specs.Prelude.{ℕ, List};
-    ghost use Rattle.std.specs.Arc.{arc_value};
     ghost use Rattle.units.specs.Value.{bytes_of, IsText};
 
     ghost Value = { List ℕ };
 
-    ghost view = { λ v. bytes_of (arc_value v.text) };
+    ghost view = { λ v. bytes_of v.text };
 
-    ghost invariant = { λ v. IsText (arc_value v.text) };
+    ghost invariant = { λ v. IsText v.text };
 }
 
 impl Value {
@@ -51,11 +50,10 @@ impl Value {
             return Err(Fault::BadRequest(Reason::Value));
         }
         let text = if bytes.len() <= SHORT {
-            short(bytes)
+            short(alloc, bytes)?
         } else {
-            Text::Long(bytes.to_vec(alloc)?)
+            Text::Long(Arc::new(alloc, bytes.to_vec(alloc)?)?)
         };
-        let text = Arc::new(alloc, text)?;
         Ok(Value { text })
     }
 
@@ -64,7 +62,7 @@ impl Value {
         ensures same { result.now ≡ self.now }
         ensures limit { length result.now ≤ 4096 }
     {
-        match &*self.text {
+        match &self.text {
             Text::Short { bytes, len } => &bytes[..usize::from(*len)],
             Text::Long(bytes) => bytes.as_slice(),
         }
@@ -75,23 +73,29 @@ impl Value {
         ensures same { IfOk result (λ value. value ≡ self.now) }
         ensures memory { IfErr result (λ fault. fault ≡ Fault.Memory) }
     {
-        let text = Arc::try_clone(&self.text)?;
+        let text = match &self.text {
+            Text::Short { bytes, len } => Text::Short {
+                bytes: Arc::try_clone(bytes)?,
+                len: *len,
+            },
+            Text::Long(bytes) => Text::Long(Arc::try_clone(bytes)?),
+        };
         Ok(Value { text })
     }
 }
 
 // The text of few bytes.
-fn short(bytes: &[u8]) -> Text
-    requires { length bytes.now ≤ 23 }
-    ensures same { bytes_of result ≡ bytes.now }
-    ensures is { IsText result }
+fn short(alloc: Global, bytes: &[u8]) -> Result<Text, Fault>
+    requires { length bytes.now ≤ 24 }
+    ensures text { IfOk result (λ text. (bytes_of text ≡ bytes.now) × IsText text) }
+    ensures memory { IfErr result (λ fault. fault ≡ Fault.Memory) }
 {
     let mut row = [0u8; SHORT];
     row[..bytes.len()].copy_from_slice(bytes);
-    Text::Short {
-        bytes: row,
+    Ok(Text::Short {
+        bytes: Arc::new(alloc, row)?,
         len: bytes.len() as u8,
-    }
+    })
 }
 
 /// An equal value, where there is one.
