@@ -7,7 +7,7 @@ use Rattle.std.proofs.lemmas.List.{append_assoc, length-append, get_or_append_le
 use Rattle.std.proofs.lemmas.Bool.Decides.{nat_tests}
 use Rattle.std.proofs.lemmas.List.Edits.{insert-append_left, insert-append_right}
 use Rattle.versions.specs.declared.chunk.Spot.{Spot}
-use Rattle.versions.specs.Pieces.{heads_of, joined, IsFilled, IsLaid}
+use Rattle.versions.specs.Pieces.{heads_of, last_head, joined, IsFilled, IsLaid}
 
 -- a piece before one that holds anything at such a place is full
 full_before : (p rest : List Spot) → IsFilled p rest → 4096 ≤ length (p ++ rest) → length p ≡ 4096
@@ -125,6 +125,28 @@ head_there ps i j e laid less lt =
     get_or-map (λ s. s.head) (joined ps) (i * 4096 + j) no_spot 0 lt
     ∙ ap (λ (s : Spot). s.head) (get_there ps i j e no_spot laid less lt)
     ∙ sym (get_or-map (λ s. s.head) (get_or ps i e) j no_spot 0 (place_there ps i j e laid less lt))
+
+few_there : (ps : List (List Spot)) (i : ℕ) (e : List Spot) → IsLaid ps → i < length ps → length (get_or ps i e) ≤ 4096
+few_there [] i e laid lt = absurd (omega arith)
+few_there (p ∷ ps) zero e laid lt = laid.0.few
+few_there (p ∷ ps) (suc i) e laid lt = few_there ps i e laid.1 (omega (arith, lt))
+
+-- and the last head of a full one is that of its last place
+pub last_there : (ps : List (List Spot)) (i : ℕ) (e : List Spot) → IsLaid ps → i * 4096 + 4095 < length (joined ps)
+    → get_or (heads_of (joined ps)) (i * 4096 + 4095) 0 ≡ last_head (get_or ps i e)
+last_there ps i e laid lt =
+    let less : 4095 < 4096 = omega arith in
+    let full : 4095 ≡ length (get_or ps i e) - 1 =
+    omega (arith, place_there ps i 4095 e laid less lt, few_there ps i e laid (piece_there ps i 4095 laid less lt)) in
+    head_there ps i 4095 e laid less lt ∙ ap (λ n. get_or (heads_of (get_or ps i e)) n 0) full
+
+pub last_is : (spots : List Spot) (ps : List (List Spot)) (i h : ℕ) (e : List Spot) → joined ps ≡ spots → IsLaid ps → i * 4096 + 4095 < length spots
+    → e ≡ get_or ps i e → h ≡ last_head e → get_or (heads_of spots) (i * 4096 + 4095) 0 ≡ h
+last_is spots ps i h e all laid lt is head =
+    ap (λ t. get_or (heads_of t) (i * 4096 + 4095) 0) (sym all)
+    ∙ last_there ps i e laid (omega (arith, lt, ap length all))
+    ∙ ap last_head (sym is)
+    ∙ sym head
 
 -- a piece ends where all do, or before
 pub piece_within : (ps : List (List Spot)) (i : ℕ) (e : List Spot) → IsLaid ps → i < length ps → i * 4096 ≤ length (joined ps)

@@ -1,7 +1,8 @@
 //! A piece of a long list of places, each with the head of its key.
 ghost use Rattle.std.specs.Prelude.{◌≡◌, ◌-◌, ◌<◌, ◌≤◌, ◌++◌, ◌∷◌, [], length, take, IfOk, IfErr, slice_index_or, slice_set};
 ghost use Rattle.std.specs.List.{insert};
-ghost use Rattle.versions.specs.Pieces.{heads_of};
+ghost use Rattle.std.specs.VecDeque.{deque_len, deque_capacity};
+ghost use Rattle.versions.specs.Pieces.{heads_of, last_head};
 
 use std::alloc::Global;
 use std::collections::VecDeque;
@@ -22,18 +23,22 @@ pub struct Spot {
 #[derive(Drop)]
 pub struct Piece {
     spots: VecDeque<Spot>,
+    // The head of the last one, or 0. It stands beside those of the other pieces, so that a search for a piece reads no place.
+    last: u64,
 }
 
 impl Model for Piece {
-    ghost use Rattle.std.specs.Prelude.{List, ◌≤◌};
+    ghost use Rattle.std.specs.Prelude.{◌≡◌, List, ◌≤◌};
     ghost use Rattle.std.specs.VecDeque.{deque_len, deque_capacity};
+    ghost use Rattle.versions.specs.Pieces.{last_head};
     ghost use Rattle.versions.specs.declared.chunk.Spot.{Spot};
 
     ghost Value = { List Spot };
 
     ghost view = { λ p. p.spots.items };
 
-    ghost invariant = { λ p. (4096 ≤ deque_capacity p.spots) × (deque_len p.spots ≤ 4096) };
+    ghost invariant = { λ p. (4096 ≤ deque_capacity p.spots) × (deque_len p.spots ≤ 4096)
+        × (p.last ≡ last_head p.spots.items) };
 }
 
 impl Piece {
@@ -43,7 +48,7 @@ impl Piece {
         ensures memory { IfErr result (λ fault. fault ≡ Fault.Memory) }
     {
         let spots = VecDeque::with_capacity(alloc, PIECE)?;
-        Ok(Piece { spots })
+        Ok(Piece { spots, last: 0 })
     }
 
     /// How many places it holds.
@@ -60,6 +65,13 @@ impl Piece {
         ensures { result ≡ slice_index_or self.now at result }
     {
         self.spots[at]
+    }
+
+    /// The head of its last place, 0 where it holds none.
+    pub fn last(&self) -> u64
+        ensures { result ≡ last_head self.now }
+    {
+        self.last
     }
 
     /// The first place whose head is not below a number, where heads ascend. A loop, and not the deque's own search, which waits for
@@ -89,6 +101,7 @@ impl Piece {
         ensures { self.new ≡ slice_set self.old at spot }
     {
         self.spots[at] = spot;
+        self.last = last_head(&self.spots);
     }
 
     /// Keeps so many from the front, and the space of all.
@@ -96,6 +109,7 @@ impl Piece {
         ensures { self.new ≡ take len self.old }
     {
         self.spots.truncate(len);
+        self.last = last_head(&self.spots);
     }
 
     /// Puts a place into a piece that is not full. It takes no memory.
@@ -104,10 +118,8 @@ impl Piece {
         requires room { length self.old < 4096 }
         ensures { self.new ≡ insert self.old at spot }
     {
-        match self.spots.insert(at, spot) {
-            Ok(()) => {}
-            Err(_) => unreachable!(),
-        }
+        put(&mut self.spots, at, spot);
+        self.last = last_head(&self.spots);
     }
 
     /// Puts a place into a full piece, whose last one is handed out. It takes no memory.
@@ -119,7 +131,31 @@ impl Piece {
         let Some(last) = self.spots.pop_back() else {
             unreachable!()
         };
-        self.insert(at, spot);
+        put(&mut self.spots, at, spot);
+        self.last = last_head(&self.spots);
         last
+    }
+}
+
+// Puts a place in, where there is space.
+fn put(spots: &mut VecDeque<Spot>, at: usize, spot: Spot)
+    requires at { at ≤ deque_len spots.old }
+    requires room { deque_len spots.old < deque_capacity spots.old }
+    ensures spots { spots.new.items ≡ insert spots.old.items at spot }
+    ensures capacity { deque_capacity spots.old ≤ deque_capacity spots.new }
+{
+    match spots.insert(at, spot) {
+        Ok(()) => {}
+        Err(_) => unreachable!(),
+    }
+}
+
+// The head of the last place.
+fn last_head(spots: &VecDeque<Spot>) -> u64
+    ensures { result ≡ last_head spots.now.items }
+{
+    match spots.back() {
+        Some(spot) => spot.head,
+        None => 0,
     }
 }

@@ -85,7 +85,7 @@ impl Sequence {
         let mut high = self.len / PIECE;
         while low < high {
             let middle = low + (high - low) / 2;
-            if self.get(middle * PIECE + (PIECE - 1)).head < head {
+            if self.pieces[middle].last() < head {
                 low = middle + 1;
             } else {
                 high = middle;
