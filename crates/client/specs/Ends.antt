@@ -30,12 +30,6 @@ abbrev pub ended_of : Finished → Ended
 ended_of (finished.Committed s) = ended.Committed s
 ended_of finished.Aborted = ended.Aborted
 
--- how it finished, unless that is unknown
-abbrev pub finish_of : Ended → Option Finished
-finish_of (ended.Committed s) = Some (finished.Committed s)
-finish_of ended.Aborted = Some finished.Aborted
-finish_of (ended.Unknown t) = None
-
 -- the end that was heard, where it was one
 abbrev pub end_heard : Hearing → List End
 end_heard (hearing.End done) = done ∷ []

@@ -2,7 +2,7 @@
 ghost use Rattle.std.specs.Prelude.{◌≡◌, true};
 ghost use Rattle.units.specs.Ids.{same_id};
 ghost use Rattle.session.specs.Shown.{finished_as};
-ghost use Rattle.client.specs.Ends.{ended_of, finish_of};
+ghost use Rattle.client.specs.Ends.{ended_of};
 
 use message::Done;
 use session::{Closed, Finished, Tx};
@@ -53,19 +53,6 @@ impl From<Finished> for Ended {
         match finished {
             Finished::Committed(at) => Ended::Committed(at),
             Finished::Aborted => Ended::Aborted,
-        }
-    }
-}
-
-impl Ended {
-    /// How it finished, unless that is unknown.
-    pub fn finished(self) -> Option<Finished>
-        ensures { result ≡ finish_of self }
-    {
-        match self {
-            Ended::Committed(at) => Some(Finished::Committed(at)),
-            Ended::Aborted => Some(Finished::Aborted),
-            Ended::Unknown(_) => None,
         }
     }
 }
