@@ -8,7 +8,7 @@ use Rattle.output.specs.declared.failure.Failure.TheVariants.{Refused, Unwritten
 use Rattle.command_line.specs.Commands.{Asked, help, once_asked, format_asked, play_asked, inspect_asked, drive_asked, dump_asked, history_asked}
 use Rattle.command_line.specs.Commands.{get_asked, put_asked, stats_asked, migrate_asked, compact_asked}
 use Rattle.system.specs.declared.asked.Driven.{Driven}
-use Rattle.drive.specs.declared.shards.NoVerdict.{NoVerdict}
+use Rattle.system.specs.declared.asked.NoVerdict.{NoVerdict}
 use Rattle.cli.specs.Faults.{FailsAs, IsNotDriven, IsRefusedBy, MayRefuse, MayRefuseTo}
 use Rattle.cli.specs.Puts.{Said, AnyEnd}
 use Rattle.cli.specs.Replies.{Tells, TellsTo}

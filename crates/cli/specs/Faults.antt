@@ -8,7 +8,7 @@ use Rattle.command_line.specs.Commands.{get_asked, put_asked, stats_asked, migra
 use Rattle.client.specs.declared.ended.Ended.{Ended}
 use Rattle.cli.specs.declared.engine.Put.{Put}
 use Rattle.compaction.specs.Compacted.{IsNotCompacted}
-use Rattle.drive.specs.declared.shards.NoVerdict.{NoVerdict}
+use Rattle.system.specs.declared.asked.NoVerdict.{NoVerdict}
 use Rattle.inspection.specs.Files.{IsNotJudged}
 use Rattle.output.specs.declared.failure.Failure.{Failure}
 use Rattle.output.specs.declared.failure.Failure.TheVariants.{Refused, Unwritten}

@@ -11,7 +11,7 @@ ghost use Rattle.output.specs.Replies.{Is};
 ghost use Rattle.cli.specs.Faults.{AnyFault, MayRefuseTo};
 ghost use Rattle.cli.specs.Puts.{AnyEnd};
 ghost use Rattle.drive.specs.Told.{HasNoVerdict};
-ghost use Rattle.drive.specs.declared.shards.NoVerdict.{NoVerdict};
+ghost use Rattle.system.specs.declared.asked.NoVerdict.{NoVerdict};
 ghost use Rattle.cli.specs.Replies.{Tells, TellsTo, reply_of, reply_to};
 ghost use Rattle.output.specs.Streams.{failures_of, fault_line, writer_of};
 

@@ -11,6 +11,7 @@ mod watched;
 
 pub use engine::{Driven, drive, drive_by};
 pub use opening::{Opened, open_shards, run_of};
-pub use shards::{NoVerdict, drive_shards, run};
+pub use shards::{drive_shards, run};
 pub use steady::SteadyClock;
+pub use system::NoVerdict;
 pub use unopened::{Unopened, UnopenedIn};
