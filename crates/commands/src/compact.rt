@@ -1,6 +1,6 @@
 //! The command `compact`: the records of a log, in a new file.
 ghost use Rattle.std.specs.Prelude.{◌≡◌, ◌⊎◌, ◌<◌, None, IfOk, IfErr};
-ghost use Rattle.cli.specs.Faults.{FailsAs};
+ghost use Rattle.commands.specs.Faults.{FailsAs};
 ghost use Rattle.output.specs.Failures.{FailsFor};
 ghost use Rattle.compaction.specs.Compacted.{IsNotCompacted};
 

@@ -2,7 +2,7 @@
 ghost use Rattle.std.specs.Prelude.{◌≡◌, ◌<◌, List, None, Err, ℕ, IfErr, IfOk};
 ghost use Rattle.std.specs.Io.KnownBytes.{Appends};
 ghost use Rattle.units.specs.declared.fault.Fault.{Fault};
-ghost use Rattle.cli.specs.Faults.{FailsAs, IsNotPlayed};
+ghost use Rattle.commands.specs.Faults.{FailsAs, IsNotPlayed};
 ghost use Rattle.output.specs.Failures.{FailsFor};
 ghost use Rattle.output.specs.declared.failure.Failure.TheVariants.{Refused};
 ghost use Rattle.output.specs.Streams.{failures_of, writer_of};

@@ -2,8 +2,8 @@
 ghost use Rattle.std.specs.Prelude.{◌≡◌, ◌<◌, None, Err, IfOk, IfErr, string_bytes};
 ghost use Rattle.std.specs.Io.KnownBytes.{Appends};
 ghost use Rattle.units.specs.declared.fault.Fault.{Fault};
-ghost use Rattle.cli.specs.Faults.{FailsAs, IsNotPut, IsUnputBy};
-ghost use Rattle.cli.specs.Puts.{IsPutBy, put_status, put_text};
+ghost use Rattle.commands.specs.Faults.{FailsAs, IsNotPut, IsUnputBy};
+ghost use Rattle.commands.specs.Puts.{IsPutBy, put_status, put_text};
 ghost use Rattle.client.specs.declared.ended.Ended.{Ended};
 ghost use Rattle.output.specs.Failures.{FailsFor};
 ghost use Rattle.output.specs.declared.failure.Failure.TheVariants.{Refused};
@@ -11,10 +11,10 @@ ghost use Rattle.output.specs.Streams.{failures_of, writer_of};
 
 use crate::engine::{Engine, Put};
 use crate::store_folder::splits_of;
+use client::Ended;
 use output::{Failure, Stream};
 use std::alloc::Global;
 use std::io::Write;
-use store::Ended;
 use system::{Files, System};
 use units::{Fault, Key, Value};
 

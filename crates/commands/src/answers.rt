@@ -13,10 +13,10 @@ ghost use Rattle.output.specs.Failures.{FailsFor};
 ghost use Rattle.output.specs.declared.failure.Failure.TheVariants.{Refused, Unwritten};
 ghost use Rattle.command_line.specs.Lines.{are_plain, asks_help};
 ghost use Rattle.output.specs.Replies.{Is};
-ghost use Rattle.cli.specs.Disks.{LogsCommand, LogsTo};
-ghost use Rattle.cli.specs.Faults.{FailsAs, IsRefusedBy, IsUnputBy, MayRefuse, MayRefuseTo};
-ghost use Rattle.cli.specs.Puts.{IsPutBy};
-ghost use Rattle.cli.specs.Replies.{Tells, TellsTo, reply_of, reply_to};
+ghost use Rattle.commands.specs.Disks.{LogsCommand, LogsTo};
+ghost use Rattle.commands.specs.Faults.{FailsAs, IsRefusedBy, IsUnputBy, MayRefuse, MayRefuseTo};
+ghost use Rattle.commands.specs.Puts.{IsPutBy};
+ghost use Rattle.commands.specs.Replies.{Tells, TellsTo, reply_of, reply_to};
 ghost use Rattle.output.specs.Streams.{failures_of, fault_line, writer_of};
 
 use crate::compact::compact;
@@ -32,16 +32,15 @@ use crate::migrate::migrate;
 use crate::play::play;
 use crate::put_command::put;
 use crate::stats_command::stats;
+use client::Ended;
 use command_line::{Command, command};
-use drive::NoVerdict;
 use once::once;
 use output::{Failure, Stream};
 use settings::Settings;
 use simdisk::SimDisk;
 use std::alloc::Global;
 use std::io::Write;
-use store::Ended;
-use system::{Driven, Files, System};
+use system::{Driven, Files, NoVerdict, System};
 use units::Fault;
 
 /// Carries a command line out, with what it asks of the system, on an empty disk and over standard output and standard error.

@@ -1,6 +1,6 @@
-use Rattle.cli.specs.Faults.{IsRefusedBy}
-use Rattle.cli.proofs.Refusals.{fails_by}
-use Rattle.cli.proofs.drive_command.run_drive.Goals as goal
+use Rattle.commands.specs.Faults.{IsRefusedBy}
+use Rattle.commands.proofs.Refusals.{fails_by}
+use Rattle.commands.proofs.drive_command.run_drive.Goals as goal
 
 pub returns-in-Err-clause-numbered : goal.returns-in-Err-clause-numbered
 returns-in-Err-clause-numbered g c =

@@ -9,9 +9,9 @@ use Rattle.command_line.specs.Commands.{Asked, help, once_asked, format_asked, p
 use Rattle.command_line.specs.Commands.{get_asked, put_asked, stats_asked, migrate_asked, compact_asked}
 use Rattle.system.specs.declared.asked.Driven.{Driven}
 use Rattle.system.specs.declared.asked.NoVerdict.{NoVerdict}
-use Rattle.cli.specs.Faults.{FailsAs, IsNotDriven, IsRefusedBy, MayRefuse, MayRefuseTo}
-use Rattle.cli.specs.Puts.{Said, AnyEnd}
-use Rattle.cli.specs.Replies.{Tells, TellsTo}
+use Rattle.commands.specs.Faults.{FailsAs, IsNotDriven, IsRefusedBy, MayRefuse, MayRefuseTo}
+use Rattle.commands.specs.Puts.{Said, AnyEnd}
+use Rattle.commands.specs.Replies.{Tells, TellsTo}
 
 -- what a call of what drives shards is refused for
 pub refused_by : {S : Type 0} (call : S → Result Driven NoVerdict → Type 0) (settings : S) (r : Result Driven NoVerdict) → call settings r

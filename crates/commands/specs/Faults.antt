@@ -6,7 +6,7 @@ use Rattle.units.specs.declared.fault.Reason.TheVariants.{Settings, Unlawful}
 use Rattle.command_line.specs.Commands.{Asked, help, once_asked, format_asked, play_asked, inspect_asked, drive_asked, dump_asked, history_asked}
 use Rattle.command_line.specs.Commands.{get_asked, put_asked, stats_asked, migrate_asked, compact_asked}
 use Rattle.client.specs.declared.ended.Ended.{Ended}
-use Rattle.cli.specs.declared.engine.Put.{Put}
+use Rattle.commands.specs.declared.engine.Put.{Put}
 use Rattle.compaction.specs.Compacted.{IsNotCompacted}
 use Rattle.system.specs.declared.asked.NoVerdict.{NoVerdict}
 use Rattle.inspection.specs.Files.{IsNotJudged}

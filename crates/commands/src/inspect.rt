@@ -3,7 +3,7 @@ ghost use Rattle.std.specs.Prelude.{◌≡◌, ◌<◌, ◌++◌, None, Err, IfO
 ghost use Rattle.std.specs.Io.KnownBytes.{Appends};
 ghost use Rattle.units.specs.declared.line.Verdict.{Verdict};
 ghost use Rattle.units.specs.declared.fault.Fault.{Fault};
-ghost use Rattle.cli.specs.Faults.{FailsAs};
+ghost use Rattle.commands.specs.Faults.{FailsAs};
 ghost use Rattle.inspection.specs.Files.{IsNotJudged};
 ghost use Rattle.output.specs.Failures.{FailsFor};
 ghost use Rattle.output.specs.declared.failure.Failure.TheVariants.{Refused};

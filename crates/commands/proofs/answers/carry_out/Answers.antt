@@ -4,11 +4,11 @@ use Rattle.units.specs.declared.fault.Fault.{Fault}
 use Rattle.command_line.specs.Commands.{Asked, command_of}
 use Rattle.command_line.specs.Lines.{Word, asks_help}
 use Rattle.command_line.specs.Views.{asked_for}
-use Rattle.cli.specs.Faults.{IsRefusedBy, IsUnputBy}
-use Rattle.cli.specs.Puts.{IsPutBy}
-use Rattle.cli.specs.Replies.{TellsTo}
-use Rattle.cli.proofs.Refusals.{fails_for, memory_of, none_of}
-use Rattle.cli.proofs.answers.carry_out.Goals as goal
+use Rattle.commands.specs.Faults.{IsRefusedBy, IsUnputBy}
+use Rattle.commands.specs.Puts.{IsPutBy}
+use Rattle.commands.specs.Replies.{TellsTo}
+use Rattle.commands.proofs.Refusals.{fails_for, memory_of, none_of}
+use Rattle.commands.proofs.answers.carry_out.Goals as goal
 
 pub returns-in-Ok-clause-tells : goal.returns-in-Ok-clause-tells
 returns-in-Ok-clause-tells g c plain =

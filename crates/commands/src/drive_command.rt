@@ -2,18 +2,17 @@
 ghost use Rattle.std.specs.Prelude.{◌≡◌, ◌⊎◌, ◌<◌, List, ℕ, None, Err, IfOk, IfErr};
 ghost use Rattle.std.specs.Io.KnownBytes.{Appends};
 ghost use Rattle.units.specs.declared.fault.Fault.{Fault};
-ghost use Rattle.cli.specs.Faults.{FailsAs, IsNotDriven, IsRefusedBy};
+ghost use Rattle.commands.specs.Faults.{FailsAs, IsNotDriven, IsRefusedBy};
 ghost use Rattle.output.specs.Failures.{FailsFor};
 ghost use Rattle.output.specs.declared.failure.Failure.TheVariants.{Refused, Unwritten};
 ghost use Rattle.output.specs.Streams.{failures_of, writer_of};
 
 use crate::engine::Engine;
-use drive::NoVerdict;
 use output::{Failure, Stream, status_of};
 use settings::Settings;
 use std::alloc::Global;
 use std::io::Write;
-use system::{Driven, Files, System, read_text};
+use system::{Driven, Files, NoVerdict, System, read_text};
 use units::Reason;
 
 /// Drives shards and workers by the settings of a file, and prints what came of it. Gives 0, or 1 where the verdict is a no. Where there

@@ -1,6 +1,6 @@
 //! The command `format`: a file with a new log.
 ghost use Rattle.std.specs.Prelude.{◌≡◌, ◌⊎◌, ◌<◌, None, IfOk, IfErr};
-ghost use Rattle.cli.specs.Faults.{FailsAs, IsNotMade};
+ghost use Rattle.commands.specs.Faults.{FailsAs, IsNotMade};
 ghost use Rattle.output.specs.Failures.{FailsFor};
 
 use output::Failure;

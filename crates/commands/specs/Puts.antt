@@ -5,7 +5,7 @@ use Rattle.units.specs.Texts.{txn_text}
 use Rattle.units.specs.declared.fault.Fault.{Fault}
 use Rattle.client.specs.declared.ended.Ended.{Ended}
 use Rattle.client.specs.declared.ended.Ended.TheVariants.{Aborted, Committed, Unknown}
-use Rattle.cli.specs.declared.engine.Put.{Put}
+use Rattle.commands.specs.declared.engine.Put.{Put}
 
 -- what became of it
 abbrev pub put_text : Ended → List ℕ

@@ -1,6 +1,6 @@
 //! The log of a store that a key is in, to be read alone.
 ghost use Rattle.std.specs.Prelude.{◌≡◌, ◌⊎◌, IfOk, IfErr};
-ghost use Rattle.cli.specs.Faults.{IsNoManifest, IsUnreadStore};
+ghost use Rattle.commands.specs.Faults.{IsNoManifest, IsUnreadStore};
 ghost use Rattle.units.specs.Keys.{shard_of};
 
 use host_files::manifest_text;

@@ -1,6 +1,6 @@
 //! The command `migrate`: a log of version 1, in a new file of version 2.
 ghost use Rattle.std.specs.Prelude.{◌≡◌, ◌⊎◌, ◌<◌, None, IfOk, IfErr};
-ghost use Rattle.cli.specs.Faults.{FailsAs};
+ghost use Rattle.commands.specs.Faults.{FailsAs};
 ghost use Rattle.output.specs.Failures.{FailsFor};
 ghost use Rattle.system.specs.Refusals.{IsNotMigrated};
 

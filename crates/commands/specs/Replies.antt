@@ -7,7 +7,7 @@ use Rattle.command_line.specs.Commands.{history_asked, get_asked, put_asked, sta
 use Rattle.command_line.specs.Lines.{Word}
 use Rattle.command_line.specs.declared.usage.TheConstants.{USAGE}
 use Rattle.client.specs.declared.ended.Ended.{Ended}
-use Rattle.cli.specs.Puts.{Said, put_status, put_text}
+use Rattle.commands.specs.Puts.{Said, put_status, put_text}
 use Rattle.once.specs.Replies.{once_reply}
 use Rattle.output.specs.Replies.{Expected}
 use Rattle.output.specs.Verdicts.{exit_status, text_of}
