@@ -1,4 +1,5 @@
 //! Stores over disks in memory, and what clients of theirs do.
+use host_files::logs_in_memory;
 use simdisk::SimDisk;
 use std::alloc::Global;
 use std::process::Abort;
@@ -7,6 +8,11 @@ use std::thread::Threads;
 use std::time;
 use store::{Client, Ended, Halt, Options, Store, Transaction, View};
 use units::{Fault, Key, Splits, Stride, Value};
+
+/// So many disks with an empty log.
+pub fn disks_of(rt: &impl Abort, alloc: Global, logs: usize) -> Vec<SimDisk> {
+    logs_in_memory(alloc, logs).ok().expect(rt, "logs")
+}
 
 /// Options of a store of so many clients over one shard.
 pub fn of_one_shard(rt: &impl Abort, alloc: Global, clients: u64) -> Options {

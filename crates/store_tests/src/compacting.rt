@@ -1,8 +1,7 @@
 //! Logs that are compacted, and take the names of the old ones.
-use crate::commands::{DONE, NO_DEVICE, NO_LOG, Output, Step, furnished, go_over};
-use crate::folder::Folder;
+use crate::command_lines::{DONE, NO_DEVICE, NO_LOG, Output, Step, furnished, go_over, put};
 use crate::verdict::end;
-use made::{ONE_COMMIT, WrongRows, in_version_1, with_slots};
+use made::{Folder, ONE_COMMIT, WrongRows, in_version_1, with_slots};
 use std::alloc::Global;
 use std::process::Abort;
 
@@ -114,22 +113,22 @@ fn turned_over(test: &impl Abort, alloc: Global, first: &[u8], offset: [u8; 2]) 
 fn put_files(rt: &HostRuntime, test: &impl Abort, folder: &Folder) {
     let alloc = rt.alloc();
     let turned = turned_over(test, alloc, &ONE_COMMIT, [0x24, 0x60]);
-    folder.put_bytes(rt, test, "turned.log", &turned);
+    put(rt, test, folder, "turned.log", &turned);
     drop(turned);
     let cut = with_slots(alloc, b"SPNLOG02").ok().expect(test, "memory");
-    folder.put_bytes(rt, test, "cut.log", &cut);
+    put(rt, test, folder, "cut.log", &cut);
     drop(cut);
-    folder.put_bytes(rt, test, "old.log", &in_version_1(ONE_COMMIT));
+    put(rt, test, folder, "old.log", &in_version_1(ONE_COMMIT));
 }
 
 // The compaction of the log that was turned over: its records alone, from byte 9,225 on.
 fn is_short(rt: &HostRuntime, test: &impl Abort, folder: &Folder) -> bool {
     let alloc = rt.alloc();
     let short = turned_over(test, alloc, b"SPNLOG02\0", [0x24, 0x09]);
-    let made = short.len() == 9_308 && folder.has(rt, test, "short.log", &short);
+    let made = short.len() == 9_308 && folder.has(rt, "short.log", &short);
     drop(short);
     let turned = turned_over(test, alloc, &ONE_COMMIT, [0x24, 0x60]);
-    let stays = turned.len() == 9_395 && folder.has(rt, test, "turned.log", &turned);
+    let stays = turned.len() == 9_395 && folder.has(rt, "turned.log", &turned);
     drop(turned);
     made && stays
 }
@@ -143,8 +142,12 @@ fn compacted_logs(rt: HostRuntime) {
     go_over(&mut wrong, &rt, &rt, &folder, &STEPS);
     wrong.unless(is_short(&rt, &rt, &folder), "the files");
     if wrong.is_none() {
-        folder.rename(&rt, &rt, "shard-0.new", "shard-0.log");
-        folder.rename(&rt, &rt, "shard-1.new", "shard-1.log");
+        for (new, old) in [
+            ("shard-0.new", "shard-0.log"),
+            ("shard-1.new", "shard-1.log"),
+        ] {
+            folder.rename(&rt, new, old).ok().expect(&rt, new);
+        }
         go_over(wrong.of("swapped"), &rt, &rt, &folder, &SWAPPED);
     }
     wrong.unless(folder.remove(&rt), "the folder");

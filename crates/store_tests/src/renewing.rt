@@ -1,6 +1,5 @@
 //! Stores that renew their logs: what the log of a shard begins with, and what is seen once it is opened again.
-use crate::clients::{of_one_shard, store_of, tells, write};
-use crate::disks::disks_of;
+use crate::clients::{disks_of, of_one_shard, store_of, tells, write};
 use crate::verdict::end;
 use gatelog::GateLog;
 use made::WrongRows;
@@ -104,7 +103,7 @@ fn is_renewed(rt: &impl Abort, alloc: Global, disks: Vec<SimDisk>) -> (bool, Vec
 
 // Whether a store's log is renewed as the row says, and what was written is seen over it.
 fn goes<R: Threads + Wait + time::Clock + Sync + Abort>(rt: &R, alloc: Global, row: &Row) -> bool {
-    let store = open(rt, alloc, disks_of(rt, alloc, 1, false), row);
+    let store = open(rt, alloc, disks_of(rt, alloc, 1), row);
     let served = store.serve(|clients: Vec<Client<'_, R>>| write_all(rt, alloc, clients));
     let Ok((wrote, disks)) = served else {
         return false;

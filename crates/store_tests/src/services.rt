@@ -1,6 +1,5 @@
 //! Services over disks in memory: what a client is told where a shard's device fails, and what a store goes on from that is opened again.
-use crate::clients::{of_two_shards, store_of, write};
-use crate::disks::{disks_of, failing};
+use crate::clients::{disks_of, of_two_shards, store_of, write};
 use crate::verdict::end;
 use made::WrongRows;
 use simdisk::SimDisk;
@@ -131,7 +130,10 @@ fn goes_on<R: Wait + time::Clock>(
 
 // Whether that is so of a store over the disks of the row.
 fn goes<R: Threads + Wait + time::Clock + Sync + Abort>(rt: &R, alloc: Global, row: &Row) -> bool {
-    let disks = failing(rt, alloc, row.shard, row.call);
+    let mut disks = disks_of(rt, alloc, 2);
+    if let Some(disk) = disks.get_mut(usize::from(row.shard)) {
+        disk.fail_next(row.call);
+    }
     let store = store_of(rt, alloc, disks, of_two_shards(rt, alloc, 100_000));
     let served = store.serve(|clients: Vec<Client<'_, R>>| goes_on(rt, alloc, clients, row));
     match served {
@@ -191,7 +193,7 @@ fn opened<R: Threads + Wait + time::Clock + Sync + Abort>(
 // It fails where a store's ids begin anew, or its clock does, which the logs are ten seconds ahead of.
 #[test]
 fn stores_go_on_from_their_logs(rt: HostRuntime) {
-    let disks = disks_of(&rt, rt.alloc(), 2, false);
+    let disks = disks_of(&rt, rt.alloc(), 2);
     let ((first, at), disks) = opened(&rt, rt.alloc(), disks);
     let ((second, later), disks) = opened(&rt, rt.alloc(), disks);
     drop(disks);
@@ -206,7 +208,8 @@ fn stores_go_on_from_their_logs(rt: HostRuntime) {
 #[test]
 fn refused_shards_are_named(rt: HostRuntime) {
     let alloc = rt.alloc();
-    let disks = disks_of(&rt, alloc, 1, true);
+    let mut disks = disks_of(&rt, alloc, 1);
+    disks.push(SimDisk::new(alloc)).ok().expect(&rt, "memory");
     let unopened = match Store::open(&rt, alloc, disks, of_two_shards(&rt, alloc, 0)) {
         Ok(store) => {
             drop(store);

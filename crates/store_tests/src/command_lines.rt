@@ -1,10 +1,9 @@
 //! Commands, one after the other in one folder.
-use crate::folder::Folder;
 use crate::verdict::end;
 use cli::{Driven, Ended, Engine, Hints, NoVerdict, Put, Stream, System, answer, put_in_store};
 use drive::drive_shards;
 use host_files::HostFiles;
-use made::{ONE_COMMIT, WrongRows, in_version_1, with_slots};
+use made::{Folder, ONE_COMMIT, WrongRows, in_version_1, with_slots};
 use settings::Settings;
 use simdisk::SimDisk;
 use std::alloc::Global;
@@ -216,18 +215,23 @@ static MIGRATIONS: [Step; 9] = [
 const IN_MEMORY: &str =
     "shards = 2\nsplits = [\"k0005\"]\nstride = 1000\nepsilon = 100\nworkers = 4\ntransactions = 50\nkeys = 10\n";
 
+/// Puts a file into a folder.
+pub fn put(rt: &HostRuntime, test: &impl Abort, folder: &Folder, name: &str, bytes: &[u8]) {
+    folder.put(rt, name, bytes).ok().expect(test, name);
+}
+
 // A folder with what the commands name.
 pub fn furnished(rt: &HostRuntime, test: &impl Abort) -> Folder {
-    let folder = Folder::new(rt, test);
-    let dir = folder.path(rt, test, ".");
+    let folder = Folder::new(rt).ok().expect(test, "a folder");
+    let dir = folder.path(rt.alloc(), ".").ok().expect(test, "memory");
     let text = format!(in rt.alloc(); "{IN_MEMORY}dir = \"{dir}\"\n");
     drop(dir);
     let text = text.ok().expect(test, "settings");
-    folder.put(rt, test, "no.lines", Some(""));
-    folder.put(rt, test, "memory.settings", Some(IN_MEMORY));
-    folder.put(rt, test, "files.settings", Some(text.as_str()));
-    folder.put(rt, test, "folder", None);
+    put(rt, test, &folder, "no.lines", b"");
+    put(rt, test, &folder, "memory.settings", IN_MEMORY.as_bytes());
+    put(rt, test, &folder, "files.settings", text.as_bytes());
     drop(text);
+    folder.put_folder(rt, "folder").ok().expect(test, "folder");
     folder
 }
 
@@ -271,9 +275,10 @@ fn words_of(rt: &HostRuntime, test: &impl Abort, folder: &Folder, line: &str) ->
     let mut words = Vec::new(rt.alloc());
     for word in line.split(' ') {
         let whole = match word.strip_prefix("./") {
-            Some(name) => folder.path(rt, test, name),
-            None => format!(in rt.alloc(); "{word}").ok().expect(test, "memory"),
+            Some(name) => folder.path(rt.alloc(), name),
+            None => format!(in rt.alloc(); "{word}"),
         };
+        let whole = whole.ok().expect(test, "memory");
         words.push(whole).ok().expect(test, "memory");
     }
     words
@@ -375,8 +380,8 @@ fn commands_over_files(rt: HostRuntime) {
     let folder = furnished(&rt, &rt);
     let mut wrong = WrongRows::none(rt.alloc());
     go_over(&mut wrong, &rt, &rt, &folder, &STEPS);
-    folder.put(&rt, &rt, "closed", Some(""));
-    if folder.close(&rt, &rt, "closed") {
+    put(&rt, &rt, &folder, "closed", b"");
+    if folder.close(&rt, "closed") {
         go_over(wrong.of("closed"), &rt, &rt, &folder, &CLOSED);
     }
     wrong.unless(folder.remove(&rt), "the folder");
@@ -393,15 +398,15 @@ fn without_its_end(bytes: &[u8]) -> &[u8] {
 fn migrated_logs(rt: HostRuntime) {
     let folder = furnished(&rt, &rt);
     let old = in_version_1(ONE_COMMIT);
-    folder.put_bytes(&rt, &rt, "old.log", &old);
-    folder.put_bytes(&rt, &rt, "cut.log", without_its_end(&old));
+    put(&rt, &rt, &folder, "old.log", &old);
+    put(&rt, &rt, &folder, "cut.log", without_its_end(&old));
     let mut wrong = WrongRows::none(rt.alloc());
     go_over(&mut wrong, &rt, &rt, &folder, &MIGRATIONS);
-    let stays = folder.has(&rt, &rt, "old.log", &old);
+    let stays = folder.has(&rt, "old.log", &old);
     let whole = with_slots(rt.alloc(), &ONE_COMMIT)
         .ok()
         .expect(&rt, "memory");
-    let made = folder.has(&rt, &rt, "new.log", &whole);
+    let made = folder.has(&rt, "new.log", &whole);
     drop(whole);
     wrong.unless(stays && made, "the files");
     wrong.unless(folder.remove(&rt), "the folder");

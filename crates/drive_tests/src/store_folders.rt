@@ -1,9 +1,8 @@
 //! Folders of a store of two shards, which part at `m`: what is taken, what is refused, and what is left under which name.
-use crate::folder::Folder;
 use crate::verdict::end;
 use drive::drive_shards;
 use host_files::logs_in;
-use made::{FIRST_GATE, WrongRows, with_slots};
+use made::{FIRST_GATE, Folder, WrongRows, with_slots};
 use settings::Settings;
 use std::alloc::Global;
 use std::fs::{self, File, Metadata, OpenOptions};
@@ -354,15 +353,21 @@ fn splits(test: &impl Abort, alloc: Global) -> Splits {
     Splits::new(alloc, &[split]).expect(test, "splits")
 }
 
+// The path of a name in a folder.
+fn path_of(rt: &HostRuntime, test: &impl Abort, folder: &Folder, name: &str) -> String {
+    folder.path(rt.alloc(), name).ok().expect(test, "memory")
+}
+
 // Puts the files of a scene into a folder.
 fn furnish(rt: &HostRuntime, test: &impl Abort, folder: &Folder, scene: &Scene) {
     for (name, bytes) in scene.files {
         let whole = with_slots(rt.alloc(), bytes).ok().expect(test, "memory");
-        folder.put_bytes(rt, test, name, &whole);
+        let put = folder.put(rt, name, &whole);
         drop(whole);
+        put.ok().expect(test, name);
     }
     if let Some(link) = scene.link {
-        let path = folder.path(rt, test, link);
+        let path = path_of(rt, test, folder, link);
         let made = symlink(rt, "precious", path.as_str());
         drop(path);
         made.ok().expect(test, link);
@@ -372,14 +377,14 @@ fn furnish(rt: &HostRuntime, test: &impl Abort, folder: &Folder, scene: &Scene) 
 // Whether a file has these bytes.
 fn has(rt: &HostRuntime, test: &impl Abort, folder: &Folder, named: &Named) -> bool {
     let whole = with_slots(rt.alloc(), named.1).ok().expect(test, "memory");
-    let same = folder.has(rt, test, named.0, &whole);
+    let same = folder.has(rt, named.0, &whole);
     drop(whole);
     same
 }
 
 // Whether nothing has a name.
 fn lacks(rt: &HostRuntime, test: &impl Abort, folder: &Folder, name: &str) -> bool {
-    let path = folder.path(rt, test, name);
+    let path = path_of(rt, test, folder, name);
     let found = fs::symlink_metadata(rt, path.as_str());
     drop(path);
     found.is_err()
@@ -408,7 +413,7 @@ fn asked(
     fails: u64,
 ) -> (Option<Fault>, bool) {
     let faulty = Faulty::new(rt, fails);
-    let path = folder.path(rt, test, ".");
+    let path = path_of(rt, test, folder, ".");
     let splits = splits(test, rt.alloc());
     let logs = logs_in(&faulty, rt.alloc(), path.as_str(), &splits);
     drop(path);
@@ -427,7 +432,7 @@ fn asked(
 // the call behind it goes as if none had failed.
 fn goes(rt: &HostRuntime, test: &impl Abort, scene: &Scene) -> bool {
     for fails in 0..200 {
-        let folder = Folder::new(rt, test);
+        let folder = Folder::new(rt).ok().expect(test, "a folder");
         furnish(rt, test, &folder, scene);
         let (fault, failed) = asked(rt, test, &folder, fails);
         let first = fault == scene.refused || failed && fault == Some(Fault::Device);
@@ -454,7 +459,7 @@ fn folders(rt: HostRuntime) {
 
 // One worker, two transactions, over a folder.
 fn settings_of(rt: &HostRuntime, test: &impl Abort, folder: &Folder) -> Settings {
-    let dir = folder.path(rt, test, ".");
+    let dir = path_of(rt, test, folder, ".");
     let text = format!(in rt.alloc();
         "shards = 2\nsplits = [\"k0001\"]\nstride = 1000\nepsilon = 100\nworkers = 1\ntransactions = 4\nkeys = 2\ndir = \"{dir}\"\n"
     );
@@ -474,15 +479,9 @@ fn driven<R: Files<File = File> + RandomSource + Threads + Wait + time::Clock + 
 ) -> [Vec<u8>; 2] {
     let driven = drive_shards(test, rt.alloc(), settings, None::<Vec<u8>>);
     drop(driven.ok().expect(test, "a drive"));
-    let first = folder.path(rt, test, "shard-0.log");
-    let second = folder.path(rt, test, "shard-1.log");
-    let logs = [
-        fs::read(rt, first.as_str()).ok().expect(test, "a log"),
-        fs::read(rt, second.as_str()).ok().expect(test, "a log"),
-    ];
-    drop(first);
-    drop(second);
-    logs
+    let first = folder.read(rt, "shard-0.log").ok();
+    let second = folder.read(rt, "shard-1.log").ok();
+    [first.expect(test, "a log"), second.expect(test, "a log")]
 }
 
 // Whether a log begins with what it was, and goes on with the second opening.
@@ -499,7 +498,7 @@ fn goes_on(before: &[u8], after: &[u8]) -> bool {
 // A second drive over one folder opens run 2, and loses nothing of the first.
 #[test]
 fn a_second_drive(rt: HostRuntime) {
-    let folder = Folder::new(&rt, &rt);
+    let folder = Folder::new(&rt).ok().expect(&rt, "a folder");
     let settings = settings_of(&rt, &rt, &folder);
     let [first, second] = driven(&rt, &rt, &folder, &settings);
     let [first_again, second_again] = driven(&rt, &rt, &folder, &settings);

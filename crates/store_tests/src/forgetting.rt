@@ -1,6 +1,5 @@
 //! Stores that forget: a view that is older than what is kept is refused, and a young one is answered.
-use crate::clients::{of_one_shard, store_of, tells, write};
-use crate::disks::disks_of;
+use crate::clients::{disks_of, of_one_shard, store_of, tells, write};
 use crate::verdict::end;
 use made::WrongRows;
 use std::alloc::Global;
@@ -72,7 +71,7 @@ fn ends<R: Wait + time::Clock>(
 fn goes<R: Threads + Wait + time::Clock + Sync + Abort>(rt: &R, alloc: Global, row: &Row) -> bool {
     let mut options = of_one_shard(rt, alloc, 2);
     options.keep = row.keep;
-    let store = store_of(rt, alloc, disks_of(rt, alloc, 1, false), options);
+    let store = store_of(rt, alloc, disks_of(rt, alloc, 1), options);
     let served = store.serve(|clients: Vec<Client<'_, R>>| ends(rt, alloc, clients));
     match served {
         Ok((ended, disks)) => {
