@@ -22,10 +22,10 @@ use Rattle.shard.specs.Core.{seen}
 use Rattle.shard.specs.Logs.{records_in}
 use Rattle.shard.specs.Opened.{IsTaken, IsToldReason, next_opening}
 use Rattle.node.specs.Openings.{IsOpening}
-use Rattle.drive.specs.Openings.{AreOpened, AreSetups, IsCauseOf, IsFirstOf, IsOpenedOver, epoch_in, last_in}
-use Rattle.drive.specs.Setups.{IsSetupOf}
-use Rattle.drive.specs.Unopened.{HoldLogs, IsFirst, IsLastIn, IsRefusedFirst, IsRunOver, floor_in, next_in}
-use Rattle.drive.specs.declared.unopened.Unopened.{Unopened}
+use Rattle.fleet.specs.Openings.{AreOpened, AreSetups, IsCauseOf, IsFirstOf, IsOpenedOver, epoch_in, last_in}
+use Rattle.fleet.specs.Setups.{IsSetupOf}
+use Rattle.fleet.specs.Unopened.{HoldLogs, IsFirst, IsLastIn, IsRefusedFirst, IsRunOver, floor_in, next_in}
+use Rattle.fleet.specs.declared.unopened.Unopened.{Unopened}
 
 -- ---- lists
 

@@ -14,7 +14,7 @@ pub struct Unopened {
 
 impl From<Fault> for Unopened {
     ghost use Rattle.std.specs.Prelude.{◌≡◌};
-    ghost use Rattle.drive.specs.Unopened.{unopened_for};
+    ghost use Rattle.fleet.specs.Unopened.{unopened_for};
 
     ghost from_gives = { λ fault unopened. unopened ≡ unopened_for fault };
 
@@ -25,7 +25,7 @@ impl From<Fault> for Unopened {
 
 impl fmt::Display for Unopened {
     ghost use Rattle.std.specs.Prelude.{Some};
-    ghost use Rattle.drive.specs.Unopened.{unopened_text};
+    ghost use Rattle.fleet.specs.Unopened.{unopened_text};
 
     ghost output = { λ u. Some (unopened_text u) };
 
@@ -47,7 +47,7 @@ pub struct UnopenedIn<'a> {
 
 impl fmt::Display for UnopenedIn<'_> {
     ghost use Rattle.std.specs.Prelude.{Some};
-    ghost use Rattle.drive.specs.Unopened.{unopened_in_text};
+    ghost use Rattle.fleet.specs.Unopened.{unopened_in_text};
 
     ghost output = { λ u. Some (unopened_in_text u.folder.now u.unopened) };
 

@@ -1,8 +1,8 @@
 use Rattle.std.proofs.Common.{◌≡◌, ◌<◌, ◌++◌, ◌∷◌, [], length, Some, refl, ap, sym, ◌∙◌, arith}
 use Rattle.std.proofs.lemmas.Bool.{eqb-true}
-use Rattle.drive.proofs.Openings.{all_opened, below_all, front_of, none_opened, one_opened, taken_front}
-use Rattle.drive.proofs.Outcomes.{not_empty}
-use Rattle.drive.proofs.opening.nodes_over.Goals as goal
+use Rattle.fleet.proofs.Openings.{all_opened, below_all, front_of, none_opened, one_opened, taken_front}
+use Rattle.fleet.proofs.Outcomes.{not_empty}
+use Rattle.fleet.proofs.opening.nodes_over.Goals as goal
 
 pub remove-requires : goal.remove-requires
 remove-requires g c = not_empty _ _ c.is_empty.ensures c.loop-rt-test.true

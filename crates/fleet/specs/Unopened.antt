@@ -1,5 +1,5 @@
 -- Which shard is not opened, and why; and what an opening begins with.
-use Rattle.std.specs.Prelude.{◌≡◌, ◌⊎◌, ℕ, ◌+◌, List, [], ◌∷◌, ◌++◌, length, map, Some, None, Result, Ok, Err, IsOk, IfSome, IfNone, codes}
+use Rattle.std.specs.Prelude.{◌≡◌, ◌⊎◌, ℕ, ◌+◌, List, [], ◌∷◌, ◌++◌, length, map, Some, None, Result, Ok, Err, IsOk, IfSome, IfNone, IsTrue, codes}
 use Rattle.std.specs.Fmt.{decimal}
 use Rattle.units.specs.Faults.{fault_text}
 use Rattle.units.specs.Keys.{Bytes}
@@ -12,13 +12,21 @@ use Rattle.disk.specs.File.{File, surface}
 use Rattle.record.specs.Records.{epoch_of, floor_of}
 use Rattle.record.specs.declared.record.Record.{Record}
 use Rattle.shard.specs.Logs.{records_in}
-use Rattle.shard.specs.Opened.{IsToldReason}
-use Rattle.drive.specs.Setups.{IsSetupOf}
-use Rattle.drive.specs.declared.unopened.Unopened.{Unopened}
+use Rattle.shard.specs.Opened.{IsToldReason, is_reason}
+use Rattle.fleet.specs.Setups.{IsSetupOf}
+use Rattle.fleet.specs.declared.unopened.Unopened.{Unopened}
 
 -- a fault that is of all shards
 abbrev pub unopened_for : Fault → Unopened
 unopened_for fault = record { shard = None; fault = fault }
+
+-- why no node is over a disk: memory is wanting, its device has failed, or it holds no log of its shard's that may be opened once more
+abbrev pub IsUnopened : Fault → Type 0
+IsUnopened fault = (fault ≡ Memory) ⊎ ((fault ≡ Device) ⊎ IsTrue (is_reason fault))
+
+-- why there are no nodes: the settings are beyond their limits, or a shard is not opened
+abbrev pub IsUnmade : Fault → Type 0
+IsUnmade fault = (fault ≡ BadRequest Settings) ⊎ IsUnopened fault
 
 -- how it is printed
 abbrev pub unopened_text : Unopened → List ℕ

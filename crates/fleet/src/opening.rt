@@ -1,9 +1,8 @@
 //! The nodes of a drive.
 ghost use Rattle.std.specs.Prelude.{◌≡◌, ◌≢◌, ◌⊎◌, ◌≤◌, ◌+◌, ◌<◌, length, map, max, Err, Some, IfErr, IfOk, IsOk, OnOk};
-ghost use Rattle.drive.specs.Openings.{AreSetups, IsCauseOf, IsEarly, IsFirstOf, IsOpenedOver, epoch_in, last_in};
-ghost use Rattle.drive.specs.Setups.{IsSetupOf};
-ghost use Rattle.drive.specs.Told.{IsUnmade};
-ghost use Rattle.drive.specs.Unopened.{IsFirst, IsLastIn, IsRunOver, unopened_for};
+ghost use Rattle.fleet.specs.Openings.{AreSetups, IsCauseOf, IsEarly, IsFirstOf, IsOpenedOver, epoch_in, last_in};
+ghost use Rattle.fleet.specs.Setups.{IsSetupOf};
+ghost use Rattle.fleet.specs.Unopened.{IsFirst, IsLastIn, IsRunOver, IsUnmade, unopened_for};
 
 use crate::unopened::Unopened;
 use board::Viewer;

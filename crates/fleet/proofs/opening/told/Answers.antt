@@ -1,9 +1,9 @@
 use Rattle.std.proofs.Common.{rules, ◌≡◌, ◌+◌, ◌∷◌, List, length, refl, sym, subst, arith, ℕ}
 use Rattle.units.specs.declared.setup.Setup.{Setup}
-use Rattle.drive.specs.Openings.{AreSetups}
-use Rattle.drive.specs.Setups.{IsSetupOf}
-use Rattle.drive.proofs.Openings.{setups_on, told_on}
-use Rattle.drive.proofs.opening.told.Goals as goal
+use Rattle.fleet.specs.Openings.{AreSetups}
+use Rattle.fleet.specs.Setups.{IsSetupOf}
+use Rattle.fleet.proofs.Openings.{setups_on, told_on}
+use Rattle.fleet.proofs.opening.told.Goals as goal
 
 pub loop-disk-preserved : goal.loop-disk-preserved
 loop-disk-preserved g c =

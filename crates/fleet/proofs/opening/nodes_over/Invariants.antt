@@ -1,6 +1,6 @@
 use Rattle.std.proofs.Common.{◌≡◌, ◌++◌, List, length, vec_len}
-use Rattle.drive.specs.Openings.{IsOpenedOver}
-use Rattle.drive.proofs.opening.nodes_over.Given as goal
+use Rattle.fleet.specs.Openings.{IsOpenedOver}
+use Rattle.fleet.proofs.opening.nodes_over.Given as goal
 
 abbrev pub invariant-loop-rt : goal.invariant-loop-rt
 invariant-loop-rt g l = record {

@@ -1,6 +1,6 @@
 use Rattle.std.proofs.Common.{◌≡◌, ◌≤◌, ◌++◌, length, map}
-use Rattle.drive.specs.Openings.{AreSetups}
-use Rattle.drive.proofs.opening.told.Given as goal
+use Rattle.fleet.specs.Openings.{AreSetups}
+use Rattle.fleet.proofs.opening.told.Given as goal
 
 abbrev pub invariant-loop-disk : goal.invariant-loop-disk
 invariant-loop-disk g l = record {

@@ -8,8 +8,8 @@ use Rattle.units.specs.declared.fault.Reason.TheVariants.{Settings}
 use Rattle.units.specs.declared.setup.Setup.{Setup}
 use Rattle.shard.specs.declared.shard_core.Core.{Core}
 use Rattle.shard.specs.Core.{seen}
-use Rattle.drive.specs.Setups.{IsSetupOf}
-use Rattle.drive.specs.declared.unopened.Unopened.{Unopened}
+use Rattle.fleet.specs.Setups.{IsSetupOf}
+use Rattle.fleet.specs.declared.unopened.Unopened.{Unopened}
 
 -- each of some disks has the setup of its place, from a number on
 abbrev pub AreSetups : {D : Type 0} → List Bytes → ℕ → ℕ → List (D × Setup) → Type 0

@@ -7,9 +7,8 @@ use Rattle.units.specs.declared.fault.Fault.TheVariants.{BadRequest, Memory}
 use Rattle.units.specs.declared.fault.Reason.TheVariants.{Settings}
 use Rattle.disk.specs.File.{File}
 use Rattle.desk.specs.InStep.{IsNoDesk}
-use Rattle.drive.specs.Told.{IsUnmade}
-use Rattle.drive.specs.Unopened.{IsFirst, IsRefusedFirst}
-use Rattle.drive.specs.declared.unopened.Unopened.{Unopened}
+use Rattle.fleet.specs.Unopened.{IsFirst, IsRefusedFirst, IsUnmade}
+use Rattle.fleet.specs.declared.unopened.Unopened.{Unopened}
 
 -- with a number of viewers that a board may have, a desk is refused for memory alone
 pub no_desk : (n : ℕ) (fault : Fault) → 0 < n → n ≤ 64 → IsNoDesk n fault → fault ≡ Memory

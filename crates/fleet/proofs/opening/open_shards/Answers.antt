@@ -1,9 +1,9 @@
 use Rattle.std.proofs.Common.{rules, ◌≡◌, ◌<◌, ◌+◌, ◌∙◌, ap, sym, length, arith}
 use Rattle.std.proofs.lemmas.Slice.Zip.{AllZip-long}
-use Rattle.drive.proofs.Openings.{as_many, first_over, last_over, run_over}
-use Rattle.drive.proofs.Outcomes.{on_err, on_ok}
-use Rattle.drive.proofs.Refusals.{not_made}
-use Rattle.drive.proofs.opening.open_shards.Goals as goal
+use Rattle.fleet.proofs.Openings.{as_many, first_over, last_over, run_over}
+use Rattle.fleet.proofs.Outcomes.{on_err, on_ok}
+use Rattle.fleet.proofs.Refusals.{not_made}
+use Rattle.fleet.proofs.opening.open_shards.Goals as goal
 
 pub nodes_over-requires : goal.nodes_over-requires
 nodes_over-requires g c =
