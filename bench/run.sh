@@ -39,8 +39,8 @@ build_drives() {
     for crate in progress output settings tickets; do
         library "$crate" "$here/standins/$crate.rs" "$to"
     done
-    for crate in session letters client workers desk node inspection drive; do
-        # Earlier revisions have no client of its own.
+    for crate in session letters client workers desk node fleet inspection drive; do
+        # Earlier revisions have no client of its own, nor a fleet.
         [ -d "$tree/crates/$crate" ] || continue
         python3 "$here/plain.py" "$tree/crates/$crate/src" "$to/$crate"
         case $crate in

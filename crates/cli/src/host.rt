@@ -8,20 +8,17 @@ ghost use Rattle.command_line.specs.declared.commands.Command.TheVariants.{Help}
 ghost use Rattle.command_line.specs.declared.usage.TheConstants.{USAGE};
 ghost use Rattle.command_line.specs.Lines.{are_plain, asks_help};
 ghost use Rattle.output.specs.Replies.{Is};
-ghost use Rattle.cli.specs.Faults.{AnyFault, MayRefuseTo};
-ghost use Rattle.cli.specs.Puts.{AnyEnd};
+ghost use Rattle.commands.specs.Faults.{AnyFault, MayRefuseTo};
+ghost use Rattle.commands.specs.Puts.{AnyEnd};
 ghost use Rattle.drive.specs.Told.{HasNoVerdict};
-ghost use Rattle.drive.specs.declared.shards.NoVerdict.{NoVerdict};
-ghost use Rattle.cli.specs.Replies.{Tells, TellsTo, reply_of, reply_to};
+ghost use Rattle.system.specs.declared.asked.NoVerdict.{NoVerdict};
+ghost use Rattle.commands.specs.Replies.{Tells, TellsTo, reply_of, reply_to};
 ghost use Rattle.output.specs.Streams.{failures_of, fault_line, writer_of};
 
-use crate::answers::answer;
-use crate::engine::{Engine, Put};
-use crate::hints::Hints;
 use crate::host_put::put_in_store;
-use drive::{NoVerdict, drive_shards};
+use commands::{Driven, Ended, Engine, Hints, NoVerdict, Put, Stream, System, answer};
+use drive::drive_shards;
 use host_files::HostFiles;
-use output::Stream;
 use settings::Settings;
 use simdisk::SimDisk;
 use std::alloc::Global;
@@ -31,8 +28,6 @@ use std::random::RandomSource;
 use std::sync::Wait;
 use std::thread::Threads;
 use std::{rt, time};
-use store::Ended;
-use system::{Driven, System};
 use units::Fault;
 
 /// Carries a command line out, with the files and threads of the machine, over standard output and standard error. Gives the

@@ -1,5 +1,5 @@
 //! A write to a store in a folder of the machine, on its threads.
-use crate::engine::Put;
+use commands::Put;
 use std::alloc::Global;
 use std::fs::File;
 use std::random::RandomSource;

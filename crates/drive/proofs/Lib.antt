@@ -1,3 +1,1 @@
-mod Openings
 mod Outcomes
-pub mod Refusals

@@ -1,4 +1,1 @@
-pub mod Openings
-pub mod Setups
 pub mod Told
-pub mod Unopened

@@ -1,15 +1,14 @@
 -- What is told of a drive.
 use Rattle.std.specs.Prelude.{◌≡◌, ◌⊎◌, ◌≤◌, ℕ, List, None, IsTrue}
 use Rattle.units.specs.declared.fault.Fault.{Fault}
-use Rattle.units.specs.declared.fault.Fault.TheVariants.{BadRequest, Device, Memory}
-use Rattle.units.specs.declared.fault.Reason.TheVariants.{Settings}
+use Rattle.units.specs.declared.fault.Fault.TheVariants.{Device, Memory}
 use Rattle.units.specs.declared.line.Verdict.{Verdict}
 use Rattle.gatelog.specs.Log.{is_no_log}
 use Rattle.host_files.specs.Folders.{IsFolderFault}
-use Rattle.shard.specs.Opened.{is_reason}
 use Rattle.workers.specs.Refusals.{IsCutShort}
 use Rattle.workers.specs.declared.summary.Counts.{Counts}
 use Rattle.workers.specs.Summaries.{counts_text, summary_text, tried}
+use Rattle.fleet.specs.Unopened.{IsUnmade}
 use Rattle.drive.specs.declared.engine.NoVerdict.{NoVerdict}
 
 -- it is the summary of so many transactions in all and a verdict
@@ -29,14 +28,6 @@ pub record AreCounts (transactions : ℕ) (text : List ℕ) : Type 0 where
 -- why there is no verdict once the workers have reported: memory is wanting, a device has failed, or a disk holds no log that can be read
 abbrev pub IsUnjudged : Fault → Type 0
 IsUnjudged fault = (fault ≡ Memory) ⊎ ((fault ≡ Device) ⊎ IsTrue (is_no_log fault))
-
--- why no node is over a disk: memory is wanting, its device has failed, or it holds no log of its shard's that may be opened once more
-abbrev pub IsUnopened : Fault → Type 0
-IsUnopened fault = (fault ≡ Memory) ⊎ ((fault ≡ Device) ⊎ IsTrue (is_reason fault))
-
--- why there are no nodes: the settings are beyond their limits, or a shard is not opened
-abbrev pub IsUnmade : Fault → Type 0
-IsUnmade fault = (fault ≡ BadRequest Settings) ⊎ IsUnopened fault
 
 -- why there is no verdict on a drive: there are no nodes, a worker ends too soon, or the logs are not judged
 abbrev pub IsUndriven : Fault → Type 0

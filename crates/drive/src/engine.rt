@@ -10,12 +10,10 @@ ghost use Rattle.workers.specs.Staffs.{IsStaffOf};
 ghost use Rattle.workers.specs.Summaries.{tried};
 ghost use Rattle.inspection.specs.Judged.{IsJudged};
 
-use crate::opening::{Closes, Opened, open_shards, run_of};
-use crate::steady::SteadyClock;
-use crate::unopened::Unopened;
 use crate::watched::Watched;
 use crossbeam_channel::Receiver;
 use disk::Disk;
+use fleet::{Closes, Opened, SteadyClock, Unopened, open_shards, run_of};
 use inspection::judge;
 use letters::{Gate, Inboxes, Letter, Mail, Post, Served, Serves, start_in};
 use progress::Watch;

@@ -3,14 +3,10 @@
 #![tactic(auto)]
 
 mod engine;
-mod opening;
 mod shards;
-mod steady;
-mod unopened;
 mod watched;
 
 pub use engine::{Driven, drive, drive_by};
-pub use opening::{Opened, open_shards, run_of};
-pub use shards::{NoVerdict, drive_shards, run};
-pub use steady::SteadyClock;
-pub use unopened::{Unopened, UnopenedIn};
+pub use fleet::{Opened, SteadyClock, Unopened, UnopenedIn, open_shards, run_of};
+pub use shards::{drive_shards, run};
+pub use system::NoVerdict;

@@ -19,26 +19,9 @@ use std::random::RandomSource;
 use std::sync::Wait;
 use std::thread::Threads;
 use std::{rt, time};
-use system::Driven;
+use system::{Driven, NoVerdict};
 use units::{Fault, ShardNo};
 use workers::Summary;
-
-/// Why there is no verdict on a drive, and the text that tells its counts, where its workers have reported.
-#[derive(Drop)]
-pub struct NoVerdict {
-    pub fault: Fault,
-    pub text: Option<String>,
-}
-
-impl From<Fault> for NoVerdict {
-    ghost use Rattle.std.specs.Prelude.{◌≡◌, None};
-
-    ghost from_gives = { λ fault none. (none.fault ≡ fault) × (none.text ≡ None) };
-
-    fn from(fault: Fault) -> NoVerdict {
-        NoVerdict { fault, text: None }
-    }
-}
 
 /// Runs shards and workers by some settings. The logs lie in the folder of the settings, where it has one, and else on disks in
 /// memory. Where there is a terminal, it shows how far the drive is, and each shard whose device fails. Then the drive ends soon, and is

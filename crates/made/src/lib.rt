@@ -1,10 +1,12 @@
-//! Values of tests, made of plain numbers.
+//! Values of tests, made of plain numbers, and folders for them.
 #![tactic(auto)]
 
 ghost use Rattle.std.specs.Prelude.{◌≡◌, ◌<◌, ◌^◌};
 
+mod folder;
 mod wrong_rows;
 
+pub use folder::Folder;
 use std::alloc::{AllocError, Global};
 use units::{Key, ShardNo, Stamp, TxnId};
 pub use wrong_rows::WrongRows;

@@ -1,5 +1,5 @@
 //! Files in memory, and drives and writes of nothing, for commands that ask for them.
-use cli::{Driven, Ended, Engine, Files, Hints, NoVerdict, Put, Stream, System, answer};
+use commands::{Driven, Ended, Engine, Files, Hints, NoVerdict, Put, Stream, System, answer};
 use disk::Disk;
 use made::{id, stamp, with_slots};
 use settings::Settings;

@@ -1,7 +1,7 @@
 //! Where the faults of commands lie.
 use crate::files::FILES;
 use crate::given::{Memory, words_of};
-use cli::place_of;
+use commands::place_of;
 use made::{FIRST_GATE, WrongRows};
 use std::alloc::Global;
 use units::{Fault, Reason};

@@ -1,6 +1,6 @@
 //! Lines that are a command, or none.
 use crate::given::words_of;
-use cli::{Command, command};
+use commands::{Command, command};
 use made::WrongRows;
 use std::alloc::Global;
 use units::{Fault, Reason};

@@ -13,7 +13,7 @@ use board::Viewer;
 use client::Stop;
 use crossbeam_channel::Receiver;
 use disk::Disk;
-use drive::run_of;
+use fleet::run_of;
 use letters::{Inboxes, Letter, Mail, Network, Post, Served, Serves, start_in};
 use node::Node;
 use std::alloc::Global;

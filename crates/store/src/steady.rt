@@ -1,7 +1,7 @@
 //! The clock of a store.
 ghost use Rattle.std.specs.Prelude.{◌≡◌, ◌≤◌, ⊤, IfSome};
 
-use drive::SteadyClock;
+use fleet::SteadyClock;
 use std::alloc::AllocError;
 use std::sync::atomic::AtomicU64;
 use std::time;

@@ -1,14 +1,14 @@
 //! An open store.
 ghost use Rattle.std.specs.Prelude.{◌≡◌, ◌⊎◌, ◌<◌, ◌+◌, All, length, Err, IfErr, IfOk, IsOk};
-ghost use Rattle.drive.specs.Unopened.{IsFirst, IsLastIn, IsRunOver, unopened_for};
+ghost use Rattle.fleet.specs.Unopened.{IsFirst, IsLastIn, IsRunOver, unopened_for};
 ghost use Rattle.store.specs.Attempts.{IsFresh};
 
 use crate::Options;
 use crate::clients::Client;
 use crate::serving::serve_kept;
 use disk::Disk;
-use drive::{Opened, Unopened, open_shards};
 use filedisk::FileDisk;
+use fleet::{Opened, Unopened, open_shards};
 use host_files::logs_in;
 use node::Node;
 use settings::Settings;

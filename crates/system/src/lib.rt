@@ -6,7 +6,7 @@ mod kept;
 mod notes;
 mod reading;
 
-pub use asked::{Driven, System};
+pub use asked::{Driven, NoVerdict, System};
 pub use kept::Files;
 pub use notes::Note;
 pub use reading::{MOST_TEXT, format_file, migrate_file, open_all, read_text};

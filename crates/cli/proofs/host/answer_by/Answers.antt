@@ -1,9 +1,9 @@
 use Rattle.std.proofs.Common.{inl, inr, map, subst}
 use Rattle.drive.specs.Told.{HasNoVerdict}
 use Rattle.command_line.specs.Commands.{command_of}
-use Rattle.cli.specs.Faults.{AnyFault, IsRefusedBy, IsUnputBy}
-use Rattle.cli.specs.Puts.{IsPutBy}
-use Rattle.cli.proofs.Refusals.{of_command, told_to}
+use Rattle.commands.specs.Faults.{AnyFault, IsRefusedBy, IsUnputBy}
+use Rattle.commands.specs.Puts.{IsPutBy}
+use Rattle.commands.proofs.Refusals.{of_command, told_to}
 use Rattle.cli.proofs.host.answer_by.Goals as goal
 
 pub returns-clause-numbered : goal.returns-clause-numbered

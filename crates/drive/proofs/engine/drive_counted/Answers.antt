@@ -4,7 +4,7 @@ use Rattle.std.specs.Prelude.{IfSome}
 use Rattle.node.proofs.node.Node.TheSendSync as crossing
 use Rattle.workers.specs.Reports.{IsTally}
 use Rattle.workers.specs.Summaries.{tried}
-use Rattle.drive.proofs.Outcomes.{on_err, on_ok}
+use Rattle.fleet.proofs.Outcomes.{on_err, on_ok}
 use Rattle.drive.proofs.engine.drive_counted.Goals as goal
 
 pub drive_nodes-requires : goal.drive_nodes-requires

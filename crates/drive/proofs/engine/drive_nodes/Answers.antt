@@ -4,7 +4,8 @@ use Rattle.units.specs.declared.line.Line.{Line}
 use Rattle.workers.specs.Reports.{IsTally}
 use Rattle.workers.specs.Summaries.{tried}
 use Rattle.workers.specs.declared.summary.Counts.{Counts}
-use Rattle.drive.proofs.Outcomes.{both_ok, on_err, on_ok}
+use Rattle.fleet.proofs.Outcomes.{on_err, on_ok}
+use Rattle.drive.proofs.Outcomes.{both_ok}
 use Rattle.drive.proofs.engine.drive_nodes.Goals as goal
 
 pub returns-in-Ok-clause-tried : goal.returns-in-Ok-clause-tried

@@ -1,0 +1,105 @@
+-- For what a command is refused, by what drives and what puts, and what it tells.
+use Rattle.std.proofs.Common.{◌≡◌, ◌⊎◌, ℕ, List, inl, inr, Result, Ok, Err, refl, subst, sym}
+use Rattle.std.specs.Prelude.{IfErr}
+use Rattle.units.specs.declared.fault.Fault.{Fault}
+use Rattle.units.specs.declared.fault.Fault.TheVariants.{Memory}
+use Rattle.output.specs.declared.failure.Failure.{Failure}
+use Rattle.output.specs.declared.failure.Failure.TheVariants.{Refused, Unwritten}
+use Rattle.command_line.specs.Commands.{Asked, help, once_asked, format_asked, play_asked, inspect_asked, drive_asked, dump_asked, history_asked}
+use Rattle.command_line.specs.Commands.{get_asked, put_asked, stats_asked, migrate_asked, compact_asked}
+use Rattle.system.specs.declared.asked.Driven.{Driven}
+use Rattle.system.specs.declared.asked.NoVerdict.{NoVerdict}
+use Rattle.commands.specs.Faults.{FailsAs, IsNotDriven, IsRefusedBy, MayRefuse, MayRefuseTo}
+use Rattle.commands.specs.Puts.{Said, AnyEnd}
+use Rattle.commands.specs.Replies.{Tells, TellsTo}
+
+-- what a call of what drives shards is refused for
+pub refused_by : {S : Type 0} (call : S → Result Driven NoVerdict → Type 0) (settings : S) (r : Result Driven NoVerdict) → call settings r
+    → IfErr r (λ none. IsNotDriven (IsRefusedBy call) none.fault)
+refused_by call settings (Ok driven) is = tt
+refused_by call settings (Err none) is = inr (inr (settings, none, is, refl))
+
+module _ (drives puts : Fault → Type 0) where
+  -- for less a command may be refused too
+  of_asked : (drives' puts' : Fault → Type 0) (asked : Asked) (fault : Fault) → (drives fault → drives' fault) → (puts fault → puts' fault)
+      → MayRefuse drives puts asked fault → MayRefuse drives' puts' asked fault
+  of_asked drives' puts' help fault more some is = tt
+  of_asked drives' puts' (once_asked key value first second) fault more some is = tt
+  of_asked drives' puts' (format_asked file) fault more some is = is
+  of_asked drives' puts' (play_asked file) fault more some is = is
+  of_asked drives' puts' (inspect_asked lines logs) fault more some is = is
+  of_asked drives' puts' (drive_asked file) fault more some (inl unread) = inl unread
+  of_asked drives' puts' (drive_asked file) fault more some (inr (inl settings)) = inr (inl settings)
+  of_asked drives' puts' (drive_asked file) fault more some (inr (inr why)) = inr (inr (more why))
+  of_asked drives' puts' (dump_asked file) fault more some is = is
+  of_asked drives' puts' (history_asked dir key) fault more some is = is
+  of_asked drives' puts' (get_asked dir key at) fault more some is = is
+  of_asked drives' puts' (put_asked dir key value) fault more some (inl unread) = inl unread
+  of_asked drives' puts' (put_asked dir key value) fault more some (inr why) = inr (some why)
+  of_asked drives' puts' (stats_asked logs) fault more some is = is
+  of_asked drives' puts' (migrate_asked old new) fault more some is = is
+  of_asked drives' puts' (compact_asked old new) fault more some is = is
+
+  pub of_command : (drives' puts' : Fault → Type 0) (asked : Result Asked Fault) (fault : Fault) → (drives fault → drives' fault) → (puts fault → puts' fault)
+      → MayRefuseTo drives puts asked fault → MayRefuseTo drives' puts' asked fault
+  of_command drives' puts' (Ok asked) fault more some is = of_asked drives' puts' asked fault more some is
+  of_command drives' puts' (Err why) fault more some is = tt
+
+  -- what words ask for, by their command
+  pub fails_for : {T : Type 0} (x : Result T Failure) {a b : Result Asked Fault} → a ≡ b
+      → IfErr x (FailsAs (MayRefuseTo drives puts a)) → IfErr x (FailsAs (MayRefuseTo drives puts b))
+  fails_for x e h = subst (λ (r : Result Asked Fault). IfErr x (FailsAs (MayRefuseTo drives puts r))) e h
+
+  -- memory may be wanting for any command
+  any_asked : (asked : Asked) → MayRefuse drives puts asked Memory
+  any_asked help = tt
+  any_asked (once_asked key value first second) = tt
+  any_asked (format_asked file) = inl refl
+  any_asked (play_asked file) = inl (inl refl)
+  any_asked (inspect_asked lines logs) = inl (inl refl)
+  any_asked (drive_asked file) = inl (inl refl)
+  any_asked (dump_asked file) = inl refl
+  any_asked (history_asked dir key) = inl refl
+  any_asked (get_asked dir key at) = inl refl
+  any_asked (put_asked dir key value) = inl (inl refl)
+  any_asked (stats_asked logs) = inl refl
+  any_asked (migrate_asked old new) = inl refl
+  any_asked (compact_asked old new) = inl refl
+
+  any : (asked : Result Asked Fault) → MayRefuseTo drives puts asked Memory
+  any (Ok asked) = any_asked asked
+  any (Err why) = tt
+
+  pub memory_of : (asked : Result Asked Fault) (fault : Fault) → fault ≡ Memory → MayRefuseTo drives puts asked fault
+  memory_of asked fault is = subst (MayRefuseTo drives puts asked) (sym is) (any asked)
+
+  -- words that are no command may be refused for anything
+  pub none_of : (asked : Result Asked Fault) (fault why : Fault) → asked ≡ Err why → MayRefuseTo drives puts asked fault
+  none_of asked fault why is = subst (λ (r : Result Asked Fault). MayRefuseTo drives puts r fault) (sym is) tt
+
+-- who says why there is no verdict fails for that, or for a write
+pub fails_by : {T : Type 0} (drives : Fault → Type 0) (x : Result T Failure) (none : NoVerdict) → IsNotDriven drives none.fault
+    → IfErr x (λ failure. (failure ≡ Unwritten) ⊎ (failure ≡ Refused none.fault)) → IfErr x (FailsAs (IsNotDriven drives))
+fails_by drives (Ok x) none why told = tt
+fails_by drives (Err failure) none why (inl unwritten) = inl unwritten
+fails_by drives (Err failure) none why (inr refused) = inr (none.fault, refused, why)
+
+-- what is told of a write is told of some write
+told_asked : (puts : Said) (asked : Asked) (status : ℕ) (text : List ℕ) → Tells puts asked status text → Tells AnyEnd asked status text
+told_asked puts help status text is = tt
+told_asked puts (once_asked key value first second) status text is = tt
+told_asked puts (format_asked file) status text is = is
+told_asked puts (play_asked file) status text is = is
+told_asked puts (inspect_asked lines logs) status text is = is
+told_asked puts (drive_asked file) status text is = tt
+told_asked puts (dump_asked file) status text is = is
+told_asked puts (history_asked dir key) status text is = is
+told_asked puts (get_asked dir key at) status text is = is
+told_asked puts (put_asked dir key value) status text is = (is.0, tt, is.2, is.3)
+told_asked puts (stats_asked logs) status text is = is
+told_asked puts (migrate_asked old new) status text is = is
+told_asked puts (compact_asked old new) status text is = is
+
+pub told_to : (puts : Said) (asked : Result Asked Fault) (status : ℕ) (text : List ℕ) → TellsTo puts asked status text → TellsTo AnyEnd asked status text
+told_to puts (Ok asked) status text is = told_asked puts asked status text is
+told_to puts (Err why) status text is = is

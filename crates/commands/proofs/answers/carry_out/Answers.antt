@@ -1,0 +1,45 @@
+use Rattle.std.proofs.Common.{◌≡◌, ◌||◌, List, ap, map, refl, sym, subst, inl, inr, Result, Ok}
+use Rattle.std.proofs.lemmas.Result.{IfOk-weaker}
+use Rattle.units.specs.declared.fault.Fault.{Fault}
+use Rattle.command_line.specs.Commands.{Asked, command_of}
+use Rattle.command_line.specs.Lines.{Word, asks_help}
+use Rattle.command_line.specs.Views.{asked_for}
+use Rattle.commands.specs.Faults.{IsRefusedBy, IsUnputBy}
+use Rattle.commands.specs.Puts.{IsPutBy}
+use Rattle.commands.specs.Replies.{TellsTo}
+use Rattle.commands.proofs.Refusals.{fails_for, memory_of, none_of}
+use Rattle.commands.proofs.answers.carry_out.Goals as goal
+
+pub returns-in-Ok-clause-tells : goal.returns-in-Ok-clause-tells
+returns-in-Ok-clause-tells g c plain =
+    let words : List Word = map (λ w. w.now) c.args.words.now in
+    let is : command_of words ≡ Ok (asked_for c.in-Ok.asked) = c.in-Ok.ensures.exact (ap (λ b. b || asks_help words) plain) in
+    IfOk-weaker c.run.result.0 _ _
+    (λ status told. (
+      told.0,
+      subst (λ (r : Result Asked Fault). TellsTo (IsPutBy (goal.P-post g c.args.system.now.drive.put c.args.alloc)) r status
+          told.0) (sym is) told.1,
+      told.2,
+    ))
+    c.run.ensures.tells
+
+pub returns-in-Ok-clause-numbered : goal.returns-in-Ok-clause-numbered
+returns-in-Ok-clause-numbered g c plain =
+    let words : List Word = map (λ w. w.now) c.args.words.now in
+    let is : command_of words ≡ Ok (asked_for c.in-Ok.asked) = c.in-Ok.ensures.exact (ap (λ b. b || asks_help words) plain) in
+    fails_for (IsRefusedBy (goal.D-post g c.args.system.now.drive.run c.args.alloc)) (IsUnputBy (goal.P-post g c.args.system.now.drive.put c.args.alloc))
+    c.run.result.0 (sym is) c.run.ensures.numbered
+
+pub returns-in-Err-clause-numbered : goal.returns-in-Err-clause-numbered
+returns-in-Err-clause-numbered g c plain =
+    let words : List Word = map (λ w. w.now) c.args.words.now in
+    let drives : Fault → Type 0 = IsRefusedBy (goal.D-post g c.args.system.now.drive.run c.args.alloc) in
+    let puts : Fault → Type 0 = IsUnputBy (goal.P-post g c.args.system.now.drive.put c.args.alloc) in
+    inr (
+      c.in-Err.fault,
+      refl,
+      elim (c.in-Err.ensures.exact (ap (λ b. b || asks_help words) plain)) [
+        | inl memory ↦ memory_of drives puts (command_of words) c.in-Err.fault memory
+        | inr is ↦ none_of drives puts (command_of words) c.in-Err.fault c.in-Err.fault is
+      ],
+    )

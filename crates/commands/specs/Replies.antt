@@ -1,0 +1,65 @@
+-- What the commands print, and their status.
+use Rattle.std.specs.Prelude.{◌≡◌, ◌++◌, ℕ, List, [], Some, None, Result, Ok, Err, codes}
+use Rattle.units.specs.declared.fault.Fault.{Fault}
+use Rattle.units.specs.declared.line.Verdict.{Verdict}
+use Rattle.command_line.specs.Commands.{Asked, command_of, help, once_asked, format_asked, play_asked, inspect_asked, drive_asked, dump_asked}
+use Rattle.command_line.specs.Commands.{history_asked, get_asked, put_asked, stats_asked, migrate_asked, compact_asked}
+use Rattle.command_line.specs.Lines.{Word}
+use Rattle.command_line.specs.declared.usage.TheConstants.{USAGE}
+use Rattle.client.specs.declared.ended.Ended.{Ended}
+use Rattle.commands.specs.Puts.{Said, put_status, put_text}
+use Rattle.once.specs.Replies.{once_reply}
+use Rattle.output.specs.Replies.{Expected}
+use Rattle.output.specs.Verdicts.{exit_status, text_of}
+use Rattle.showing.specs.Dumps.{IsADump}
+use Rattle.showing.specs.HistoryTexts.{IsAHistory, IsAValue}
+use Rattle.showing.specs.StatsTexts.{AreStats}
+
+-- what a command prints, where its words tell it; the rest is told by files
+abbrev pub reply_of : Asked → Expected
+reply_of help = Some (Ok (USAGE.now, 0))
+reply_of (once_asked key value first second) = Some (once_reply first second)
+reply_of (format_asked file) = None
+reply_of (play_asked file) = None
+reply_of (inspect_asked lines logs) = None
+reply_of (drive_asked file) = None
+reply_of (dump_asked file) = None
+reply_of (history_asked dir key) = None
+reply_of (get_asked dir key at) = None
+reply_of (put_asked dir key value) = None
+reply_of (stats_asked logs) = None
+reply_of (migrate_asked old new) = None
+reply_of (compact_asked old new) = None
+
+-- and what is no command is refused
+abbrev pub reply_or_refusal : Result Asked Fault → Expected
+reply_or_refusal (Ok asked) = reply_of asked
+reply_or_refusal (Err fault) = Some (Err fault)
+
+-- what a command line is answered
+abbrev pub reply_to : List Word → Expected
+reply_to words = reply_or_refusal (command_of words)
+
+-- what a command has printed that was carried out, whatever files hold: nothing, a verdict that goes with its status, or the
+-- lines of a dump, of a history or of a value, or numbers of logs by their names; or what became of a write, by what may become of one
+abbrev pub Tells : Said → Asked → ℕ → List ℕ → Type 0
+Tells puts help status text = Unit {0}
+Tells puts (once_asked key value first second) status text = Unit {0}
+Tells puts (format_asked file) status text = (status ≡ 0) × (text ≡ [])
+Tells puts (play_asked file) status text = status ≡ 0
+Tells puts (inspect_asked lines logs) status text =
+    (verdict : Verdict) × (status ≡ exit_status verdict) × (text ≡ text_of verdict ++ codes "\n")
+Tells puts (drive_asked file) status text = Unit {0}
+Tells puts (dump_asked file) status text = (status ≡ 0) × IsADump text
+Tells puts (history_asked dir key) status text = (status ≡ 0) × IsAHistory text
+Tells puts (get_asked dir key at) status text = (status ≡ 0) × IsAValue text
+Tells puts (put_asked dir key value) status text =
+    (ended : Ended) × puts dir key value ended × (status ≡ put_status ended) × (text ≡ put_text ended)
+Tells puts (stats_asked logs) status text = (status ≡ 0) × AreStats logs text
+Tells puts (migrate_asked old new) status text = (status ≡ 0) × (text ≡ [])
+Tells puts (compact_asked old new) status text = (status ≡ 0) × (text ≡ [])
+
+-- what the command that some words ask for has printed
+abbrev pub TellsTo : Said → Result Asked Fault → ℕ → List ℕ → Type 0
+TellsTo puts (Ok asked) status text = Tells puts asked status text
+TellsTo puts (Err fault) status text = ⊥

@@ -1,0 +1,234 @@
+//! What the program answers to a command line.
+ghost use Rattle.std.specs.Prelude.{◌≡◌, ◌≢◌, ◌⊎◌, ◌<◌, Some, Ok, Err, IfOk, IfErr, map, true, List, ℕ};
+ghost use Rattle.std.specs.Io.KnownBytes.{Appends};
+ghost use Rattle.units.specs.declared.fault.Fault.{Fault};
+ghost use Rattle.units.specs.declared.fault.Fault.TheVariants.{Memory};
+ghost use Rattle.disk.specs.declared.plan.FailurePlan.TheVariants.{Never};
+ghost use Rattle.simdisk.specs.State.{disk_plan};
+ghost use Rattle.command_line.specs.Commands.{command_of};
+ghost use Rattle.command_line.specs.Views.{asked_for};
+ghost use Rattle.command_line.specs.declared.commands.Command.TheVariants.{Help};
+ghost use Rattle.command_line.specs.declared.usage.TheConstants.{USAGE};
+ghost use Rattle.output.specs.Failures.{FailsFor};
+ghost use Rattle.output.specs.declared.failure.Failure.TheVariants.{Refused, Unwritten};
+ghost use Rattle.command_line.specs.Lines.{are_plain, asks_help};
+ghost use Rattle.output.specs.Replies.{Is};
+ghost use Rattle.commands.specs.Disks.{LogsCommand, LogsTo};
+ghost use Rattle.commands.specs.Faults.{FailsAs, IsRefusedBy, IsUnputBy, MayRefuse, MayRefuseTo};
+ghost use Rattle.commands.specs.Puts.{IsPutBy};
+ghost use Rattle.commands.specs.Replies.{Tells, TellsTo, reply_of, reply_to};
+ghost use Rattle.output.specs.Streams.{failures_of, fault_line, writer_of};
+
+use crate::compact::compact;
+use crate::drive_command::run_drive;
+use crate::dump::dump;
+use crate::engine::{Engine, Put};
+use crate::format::format;
+use crate::help::help;
+use crate::hints::{Hints, tell_place};
+use crate::inspect::inspect;
+use crate::key_commands::{get, history};
+use crate::migrate::migrate;
+use crate::play::play;
+use crate::put_command::put;
+use crate::stats_command::stats;
+use client::Ended;
+use command_line::{Command, command};
+use once::once;
+use output::{Failure, Stream};
+use settings::Settings;
+use simdisk::SimDisk;
+use std::alloc::Global;
+use std::io::Write;
+use system::{Driven, Files, NoVerdict, System};
+use units::Fault;
+
+/// Carries a command line out, with what it asks of the system, on an empty disk and over standard output and standard error.
+/// Gives the status, 0, 1 for a verdict of no or for early, 2 for a fault, and the disk, which holds what was printed of a
+/// commit. A fault is printed on standard error, except that after a failed write nothing more is printed; who is told hints is told then where
+/// it lies.
+pub fn answer<
+    'a,
+    F: Hints,
+    D: Fn(Global, &Settings) -> Result<Driven, NoVerdict>,
+    P: Fn(Global, Put<'_>) -> Result<Ended, Fault>,
+    O: Write,
+    E: Write,
+>(
+    alloc: Global,
+    words: &'a [&'a str],
+    system: &System<F, Engine<D, P>>,
+    disk: SimDisk,
+    out: &mut Stream<O>,
+    err: &mut Stream<E>,
+) -> (u8, SimDisk)
+    requires disk { disk_plan disk ≡ Never }
+    requires drives { D.IsAlwaysCallable system.now.drive.run }
+    requires puts { P.IsAlwaysCallable system.now.drive.put }
+    ensures status { (result.0 ≡ 0) ⊎ (result.0 ≡ 1) ⊎ (result.0 ≡ 2) }
+    ensures printed { are_plain (map (λ w. w.now) words.entry.now) ≡ true → result.0 ≢ 2
+        → (text : List ℕ) × Is (reply_to (map (λ w. w.now) words.entry.now)) (Ok (text, result.0))
+        × Appends (O.contents (writer_of out.old)) (O.contents (writer_of out.new)) text }
+    ensures logged { are_plain (map (λ w. w.now) words.entry.now) ≡ true → result.0 ≢ 2
+        → LogsTo (command_of (map (λ w. w.now) words.entry.now)) result.0 result.1 }
+    ensures refused { are_plain (map (λ w. w.now) words.entry.now) ≡ true → (fault : Fault)
+        → reply_to (map (λ w. w.now) words.entry.now) ≡ Some (Err fault) → (result.0 ≡ 2)
+        × (out.new ≡ out.old) }
+    ensures helped { asks_help (map (λ w. w.now) words.entry.now) ≡ true → result.0 ≢ 2
+        → (result.0 ≡ 0)
+        × Appends (O.contents (writer_of out.old)) (O.contents (writer_of out.new)) USAGE.now }
+    // What files tell: a format, a migration and a compaction print nothing, an inspection a verdict, which its status goes with, and a dump lines of records.
+    ensures tells { are_plain (map (λ w. w.now) words.entry.now) ≡ true → result.0 ≢ 2
+        → (text : List ℕ) × TellsTo (IsPutBy (P.post system.now.drive.put alloc))
+        (command_of (map (λ w. w.now) words.entry.now)) result.0 text
+        × Appends (O.contents (writer_of out.old)) (O.contents (writer_of out.new)) text }
+    ensures quiet { result.0 ≢ 2 → err.new ≡ err.old }
+    // A status of 2 has a reason: a write to standard output that failed, or a fault, whose line is on standard error.
+    ensures told { are_plain (map (λ w. w.now) words.entry.now) ≡ true → result.0 ≡ 2
+        → (failures_of out.old < failures_of out.new)
+        ⊎ ((fault : Fault) × ((fault ≡ Memory)
+        ⊎ Is (reply_to (map (λ w. w.now) words.entry.now)) (Err fault))
+        × ((failures_of err.old < failures_of err.new)
+        ⊎ Appends (E.contents (writer_of err.old)) (E.contents (writer_of err.new))
+        (fault_line fault))) }
+    // The fault of a command over files is one of its own; that of a drive is one of its settings, or one for which what drives refuses.
+    ensures numbered { are_plain (map (λ w. w.now) words.entry.now) ≡ true → result.0 ≡ 2
+        → (failures_of out.old < failures_of out.new)
+        ⊎ ((fault : Fault) × MayRefuseTo (IsRefusedBy (D.post system.now.drive.run alloc))
+        (IsUnputBy (P.post system.now.drive.put alloc))
+        (command_of (map (λ w. w.now) words.entry.now)) fault
+        × ((failures_of err.old < failures_of err.new)
+        ⊎ Appends (E.contents (writer_of err.old)) (E.contents (writer_of err.new))
+        (fault_line fault))) }
+    // So it is for any words.
+    ensures explained { result.0 ≡ 2 → (failures_of out.old < failures_of out.new)
+        ⊎ ((fault : Fault) × ((failures_of err.old < failures_of err.new)
+        ⊎ Appends (E.contents (writer_of err.old)) (E.contents (writer_of err.new))
+        (fault_line fault))) }
+    ensures silent { failures_of out.old < failures_of out.new → err.new ≡ err.old }
+{
+    let (done, disk) = carry_out(alloc, words, system, disk, out);
+    match done {
+        Ok(status) => (status, disk),
+        Err(Failure::Refused(fault)) => {
+            let _ = err.print_fault(fault);
+            tell_place(alloc, &system.files, words, fault);
+            (2, disk)
+        }
+        Err(Failure::Unwritten) => (2, disk),
+    }
+}
+
+fn carry_out<
+    'a,
+    F: Files,
+    D: Fn(Global, &Settings) -> Result<Driven, NoVerdict>,
+    P: Fn(Global, Put<'_>) -> Result<Ended, Fault>,
+    O: Write,
+>(
+    alloc: Global,
+    words: &'a [&'a str],
+    system: &System<F, Engine<D, P>>,
+    disk: SimDisk,
+    out: &mut Stream<O>,
+) -> (Result<u8, Failure>, SimDisk)
+    requires disk { disk_plan disk ≡ Never }
+    requires drives { D.IsAlwaysCallable system.now.drive.run }
+    requires puts { P.IsAlwaysCallable system.now.drive.put }
+    ensures status { IfOk result.0 (λ status. (status ≡ 0) ⊎ (status ≡ 1)) }
+    ensures printed { are_plain (map (λ w. w.now) words.entry.now) ≡ true
+        → IfOk result.0 (λ status. (text : List ℕ)
+        × Is (reply_to (map (λ w. w.now) words.entry.now)) (Ok (text, status))
+        × Appends (O.contents (writer_of out.old)) (O.contents (writer_of out.new)) text) }
+    ensures tells { are_plain (map (λ w. w.now) words.entry.now) ≡ true
+        → IfOk result.0 (λ status. (text : List ℕ)
+        × TellsTo (IsPutBy (P.post system.now.drive.put alloc))
+        (command_of (map (λ w. w.now) words.entry.now)) status text
+        × Appends (O.contents (writer_of out.old)) (O.contents (writer_of out.new)) text) }
+    ensures logged { are_plain (map (λ w. w.now) words.entry.now) ≡ true → IfOk result.0 (λ status.
+        LogsTo (command_of (map (λ w. w.now) words.entry.now)) status result.1) }
+    ensures refused { are_plain (map (λ w. w.now) words.entry.now) ≡ true → (fault : Fault)
+        → reply_to (map (λ w. w.now) words.entry.now) ≡ Some (Err fault) → out.new ≡ out.old }
+    ensures helped { asks_help (map (λ w. w.now) words.entry.now) ≡ true
+        → IfOk result.0 (λ status. (status ≡ 0)
+        × Appends (O.contents (writer_of out.old)) (O.contents (writer_of out.new)) USAGE.now) }
+    ensures failures { are_plain (map (λ w. w.now) words.entry.now) ≡ true
+        → IfErr result.0 (λ failure.
+        FailsFor (failures_of out.old < failures_of out.new) failure
+        (reply_to (map (λ w. w.now) words.entry.now))) }
+    ensures numbered { are_plain (map (λ w. w.now) words.entry.now) ≡ true → IfErr result.0
+        (FailsAs (MayRefuseTo (IsRefusedBy (D.post system.now.drive.run alloc))
+        (IsUnputBy (P.post system.now.drive.put alloc))
+        (command_of (map (λ w. w.now) words.entry.now)))) }
+    ensures unwritten { result.0 ≡ Err Unwritten → failures_of out.old < failures_of out.new }
+    ensures counted { (fault : Fault) → result.0 ≡ Err (Refused fault)
+        → failures_of out.new ≡ failures_of out.old }
+{
+    match command(alloc, words) {
+        Ok(asked) => run(alloc, asked, system, disk, out),
+        Err(fault) => (Err(Failure::Refused(fault)), disk),
+    }
+}
+
+// Carries one command out.
+fn run<
+    F: Files,
+    D: Fn(Global, &Settings) -> Result<Driven, NoVerdict>,
+    P: Fn(Global, Put<'_>) -> Result<Ended, Fault>,
+    O: Write,
+>(
+    alloc: Global,
+    asked: Command<'_>,
+    system: &System<F, Engine<D, P>>,
+    disk: SimDisk,
+    out: &mut Stream<O>,
+) -> (Result<u8, Failure>, SimDisk)
+    requires disk { disk_plan disk ≡ Never }
+    requires drives { D.IsAlwaysCallable system.now.drive.run }
+    requires puts { P.IsAlwaysCallable system.now.drive.put }
+    ensures status { IfOk result.0 (λ status. (status ≡ 0) ⊎ (status ≡ 1)) }
+    ensures printed { IfOk result.0
+        (λ status. (text : List ℕ) × Is (reply_of (asked_for asked.entry)) (Ok (text, status))
+        × Appends (O.contents (writer_of out.old)) (O.contents (writer_of out.new)) text) }
+    ensures tells { IfOk result.0
+        (λ status. (text : List ℕ) × Tells (IsPutBy (P.post system.now.drive.put alloc))
+        (asked_for asked.entry) status text
+        × Appends (O.contents (writer_of out.old)) (O.contents (writer_of out.new)) text) }
+    ensures logged { IfOk result.0 (λ status. LogsCommand (asked_for asked.entry) status result.1) }
+    ensures helped { asked.entry ≡ Help → IfOk result.0 (λ status. (status ≡ 0)
+        × Appends (O.contents (writer_of out.old)) (O.contents (writer_of out.new)) USAGE.now) }
+    ensures refused { (fault : Fault) → reply_of (asked_for asked.entry) ≡ Some (Err fault)
+        → out.new ≡ out.old }
+    ensures failures { IfErr result.0 (λ failure.
+        FailsFor (failures_of out.old < failures_of out.new) failure
+        (reply_of (asked_for asked.entry))) }
+    ensures numbered { IfErr result.0 (FailsAs
+        (MayRefuse (IsRefusedBy (D.post system.now.drive.run alloc))
+        (IsUnputBy (P.post system.now.drive.put alloc)) (asked_for asked.entry))) }
+    ensures unwritten { result.0 ≡ Err Unwritten → failures_of out.old < failures_of out.new }
+    ensures counted { (fault : Fault) → result.0 ≡ Err (Refused fault)
+        → failures_of out.new ≡ failures_of out.old }
+{
+    match asked {
+        Command::Help => (help(out), disk),
+        Command::Once {
+            key,
+            value,
+            first,
+            second,
+        } => once(alloc, key, value, &first, &second, disk, out),
+        Command::Format { file } => (format(alloc, file, &system.files), disk),
+        Command::Play { file } => (play(alloc, file, &system.files, out), disk),
+        Command::Inspect { lines, logs } => {
+            (inspect(alloc, lines, &logs, &system.files, out), disk)
+        }
+        Command::Drive { file } => (run_drive(alloc, file, system, out), disk),
+        Command::Dump { file } => (dump(alloc, file, &system.files, out), disk),
+        Command::History { dir, key } => (history(alloc, dir, &key, &system.files, out), disk),
+        Command::Get { dir, key, at } => (get(alloc, dir, &key, at, &system.files, out), disk),
+        Command::Put { dir, key, value } => (put(alloc, dir, &key, &value, system, out), disk),
+        Command::Stats { logs } => (stats(alloc, &logs, &system.files, out), disk),
+        Command::Migrate { old, new } => (migrate(alloc, old, new, &system.files), disk),
+        Command::Compact { old, new } => (compact(alloc, old, new, &system.files), disk),
+    }
+}

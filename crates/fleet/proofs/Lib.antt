@@ -1,0 +1,3 @@
+mod Openings
+pub mod Outcomes
+pub mod Refusals

@@ -1,0 +1,10 @@
+//! Shards that are opened together: a node over the disk of each, and the clock that they share.
+#![tactic(auto)]
+
+mod opening;
+mod steady;
+mod unopened;
+
+pub use opening::{Closes, Opened, open_shards, run_of};
+pub use steady::SteadyClock;
+pub use unopened::{Unopened, UnopenedIn};

@@ -1,0 +1,414 @@
+//! Commands, one after the other in one folder.
+use crate::verdict::end;
+use cli::{Driven, Ended, Engine, Hints, NoVerdict, Put, Stream, System, answer, put_in_store};
+use drive::drive_shards;
+use host_files::HostFiles;
+use made::{Folder, ONE_COMMIT, WrongRows, in_version_1, with_slots};
+use settings::Settings;
+use simdisk::SimDisk;
+use std::alloc::Global;
+use std::fs::File;
+use std::process::Abort;
+use std::random::RandomSource;
+use std::rt::Files;
+use std::sync::Wait;
+use std::thread::Threads;
+use std::time;
+use units::Fault;
+
+// What is printed: of a drive its counts, whose first three are of so many transactions together, and the verdict yes; of a write that it is
+// committed; of a key its value, or lines of which the last ends so.
+#[derive(Clone, Copy)]
+pub enum Output {
+    Nothing,
+    Yes,
+    Driven(u64),
+    Committed,
+    Is(&'static str),
+    Ends(&'static str),
+}
+
+// Command lines, one after another, that come to the same: what is printed, the fault, and the status. Single spaces part the words of a line,
+// and a word that begins with `./` names something in the folder.
+#[derive(Clone, Copy)]
+pub struct Step {
+    pub lines: &'static [&'static str],
+    pub output: Output,
+    pub fault: &'static str,
+    pub status: u8,
+}
+
+/// Nothing is printed, and all is well.
+pub const DONE: Step = Step {
+    lines: &[],
+    output: Output::Nothing,
+    fault: "",
+    status: 0,
+};
+
+pub const NO_DEVICE: Step = Step {
+    fault: "fault: 2 Device\n",
+    status: 2,
+    ..DONE
+};
+
+pub const NO_LOG: Step = Step {
+    fault: "fault: 12 NotALog\n",
+    status: 2,
+    ..DONE
+};
+
+static STEPS: [Step; 14] = [
+    Step {
+        lines: &["format ./a.log"],
+        ..DONE
+    },
+    Step {
+        lines: &["format ./a.log"],
+        ..NO_DEVICE
+    },
+    Step {
+        lines: &[
+            "inspect ./no.lines ./a.log",
+            "inspect ./no.lines ./a.log ./a.log",
+        ],
+        output: Output::Yes,
+        ..DONE
+    },
+    Step {
+        lines: &["inspect ./no.lines ./no.lines"],
+        ..NO_LOG
+    },
+    Step {
+        lines: &[
+            "inspect ./no.lines ./missing.log",
+            "inspect ./no.lines ./folder",
+            "inspect ./folder ./a.log",
+            "drive ./folder",
+            "drive ./missing.settings",
+        ],
+        ..NO_DEVICE
+    },
+    Step {
+        lines: &[
+            "drive ./memory.settings",
+            "drive ./files.settings",
+            "drive ./files.settings",
+        ],
+        output: Output::Driven(200),
+        ..DONE
+    },
+    Step {
+        lines: &["inspect ./no.lines ./shard-0.log ./shard-1.log"],
+        output: Output::Yes,
+        ..DONE
+    },
+    Step {
+        lines: &["put ./. k0001 once"],
+        output: Output::Committed,
+        ..DONE
+    },
+    Step {
+        lines: &["get ./. k0001"],
+        output: Output::Is("=once\n"),
+        ..DONE
+    },
+    Step {
+        lines: &["put ./. k0007 far", "put ./. k0001 twice"],
+        output: Output::Committed,
+        ..DONE
+    },
+    Step {
+        lines: &["get ./. k0001"],
+        output: Output::Is("=twice\n"),
+        ..DONE
+    },
+    Step {
+        lines: &["history ./. k0007"],
+        output: Output::Ends(" =far\n"),
+        ..DONE
+    },
+    Step {
+        lines: &["inspect ./no.lines ./shard-0.log ./shard-1.log"],
+        output: Output::Yes,
+        ..DONE
+    },
+    Step {
+        lines: &["put ./folder k0001 none", "dump ./folder/store.toml"],
+        ..NO_DEVICE
+    },
+];
+
+// Commands that ask for a file without rights.
+static CLOSED: [Step; 1] = [Step {
+    lines: &[
+        "format ./closed",
+        "play ./closed",
+        "inspect ./closed ./no.lines",
+        "inspect ./no.lines ./closed",
+        "drive ./closed",
+    ],
+    ..NO_DEVICE
+}];
+
+// What is printed of the log of one commit.
+const DUMPED: &str =
+    "9224 opened 1\n9238 commit 1.1 111 0 - a=1\n9280 outcome 1.1 committed 111\nclosed at 9311\n";
+
+// Logs of version 1, one of which is cut. What is refused makes nothing.
+static MIGRATIONS: [Step; 9] = [
+    Step {
+        lines: &["migrate ./old.log ./new.log"],
+        ..DONE
+    },
+    Step {
+        lines: &["dump ./new.log"],
+        output: Output::Is(DUMPED),
+        ..DONE
+    },
+    Step {
+        lines: &["migrate ./old.log ./new.log"],
+        ..NO_DEVICE
+    },
+    Step {
+        lines: &["dump ./new.log"],
+        output: Output::Is(DUMPED),
+        ..DONE
+    },
+    Step {
+        lines: &["inspect ./no.lines ./new.log"],
+        output: Output::Yes,
+        ..DONE
+    },
+    Step {
+        lines: &["migrate ./old.log ./old.log"],
+        ..NO_DEVICE
+    },
+    Step {
+        lines: &[
+            "dump ./old.log",
+            "migrate ./new.log ./other.log",
+            "migrate ./no.lines ./other.log",
+        ],
+        ..NO_LOG
+    },
+    Step {
+        lines: &[
+            "migrate ./cut.log ./other.log",
+            "migrate ./cut.log ./new.log",
+        ],
+        fault: "fault: 11 Damaged at 95\n",
+        ..NO_LOG
+    },
+    Step {
+        lines: &[
+            "migrate ./missing.log ./other.log",
+            "migrate ./folder ./other.log",
+            "migrate ./old.log ./missing/new.log",
+            "dump ./other.log",
+        ],
+        ..NO_DEVICE
+    },
+];
+
+// Settings of disks in memory.
+const IN_MEMORY: &str =
+    "shards = 2\nsplits = [\"k0005\"]\nstride = 1000\nepsilon = 100\nworkers = 4\ntransactions = 50\nkeys = 10\n";
+
+/// Puts a file into a folder.
+pub fn put(rt: &HostRuntime, test: &impl Abort, folder: &Folder, name: &str, bytes: &[u8]) {
+    folder.put(rt, name, bytes).ok().expect(test, name);
+}
+
+// A folder with what the commands name.
+pub fn furnished(rt: &HostRuntime, test: &impl Abort) -> Folder {
+    let folder = Folder::new(rt).ok().expect(test, "a folder");
+    let dir = folder.path(rt.alloc(), ".").ok().expect(test, "memory");
+    let text = format!(in rt.alloc(); "{IN_MEMORY}dir = \"{dir}\"\n");
+    drop(dir);
+    let text = text.ok().expect(test, "settings");
+    put(rt, test, &folder, "no.lines", b"");
+    put(rt, test, &folder, "memory.settings", IN_MEMORY.as_bytes());
+    put(rt, test, &folder, "files.settings", text.as_bytes());
+    drop(text);
+    folder.put_folder(rt, "folder").ok().expect(test, "folder");
+    folder
+}
+
+// Whether this is printed of a drive of so many transactions.
+fn is_driven(text: &str, tried: u64) -> bool {
+    let mut counted: u64 = 0;
+    for count in ["committed ", "aborted ", "unknown "] {
+        let found = text.lines().find_map(|line| line.strip_prefix(count));
+        let Some(Ok(number)) = found.map(|number| number.parse::<u64>()) else {
+            return false;
+        };
+        counted = counted.saturating_add(number);
+    }
+    counted == tried && text.lines().count() == 5 && text.ends_with("\nverdict yes\n")
+}
+
+// Whether a timestamp is told.
+fn is_committed(text: &str) -> bool {
+    let Some(at) = text.strip_prefix("committed ") else {
+        return false;
+    };
+    let Some(at) = at.strip_suffix("\n") else {
+        return false;
+    };
+    at.parse::<u64>().is_ok()
+}
+
+fn is_printed(text: &str, output: Output) -> bool {
+    match output {
+        Output::Nothing => text.is_empty(),
+        Output::Yes => text == "yes\n",
+        Output::Driven(tried) => is_driven(text, tried),
+        Output::Committed => is_committed(text),
+        Output::Is(right) => text == right,
+        Output::Ends(last) => text.ends_with(last),
+    }
+}
+
+// The words of a line, with the paths of what they name in the folder.
+fn words_of(rt: &HostRuntime, test: &impl Abort, folder: &Folder, line: &str) -> Vec<String> {
+    let mut words = Vec::new(rt.alloc());
+    for word in line.split(' ') {
+        let whole = match word.strip_prefix("./") {
+            Some(name) => folder.path(rt.alloc(), name),
+            None => format!(in rt.alloc(); "{word}"),
+        };
+        let whole = whole.ok().expect(test, "memory");
+        words.push(whole).ok().expect(test, "memory");
+    }
+    words
+}
+
+fn lent<'w>(test: &impl Abort, alloc: Global, words: &'w [String]) -> Vec<&'w str> {
+    let mut lent = Vec::new(alloc);
+    for word in words {
+        lent.push(word.as_str()).ok().expect(test, "memory");
+    }
+    lent
+}
+
+// Whether this is printed to both outputs.
+fn is_right(out: &[u8], err: &[u8], step: &Step) -> bool {
+    let Ok(text) = str::from_utf8(out) else {
+        return false;
+    };
+    is_printed(text, step.output) && err == step.fault.as_bytes()
+}
+
+// Whether the words print what the step says, and give its status.
+fn prints<
+    'w,
+    F: Hints,
+    D: Fn(Global, &Settings) -> Result<Driven, NoVerdict>,
+    P: Fn(Global, Put<'_>) -> Result<Ended, Fault>,
+>(alloc: Global, system: &System<F, Engine<D, P>>, words: &'w [&'w str], step: &Step) -> bool
+    requires drives { D.IsAlwaysCallable system.now.drive.run }
+    requires puts { P.IsAlwaysCallable system.now.drive.put }
+{
+    let mut out = Stream::new(Vec::new(alloc));
+    let mut err = Stream::new(Vec::new(alloc));
+    let disk = SimDisk::new(alloc);
+    let (status, disk) = answer(alloc, words, system, disk, &mut out, &mut err);
+    drop(disk);
+    let (out, err) = (out.into_writer(), err.into_writer());
+    let right = is_right(&out, &err, step) && status == step.status;
+    drop(out);
+    drop(err);
+    right
+}
+
+// Goes over some commands, one after another. Each is named by its line and its place among them.
+fn follow<
+    F: Hints,
+    D: Fn(Global, &Settings) -> Result<Driven, NoVerdict>,
+    P: Fn(Global, Put<'_>) -> Result<Ended, Fault>,
+>(
+    wrong: &mut WrongRows,
+    rt: &HostRuntime,
+    test: &impl Abort,
+    system: &System<F, Engine<D, P>>,
+    folder: &Folder,
+    steps: &[Step],
+)
+    requires drives { D.IsAlwaysCallable system.now.drive.run }
+    requires puts { P.IsAlwaysCallable system.now.drive.put }
+{
+    let mut place = 0u64;
+    for step in steps {
+        for line in step.lines {
+            let whole = words_of(rt, test, folder, line);
+            let words = lent(test, rt.alloc(), whole.as_slice());
+            let right = prints(rt.alloc(), system, words.as_slice(), step);
+            drop(words);
+            drop(whole);
+            wrong.unless_at(right, line, place);
+            place = place.saturating_add(1);
+        }
+    }
+}
+
+/// Goes over some commands as the program carries them out.
+pub fn go_over<T: Files<File = File> + RandomSource + Threads + Wait + time::Clock + Sync + Abort>(
+    wrong: &mut WrongRows,
+    rt: &HostRuntime,
+    test: &T,
+    folder: &Folder,
+    steps: &[Step],
+) {
+    let system = System {
+        files: HostFiles {
+            rt,
+            is_watched: false,
+        },
+        drive: Engine {
+            run: |alloc: Global, settings: &Settings| {
+                drive_shards(test, alloc, settings, Some(Vec::<u8>::new(alloc)))
+            },
+            put: |alloc: Global, write: Put<'_>| put_in_store(test, alloc, write),
+        },
+    };
+    follow(wrong, rt, test, &system, folder, steps);
+}
+
+#[test]
+fn commands_over_files(rt: HostRuntime) {
+    let folder = furnished(&rt, &rt);
+    let mut wrong = WrongRows::none(rt.alloc());
+    go_over(&mut wrong, &rt, &rt, &folder, &STEPS);
+    put(&rt, &rt, &folder, "closed", b"");
+    if folder.close(&rt, "closed") {
+        go_over(wrong.of("closed"), &rt, &rt, &folder, &CLOSED);
+    }
+    wrong.unless(folder.remove(&rt), "the folder");
+    end(&rt, wrong);
+}
+
+// A file of version 1 without its closed gate.
+fn without_its_end(bytes: &[u8]) -> &[u8] {
+    &bytes[..bytes.len().min(95)]
+}
+
+// It fails where a migration writes over a file that is there, or changes the old one.
+#[test]
+fn migrated_logs(rt: HostRuntime) {
+    let folder = furnished(&rt, &rt);
+    let old = in_version_1(ONE_COMMIT);
+    put(&rt, &rt, &folder, "old.log", &old);
+    put(&rt, &rt, &folder, "cut.log", without_its_end(&old));
+    let mut wrong = WrongRows::none(rt.alloc());
+    go_over(&mut wrong, &rt, &rt, &folder, &MIGRATIONS);
+    let stays = folder.has(&rt, "old.log", &old);
+    let whole = with_slots(rt.alloc(), &ONE_COMMIT)
+        .ok()
+        .expect(&rt, "memory");
+    let made = folder.has(&rt, "new.log", &whole);
+    drop(whole);
+    wrong.unless(stays && made, "the files");
+    wrong.unless(folder.remove(&rt), "the folder");
+    end(&rt, wrong);
+}

@@ -1,0 +1,17 @@
+//! Tests of stores and their clients, and of commands over files of the machine.
+#![tactic(auto)]
+
+#[cfg(test)]
+mod clients;
+#[cfg(test)]
+mod command_lines;
+#[cfg(test)]
+mod compacting;
+#[cfg(test)]
+mod forgetting;
+#[cfg(test)]
+mod renewing;
+#[cfg(test)]
+mod services;
+#[cfg(test)]
+mod verdict;

@@ -1,0 +1,130 @@
+//! Stores that renew their logs: what the log of a shard begins with, and what is seen once it is opened again.
+use crate::clients::{disks_of, of_one_shard, store_of, tells, write};
+use crate::verdict::end;
+use gatelog::GateLog;
+use made::WrongRows;
+use record::Record;
+use simdisk::SimDisk;
+use std::alloc::Global;
+use std::process::Abort;
+use std::sync::Wait;
+use std::thread::Threads;
+use std::time::Duration;
+use std::{thread, time};
+use store::{Client, Store};
+
+// By how many bytes a log has to grow, and whether it was turned over behind a second of commits.
+struct Row {
+    name: &'static str,
+    renew: Option<u64>,
+    renewed: bool,
+}
+
+static ROWS: [Row; 3] = [
+    Row {
+        name: "no log is renewed",
+        renew: None,
+        renewed: false,
+    },
+    Row {
+        name: "a log that has grown by a thousand bytes",
+        renew: Some(1_000),
+        renewed: true,
+    },
+    Row {
+        name: "a log that has not grown by so much",
+        renew: Some(1_000_000),
+        renewed: false,
+    },
+];
+
+// A commit each ten milliseconds, of 73 bytes in the log.
+const COMMITS: u32 = 100;
+
+const PAUSE: u64 = 10;
+
+// A store of one client, as the row says.
+fn open<'r, R: Threads + Wait + Sync + Abort>(
+    rt: &'r R,
+    alloc: Global,
+    disks: Vec<SimDisk>,
+    row: &Row,
+) -> Store<'r, R, SimDisk> {
+    let mut options = of_one_shard(rt, alloc, 1);
+    options.keep = Some(200_000);
+    options.renew = row.renew;
+    store_of(rt, alloc, disks, options)
+}
+
+// Whether all commits were made.
+fn write_all<R: Wait + time::Clock>(rt: &R, alloc: Global, clients: Vec<Client<'_, R>>) -> bool {
+    let mut clients = clients;
+    let Some(mut client) = clients.pop() else {
+        return false;
+    };
+    let mut wrote = true;
+    for _commit in 0..COMMITS {
+        wrote = wrote && write(alloc, &mut client, 5, &[b"a"], b"1").is_ok();
+        thread::sleep(rt, Duration::from_millis(PAUSE));
+    }
+    drop(client);
+    drop(clients);
+    wrote
+}
+
+// Whether a view sees what was written.
+fn sees<R: Wait + time::Clock>(clients: Vec<Client<'_, R>>) -> bool {
+    let mut clients = clients;
+    let Some(mut client) = clients.pop() else {
+        return false;
+    };
+    let seen = match client.view() {
+        Some(mut view) => tells(&mut view, b"1").is_ok(),
+        None => false,
+    };
+    drop(client);
+    drop(clients);
+    seen
+}
+
+// Whether the log of the disk begins with a base.
+fn is_renewed(rt: &impl Abort, alloc: Global, disks: Vec<SimDisk>) -> (bool, Vec<SimDisk>) {
+    let mut disks = disks;
+    let disk = disks.pop().expect(rt, "a disk");
+    let (log, entries) = GateLog::open(alloc, disk).ok().expect(rt, "a log");
+    let renewed = match entries.first() {
+        Some(entry) => matches!(entry.item(), Record::Base { .. }),
+        None => false,
+    };
+    drop(entries);
+    disks.push(log.into_disk()).ok().expect(rt, "memory");
+    (renewed, disks)
+}
+
+// Whether a store's log is renewed as the row says, and what was written is seen over it.
+fn goes<R: Threads + Wait + time::Clock + Sync + Abort>(rt: &R, alloc: Global, row: &Row) -> bool {
+    let store = open(rt, alloc, disks_of(rt, alloc, 1), row);
+    let served = store.serve(|clients: Vec<Client<'_, R>>| write_all(rt, alloc, clients));
+    let Ok((wrote, disks)) = served else {
+        return false;
+    };
+    let (renewed, disks) = is_renewed(rt, alloc, disks);
+    let again = open(rt, alloc, disks, row);
+    match again.serve(|clients: Vec<Client<'_, R>>| sees(clients)) {
+        Ok((seen, disks)) => {
+            drop(disks);
+            wrote && seen && renewed == row.renewed
+        }
+        Err(_) => false,
+    }
+}
+
+// It fails where a store renews no log, or each.
+#[test]
+fn logs_of_stores_are_renewed(rt: HostRuntime) {
+    let mut wrong = WrongRows::none(rt.alloc());
+    for row in &ROWS {
+        wrong.unless(goes(&rt, rt.alloc(), row), row.name);
+    }
+    end(&rt, wrong);
+}

@@ -1,0 +1,231 @@
+//! Services over disks in memory: what a client is told where a shard's device fails, and what a store goes on from that is opened again.
+use crate::clients::{disks_of, of_two_shards, store_of, write};
+use crate::verdict::end;
+use made::WrongRows;
+use simdisk::SimDisk;
+use std::alloc::Global;
+use std::process::Abort;
+use std::sync::Wait;
+use std::thread::Threads;
+use std::time;
+use std::time::{Duration, Instant};
+use store::{Client, Ended, Halt, Store, Transaction, Unopened};
+use units::{Fault, Key, ShardNo};
+
+// Which shard's disk fails, at which of its calls from the opening on, and how a transaction ends that writes there and on the other shard:
+// shard 0 decides.
+#[derive(Clone, Copy)]
+struct Row {
+    name: &'static str,
+    shard: u8,
+    call: u64,
+    commits: bool,
+}
+
+static ROWS: [Row; 4] = [
+    Row {
+        name: "call 20 of shard 0",
+        shard: 0,
+        call: 20,
+        commits: false,
+    },
+    Row {
+        name: "call 21 of shard 0",
+        shard: 0,
+        call: 21,
+        commits: false,
+    },
+    Row {
+        name: "call 22 of shard 1",
+        shard: 1,
+        call: 22,
+        commits: true,
+    },
+    Row {
+        name: "call 23 of shard 1",
+        shard: 1,
+        call: 23,
+        commits: true,
+    },
+];
+
+// A key of shard 0 and one of shard 1.
+const KEYS: [&[u8]; 2] = [b"a", b"z"];
+
+// Further ones: what is in doubt holds its locks.
+const FREE: [&[u8]; 2] = [b"b", b"y"];
+
+// A transaction that writes keys, and how it ended, where that took less than a second.
+fn write_soon<R: Wait + time::Clock>(
+    rt: &R,
+    alloc: Global,
+    client: &mut Client<'_, R>,
+    keys: &[&[u8]],
+) -> Option<Ended> {
+    let start = Instant::now(rt).ok()?;
+    let ended = write(alloc, client, 1, keys, b"1");
+    if start.elapsed(rt).ok()? < Duration::from_secs(1) {
+        ended.ok()
+    } else {
+        None
+    }
+}
+
+// Whether a transaction that reads a key is refused as `Stopped`, within a second.
+fn is_refused<R: Wait + time::Clock>(rt: &R, client: &mut Client<'_, R>, key: &[u8]) -> bool {
+    let Ok(start) = Instant::now(rt) else {
+        return false;
+    };
+    let ended = client.transact(5, |tx: &mut Transaction<'_, R>| -> Result<(), Halt> {
+        drop(tx.get(&Key::new(key)?)?);
+        Ok(())
+    });
+    match (ended, start.elapsed(rt)) {
+        (Err(fault), Ok(took)) => fault == Fault::Stopped && took < Duration::from_secs(1),
+        _ => false,
+    }
+}
+
+// Whether a transaction over both shards ends as the row says once the device has failed, and then those over one of them.
+fn goes_on<R: Wait + time::Clock>(
+    rt: &R,
+    alloc: Global,
+    clients: Vec<Client<'_, R>>,
+    row: &Row,
+) -> bool {
+    let mut clients = clients;
+    let Some(mut client) = clients.pop() else {
+        return false;
+    };
+    let mut last = write_soon(rt, alloc, &mut client, &KEYS);
+    for _transaction in 0..100 {
+        if !matches!(last, Some(Ended::Committed(_))) {
+            break;
+        }
+        last = write_soon(rt, alloc, &mut client, &KEYS);
+    }
+    let ended = match last {
+        Some(Ended::Aborted) => row.commits,
+        Some(Ended::Unknown(_)) => !row.commits,
+        _ => false,
+    };
+    let (failed, other) = if row.shard == 0 {
+        (KEYS[0], FREE[1])
+    } else {
+        (KEYS[1], FREE[0])
+    };
+    let refused = is_refused(rt, &mut client, failed);
+    let commits = matches!(
+        write_soon(rt, alloc, &mut client, &[other]),
+        Some(Ended::Committed(_))
+    );
+    let told = match ShardNo::new(row.shard) {
+        Some(shard) => client.has_stopped(shard),
+        None => false,
+    };
+    drop(client);
+    drop(clients);
+    ended && refused && commits && told
+}
+
+// Whether that is so of a store over the disks of the row.
+fn goes<R: Threads + Wait + time::Clock + Sync + Abort>(rt: &R, alloc: Global, row: &Row) -> bool {
+    let mut disks = disks_of(rt, alloc, 2);
+    if let Some(disk) = disks.get_mut(usize::from(row.shard)) {
+        disk.fail_next(row.call);
+    }
+    let store = store_of(rt, alloc, disks, of_two_shards(rt, alloc, 100_000));
+    let served = store.serve(|clients: Vec<Client<'_, R>>| goes_on(rt, alloc, clients, row));
+    match served {
+        Ok((went, disks)) => {
+            drop(disks);
+            went
+        }
+        Err(_) => false,
+    }
+}
+
+// It fails where a letter that a shard refuses is silence to its client.
+#[test]
+fn services_hear_of_stopped_shards(rt: HostRuntime) {
+    let mut wrong = WrongRows::none(rt.alloc());
+    for row in &ROWS {
+        wrong.unless(goes(&rt, rt.alloc(), row), row.name);
+    }
+    end(&rt, wrong);
+}
+
+// The run of a transaction's id, and the timestamp of a view that was answered.
+fn seen<R: Wait + time::Clock>(clients: Vec<Client<'_, R>>) -> Option<(u64, u64)> {
+    let mut clients = clients;
+    let mut client = clients.pop()?;
+    let mut run = 0;
+    let ended = client.transact(1, |tx: &mut Transaction<'_, R>| -> Result<(), Halt> {
+        run = tx.id().run();
+        Err(Halt::Abandon)
+    });
+    let mut at = 0;
+    if let Some(mut view) = client.view() {
+        if view.get(&Key::new(KEYS[0]).ok()?).is_ok() {
+            at = view.at().micros();
+        }
+    }
+    drop(client);
+    drop(clients);
+    match ended {
+        Ok(Ended::Aborted) => Some((run, at)),
+        _ => None,
+    }
+}
+
+// The same of a store over the disks, with them.
+fn opened<R: Threads + Wait + time::Clock + Sync + Abort>(
+    rt: &R,
+    alloc: Global,
+    disks: Vec<SimDisk>,
+) -> ((u64, u64), Vec<SimDisk>) {
+    let store = store_of(rt, alloc, disks, of_two_shards(rt, alloc, 10_000_000));
+    let served = store.serve(|clients: Vec<Client<'_, R>>| seen(clients));
+    let (seen, disks) = served.ok().expect(rt, "a service");
+    (seen.expect(rt, "a client"), disks)
+}
+
+// It fails where a store's ids begin anew, or its clock does, which the logs are ten seconds ahead of.
+#[test]
+fn stores_go_on_from_their_logs(rt: HostRuntime) {
+    let disks = disks_of(&rt, rt.alloc(), 2);
+    let ((first, at), disks) = opened(&rt, rt.alloc(), disks);
+    let ((second, later), disks) = opened(&rt, rt.alloc(), disks);
+    drop(disks);
+    let mut wrong = WrongRows::none(rt.alloc());
+    wrong.unless((first, second) == (1, 2), "the runs of ids");
+    let ahead = at > 0 && later >= at.saturating_add(9_000_000);
+    wrong.unless(ahead, "the clock");
+    end(&rt, wrong);
+}
+
+// It fails where the shard is not named that is refused.
+#[test]
+fn refused_shards_are_named(rt: HostRuntime) {
+    let alloc = rt.alloc();
+    let mut disks = disks_of(&rt, alloc, 1);
+    disks.push(SimDisk::new(alloc)).ok().expect(&rt, "memory");
+    let unopened = match Store::open(&rt, alloc, disks, of_two_shards(&rt, alloc, 0)) {
+        Ok(store) => {
+            drop(store);
+            rt.panic("a store over no log")
+        }
+        Err(unopened) => unopened,
+    };
+    let named = Unopened {
+        shard: ShardNo::new(1),
+        fault: Fault::NotALog,
+    };
+    let mut wrong = WrongRows::none(alloc);
+    wrong.unless(unopened == named, "what is refused");
+    let text = format!(in alloc; "{unopened}").ok().expect(&rt, "memory");
+    let same = text.as_str() == "shard 1: 12 NotALog";
+    drop(text);
+    wrong.unless(same, "its text");
+    end(&rt, wrong);
+}

@@ -1,0 +1,9 @@
+//! What a test ends with.
+use made::WrongRows;
+use std::process::Abort;
+
+/// Ends the test where rows are wrong, with all of them.
+pub fn end(rt: &impl Abort, wrong: WrongRows) {
+    assert!(rt; wrong.is_none(), "{}", wrong.text());
+    drop(wrong);
+}
