@@ -13,7 +13,7 @@ use Rattle.gatelog.specs.Frames.{header}
 use Rattle.frames.specs.Gate.{open_gate}
 use Rattle.frames.specs.Entries.{framed, with_entry, entries_at}
 use Rattle.gatelog.specs.Log.{scan}
-use Rattle.frames.proofs.Scan.{Found, with_entries, frame_parts, open_step, closed_step, skips}
+use Rattle.frames.proofs.Scan.{Found, with_entries, frame_parts, open_step, closed_step, damaged_step, end_step, skips}
 
 pub one_more : (es : List Placed) (e : Placed) (found : Found) → with_entries es (with_entry e found) ≡ with_entries (es ++ e ∷ []) found
 one_more es e (Ok found) = ap (λ (l : List Placed). Ok (l, found.1)) (sym (append_assoc es (e ∷ []) found.0))
