@@ -10,7 +10,7 @@ use Rattle.gatelog.specs.Frames.{end_from}
 use Rattle.gatelog.specs.Gates.{first_gate}
 use Rattle.gatelog.specs.Laid.{WasLaid}
 use Rattle.gatelog.specs.Log.{log, is_no_log}
-use Rattle.gatelog.specs.Placed.{Placed}
+use Rattle.frames.specs.Placed.{Placed}
 
 -- the records of entries
 abbrev pub items_of : Result (List Placed) Fault → Result (List Record) Fault

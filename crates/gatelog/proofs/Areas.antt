@@ -1,24 +1,27 @@
 -- The log of a file with slots: from the area that they name, and on in each file with the same front.
-use Rattle.std.proofs.Common.{◌≡◌, ◌≢◌, inl, inr, ℕ, ◌+◌, ◌-◌, ◌<◌, ◌≤◌, true, false, List, [], ◌∷◌, ◌++◌, length, get_or, take, drop, flat_map, Some}
+use Rattle.std.proofs.Common.{◌≡◌, ◌≢◌, inl, inr, ℕ, ◌+◌, ◌-◌, ◌^◌, ◌<◌, ◌≤◌, true, false, List, [], ◌∷◌, ◌++◌, length, get_or, take, drop, flat_map, Some}
 use Rattle.std.proofs.Common.{Result, Ok, Err, refl, sym, ap, ◌∙◌, append_assoc, arith}
 use Rattle.std.specs.Prelude.{bytes_eq}
-use Rattle.std.specs.Int.{w32, to_be_bytes}
+use Rattle.std.specs.Int.{w32, from_be_bytes, to_be_bytes}
 use Rattle.std.specs.List.{AllByRecursion}
 use Rattle.std.proofs.lemmas.Bool.{cases_Bool}
-use Rattle.std.proofs.lemmas.List.{length-append, length-drop, drop-drop, drop_more}
+use Rattle.std.proofs.lemmas.List.{take_at, drop_at, length-append, length-drop, drop-drop, drop_more}
 use Rattle.std.proofs.lemmas.Slice.Eq.{bytes_eq-Decides}
 use Rattle.units.specs.declared.fault.Fault.{Fault}
 use Rattle.units.specs.declared.fault.Fault.TheVariants.{NotALog}
 use Rattle.record.specs.declared.record.Record.{Record}
 use Rattle.spelling.specs.Grammar.{spelling}
 use Rattle.spelling.specs.Limits.{IsRecord}
-use Rattle.spelling.proofs.Again.{wide32, spelling-least, spelling-most}
-use Rattle.gatelog.specs.Placed.{Placed}
-use Rattle.gatelog.specs.Gates.{first_gate, open_gate}
+use Rattle.spelling.specs.Reading.{read_record}
+use Rattle.spelling.proofs.Again.{wide32, read_again, spelling-least, spelling-most}
+use Rattle.frames.specs.Placed.{Placed}
+use Rattle.frames.specs.Gate.{open_gate}
+use Rattle.gatelog.specs.Gates.{first_gate}
 use Rattle.gatelog.specs.Frames.{header, behind_gate, next_gate}
 use Rattle.gatelog.specs.Areas.{whole_frame, area_bytes, placed_from}
-use Rattle.gatelog.specs.Log.{framed, with_entry, entries_at, in_area, scan}
-use Rattle.gatelog.proofs.Scan.{Found, with_entries, is_open, is_closed, at_gate, open_step, closed_step, frame_from, frame_again, later, skips, goes_on}
+use Rattle.frames.specs.Entries.{framed, with_entry, entries_at}
+use Rattle.gatelog.specs.Log.{in_area, scan}
+use Rattle.frames.proofs.Scan.{Found, with_entries, is_open, is_closed, at_gate, open_step, closed_step, IsFrame, frame_from, later, skips, goes_on}
 use Rattle.gatelog.specs.Slots.{slot_count, area_of}
 use Rattle.gatelog.proofs.Named.{named-above}
 
@@ -105,6 +108,30 @@ gate-shut image es gate h opened =
     ]
 
 -- ---- a new area
+
+-- the frame that was staged
+pub frame_again : (item : Record) (rest : List ℕ) → IsRecord item → 1 ≤ length (spelling item) → length (spelling item) ≤ 2 ^ 20 →
+    IsFrame (behind_gate item ++ rest) item (length (spelling item))
+frame_again item rest fits least most =
+    let front = to_be_bytes w32 (length (spelling item)) in
+    let grouped : behind_gate item ++ rest ≡ front ++ (spelling item ++ rest) = append_assoc front (spelling item) rest in
+    let four : take 4 (behind_gate item ++ rest) ≡ front = ap (λ (l : List ℕ). take 4 l) grouped ∙ take_at front (spelling item ++ rest) 4 refl in
+    let after : drop 4 (behind_gate item ++ rest) ≡ spelling item ++ rest = ap (λ (l : List ℕ). drop 4 l) grouped
+    ∙ drop_at front (spelling item ++ rest) 4 refl in
+    record {
+      long = omega (
+        arith,
+        ap length grouped,
+        length-append front (spelling item ++ rest),
+        length-append (spelling item) rest,
+        wide32.len (length (spelling item)),
+      );
+      is = ap (from_be_bytes w32) four ∙ wide32.again (length (spelling item)) (omega (arith, most));
+      least = least;
+      most = most;
+      reads = ap (λ (l : List ℕ). read_record (take (length (spelling item)) l)) after ∙ ap read_record
+          (take_at (spelling item) rest (length (spelling item)) refl) ∙ read_again item fits;
+    }
 
 pub area-scanned : (items : List Record) (at : ℕ) (rest : List ℕ) → AllByRecursion IsRecord items
     → entries_at at 0 (area_bytes items ++ rest) ≡ Ok (placed_from at items)

@@ -1,7 +1,7 @@
 -- An append on a disk that fails by a plan.
 use Rattle.std.proofs.Common.{◌≡◌, ◌⊎◌, inl, inr, ◌+◌, ◌-◌, ◌≤◌, ◌||◌, ℕ, zero, suc, eqb, Bool, true, false, if◌then◌else◌, List, [], ◌∷◌, length}
-use Rattle.std.proofs.Common.{get_or, Result, Ok, Err, refl, sym, subst, ap, ◌∙◌, arith}
-use Rattle.std.specs.Prelude.{IsTrue, IfErr, OnOk, IsErr, nat_le, nat_lt}
+use Rattle.std.proofs.Common.{get_or, refl, sym, subst, ap, ◌∙◌, arith}
+use Rattle.std.specs.Prelude.{IsTrue, nat_le, nat_lt}
 use Rattle.std.proofs.lemmas.Bool.{cases_eq, eq-eqb, ne_eqb, false≢true, le-leb, lt-leb, le-ltb}
 use Rattle.record.specs.declared.record.Record.{Record}
 use Rattle.spelling.specs.Limits.{IsRecord}
@@ -11,97 +11,18 @@ use Rattle.disk.specs.declared.plan.Fate.{Fate}
 use Rattle.disk.specs.declared.plan.Fate.TheVariants.{Old, New, Filled}
 use Rattle.disk.specs.Image.{MayLeave, IsSynced, with_bytes, tried_write}
 use Rattle.disk.specs.File.{File, FileChange, wrote, tried, with_change, synced, surface, by_fate, crash_leaves, laid, seen_by, none_of}
-use Rattle.disk.specs.Planned.{fails, next, IsAsPlanned}
+use Rattle.disk.specs.Planned.{fails, next}
 use Rattle.disk.proofs.Crashes.{crashed_may, laid_is}
 use Rattle.disk.proofs.Runs.{after_write_within}
-use Rattle.gatelog.specs.Placed.{Placed}
+use Rattle.frames.specs.Placed.{Placed}
 use Rattle.gatelog.specs.Frames.{staged_bytes}
-use Rattle.gatelog.specs.Gates.{open_gate, is_read, opens_gate}
+use Rattle.frames.specs.Gate.{open_gate}
+use Rattle.gatelog.specs.Gates.{is_read, opens_gate}
 use Rattle.gatelog.specs.Log.{log, scan, ends_at, and_entry}
-use Rattle.gatelog.specs.Armed.{fails_in_two, after_two, two_made, fails_in_append, appended, waits, with_if, IsArmed}
+use Rattle.frames.specs.Calls.{fails_in_two, after_two, two_made, fails_in_append, appended}
+use Rattle.gatelog.specs.Armed.{with_if, IsArmed}
 use Rattle.gatelog.proofs.Goes.{gate_within}
 use Rattle.gatelog.proofs.Images.{ends_found, staged_long, log-staged, log-shut, log-opened, log-staging}
-
-pub planned_ok : (E : Type 0) {T : Type 0} (failed : Bool) (value : T) → IsAsPlanned {T = T} {E = E} failed (Ok value) → failed ≡ false
-planned_ok E true value is = absurd (false≢true is)
-planned_ok E false value is = refl
-
-pub planned_err : (T : Type 0) {E : Type 0} (failed : Bool) (error : E) → IsAsPlanned {T = T} {E = E} failed (Err error) → failed ≡ true
-planned_err T true error is = refl
-planned_err T false error is = absurd (false≢true is)
-
--- a call that is not to fail refuses nothing
-pub no_err : {T E : Type 0} (failed : Bool) (result : Result T E) (Q : E → Type 0) → IsAsPlanned failed result → failed ≡ false → IfErr result Q
-no_err failed (Ok value) Q planned is = tt
-no_err {T = T} failed (Err error) Q planned is = absurd (false≢true (sym is ∙ planned_err T failed error planned))
-
--- what holds anyway holds after Ok
-pub on_any : {T E : Type 0} (result : Result T E) (P : Type 0) → P → OnOk result P
-on_any (Ok value) P holds = holds
-on_any (Err error) P holds = tt
-
--- what holds of the fault that it was refused for
-pub if_err : {T E : Type 0} (P : E → Type 0) (result : Result T E) (error : E) → result ≡ Err error → P error → IfErr result P
-if_err P result error is holds = subst (λ r. IfErr r P) (sym is) holds
-
-pub as_err : {T E : Type 0} (result : Result T E) (failed : Bool) → failed ≡ true → IsErr result → IsAsPlanned failed result
-as_err result true is err = err
-as_err result false is err = absurd (false≢true is)
-
--- what holds after Ok leads to what follows from it
-pub on_map : {T E : Type 0} {A B : Type 0} (result : Result T E) → (A → B) → OnOk result A → OnOk result B
-on_map (Ok value) f a = f a
-on_map (Err error) f a = tt
-
-pub on_ok : {T E : Type 0} {A : Type 0} (result : Result T E) → A → OnOk result A
-on_ok (Ok value) a = a
-on_ok (Err error) a = tt
-
-pub on_err : (A : Type 0) {T E : Type 0} (result : Result T E) → IsErr result → OnOk result A
-on_err A (Ok value) err = absurd (false≢true err)
-on_err A (Err error) err = tt
-
--- what waits for a write does not fail before, and goes on waiting
-pub waits_on : (plan : FailurePlan) → waits plan ≡ true → (fails plan ≡ false) × (next plan ≡ plan)
-waits_on Never is = (refl, refl)
-waits_on (After calls) is = absurd (false≢true is)
-waits_on (AfterWrite calls) is = (refl, refl)
-
--- a sync that does not fail
-pub synced_unless : (failed : Bool) (old mid new : File) → failed ≡ false → mid ≡ old → new ≡ (if failed then mid else synced mid) → new ≡ synced old
-synced_unless true old mid new is same new-is = absurd (false≢true (sym is))
-synced_unless false old mid new is same new-is = new-is ∙ ap synced same
-
--- the first of two calls fails
-pub first_fails : {T E : Type 0} (result : Result T E) (one two : Bool) (at : ℕ) (bytes : List ℕ) (file mid : File) → one ≡ true → IsErr result →
-    mid ≡ with_change (if one then tried at bytes else wrote at bytes) file
-    → IsAsPlanned (one || two) result × (mid ≡ (if one then with_change (tried at bytes) file else
-    (if two then with_change (wrote at bytes) file else synced (with_change (wrote at bytes) file))))
-first_fails result true two at bytes file mid is err mid-is = (err, mid-is)
-first_fails result false two at bytes file mid is err mid-is = absurd (false≢true is)
-
--- the first does not, and the second ends as planned
-pub then_second : {T E : Type 0} (result : Result T E) (one two : Bool) (at : ℕ) (bytes : List ℕ) (file mid new : File) → one ≡ false →
-    mid ≡ with_change (if one then tried at bytes else wrote at bytes) file
-    → IsAsPlanned two result → new ≡ (if two then mid else synced mid)
-    → IsAsPlanned (one || two) result × (new ≡ (if one then with_change (tried at bytes) file else
-    (if two then with_change (wrote at bytes) file else synced (with_change (wrote at bytes) file))))
-then_second result true two at bytes file mid new is mid-is planned new-is = absurd (false≢true (sym is))
-then_second result false true at bytes file mid new is mid-is planned new-is = (planned, new-is ∙ mid-is)
-then_second result false false at bytes file mid new is mid-is planned new-is = (planned, new-is ∙ ap synced mid-is)
-
--- the same of the two halves of an append
-pub first_half : {T E : Type 0} (result : Result T E) (one two : Bool) (new half whole : File) → one ≡ true → IsErr result → new ≡ half →
-    IsAsPlanned (one || two) result × (new ≡ (if one then half else whole))
-first_half result true two new half whole is err new-is = (err, new-is)
-first_half result false two new half whole is err new-is = absurd (false≢true is)
-
-pub second_half : {T E : Type 0} (result : Result T E) (one two : Bool) (new half whole : File) → one ≡ false → IsAsPlanned two result →
-    new ≡ whole → IsAsPlanned (one || two) result × (new ≡ (if one then half else whole))
-second_half result true two new half whole is planned new-is = absurd (false≢true (sym is))
-second_half result false two new half whole is planned new-is = (planned, new-is)
-
--- ---- in terms of the log
 
 -- no call of the append fails where the count is greater
 late_calls : (call : ℕ) → 4 ≤ call → (fails_in_two (AfterWrite call) ≡ false) × (after_two (AfterWrite call) ≡ After (call - 1 - 1))

@@ -14,9 +14,10 @@ use Rattle.disk.specs.Image.{Surface, MayLeave, with_bytes, tried_write, after_w
 use Rattle.disk.specs.File.{File, FileChange, wrote, tried, with_change, synced, surface, by_fate, crash_leaves, laid, none_of}
 use Rattle.disk.specs.Planned.{fails, next, at_write}
 use Rattle.disk.proofs.Crashes.{crashed_may, seen_may, wrote_surface, laid_is}
-use Rattle.gatelog.specs.Placed.{Placed}
-use Rattle.gatelog.specs.Gates.{open_gate, opens_gate}
-use Rattle.gatelog.specs.Armed.{fails_in_two, after_two, two_made, fails_in_append, appended}
+use Rattle.frames.specs.Placed.{Placed}
+use Rattle.frames.specs.Gate.{open_gate}
+use Rattle.gatelog.specs.Gates.{opens_gate}
+use Rattle.frames.specs.Calls.{fails_in_two, after_two, two_made, fails_in_append, appended}
 use Rattle.gatelog.specs.Log.{scan}
 use Rattle.gatelog.specs.Areas.{area_bytes, placed_from}
 use Rattle.gatelog.specs.Slots.{Beginning, slot_at, offset_bytes, begins_in}

@@ -18,8 +18,9 @@ use Rattle.gatelog.specs.Frames.{header, end_from, end_of}
 use Rattle.gatelog.specs.Areas.{placed_from, whole_frame, area_bytes, without_header, fresh_with}
 use Rattle.gatelog.specs.Gates.{first_gate}
 use Rattle.gatelog.specs.Laid.{HoldsBehind, HasNoneOr, WasLaid}
-use Rattle.gatelog.specs.Log.{log, entries_at, entries_of, ends_at, ends_with}
-use Rattle.gatelog.specs.Placed.{Placed}
+use Rattle.frames.specs.Entries.{entries_at}
+use Rattle.gatelog.specs.Log.{log, entries_of, ends_at, ends_with}
+use Rattle.frames.specs.Placed.{Placed}
 use Rattle.gatelog.specs.Slots.{begins_in}
 use Rattle.gatelog.specs.Turns.{IsNextOrNone}
 use Rattle.gatelog.proofs.Next.{fresh-next, fresh-begins}

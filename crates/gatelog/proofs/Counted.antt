@@ -2,10 +2,11 @@
 use Rattle.std.proofs.Common.{◌≡◌, ◌≢◌, inl, inr, ℕ, zero, suc, ◌+◌, ◌<◌, ◌≤◌, eqb, true, false, List, get_or, drop, refl, sym, ap, ◌∙◌, arith}
 use Rattle.std.proofs.lemmas.Bool.{cases_eq, eq-eqb, ne_eqb}
 use Rattle.std.proofs.lemmas.List.{drop-drop}
-use Rattle.gatelog.specs.Gates.{first_gate, open_gate}
+use Rattle.frames.specs.Gate.{open_gate}
+use Rattle.gatelog.specs.Gates.{first_gate}
 use Rattle.gatelog.specs.Slots.{Beginning, slot_count, slot_at, open_slots, begins_in}
 use Rattle.gatelog.specs.Turns.{IsNextOrNone}
-use Rattle.gatelog.proofs.Bytes.{get-drop}
+use Rattle.frames.proofs.Bytes.{get-drop}
 
 pub same-beginning : (a b m n : ℕ) → a ≡ b → m ≡ n → ◌≡◌ {A = Beginning} (record { at = a; slots = m }) (record { at = b; slots = n })
 same-beginning a b m n at slots =

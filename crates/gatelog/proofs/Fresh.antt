@@ -14,14 +14,16 @@ use Rattle.record.specs.declared.record.Record.{Record}
 use Rattle.spelling.specs.Grammar.{spelling}
 use Rattle.spelling.specs.Limits.{IsRecord}
 use Rattle.spelling.proofs.Again.{wide32}
-use Rattle.gatelog.specs.Placed.{Placed}
-use Rattle.gatelog.specs.Gates.{first_gate, open_gate}
+use Rattle.frames.specs.Placed.{Placed}
+use Rattle.frames.specs.Gate.{open_gate}
+use Rattle.gatelog.specs.Gates.{first_gate}
 use Rattle.gatelog.specs.Frames.{header, next_gate, end_from}
 use Rattle.gatelog.specs.Areas.{placed_from, whole_frame, area_bytes, behind_header, without_header, fresh_with}
 use Rattle.gatelog.specs.Laid.{HoldsBehind, HasNoneOr}
-use Rattle.gatelog.specs.Log.{scan, entries_of, entries_at}
+use Rattle.frames.specs.Entries.{entries_at}
+use Rattle.gatelog.specs.Log.{scan, entries_of}
 use Rattle.gatelog.specs.Slots.{slot_count, named, area_of}
-use Rattle.gatelog.proofs.Bytes.{take_agrees, get-drop}
+use Rattle.frames.proofs.Bytes.{take_agrees, get-drop}
 use Rattle.gatelog.proofs.Named.{closed_named, none_left}
 use Rattle.gatelog.proofs.Areas.{scan-from, area-scanned}
 use Rattle.gatelog.proofs.Goes.{gate_within, gate_closed}

@@ -2,12 +2,14 @@
 use Rattle.std.proofs.Common.{◌≡◌, ◌≢◌, ℕ, zero, suc, ◌+◌, ◌-◌, ◌*◌, ◌<◌, ◌≤◌, false, List, length, get_or, take, drop, Ok, sym, ap, subst, ◌∙◌, arith}
 use Rattle.std.specs.Int.{w64, from_be_bytes}
 use Rattle.std.proofs.lemmas.List.{get_or-take, length-drop, drop-drop}
-use Rattle.gatelog.specs.Placed.{Placed}
+use Rattle.frames.specs.Placed.{Placed}
 use Rattle.gatelog.specs.Frames.{header}
-use Rattle.gatelog.specs.Gates.{first_gate, open_gate}
-use Rattle.gatelog.specs.Log.{entries_at, scan}
-use Rattle.gatelog.proofs.Scan.{with_entries}
-use Rattle.gatelog.proofs.Bytes.{take_agrees, get-drop, drops-agree}
+use Rattle.frames.specs.Gate.{open_gate}
+use Rattle.gatelog.specs.Gates.{first_gate}
+use Rattle.frames.specs.Entries.{entries_at}
+use Rattle.gatelog.specs.Log.{scan}
+use Rattle.frames.proofs.Scan.{with_entries}
+use Rattle.frames.proofs.Bytes.{take_agrees, get-drop, drops-agree}
 use Rattle.gatelog.specs.Slots.{slot_count, offset_in, area_of, begins_at, begins_in}
 use Rattle.gatelog.proofs.Named.{IsSameSlot, SameSlots, same-named}
 use Rattle.gatelog.proofs.Counted.{same-beginning, same-slots-open}

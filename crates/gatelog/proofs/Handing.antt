@@ -2,12 +2,12 @@
 use Rattle.std.proofs.Common.{◌≡◌, ℕ, ◌+◌, List, ◌++◌, length, drop, replicate, ap, subst, ◌∙◌}
 use Rattle.std.proofs.lemmas.List.{length-replicate, drop-drop}
 use Rattle.record.specs.declared.record.Record.{Record}
-use Rattle.gatelog.specs.Ahead.{Ahead, IsAhead, read_to}
-use Rattle.gatelog.specs.Front.{IsAtFront, IsFront}
-use Rattle.gatelog.specs.Log.{entries_at, with_entry}
-use Rattle.gatelog.specs.declared.front.Front.{Front}
-use Rattle.gatelog.specs.declared.front.Front.TheVariants.{Whole}
-use Rattle.gatelog.proofs.Ahead.{ahead_there}
+use Rattle.frames.specs.Ahead.{Ahead, IsAhead, read_to}
+use Rattle.frames.specs.Front.{IsAtFront, IsFront}
+use Rattle.frames.specs.Entries.{entries_at, with_entry}
+use Rattle.frames.specs.declared.front.Front.{Front}
+use Rattle.frames.specs.declared.front.Front.TheVariants.{Whole}
+use Rattle.frames.proofs.Ahead.{ahead_there}
 
 -- it is told of what was read ahead, by what the two calls gave
 pub told : (a : Ahead) (bytes : List ℕ) (left : ℕ) (front found : Front) → bytes ≡ a.bytes → left ≡ a.left → found ≡ front → IsAtFront bytes left found

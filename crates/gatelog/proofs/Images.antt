@@ -1,5 +1,5 @@
 -- What a crash may leave of the file in each step of an append.
-use Rattle.std.proofs.Common.{◌≡◌, ◌≢◌, inl, inr, ℕ, ◌+◌, ◌<◌, ◌≤◌, List, [], ◌∷◌, ◌++◌, length, get_or, take, drop, Some, Ok, Err, refl, sym, subst}
+use Rattle.std.proofs.Common.{◌≡◌, ◌≢◌, ◌⊎◌, inl, inr, ℕ, ◌+◌, ◌<◌, ◌≤◌, List, [], ◌∷◌, ◌++◌, length, get_or, take, drop, Some, Ok, Err, refl, sym, subst}
 use Rattle.std.proofs.Common.{ap, ◌∙◌, append_assoc, arith}
 use Rattle.std.specs.Prelude.{IsTrue}
 use Rattle.std.specs.Int.{w32, to_be_bytes}
@@ -12,16 +12,17 @@ use Rattle.spelling.specs.Grammar.{spelling}
 use Rattle.spelling.specs.Limits.{IsRecord}
 use Rattle.spelling.proofs.Again.{wide32, spelling-least, spelling-most}
 use Rattle.disk.specs.Image.{Surface, MayLeave, IsUntouched, IsSynced, with_bytes, tried_write, after_write, after_sync}
-use Rattle.disk.specs.Moments.{LeavesOnly}
-use Rattle.disk.proofs.Runs.{and_then, weaker, get_or-with_bytes}
-use Rattle.gatelog.specs.Placed.{Placed}
+use Rattle.disk.proofs.Runs.{get_or-with_bytes}
+use Rattle.frames.specs.Placed.{Placed}
 use Rattle.gatelog.specs.Frames.{behind_gate, staged_bytes, next_gate}
-use Rattle.gatelog.specs.Gates.{open_gate}
-use Rattle.gatelog.specs.Log.{framed, with_entry, entries_at, scan, entries_of, log, ends_with, ends_at, and_entry}
+use Rattle.frames.specs.Gate.{open_gate}
+use Rattle.frames.specs.Entries.{framed, with_entry, entries_at}
+use Rattle.gatelog.specs.Log.{scan, entries_of, log, ends_with, ends_at, and_entry}
 use Rattle.gatelog.specs.Crash.{IsOldOrWith}
 use Rattle.gatelog.specs.Slots.{begins_in}
-use Rattle.gatelog.proofs.Scan.{Found, with_entries, open_step, closed_step, frame_from, frame_again, skips}
-use Rattle.gatelog.proofs.Bytes.{take_agrees}
+use Rattle.frames.proofs.Scan.{Found, with_entries, open_step, closed_step, frame_from, skips}
+use Rattle.frames.proofs.Bytes.{take_agrees}
+use Rattle.gatelog.proofs.Areas.{frame_again}
 use Rattle.gatelog.proofs.Goes.{gate_within, gate_closed, scan_goes_on, begins-stays}
 
 -- ---- the gate
@@ -227,54 +228,25 @@ module _ (file : Surface) (gate : ℕ) (item : Record) (synced : IsSynced file) 
       (omega (arith, ap length image-is, front_size, length-append (take gate staged) (byte ∷ rest)))
       (λ (e : get_or image gate 0 ≡ open_gate). other (sym gate-is ∙ e)))
 
--- ---- the runs of an append
+-- ---- the two halves of an append, by the bytes that it writes
 
-module _ {D : Type 0} (surface : D → Surface) (clock : D → ℕ) (since : D → ℕ → List ℕ → Type 0) (old : D) (gate : ℕ) (item : Record)
-    (synced : IsSynced (surface old)) (whole : IsTrue (ends_at (surface old).seen gate)) (fits : IsRecord item) (bytes : List ℕ)
-    (bytes-is : bytes ≡ staged_bytes item) where
-  abbrev Kept : List ℕ → Type 0
-  Kept = IsOldOrWith (log (surface old).seen) (record { offset = gate; item = item })
+module _ (file : Surface) (gate : ℕ) (item : Record) (synced : IsSynced file) (whole : IsTrue (ends_at file.seen gate)) (fits : IsRecord item)
+    (bytes : List ℕ) (bytes-is : bytes ≡ staged_bytes item) where
+  abbrev Half : List ℕ → Type 0
+  Half image = MayLeave (tried_write (gate + 1) (length bytes) file) image ⊎ MayLeave (tried_write gate 1 (after_sync (after_write (gate + 1) bytes file))) image
 
-  pub first_run : (mid : D) → LeavesOnly clock since old mid (MayLeave (tried_write (gate + 1) (length bytes) (surface old))) →
-      LeavesOnly clock since old mid Kept
-  first_run mid run =
-      weaker clock since old mid (MayLeave (tried_write (gate + 1) (length bytes) (surface old))) Kept run
-      (λ image may. while_staging (surface old) gate item synced whole fits image
-      (subst (λ (l : List ℕ). MayLeave (tried_write (gate + 1) (length l) (surface old)) image) bytes-is may))
+  staging : (image : List ℕ) → MayLeave (tried_write (gate + 1) (length bytes) file) image →
+      MayLeave (tried_write (gate + 1) (length (staged_bytes item)) file) image
+  staging image may = subst (λ (l : List ℕ). MayLeave (tried_write (gate + 1) (length l) file) image) bytes-is may
 
-  pub both_runs : (mid new : D) → LeavesOnly clock since old mid (MayLeave (tried_write (gate + 1) (length bytes) (surface old))) →
-      surface mid ≡ after_sync (after_write (gate + 1) bytes (surface old))
-      → LeavesOnly clock since mid new (MayLeave (tried_write gate 1 (surface mid))) → LeavesOnly clock since old new Kept
-  both_runs mid new run mid-is again =
-      let staged-is : surface mid ≡ after_sync (after_write (gate + 1) (staged_bytes item) (surface old)) = mid-is
-      ∙ ap (λ (l : List ℕ). after_sync (after_write (gate + 1) l (surface old))) bytes-is in
-      and_then clock since old mid new Kept (MayLeave (tried_write gate 1 (surface mid))) Kept (first_run mid run) again (λ image kept. kept)
-      (λ image may. while_opening (surface old) gate item synced whole fits image
-      (subst (λ (f : Surface). MayLeave (tried_write gate 1 f) image) staged-is may))
+  opening : (image : List ℕ) → MayLeave (tried_write gate 1 (after_sync (after_write (gate + 1) bytes file))) image →
+      MayLeave (tried_write gate 1 (after_sync (after_write (gate + 1) (staged_bytes item) file))) image
+  opening image may = subst (λ (l : List ℕ). MayLeave (tried_write gate 1 (after_sync (after_write (gate + 1) l file))) image) bytes-is may
 
-  abbrev Begun : List ℕ → Type 0
-  Begun image = begins_in image ≡ begins_in (surface old).seen
+  pub old-or-with : (image : List ℕ) → Half image → IsOldOrWith (log file.seen) (record { offset = gate; item = item }) image
+  old-or-with image (inl may) = while_staging file gate item synced whole fits image (staging image may)
+  old-or-with image (inr may) = while_opening file gate item synced whole fits image (opening image may)
 
-  pub first_begins : (mid : D) → LeavesOnly clock since old mid (MayLeave (tried_write (gate + 1) (length bytes) (surface old))) →
-      LeavesOnly clock since old mid Begun
-  first_begins mid run =
-      weaker clock since old mid (MayLeave (tried_write (gate + 1) (length bytes) (surface old))) Begun run
-      (λ image may. begins-staging (surface old) gate item synced whole fits image
-      (subst (λ (l : List ℕ). MayLeave (tried_write (gate + 1) (length l) (surface old)) image) bytes-is may))
-
-  pub both_begin : (mid new : D) → LeavesOnly clock since old mid (MayLeave (tried_write (gate + 1) (length bytes) (surface old))) →
-      surface mid ≡ after_sync (after_write (gate + 1) bytes (surface old))
-      → LeavesOnly clock since mid new (MayLeave (tried_write gate 1 (surface mid))) → LeavesOnly clock since old new Begun
-  both_begin mid new run mid-is again =
-      let staged-is : surface mid ≡ after_sync (after_write (gate + 1) (staged_bytes item) (surface old)) = mid-is
-      ∙ ap (λ (l : List ℕ). after_sync (after_write (gate + 1) l (surface old))) bytes-is in
-      and_then clock since old mid new Begun (MayLeave (tried_write gate 1 (surface mid))) Begun (first_begins mid run) again (λ image kept. kept)
-      (λ image may. begins-opening (surface old) gate item synced whole fits image
-      (subst (λ (f : Surface). MayLeave (tried_write gate 1 f) image) staged-is may))
-
-  pub end_is : (mid new : D) → surface mid ≡ after_sync (after_write (gate + 1) bytes (surface old)) →
-      surface new ≡ after_sync (after_write gate (open_gate ∷ []) (surface mid))
-      → surface new ≡ after_sync (after_write gate (open_gate ∷ []) (after_sync (after_write (gate + 1) (staged_bytes item) (surface old))))
-  end_is mid new mid-is new-is =
-      new-is ∙ ap (λ (f : Surface). after_sync (after_write gate (open_gate ∷ []) f)) (mid-is
-      ∙ ap (λ (l : List ℕ). after_sync (after_write (gate + 1) l (surface old))) bytes-is)
+  pub begins-on : (image : List ℕ) → Half image → begins_in image ≡ begins_in file.seen
+  begins-on image (inl may) = begins-staging file gate item synced whole fits image (staging image may)
+  begins-on image (inr may) = begins-opening file gate item synced whole fits image (opening image may)

@@ -4,7 +4,7 @@ use Rattle.std.proofs.lemmas.Bool.{ne_eqb}
 use Rattle.std.proofs.lemmas.List.{length-drop, nil_from_length}
 use Rattle.disk.specs.declared.plan.FailurePlan.TheVariants.{AfterWrite}
 use Rattle.disk.specs.Image.{Surface, MayLeave, IsUntouched, IsSynced, with_bytes, tried_write, after_write, after_cut, after_sync}
-use Rattle.gatelog.specs.Armed.{fails_in_two}
+use Rattle.frames.specs.Calls.{fails_in_two}
 use Rattle.gatelog.specs.Frames.{header}
 use Rattle.gatelog.specs.Laid.{HoldsBehind}
 

@@ -6,13 +6,13 @@ use Rattle.std.proofs.lemmas.List.{map-append}
 use Rattle.units.specs.declared.fault.Fault.{Fault}
 use Rattle.record.specs.declared.record.Record.{Record}
 use Rattle.spelling.specs.Grammar.{spelling}
-use Rattle.gatelog.specs.Ahead.{Ahead, ToDo}
+use Rattle.frames.specs.Ahead.{Ahead, ToDo}
 use Rattle.gatelog.specs.Frames.{next_gate}
 use Rattle.gatelog.specs.Areas.{placed_from}
-use Rattle.gatelog.specs.Placed.{Placed}
-use Rattle.gatelog.specs.Log.{entries_at, with_entries}
+use Rattle.frames.specs.Placed.{Placed}
+use Rattle.frames.specs.Entries.{entries_at, with_entries}
 use Rattle.gatelog.proofs.Fresh.{placed-more}
-use Rattle.gatelog.proofs.Scan.{Found, with_entries-nil}
+use Rattle.frames.proofs.Scan.{Found, with_entries-nil}
 
 -- what was handed over, and then what is ahead, is what there is in all; or all was handed over
 abbrev pub IsHanded : List ℕ → Found → List Placed → Ahead → Option ℕ → Type 0

@@ -6,7 +6,7 @@ use Rattle.std.proofs.lemmas.Bool.{le-leb, leb-true, eqb-true, eq-eqb, ne_eqb, t
 use Rattle.std.proofs.lemmas.Bool.Decides.{nat_tests}
 use Rattle.units.specs.declared.fault.Fault.{Fault}
 use Rattle.units.specs.declared.fault.Fault.TheVariants.{Damaged}
-use Rattle.gatelog.specs.Gates.{open_gate}
+use Rattle.frames.specs.Gate.{open_gate}
 use Rattle.gatelog.specs.Slots.{offset_in, named}
 
 -- ---- one slot

@@ -10,7 +10,7 @@ use Rattle.gatelog.specs.Crash.{IsOldOrNew}
 use Rattle.gatelog.specs.Frames.{end_from}
 use Rattle.gatelog.specs.Areas.{whole_frame, placed_from}
 use Rattle.gatelog.specs.Log.{scan, entries_of}
-use Rattle.gatelog.specs.Placed.{Placed}
+use Rattle.frames.specs.Placed.{Placed}
 use Rattle.gatelog.specs.Slots.{begins_in}
 use Rattle.gatelog.specs.Turns.{IsLogFrom}
 use Rattle.gatelog.proofs.Fresh.{area-size}

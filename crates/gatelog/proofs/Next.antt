@@ -4,20 +4,21 @@ use Rattle.std.proofs.Common.{sym, ap, ◌∙◌, arith}
 use Rattle.std.proofs.lemmas.List.{get_or-drop, drop-drop, get_or_append_left}
 use Rattle.std.proofs.lemmas.Bool.{true≢false}
 use Rattle.disk.proofs.Runs.{get_or-with_bytes}
-use Rattle.gatelog.specs.Gates.{open_gate, first_gate}
-use Rattle.gatelog.specs.Ahead.{Ahead, IsAhead, read_to}
+use Rattle.frames.specs.Gate.{open_gate}
+use Rattle.gatelog.specs.Gates.{first_gate}
+use Rattle.frames.specs.Ahead.{Ahead, IsAhead, read_to}
 use Rattle.gatelog.specs.Areas.{area_bytes, fresh_with}
 use Rattle.gatelog.specs.Slots.{slot_count, slot_at, offset_in, named, offset_bytes, begins_at, begins_in}
 use Rattle.disk.specs.Image.{Surface, with_bytes}
 use Rattle.record.specs.declared.record.Record.{Record}
-use Rattle.gatelog.specs.Placed.{Placed}
+use Rattle.frames.specs.Placed.{Placed}
 use Rattle.gatelog.specs.Log.{scan}
 use Rattle.gatelog.specs.Turns.{IsNext, IsNextOrNone, MayTurn, named_new}
 use Rattle.gatelog.proofs.Named.{at_slot, is_open, is_closed}
 use Rattle.gatelog.proofs.Areas.{log_parts}
 use Rattle.gatelog.proofs.Counted.{same-beginning, counted}
 use Rattle.gatelog.proofs.Fresh.{area-fresh}
-use Rattle.gatelog.proofs.Bytes.{sized, inside, get-drop}
+use Rattle.frames.proofs.Bytes.{sized, inside, get-drop}
 
 pub next-stays : (image : List ℕ) (es : List Placed) (gate slot at : ℕ) (bytes : List ℕ) → scan image ≡ Ok (es, gate) → gate ≤ at → at ≤ length image
     → IsNextOrNone image slot → IsNextOrNone (with_bytes at bytes image) slot

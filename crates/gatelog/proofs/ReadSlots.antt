@@ -8,10 +8,11 @@ use Rattle.std.specs.Int.{w64, from_be_bytes}
 use Rattle.std.proofs.lemmas.List.{length-drop, take-take, drop-take, take-append-le, drop-append-le, get_or-take, get_or_append_left}
 use Rattle.units.specs.declared.fault.Fault.TheVariants.{Damaged}
 use Rattle.units.specs.declared.fault.Fault.{Fault}
-use Rattle.gatelog.specs.Ahead.{Ahead, IsAhead, read_to}
-use Rattle.gatelog.specs.Gates.{first_gate, open_gate}
+use Rattle.frames.specs.Ahead.{Ahead, IsAhead, read_to}
+use Rattle.frames.specs.Gate.{open_gate}
+use Rattle.gatelog.specs.Gates.{first_gate}
 use Rattle.gatelog.specs.Slots.{slot_count, offset_in, named, area_of}
-use Rattle.gatelog.proofs.Ahead.{ahead_there}
+use Rattle.frames.proofs.Ahead.{ahead_there}
 use Rattle.gatelog.proofs.Named.{open_named, closed_named, short_named, wrong_named, IsWrong, none_left}
 
 -- a slot at the front of bytes, all that is behind it, and bytes that were not read

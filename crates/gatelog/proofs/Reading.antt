@@ -1,28 +1,19 @@
 -- Reading the entries of a file one behind the other, as a loop does.
-use Rattle.std.proofs.Common.{◌≡◌, ◌≢◌, inl, inr, ℕ, ◌+◌, ◌-◌, ◌<◌, ◌≤◌, eqb, true, false, not, List, [], ◌∷◌, ◌++◌, length, get_or, take, drop, Some}
+use Rattle.std.proofs.Common.{◌≡◌, ◌≢◌, inl, inr, ℕ, ◌+◌, ◌-◌, ◌<◌, ◌≤◌, true, false, not, List, [], ◌∷◌, ◌++◌, length, get_or, take, drop, Some}
 use Rattle.std.proofs.Common.{None, Ok, Err, refl, sym, ap, ◌∙◌, append_assoc, arith}
 use Rattle.std.specs.Prelude.{bytes_eq}
-use Rattle.std.proofs.lemmas.Bool.{eq-eqb, cases_Bool, false≢true}
+use Rattle.std.proofs.lemmas.Bool.{cases_Bool, false≢true}
 use Rattle.std.proofs.lemmas.Slice.Eq.{bytes_eq-Decides}
 use Rattle.std.proofs.lemmas.List.{drop_more, drop-drop, length-drop, length-take, length-take-le, take-append-drop, append-nil, nil_from_length}
 use Rattle.std.proofs.lemmas.List.{take_all}
 use Rattle.units.specs.declared.fault.Fault.TheVariants.{Damaged, NotALog}
 use Rattle.record.specs.declared.record.Record.{Record}
-use Rattle.gatelog.specs.Placed.{Placed}
+use Rattle.frames.specs.Placed.{Placed}
 use Rattle.gatelog.specs.Frames.{header}
-use Rattle.gatelog.specs.Gates.{open_gate}
-use Rattle.gatelog.specs.Log.{framed, with_entry, entries_at, scan}
-use Rattle.gatelog.proofs.Scan.{Found, with_entries, frame_parts, open_step, closed_step, skips}
-
-pub damaged_step : (at gate : ℕ) (bytes : List ℕ) → gate ≡ open_gate → framed bytes ≡ None → entries_at at 0 (gate ∷ bytes) ≡ Err (Damaged at)
-unfolding entries_at
-damaged_step at gate bytes opened is =
-    let same : eqb gate open_gate ≡ true = eq-eqb gate open_gate opened in
-    rw (same, is) refl
-
-pub end_step : (at : ℕ) → entries_at at 0 [] ≡ Err (Damaged at)
-unfolding entries_at
-end_step at = refl
+use Rattle.frames.specs.Gate.{open_gate}
+use Rattle.frames.specs.Entries.{framed, with_entry, entries_at}
+use Rattle.gatelog.specs.Log.{scan}
+use Rattle.frames.proofs.Scan.{Found, with_entries, frame_parts, open_step, closed_step, damaged_step, end_step, skips}
 
 pub one_more : (es : List Placed) (e : Placed) (found : Found) → with_entries es (with_entry e found) ≡ with_entries (es ++ e ∷ []) found
 one_more es e (Ok found) = ap (λ (l : List Placed). Ok (l, found.1)) (sym (append_assoc es (e ∷ []) found.0))

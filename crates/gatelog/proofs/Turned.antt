@@ -12,17 +12,17 @@ use Rattle.disk.specs.declared.plan.FailurePlan.TheVariants.{AfterWrite}
 use Rattle.disk.specs.Image.{Surface, MayLeave, IsSynced, tried_write, after_write, after_sync}
 use Rattle.disk.specs.File.{File, wrote, tried, with_change, surface}
 use Rattle.disk.specs.Planned.{fails, next, at_write, IsAsPlanned}
-use Rattle.gatelog.specs.Armed.{fails_in_append, appended}
+use Rattle.frames.specs.Calls.{fails_in_append, appended}
 use Rattle.gatelog.specs.ArmedTurn.{fails_in_turnover, turned, IsArmedTurn}
 use Rattle.gatelog.specs.Crash.{IsOldOrNew}
 use Rattle.gatelog.specs.Frames.{end_from}
 use Rattle.gatelog.specs.Areas.{area_bytes, placed_from}
-use Rattle.gatelog.specs.Gates.{open_gate}
+use Rattle.frames.specs.Gate.{open_gate}
 use Rattle.gatelog.specs.Log.{scan, ends_at, ends_with}
-use Rattle.gatelog.specs.Placed.{Placed}
+use Rattle.frames.specs.Placed.{Placed}
 use Rattle.gatelog.specs.Slots.{Beginning, slot_count, slot_at, offset_bytes, begins_in}
 use Rattle.gatelog.specs.Turns.{MayTurn, IsTurnover, IsLogFrom, IsNextOrNone, with_area, named_new}
-use Rattle.gatelog.proofs.Armed.{first_half, second_half}
+use Rattle.frames.proofs.Calls.{first_half, second_half}
 use Rattle.gatelog.proofs.ArmedTurn.{failing-calls}
 use Rattle.std.proofs.lemmas.Bool.{eq-eqb}
 use Rattle.gatelog.proofs.Fresh.{placed-end}

@@ -11,14 +11,16 @@ use Rattle.record.specs.declared.record.Record.{Record}
 use Rattle.spelling.proofs.Again.{wide64}
 use Rattle.disk.specs.Image.{Surface, MayLeave, IsUntouched, with_bytes, tried_write, after_sync}
 use Rattle.disk.proofs.Runs.{get_or-with_bytes, after_write_within}
-use Rattle.gatelog.specs.Placed.{Placed}
-use Rattle.gatelog.specs.Gates.{open_gate, first_gate}
-use Rattle.gatelog.specs.Log.{entries_at, scan}
+use Rattle.frames.specs.Placed.{Placed}
+use Rattle.frames.specs.Gate.{open_gate}
+use Rattle.gatelog.specs.Gates.{first_gate}
+use Rattle.frames.specs.Entries.{entries_at}
+use Rattle.gatelog.specs.Log.{scan}
 use Rattle.gatelog.specs.Frames.{header}
 use Rattle.gatelog.specs.Areas.{whole_frame, area_bytes, placed_from}
 use Rattle.gatelog.specs.Slots.{Beginning, slot_count, slot_at, offset_in, area_of, offset_bytes, begins_at, begins_in}
-use Rattle.gatelog.proofs.Scan.{with_entries, closed_step}
-use Rattle.gatelog.proofs.Bytes.{take_agrees, take-all, get-drop, drops-agree, inside, sized}
+use Rattle.frames.proofs.Scan.{with_entries, closed_step}
+use Rattle.frames.proofs.Bytes.{take_agrees, take-all, get-drop, drops-agree, inside, sized}
 use Rattle.gatelog.specs.Turns.{MayTurn, IsTurnover, IsLogFrom, IsNextOrNone, with_area, with_offset, prepared, named_new}
 use Rattle.gatelog.proofs.Named.{IsSameSlot, SameSlots, Turned, same-named, turned-named}
 use Rattle.gatelog.proofs.Counted.{same-beginning, counted}

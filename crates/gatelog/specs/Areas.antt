@@ -2,8 +2,8 @@
 use Rattle.std.specs.Prelude.{ℕ, ◌*◌, List, [], ◌∷◌, ◌++◌, flat_map, replicate}
 use Rattle.record.specs.declared.record.Record.{Record}
 use Rattle.gatelog.specs.Frames.{behind_gate, header, next_gate}
-use Rattle.gatelog.specs.Gates.{open_gate}
-use Rattle.gatelog.specs.Placed.{Placed}
+use Rattle.frames.specs.Gate.{open_gate}
+use Rattle.frames.specs.Placed.{Placed}
 use Rattle.gatelog.specs.Slots.{slot_count}
 
 -- the entries of an area that begins at an offset, and the offset of its closed gate

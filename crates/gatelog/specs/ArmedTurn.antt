@@ -7,9 +7,9 @@ use Rattle.disk.specs.declared.plan.Fate.TheVariants.{Old}
 use Rattle.disk.specs.File.{File, wrote, tried, with_change, surface, crash_leaves}
 use Rattle.disk.specs.Planned.{fails, next, at_write}
 use Rattle.record.specs.declared.record.Record.{Record}
-use Rattle.gatelog.specs.Placed.{Placed}
+use Rattle.frames.specs.Placed.{Placed}
 use Rattle.gatelog.specs.Gates.{opens_gate}
-use Rattle.gatelog.specs.Armed.{fails_in_append, appended}
+use Rattle.frames.specs.Calls.{fails_in_append, appended}
 use Rattle.gatelog.specs.Log.{scan}
 use Rattle.gatelog.specs.Areas.{area_bytes}
 use Rattle.gatelog.specs.Slots.{Beginning, begins_in, slot_at, offset_bytes}

@@ -4,7 +4,7 @@ use Rattle.units.specs.declared.fault.Fault.{Fault}
 use Rattle.disk.specs.Image.{Surface, MayLeave}
 use Rattle.record.specs.declared.record.Record.{Record}
 use Rattle.gatelog.specs.Areas.{placed_from}
-use Rattle.gatelog.specs.Placed.{Placed}
+use Rattle.frames.specs.Placed.{Placed}
 use Rattle.gatelog.specs.Log.{log, and_entry}
 use Rattle.gatelog.specs.Slots.{Beginning, begins_in}
 

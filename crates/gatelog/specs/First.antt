@@ -11,8 +11,9 @@ use Rattle.gatelog.specs.Frames.{end_of}
 use Rattle.gatelog.specs.Areas.{without_header, placed_from}
 use Rattle.gatelog.specs.Gates.{first_gate}
 use Rattle.gatelog.specs.Laid.{WasLaid, HasNoneOr}
-use Rattle.gatelog.specs.Placed.{Placed}
-use Rattle.gatelog.specs.Log.{log, entries_at, entries_of}
+use Rattle.frames.specs.Placed.{Placed}
+use Rattle.frames.specs.Entries.{entries_at}
+use Rattle.gatelog.specs.Log.{log, entries_of}
 
 -- the text SPNLOG01
 abbrev pub first_header : List ℕ

@@ -3,11 +3,8 @@
 use Rattle.std.specs.Prelude.{ℕ, Bool, true, false, nat_le, ◌==◌, if◌then◌else◌}
 use Rattle.disk.specs.declared.plan.Fate.{Fate}
 use Rattle.disk.specs.declared.plan.Fate.TheVariants.{Old, New, Filled}
-use Rattle.gatelog.specs.declared.frame.TheConstants.{FIRST_GATE, OPEN_GATE}
-
--- the gate that is open; every other byte is a closed one
-abbrev pub open_gate : ℕ
-open_gate = OPEN_GATE
+use Rattle.frames.specs.Gate.{open_gate}
+use Rattle.gatelog.specs.declared.frame.TheConstants.{FIRST_GATE}
 
 -- the offset of the first gate, behind the header and the slots
 abbrev pub first_gate : ℕ

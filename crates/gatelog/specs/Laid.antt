@@ -4,7 +4,7 @@ use Rattle.units.specs.declared.fault.Fault.TheVariants.{NotALog}
 use Rattle.disk.specs.File.{File, surface}
 use Rattle.disk.specs.Image.{IsSynced}
 use Rattle.disk.specs.Moments.{LeavesOnly}
-use Rattle.gatelog.specs.Placed.{Placed}
+use Rattle.frames.specs.Placed.{Placed}
 use Rattle.gatelog.specs.Log.{log}
 
 -- a disk between the two syncs, and what a crash leaves from then on

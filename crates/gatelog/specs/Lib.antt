@@ -3,13 +3,10 @@ pub mod Crash
 pub mod Frames
 pub mod Gates
 pub mod Log
-pub mod Placed
 pub mod Shown
 pub mod Slots
 pub mod First
 pub mod Laid
-pub mod Ahead
-pub mod Front
 pub mod Turns
 pub mod ArmedTurn
 pub mod Areas

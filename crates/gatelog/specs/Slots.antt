@@ -3,7 +3,8 @@ use Rattle.std.specs.Prelude.{ℕ, zero, suc, ◌+◌, ◌*◌, ◌||◌, Bool, 
 use Rattle.std.specs.Int.{w64, from_be_bytes, to_be_bytes}
 use Rattle.units.specs.declared.fault.Fault.{Fault}
 use Rattle.units.specs.declared.fault.Fault.TheVariants.{Damaged}
-use Rattle.gatelog.specs.Gates.{first_gate, open_gate}
+use Rattle.frames.specs.Gate.{open_gate}
+use Rattle.gatelog.specs.Gates.{first_gate}
 use Rattle.gatelog.specs.declared.frame.TheConstants.{SLOTS}
 
 -- how many slots there are

@@ -4,8 +4,8 @@ use Rattle.std.specs.List.{AllByRecursion}
 use Rattle.disk.specs.Image.{Surface, MayLeave, IsSynced, tried_write, after_write, after_sync}
 use Rattle.record.specs.declared.record.Record.{Record}
 use Rattle.spelling.specs.Limits.{IsRecord}
-use Rattle.gatelog.specs.Placed.{Placed}
-use Rattle.gatelog.specs.Gates.{open_gate}
+use Rattle.frames.specs.Placed.{Placed}
+use Rattle.frames.specs.Gate.{open_gate}
 use Rattle.gatelog.specs.Log.{scan}
 use Rattle.gatelog.specs.Areas.{area_bytes, placed_from}
 use Rattle.gatelog.specs.Slots.{Beginning, begins_in, slot_at, slot_count, offset_bytes}

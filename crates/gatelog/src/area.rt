@@ -6,9 +6,9 @@ ghost use Rattle.gatelog.specs.Areas.{whole_frame, area_bytes};
 ghost use Rattle.gatelog.specs.Slots.{slot_count};
 ghost use Rattle.spelling.specs.Limits.{IsRecord};
 
-use crate::frame::OPEN_GATE;
 use crate::token::put_behind;
 use counts::Past;
+use frames::OPEN_GATE;
 use record::Record;
 use spelling::encoded_len;
 use std::alloc::Global;

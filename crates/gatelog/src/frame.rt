@@ -11,6 +11,3 @@ pub const SLOTS: u64 = 1024;
 
 /// The offset of the first gate, behind the header and the slots.
 pub const FIRST_GATE: u64 = 9224;
-
-/// The gate that is open; every other byte is a closed one.
-pub const OPEN_GATE: u8 = 0xa5;

@@ -6,9 +6,9 @@ ghost use Rattle.disk.specs.declared.plan.FailurePlan.TheVariants.{Never, AfterW
 ghost use Rattle.gatelog.specs.Frames.{header};
 ghost use Rattle.gatelog.specs.Laid.{HoldsBehind, WasLaid};
 
-use crate::change::write_and_sync;
 use crate::frame::HEADER;
 use disk::Disk;
+use frames::write_and_sync;
 use units::Fault;
 
 /// Makes a file these bytes, synced, and then puts the header in the place of the first eight, and syncs. Refused for memory, it

@@ -1,15 +1,13 @@
 //! The log of a shard: records in a file, each whole or absent after a crash.
 #![tactic(auto)]
 
+mod appending;
 mod area;
-mod change;
 mod frame;
-mod front;
 mod gatelog;
 mod laying;
 mod migrating;
 mod opening;
-mod pieces;
 mod scanning;
 mod slots;
 mod token;

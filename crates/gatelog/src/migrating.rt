@@ -3,11 +3,11 @@ ghost use Rattle.std.specs.Prelude.{◌≡◌, ◌⊎◌, ◌≤◌, ◌<◌, �
 ghost use Rattle.disk.specs.File.{surface};
 ghost use Rattle.disk.specs.Moments.{Elapses};
 ghost use Rattle.disk.specs.declared.plan.FailurePlan.TheVariants.{Never, AfterWrite};
-ghost use Rattle.gatelog.specs.Armed.{waits};
+ghost use Rattle.frames.specs.Calls.{waits};
 ghost use Rattle.gatelog.specs.First.{first_scan, first_log, HasTooLong, HasCopied, LeavesCopy, AreSpelled, IsTooLong};
 ghost use Rattle.gatelog.specs.Areas.{placed_from};
 ghost use Rattle.gatelog.specs.Log.{is_no_log};
-ghost use Rattle.gatelog.specs.Placed.{Placed};
+ghost use Rattle.frames.specs.Placed.{Placed};
 ghost use Rattle.gatelog.specs.Shown.{disk_of, gate_at, next_slot, is_stopped};
 
 use crate::area::put_whole;

@@ -3,7 +3,7 @@ ghost use Rattle.std.specs.Prelude.{◌≡◌, ◌⊎◌, ◌<◌, ◌≤◌, �
 ghost use Rattle.disk.specs.Image.{MayLeave, after_sync};
 ghost use Rattle.disk.specs.File.{surface, synced};
 ghost use Rattle.disk.specs.Moments.{LeavesOnly};
-ghost use Rattle.gatelog.specs.Armed.{waits};
+ghost use Rattle.frames.specs.Calls.{waits};
 
 use disk::Disk;
 use units::Fault;

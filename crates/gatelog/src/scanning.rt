@@ -6,21 +6,21 @@ ghost use Rattle.disk.specs.File.{surface};
 ghost use Rattle.disk.specs.Image.{MayLeave, after_sync};
 ghost use Rattle.disk.specs.File.{synced};
 ghost use Rattle.disk.specs.Moments.{Elapses, LeavesOnly};
-ghost use Rattle.gatelog.specs.Ahead.{IsAhead, ToDo};
-ghost use Rattle.gatelog.specs.Armed.{waits};
+ghost use Rattle.frames.specs.Ahead.{IsAhead, ToDo};
+ghost use Rattle.frames.specs.Calls.{waits};
 ghost use Rattle.gatelog.specs.Areas.{placed_from};
-ghost use Rattle.gatelog.specs.Placed.{Placed};
-ghost use Rattle.gatelog.specs.Log.{scan, entries_at, with_entries, is_no_log};
+ghost use Rattle.frames.specs.Placed.{Placed};
+ghost use Rattle.frames.specs.Entries.{entries_at, with_entries};
+ghost use Rattle.gatelog.specs.Log.{scan, is_no_log};
 ghost use Rattle.gatelog.specs.Slots.{begins_in};
 ghost use Rattle.gatelog.specs.Turns.{IsNextOrNone};
 
 use crate::frame::HEADER;
-use crate::front::{Front, front_of};
 use crate::opening::sync_first;
-use crate::pieces::Pieces;
 use crate::slots::{area_named, open_slots};
 use crate::token::Entry;
 use disk::Disk;
+use frames::{Front, Pieces, front_of};
 use std::alloc::Global;
 use units::Fault;
 

@@ -1,11 +1,13 @@
 //! The slots of a log's file.
 ghost use Rattle.std.specs.Prelude.{◌≡◌, ◌≢◌, ◌⊎◌, ◌≤◌, ◌<◌, ◌+◌, ◌*◌, ◌++◌, List, ℕ, length, get_or, true, false, IfOk, IfErr, IfSome, IfNone, IsTrue};
-ghost use Rattle.gatelog.specs.Gates.{first_gate, open_gate};
+ghost use Rattle.frames.specs.Gate.{open_gate};
+ghost use Rattle.gatelog.specs.Gates.{first_gate};
 ghost use Rattle.gatelog.specs.Log.{is_no_log};
 ghost use Rattle.gatelog.specs.Slots.{slot_count, named, offset_in};
 
-use crate::frame::{FIRST_GATE, OPEN_GATE, SLOTS};
+use crate::frame::{FIRST_GATE, SLOTS};
 use byteorder::{BigEndian, ByteOrder};
+use frames::OPEN_GATE;
 use units::Fault;
 
 // The offset in a slot, where it is open. The slot begins at an offset of a file of that length, of which the slots before it

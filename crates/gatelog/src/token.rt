@@ -23,7 +23,7 @@ impl Drop for Entry {
 }
 
 impl Model for Entry {
-    ghost use Rattle.gatelog.specs.Placed.{Placed};
+    ghost use Rattle.frames.specs.Placed.{Placed};
 
     ghost Value = { Placed };
 
@@ -81,7 +81,7 @@ pub struct Staged {
 
 impl Model for Staged {
     ghost use Rattle.std.specs.Prelude.{◌≡◌, ◌≤◌, ◌^◌, ◌+◌};
-    ghost use Rattle.gatelog.specs.Placed.{Placed};
+    ghost use Rattle.frames.specs.Placed.{Placed};
     ghost use Rattle.gatelog.specs.Frames.{staged_bytes, next_gate};
     ghost use Rattle.spelling.specs.Limits.{IsRecord};
 

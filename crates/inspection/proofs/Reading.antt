@@ -7,7 +7,7 @@ use Rattle.units.specs.declared.fault.Fault.TheVariants.{Damaged}
 use Rattle.record.specs.Accepted.{followed}
 use Rattle.record.specs.declared.record.Record.{Record}
 use Rattle.gatelog.specs.Log.{is_no_log, log}
-use Rattle.gatelog.specs.Placed.{Placed}
+use Rattle.frames.specs.Placed.{Placed}
 use Rattle.texts.specs.Numbers.{and_then}
 use Rattle.inspection.specs.Files.{logs_behind, records_behind, shard_log}
 

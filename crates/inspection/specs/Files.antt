@@ -9,7 +9,7 @@ use Rattle.record.specs.Accepted.{followed}
 use Rattle.record.specs.Verdict.{verdict}
 use Rattle.record.specs.declared.record.Record.{Record}
 use Rattle.gatelog.specs.Log.{log}
-use Rattle.gatelog.specs.Placed.{Placed}
+use Rattle.frames.specs.Placed.{Placed}
 use Rattle.texts.specs.Numbers.{and_then}
 use Rattle.texts.specs.Refusals.{IsNoText}
 

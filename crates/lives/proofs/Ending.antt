@@ -5,9 +5,9 @@ use Rattle.units.specs.declared.fault.Fault.TheVariants.{Memory}
 use Rattle.disk.specs.File.{surface}
 use Rattle.disk.specs.Image.{Surface, after_sync}
 use Rattle.disk.specs.declared.plan.FailurePlan.{FailurePlan}
-use Rattle.gatelog.specs.Armed.{waits}
+use Rattle.frames.specs.Calls.{waits}
 use Rattle.gatelog.specs.Log.{is_no_log, log}
-use Rattle.gatelog.specs.Placed.{Placed}
+use Rattle.frames.specs.Placed.{Placed}
 use Rattle.record.specs.declared.record.Record.{Record}
 use Rattle.shard.specs.Logs.{KeepsRecords, items_of, records_in}
 use Rattle.simdisk.specs.State.{disk_file, disk_plan}

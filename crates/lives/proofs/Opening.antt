@@ -15,7 +15,7 @@ use Rattle.gatelog.specs.Crash.{Begins}
 use Rattle.gatelog.specs.Frames.{IsFull, end_from, next_gate}
 use Rattle.gatelog.specs.Slots.{Beginning, begins_in}
 use Rattle.gatelog.specs.Log.{log as scanned_log}
-use Rattle.gatelog.specs.Placed.{Placed}
+use Rattle.frames.specs.Placed.{Placed}
 use Rattle.record.specs.Accepted.{Accepted, followed, taken}
 use Rattle.record.specs.Facts.{Facts, facts_of, learn}
 use Rattle.record.specs.Records.{epoch_of}

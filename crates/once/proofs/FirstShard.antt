@@ -9,7 +9,7 @@ use Rattle.gatelog.specs.Frames.{IsFull, end_from, end_of, next_gate}
 use Rattle.gatelog.specs.Gates.{first_gate}
 use Rattle.gatelog.specs.Slots.{Beginning, begins_in}
 use Rattle.gatelog.specs.Log.{log as scanned_log}
-use Rattle.gatelog.specs.Placed.{Placed}
+use Rattle.frames.specs.Placed.{Placed}
 use Rattle.protocol.specs.Rows.{rebuilt}
 use Rattle.record.specs.Accepted.{taken}
 use Rattle.record.specs.Facts.{facts_of, learn}

@@ -3,7 +3,9 @@
 #![tactic(auto)]
 
 mod deciding;
+mod renewing;
 mod taking_part;
 
 pub use deciding::{ask, commit, settle, vote};
+pub use renewing::renewed;
 pub use taking_part::{outcome, prepare, read};

@@ -4,7 +4,7 @@ use Rattle.std.proofs.Props.{props}
 use Rattle.units.specs.LockLaws.{IsLawfulTable}
 use Rattle.units.specs.declared.setup.Setup.{Setup}
 use Rattle.record.specs.declared.record.Record.{Record}
-use Rattle.gatelog.specs.Placed.{Placed}
+use Rattle.frames.specs.Placed.{Placed}
 use Rattle.protocol.specs.Rows.{claims, rebuilt}
 use Rattle.protocol.specs.Sound.{IsSound}
 use Rattle.memory.specs.Kept.{Kept}

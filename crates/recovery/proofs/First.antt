@@ -17,7 +17,7 @@ use Rattle.facts.specs.Rules.{follows_facts}
 use Rattle.facts.specs.Stages.{follows_head, follows_next, stage_after, stage_of}
 use Rattle.facts.specs.declared.stage.Stage.{Stage}
 use Rattle.facts.specs.declared.stage.Stage.TheVariants.{Head, Open}
-use Rattle.gatelog.specs.Placed.{Placed}
+use Rattle.frames.specs.Placed.{Placed}
 use Rattle.protocol.specs.Rows.{rebuilt}
 use Rattle.protocol.proofs.StepSound.{fresh_is_sound}
 use Rattle.memory.specs.Kept.{Kept}

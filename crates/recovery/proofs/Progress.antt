@@ -16,7 +16,7 @@ use Rattle.units.specs.declared.setup.Setup.{Setup}
 use Rattle.record.specs.Accepted.{Taken, Accepted, DamagedAt, StrangerAt, begins, belongs, fits_beside, follows, taken, taken_from}
 use Rattle.record.specs.Facts.{Facts, facts_of, learn}
 use Rattle.record.specs.declared.record.Record.{Record}
-use Rattle.gatelog.specs.Placed.{Placed}
+use Rattle.frames.specs.Placed.{Placed}
 use Rattle.recovery.specs.Recovered.{fault_in, fault_next, items}
 use Rattle.recovery.specs.Rebuilding.{AllStand, Stands}
 use Rattle.recovery.proofs.Verdicts.{at_start, at_fault, at_next, items-append}

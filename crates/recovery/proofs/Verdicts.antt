@@ -14,7 +14,7 @@ use Rattle.record.proofs.LearnAgrees.{learn_agrees}
 use Rattle.facts.specs.Stages.{follows_next, stage_after, stage_of}
 use Rattle.facts.specs.declared.stage.Stage.{Stage}
 use Rattle.facts.proofs.Known.{follows_as_known, stage_agrees}
-use Rattle.gatelog.specs.Placed.{Placed}
+use Rattle.frames.specs.Placed.{Placed}
 pub use Rattle.recovery.specs.Rebuilding.{Stands}
 use Rattle.protocol.specs.Beside.{fits_facts}
 use Rattle.protocol.proofs.BesideFacts.{beside_is, follows_is}

@@ -7,7 +7,7 @@ use Rattle.record.specs.Accepted.{followed, taken, taken_from}
 use Rattle.record.specs.Facts.{Facts, facts_of}
 use Rattle.facts.specs.Stages.{stage_of}
 use Rattle.facts.specs.declared.stage.Stage.{Stage}
-use Rattle.gatelog.specs.Placed.{Placed}
+use Rattle.frames.specs.Placed.{Placed}
 use Rattle.memory.specs.Kept.{Kept}
 use Rattle.recovery.specs.Recovered.{IsRecovered, fault_in, items}
 

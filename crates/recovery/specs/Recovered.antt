@@ -15,7 +15,7 @@ use Rattle.record.specs.Records.{Status, StandsPrepared, StandsDecided}
 use Rattle.record.specs.declared.record.Record.{Record}
 use Rattle.facts.specs.Stages.{follows_next, is_head}
 use Rattle.facts.specs.declared.stage.Stage.{Stage}
-use Rattle.gatelog.specs.Placed.{Placed}
+use Rattle.frames.specs.Placed.{Placed}
 use Rattle.protocol.specs.Beside.{fits_facts}
 use Rattle.protocol.specs.Rows.{rebuilt}
 use Rattle.protocol.specs.Sound.{IsSound}

@@ -1,7 +1,7 @@
 -- What a contract sees of a rebuild.
 use Rattle.std.specs.Prelude.{List, reverse}
 use Rattle.units.specs.declared.setup.Setup.{Setup}
-use Rattle.gatelog.specs.Placed.{Placed}
+use Rattle.frames.specs.Placed.{Placed}
 use Rattle.recovery.specs.declared.rebuilding.Rebuild.{Rebuild}
 
 -- the entries that it took, the first first

@@ -3,7 +3,7 @@ use Rattle.std.proofs.Common.{◌≡◌, inl, inr, ℕ, List, [], ◌∷◌, ◌
 use Rattle.units.specs.declared.fault.Fault.{Fault}
 use Rattle.disk.specs.File.{File, surface}
 use Rattle.record.specs.declared.record.Record.{Record}
-use Rattle.gatelog.specs.Placed.{Placed}
+use Rattle.frames.specs.Placed.{Placed}
 use Rattle.gatelog.specs.Crash.{IsOldOrWith}
 use Rattle.gatelog.specs.Log.{log, and_entry}
 use Rattle.gatelog.specs.Slots.{begins_in}
@@ -17,7 +17,7 @@ use Rattle.disk.specs.Planned.{IsAsPlanned}
 use Rattle.gatelog.specs.Armed.{IsArmed}
 use Rattle.gatelog.specs.Gates.{is_read, is_left}
 use Rattle.gatelog.specs.Armed as gates
-use Rattle.gatelog.proofs.Armed.{planned_err}
+use Rattle.frames.proofs.Calls.{planned_err}
 use Rattle.shard.specs.Armed.{AreArmed, FailsIn, HasPlace, records_with_if}
 
 items-append : (es : List Placed) (e : Placed) → map (λ p. p.item) (es ++ e ∷ []) ≡ map (λ p. p.item) es ++ e.item ∷ []

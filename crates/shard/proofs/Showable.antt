@@ -10,7 +10,7 @@ use Rattle.record.specs.Accepted.{Accepted, taken}
 use Rattle.record.specs.Facts.{Facts, facts_of, learn}
 use Rattle.record.specs.declared.record.Record.{Record}
 use Rattle.message.specs.declared.message.Input.{Input}
-use Rattle.gatelog.specs.Placed.{Placed}
+use Rattle.frames.specs.Placed.{Placed}
 use Rattle.protocol.specs.Rows.{Memory, rebuilt}
 use Rattle.protocol.specs.Plan.{carried}
 use Rattle.protocol.specs.Sound.{IsSound}

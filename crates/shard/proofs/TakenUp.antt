@@ -22,11 +22,11 @@ use Rattle.facts.specs.Rules.{follows_facts}
 use Rattle.facts.specs.Stages as stages
 use Rattle.facts.specs.declared.stage.Stage.{Stage}
 use Rattle.facts.proofs.Known.{follows_as_known}
-use Rattle.gatelog.specs.Armed.{waits}
+use Rattle.frames.specs.Calls.{waits}
 use Rattle.gatelog.specs.Crash.{Begins}
 use Rattle.gatelog.specs.Frames.{IsFull, next_gate}
 use Rattle.gatelog.specs.Log.{log, is_no_log}
-use Rattle.gatelog.specs.Placed.{Placed}
+use Rattle.frames.specs.Placed.{Placed}
 use Rattle.gatelog.specs.Slots.{begins_in}
 use Rattle.protocol.specs.Rows.{rebuilt}
 use Rattle.recovery.specs.Recovered.{fault_in, items}

@@ -21,7 +21,7 @@ use Rattle.gatelog.specs.Crash.{Begins, IsOldOrNew, Stands}
 use Rattle.gatelog.specs.Frames.{end_from}
 use Rattle.gatelog.specs.Log.{entries_of, log, scan}
 use Rattle.gatelog.specs.Slots.{begins_in, slot_count}
-use Rattle.gatelog.proofs.Armed.{no_err, planned_err, planned_ok}
+use Rattle.frames.proofs.Calls.{no_err, planned_err, planned_ok}
 use Rattle.gatelog.proofs.Fresh.{placed-items}
 use Rattle.renewal.specs.Keeps.{IsRegular}
 use Rattle.renewal.specs.Laws.{TurnedKeeps}

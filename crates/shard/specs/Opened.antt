@@ -17,7 +17,7 @@ use Rattle.gatelog.specs.Frames.{IsFull, end_from, next_gate}
 use Rattle.gatelog.specs.Log.{log}
 use Rattle.gatelog.specs.Slots.{begins_in}
 use Rattle.gatelog.specs.Crash.{Begins}
-use Rattle.gatelog.specs.Placed.{Placed}
+use Rattle.frames.specs.Placed.{Placed}
 use Rattle.protocol.specs.Rows.{rebuilt}
 use Rattle.recovery.specs.Recovered.{fault_in, items}
 use Rattle.shard.specs.Logs.{records_in, and_logged, KeepsRecords, HoldsOldOrWith, BeginsAsBefore}

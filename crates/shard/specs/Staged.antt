@@ -7,7 +7,7 @@ use Rattle.disk.specs.Image.{MayLeave}
 use Rattle.disk.specs.Moments.{LeavesOnly}
 use Rattle.disk.specs.declared.plan.FailurePlan.{FailurePlan}
 use Rattle.gatelog.specs.Frames.{next_gate, staged_bytes}
-use Rattle.gatelog.specs.Placed.{Placed}
+use Rattle.frames.specs.Placed.{Placed}
 use Rattle.protocol.specs.Plan.{carried}
 use Rattle.protocol.specs.Rows.{Memory, without_row}
 use Rattle.protocol.specs.Showable.{IsShowable}

@@ -1,7 +1,7 @@
 -- What contracts see of an opening that takes entries.
 use Rattle.std.specs.Prelude.{List}
 use Rattle.units.specs.declared.setup.Setup.{Setup}
-use Rattle.gatelog.specs.Placed.{Placed}
+use Rattle.frames.specs.Placed.{Placed}
 use Rattle.recovery.specs.Taken.{taken_by, setup_of}
 use Rattle.shard.specs.declared.opening.Opening.{Opening}
 

@@ -10,7 +10,7 @@ use Rattle.record.specs.Facts.{facts_of, learn}
 use Rattle.record.specs.declared.record.Record.{Record}
 use Rattle.facts.specs.Laws.{FollowsAsKnown}
 use Rattle.facts.specs.Stages.{follows_next, stage_of}
-use Rattle.gatelog.specs.Placed.{Placed}
+use Rattle.frames.specs.Placed.{Placed}
 use Rattle.recovery.specs.Recovered.{items}
 
 pub both : (a b : Bool) → (a && b) ≡ true → (a ≡ true) × (b ≡ true)

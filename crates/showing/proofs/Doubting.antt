@@ -8,7 +8,7 @@ use Rattle.record.specs.Facts.{Facts, facts_of, recorded}
 use Rattle.record.specs.declared.record.Record.{Record}
 use Rattle.facts.specs.Laws.{SaysOfRecords}
 use Rattle.facts.specs.Readers.{outcome_in}
-use Rattle.gatelog.specs.Placed.{Placed}
+use Rattle.frames.specs.Placed.{Placed}
 use Rattle.recovery.specs.Recovered.{items}
 use Rattle.showing.specs.Histories.{end_in}
 use Rattle.showing.specs.Stats.{as_begun, doubt_of, doubts_in}

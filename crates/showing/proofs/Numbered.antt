@@ -4,7 +4,7 @@ use Rattle.units.specs.declared.fault.Fault.{Fault}
 use Rattle.std.proofs.lemmas.List.{length-map}
 use Rattle.record.specs.Facts.{Facts, facts_of}
 use Rattle.record.specs.declared.record.Record.{Record}
-use Rattle.gatelog.specs.Placed.{Placed}
+use Rattle.frames.specs.Placed.{Placed}
 use Rattle.inspection.specs.Files.{records_behind}
 use Rattle.recovery.specs.Recovered.{items}
 use Rattle.texts.specs.Numbers.{and_then}

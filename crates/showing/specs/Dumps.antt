@@ -5,7 +5,7 @@ use Rattle.std.specs.Prelude.{flat_map}
 use Rattle.units.specs.declared.fault.Fault.{Fault}
 use Rattle.units.specs.declared.fault.Fault.TheVariants.{Device, Memory}
 use Rattle.gatelog.specs.Log.{scan, is_no_log}
-use Rattle.gatelog.specs.Placed.{Placed}
+use Rattle.frames.specs.Placed.{Placed}
 use Rattle.showing.specs.declared.reading.End.{End}
 use Rattle.showing.specs.declared.reading.End.TheVariants.{Closed, Torn}
 

@@ -14,7 +14,7 @@ use Rattle.record.specs.Records.{ended_of}
 use Rattle.record.specs.declared.record.Record.{Record}
 use Rattle.record.specs.declared.record.Record.TheVariants.{Prepare, Commit, Version}
 use Rattle.gatelog.specs.Log.{log}
-use Rattle.gatelog.specs.Placed.{Placed}
+use Rattle.frames.specs.Placed.{Placed}
 use Rattle.recovery.specs.Recovered.{fault_in, items}
 use Rattle.texts.specs.Numbers.{and_then}
 use Rattle.showing.specs.declared.told.Standing.{Standing}

@@ -10,7 +10,7 @@ use Rattle.record.specs.Records.{epoch_of, floor_of}
 use Rattle.record.specs.declared.record.Record.{Record}
 use Rattle.record.specs.declared.record.Record.TheVariants.{Prepare, Commit, Settled}
 use Rattle.gatelog.specs.Log.{log}
-use Rattle.gatelog.specs.Placed.{Placed}
+use Rattle.frames.specs.Placed.{Placed}
 use Rattle.recovery.specs.Recovered.{items}
 use Rattle.inspection.specs.Files.{records_behind}
 use Rattle.texts.specs.Numbers.{and_then}

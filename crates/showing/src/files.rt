@@ -1,6 +1,6 @@
 //! Texts of logs.
 ghost use Rattle.std.specs.Prelude.{IfOk, IfErr, List, map, string_bytes};
-ghost use Rattle.gatelog.specs.Placed.{Placed};
+ghost use Rattle.frames.specs.Placed.{Placed};
 ghost use Rattle.showing.specs.Dumps.{IsADump, IsNotShown};
 ghost use Rattle.showing.specs.HistoryTexts.{IsAHistory, IsAValue, IsNotTold};
 ghost use Rattle.showing.specs.StatsTexts.{AreStats};

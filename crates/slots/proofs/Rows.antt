@@ -10,11 +10,12 @@ use Rattle.spelling.specs.Reading.{prepare_at, commit_at, ended_at, record_at, r
 use Rattle.disk.specs.declared.plan.FailurePlan.TheVariants.{AfterWrite}
 use Rattle.disk.specs.declared.plan.Fate.TheVariants.{Old, New}
 use Rattle.disk.specs.File.{File, surface, crash_leaves}
-use Rattle.gatelog.specs.Gates.{open_gate}
+use Rattle.frames.specs.Gate.{open_gate}
 use Rattle.gatelog.specs.First.{first_header, first_log, first_scan, moved}
 use Rattle.gatelog.specs.Frames.{header}
 use Rattle.gatelog.specs.Areas.{fresh_with, area_bytes, placed_from}
-use Rattle.gatelog.specs.Log.{log, framed, entries_at, scan}
+use Rattle.frames.specs.Entries.{framed, entries_at}
+use Rattle.gatelog.specs.Log.{log, scan}
 use Rattle.gatelog.specs.Slots.{named, open_slots, begins_in}
 use Rattle.gatelog.specs.Turns.{named_new}
 use Rattle.gatelog.specs.ArmedTurn.{turned}

@@ -8,7 +8,7 @@ use Rattle.gatelog.specs.ArmedTurn.{fails_in_turnover, turned, IsArmedTurn}
 use Rattle.gatelog.specs.Areas.{fresh_with, placed_from}
 use Rattle.gatelog.specs.Gates.{first_gate}
 use Rattle.gatelog.specs.Log.{scan}
-use Rattle.gatelog.specs.Placed.{Placed}
+use Rattle.frames.specs.Placed.{Placed}
 use Rattle.gatelog.specs.Slots.{begins_in}
 use Rattle.gatelog.specs.Turns.{MayTurn, IsTurnover, IsNext, IsNextOrNone, named_new}
 

@@ -8,9 +8,9 @@ use Rattle.disk.specs.Planned.{fails, next}
 use Rattle.disk.proofs.Runs.{weaker}
 use Rattle.units.specs.declared.fault.Fault.{Fault}
 use Rattle.units.specs.declared.fault.Fault.TheVariants.{Device}
-use Rattle.gatelog.specs.Armed.{fails_in_two}
+use Rattle.frames.specs.Calls.{fails_in_two}
 use Rattle.gatelog.specs.Laid.{HoldsBehind}
-use Rattle.gatelog.proofs.Armed.{planned_err, no_err, on_map}
+use Rattle.frames.proofs.Calls.{planned_err, no_err, on_map}
 use Rattle.gatelog.proofs.Laid.{holds-behind, laid-first, laid-last, late-two}
 use Rattle.gatelog.proofs.laying.lay_out.Goals as goal
 

@@ -5,11 +5,12 @@ use Rattle.units.specs.declared.fault.Fault.{Fault}
 use Rattle.units.specs.declared.fault.Fault.TheVariants.{Memory, Device, TimeSpent, NotALog}
 use Rattle.disk.specs.File.{File, surface}
 use Rattle.gatelog.specs.First.{first_header, first_scan, first_log, HasTooLong, IsTooLong}
-use Rattle.gatelog.specs.Log.{entries_at, entries_of, is_no_log}
-use Rattle.gatelog.specs.Placed.{Placed}
-use Rattle.gatelog.proofs.Armed.{if_err}
+use Rattle.frames.specs.Entries.{entries_at}
+use Rattle.gatelog.specs.Log.{entries_of, is_no_log}
+use Rattle.frames.specs.Placed.{Placed}
+use Rattle.frames.proofs.Calls.{if_err}
 use Rattle.gatelog.proofs.Copies.{first-from, first-none}
-use Rattle.gatelog.proofs.Scan.{Found}
+use Rattle.frames.proofs.Scan.{Found}
 use Rattle.gatelog.proofs.migrating.copy_of.Goals as goal
 
 pub returns-in_err-ahead-clause-cause : goal.returns-in_err-ahead-clause-cause

@@ -3,7 +3,7 @@ use Rattle.disk.specs.Image.{MayLeave}
 use Rattle.disk.specs.File.{File, surface}
 use Rattle.disk.specs.Planned.{fails, next}
 use Rattle.disk.proofs.Runs.{one_call, and_then}
-use Rattle.gatelog.proofs.Armed.{no_err, on_any, synced_unless, waits_on}
+use Rattle.frames.proofs.Calls.{no_err, on_any, synced_unless, waits_on}
 use Rattle.gatelog.proofs.opening.sync_first.Goals as goal
 
 pub returns-clause-waits : goal.returns-clause-waits

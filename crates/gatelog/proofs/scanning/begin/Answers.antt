@@ -4,9 +4,10 @@ use Rattle.units.specs.declared.fault.Fault.{Fault}
 use Rattle.units.specs.declared.fault.Fault.TheVariants.{Memory, Device, NotALog}
 use Rattle.disk.specs.File.{surface}
 use Rattle.gatelog.specs.Frames.{header}
-use Rattle.gatelog.specs.Log.{scan, entries_at, is_no_log}
+use Rattle.frames.specs.Entries.{entries_at}
+use Rattle.gatelog.specs.Log.{scan, is_no_log}
 use Rattle.gatelog.specs.Slots.{area_of, begins_at}
-use Rattle.gatelog.proofs.Armed.{if_err}
+use Rattle.frames.proofs.Calls.{if_err}
 use Rattle.gatelog.proofs.Next.{next-ahead}
 use Rattle.gatelog.proofs.Areas.{scan-from, scan-none}
 use Rattle.gatelog.proofs.Reading.{no_header}

@@ -1,12 +1,12 @@
 use Rattle.std.proofs.Common.{◌≡◌, inr, ◌∙◌, ℕ, ◌+◌, List, [], ◌∷◌, ◌++◌, length, drop, Ok, Err, refl, sym, ap, arith}
 use Rattle.std.proofs.lemmas.List.{length-drop}
 use Rattle.disk.specs.File.{surface}
-use Rattle.gatelog.specs.Placed.{Placed}
-use Rattle.gatelog.specs.Log.{entries_at, with_entries}
-use Rattle.gatelog.specs.declared.front.Front.TheVariants.{Closed, Whole, Part, Broken}
+use Rattle.frames.specs.Placed.{Placed}
+use Rattle.frames.specs.Entries.{entries_at, with_entries}
+use Rattle.frames.specs.declared.front.Front.TheVariants.{Closed, Whole, Part, Broken}
 use Rattle.units.specs.declared.fault.Fault.TheVariants.{Damaged}
 use Rattle.gatelog.proofs.Handing.{told, in_any, in_file, entry_then}
-use Rattle.gatelog.proofs.Ahead.{passed}
+use Rattle.frames.proofs.Ahead.{passed}
 use Rattle.gatelog.proofs.Loop.{placed_next}
 use Rattle.gatelog.proofs.Reading.{one_more}
 use Rattle.gatelog.proofs.scanning.hand_next.Goals as goal

@@ -3,12 +3,13 @@ use Rattle.std.specs.Prelude.{IfErr, IsTrue}
 use Rattle.units.specs.declared.fault.Fault.{Fault}
 use Rattle.units.specs.declared.fault.Fault.TheVariants.{Memory, Device, Damaged}
 use Rattle.disk.specs.File.{File, surface}
-use Rattle.gatelog.specs.Ahead.{IsAhead}
-use Rattle.gatelog.specs.Armed.{waits}
-use Rattle.gatelog.specs.Log.{entries_at, is_no_log}
+use Rattle.frames.specs.Ahead.{IsAhead}
+use Rattle.frames.specs.Calls.{waits}
+use Rattle.frames.specs.Entries.{entries_at}
+use Rattle.gatelog.specs.Log.{is_no_log}
 use Rattle.gatelog.proofs.Elapsed.{elapses_on, elapses_none}
 use Rattle.gatelog.proofs.Loop.{IsHanded, IsPlaced, starts, starts_there, breaks, none_yet, handed_next, placed_on, less_next, to_go}
-use Rattle.gatelog.proofs.Scan.{Found}
+use Rattle.frames.proofs.Scan.{Found}
 use Rattle.gatelog.proofs.scanning.hand_on.Goals as goal
 
 pub loop-gate-init : goal.loop-gate-init

@@ -1,9 +1,9 @@
 use Rattle.std.proofs.Common.{◌≡◌, true, drop}
 use Rattle.disk.specs.File.{surface}
 use Rattle.disk.specs.Moments.{Elapses}
-use Rattle.gatelog.specs.Ahead.{IsAhead}
-use Rattle.gatelog.specs.Armed.{waits}
-use Rattle.gatelog.specs.Log.{entries_at}
+use Rattle.frames.specs.Ahead.{IsAhead}
+use Rattle.frames.specs.Calls.{waits}
+use Rattle.frames.specs.Entries.{entries_at}
 use Rattle.gatelog.proofs.Loop.{IsHanded, IsPlaced, to_go}
 use Rattle.gatelog.proofs.scanning.hand_on.Given as goal
 

@@ -1,5 +1,5 @@
 use Rattle.std.proofs.Common.{◌≡◌, ◌≤◌, ◌<◌, ◌-◌, ◌*◌, ℕ, get_or}
-use Rattle.gatelog.specs.Gates.{open_gate}
+use Rattle.frames.specs.Gate.{open_gate}
 use Rattle.gatelog.proofs.slots.open_slots.Given as goal
 
 abbrev pub invariant-loop-slot : goal.invariant-loop-slot

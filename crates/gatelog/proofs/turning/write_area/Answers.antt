@@ -8,7 +8,7 @@ use Rattle.disk.specs.Planned.{fails, at_write}
 use Rattle.disk.proofs.Runs.{one_call, weaker, and_then, tried_write_more}
 use Rattle.gatelog.specs.Crash.{IsOldOrNew}
 use Rattle.gatelog.specs.Slots.{offset_bytes}
-use Rattle.gatelog.proofs.Armed.{planned_ok, planned_err, on_map}
+use Rattle.frames.proofs.Calls.{planned_ok, planned_err, on_map}
 use Rattle.gatelog.proofs.Turned.{may-turn, within-file, while-first, mid-area, slot-inside, while-last, is-done, change-is, failed-first, went-on, armed-turn}
 use Rattle.gatelog.proofs.turning.write_area.Goals as goal
 

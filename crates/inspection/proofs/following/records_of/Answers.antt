@@ -1,7 +1,7 @@
 use Rattle.std.proofs.Common.{◌≡◌, ◌∙◌, ◌++◌, ◌∷◌, ◌+◌, ◌<◌, [], List, length, refl, sym, ap, subst, rules, inl, inr, Err, IsTrue, IsFalse, drop}
 use Rattle.std.proofs.lemmas.List.{drop_more}
 use Rattle.units.specs.declared.fault.Fault.{Fault}
-use Rattle.gatelog.specs.Placed.{Placed}
+use Rattle.frames.specs.Placed.{Placed}
 use Rattle.record.specs.Accepted.{followed}
 use Rattle.record.specs.Facts.{facts_of}
 use Rattle.facts.specs.Stages.{stage_of}

@@ -7,7 +7,7 @@ use Rattle.gatelog.specs.Log.{log}
 use Rattle.gatelog.specs.Shown.{disk_of, gate_at}
 use Rattle.shard.specs.Armed.{FailsIn}
 use Rattle.shard.specs.Logs.{records_in}
-use Rattle.gatelog.proofs.Armed.{planned_ok}
+use Rattle.frames.proofs.Calls.{planned_ok}
 use Rattle.shard.proofs.Appends.{fails_in}
 use Rattle.shard.proofs.logging.append_staged.Goals as goal
 

@@ -4,7 +4,7 @@ use Rattle.units.specs.Lists.{gather}
 use Rattle.record.specs.Facts.{recorded}
 use Rattle.record.specs.declared.record.Record.{Record}
 use Rattle.facts.specs.Readers.{outcome_in}
-use Rattle.gatelog.specs.Placed.{Placed}
+use Rattle.frames.specs.Placed.{Placed}
 use Rattle.recovery.specs.Recovered.{items}
 use Rattle.showing.specs.Stats.{as_begun, doubt_of}
 use Rattle.showing.specs.declared.stats.InDoubt.{InDoubt}

@@ -1,6 +1,6 @@
 use Rattle.std.proofs.Common.{◌∙◌, ◌<◌, ◌^◌, ap, ap₂, arith, length, length-take-le, subst, sym, take}
 use Rattle.std.proofs.lemmas.List.{length-map}
-use Rattle.gatelog.specs.Placed.{Placed}
+use Rattle.frames.specs.Placed.{Placed}
 use Rattle.recovery.specs.Recovered.{items}
 use Rattle.showing.specs.Counting.{all_kinds, kinds_of, with_kind}
 use Rattle.showing.specs.declared.kinds.Kinds.{Kinds}

@@ -1,6 +1,6 @@
 use Rattle.std.proofs.Common.{◌≡◌, ◌∙◌, ap, arith, List, flat_map}
 use Rattle.std.proofs.lemmas.List.{take_all}
-use Rattle.gatelog.specs.Placed.{Placed}
+use Rattle.frames.specs.Placed.{Placed}
 use Rattle.record.specs.Facts.{recorded}
 use Rattle.facts.specs.Readers.{outcome_in}
 use Rattle.recovery.specs.Recovered.{items}

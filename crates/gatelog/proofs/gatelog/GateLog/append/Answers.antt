@@ -1,8 +1,8 @@
 use Rattle.std.proofs.Common.{◌≡◌, ◌+◌, length, sym, ◌∙◌, ap, refl, arith}
 use Rattle.std.specs.Prelude.{nat_lt}
-use Rattle.gatelog.specs.Placed.{Placed}
+use Rattle.frames.specs.Placed.{Placed}
 use Rattle.gatelog.specs.Frames.{next_gate}
-use Rattle.gatelog.proofs.Armed.{planned_err, as_err}
+use Rattle.frames.proofs.Calls.{planned_err, as_err}
 use Rattle.gatelog.proofs.Images.{bytes-size}
 use Rattle.gatelog.proofs.gatelog.GateLog.append.Goals as goal
 

@@ -1,6 +1,6 @@
 use Rattle.std.proofs.Common.{◌∙◌, ℕ, List, map, sym, ap}
 use Rattle.disk.specs.File.{surface}
-use Rattle.gatelog.specs.Placed.{Placed}
+use Rattle.frames.specs.Placed.{Placed}
 use Rattle.gatelog.specs.Slots.{begins_in}
 use Rattle.gatelog.proofs.Counted.{counted}
 use Rattle.gatelog.proofs.Fresh.{placed-end}

@@ -1,7 +1,7 @@
 use Rattle.std.proofs.Common.{◌≡◌, ◌+◌, length, sym, arith}
 use Rattle.spelling.specs.Grammar.{spelling}
 use Rattle.gatelog.specs.Frames.{staged_bytes}
-use Rattle.gatelog.proofs.Armed.{on_any}
+use Rattle.frames.proofs.Calls.{on_any}
 use Rattle.gatelog.proofs.Images.{bytes-size}
 use Rattle.gatelog.proofs.gatelog.GateLog.stage.Goals as goal
 

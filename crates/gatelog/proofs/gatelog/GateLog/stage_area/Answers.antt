@@ -1,7 +1,7 @@
 use Rattle.std.proofs.Common.{◌+◌, [], ◌∷◌, length, flat_map, arith}
 use Rattle.std.proofs.lemmas.List.{length-append}
 use Rattle.gatelog.specs.Areas.{area_bytes, whole_frame}
-use Rattle.gatelog.proofs.Armed.{on_any}
+use Rattle.frames.proofs.Calls.{on_any}
 use Rattle.gatelog.proofs.gatelog.GateLog.stage_area.Goals as goal
 
 pub returns-clause-room : goal.returns-clause-room

@@ -4,7 +4,7 @@ use Rattle.disk.specs.File.{surface}
 use Rattle.gatelog.specs.Log.{log, entries_of, ends_at}
 use Rattle.gatelog.specs.Slots.{begins_in}
 use Rattle.gatelog.specs.Turns.{IsNextOrNone}
-use Rattle.gatelog.proofs.Armed.{planned_err, as_err}
+use Rattle.frames.proofs.Calls.{planned_err, as_err}
 use Rattle.gatelog.proofs.gatelog.GateLog.turn_over.Goals as goal
 
 pub invariant_of-self : goal.invariant_of-self

@@ -1,7 +1,7 @@
 use Rattle.std.proofs.Common.{List, reverse, sym, subst}
 use Rattle.std.proofs.Math.Logic.{∥∥₁_elim, ∥∥₁_map}
 use Rattle.std.proofs.Props.{props}
-use Rattle.gatelog.specs.Placed.{Placed}
+use Rattle.frames.specs.Placed.{Placed}
 use Rattle.recovery.specs.Recovered.{IsSoundlyRebuilt, items}
 use Rattle.recovery.specs.Rebuilding.{Progresses, Goes}
 use Rattle.recovery.proofs.Ended.{rebuilt-prop, left_by, soundly}

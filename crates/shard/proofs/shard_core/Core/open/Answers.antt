@@ -4,7 +4,7 @@ use Rattle.record.specs.Accepted.{Accepted, taken}
 use Rattle.record.specs.Facts.{facts_of}
 use Rattle.record.specs.declared.record.Record.{Record}
 use Rattle.std.specs.Prelude.{List}
-use Rattle.gatelog.specs.Placed.{Placed}
+use Rattle.frames.specs.Placed.{Placed}
 use Rattle.gatelog.specs.Frames.{IsFull}
 use Rattle.gatelog.specs.Shown.{disk_of, gate_at, next_slot}
 use Rattle.protocol.specs.Rows.{rebuilt}

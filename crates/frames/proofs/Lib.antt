@@ -1,0 +1,5 @@
+pub mod Ahead
+pub mod Bytes
+pub mod Scan
+pub mod Fronts
+pub mod Calls

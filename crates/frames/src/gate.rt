@@ -1,0 +1,4 @@
+//! The gate before a frame.
+
+/// The gate that is open; every other byte is a closed one.
+pub const OPEN_GATE: u8 = 0xa5;
