@@ -157,9 +157,6 @@ safe_from-more_entries low (Installed i ∷ xs) ys = safe_from-more_entries low 
 safe_from-more_entries low (Safe t ∷ xs) ys = safe_from-more_entries t xs ys
 safe_from-more_entries low (Horizon t ∷ xs) ys = safe_from-more_entries low xs ys
 
-pub horizon_on-more_entries : (xs : List BoardEntry) (ys : List Install) → horizon_on (xs ++ as_entries ys) ≡ horizon_on xs
-horizon_on-more_entries xs ys = omega (arith, horizon_on-more xs (as_entries ys), horizon_on-entries ys)
-
 -- a horizon that is there, or none
 module _ (h : ℕ) where
   pub no_versions : versions_on (horizon_entries h) ≡ []

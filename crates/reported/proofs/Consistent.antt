@@ -22,10 +22,11 @@ use Rattle.renewal.specs.Keeps.{Keeps}
 use Rattle.renewal.proofs.Alike.{alike-keeps}
 use Rattle.world.proofs.Untouched.{run_settings}
 use Rattle.world.specs.Lawful.{lawful}
-use Rattle.world.specs.World.{World, ShardNow, Unsure, Nothing, Shown, Hidden, TurnShown, TurnHidden, areas_of, counted_lines, line_counts, logs_of}
+use Rattle.world.specs.World.{World, ShardNow, Unsure, Shown, areas_of, counted_lines, line_counts, logs_of}
 use Rattle.world.specs.World.{read_area, read_log, run, setup_of, shown_records}
 use Rattle.world.specs.Headline.{IsExternallyConsistent, IsUnsure, MayLeaveLog, MayLeaveLogs}
 use Rattle.law.proofs.HasAreas.{always_has_areas}
+use Rattle.law.proofs.Picked.{some_same}
 use Rattle.law.proofs.WholeLaw.{externally_consistent}
 use Rattle.reported.specs.Reported.{ReportsAreConsistent}
 use Rattle.reported.proofs.Plain.{plain_logs}
@@ -38,11 +39,8 @@ may_leave : (s : ShardNow) → MayLeaveLog s (read_log s)
 may_leave s = by_unsure s.unsure refl
   where
     by_unsure : (u : Unsure) → s.unsure ≡ u → MayLeaveLog s (s.log ++ shown_records u)
-    by_unsure Nothing is = inl (append-nil s.log)
     by_unsure (Shown r) is = inr (r, subst (λ u. IsUnsure u r) (sym is) refl, refl)
-    by_unsure (Hidden r) is = inl (append-nil s.log)
-    by_unsure (TurnShown other) is = inl (append-nil s.log)
-    by_unsure (TurnHidden other) is = inl (append-nil s.log)
+    by_unsure _ is = inl (append-nil s.log)
 
 all_may_leave : (ss : List ShardNow) → MayLeaveLogs ss (map read_log ss)
 all_may_leave [] = tt
@@ -139,9 +137,6 @@ each_keeps config es fair n all log of_all of_log =
           (subst (λ l. Keeps (facts_of (read_log one.0)) (facts_of l)) (sym log_is)
           (alike-keeps (facts_of (read_log one.0)) (facts_of (area_of one.0)) (areas.alike n one.0 one.1))),
     )
-  where
-    some_same : (a b : ShardNow) → Some a ≡ Some b → a ≡ b
-    some_same a b e = cc
 
 -- ---- the areas are judged as all records are
 
@@ -172,10 +167,8 @@ module _ (config : Config) (es : List Event) (fair : IsTrue (lawful config es)) 
   lines_same ls = λ i. filter (λ l. counts l i) ls
     where
       counts : (l : Line) → line_counts (history (map area_of shards)) l ≡ line_counts (history (map read_log shards)) l
-      counts (Line.Begin t m) = refl
-      counts (Line.Ack t at m) = refl
       counts (Line.Read t k x) = sym (found_same read_log area_of t shards (all_say t))
-      counts (Line.Look k at x) = refl
+      counts _ = refl
 
   -- what is borne out by all records is borne out by the areas
   borne_out : (lines : List Line) → IsExternallyConsistent config (logs_of (run config es)) lines → IsBorneOut (areas_of (run config es)) lines

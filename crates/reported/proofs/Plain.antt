@@ -31,6 +31,7 @@ use Rattle.world.specs.declared.event.Reply.{Reply}
 use Rattle.world.proofs.Places.{get-replaced_other, get-replaced_same, replicated}
 use Rattle.law.proofs.Acts.{acts_go, step_of}
 use Rattle.law.proofs.Areas.{IsLeft, no_more, read_may_leave}
+use Rattle.law.proofs.Picked.{some_same}
 
 -- it has all of them, or it has a base
 abbrev pub IsPlain : List Record → Area → Type 0
@@ -85,9 +86,6 @@ module _ (w : World) (plain : ArePlain w) where
   set_plain n old new there new_plain m s e = elim (cases_eq n m)
       [ inl same ↦ by_place same | inr ne ↦ plain m s (sym (get-replaced_other w.shards n m new ne) ∙ e) ]
     where
-      some_same : (a b : ShardNow) → Some a ≡ Some b → a ≡ b
-      some_same a b k = cc
-
       by_place : n ≡ m → (log : List Record) (area : Area) → MayLeaveArea s log area → IsPlain log area
       by_place same =
           let is : new ≡ s = some_same new s (sym (get-replaced_same w.shards n old new there)

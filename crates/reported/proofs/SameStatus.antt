@@ -13,7 +13,7 @@ use Rattle.record.specs.Accepted.{followed}
 use Rattle.record.specs.Facts.{facts_of, or_unrecorded}
 use Rattle.record.specs.History.{Txn, by_shard, find_txn, history, whole_txn}
 use Rattle.record.specs.Lines.{is_in_at}
-use Rattle.record.specs.Records.{Ended, Status, Unrecorded, StandsPrepared, StandsDecided, HasAborted, HasSettled, HasClosed, as_committed, as_ended}
+use Rattle.record.specs.Records.{Ended, Status, HasSettled, HasClosed, as_committed, as_ended}
 use Rattle.record.specs.Records.{is_aborted, settled_decision, status_of}
 use Rattle.record.specs.Whole.{Decision, decisions, fits_decision, is_promise_for, is_whole, is_whole_by, outcomes_fit, promises_of}
 use Rattle.record.specs.declared.record.Committed.{Committed}
@@ -81,33 +81,24 @@ closed_fits t d n p coordinator (Some s) same below =
 -- ---- it is told from the status
 
 fits_told : (t : Id) (d : Decision) (n : ℕ) (s : Status) (x : Seen) → IsToldBy t s x → fits_by d n x ≡ fits_by d n (seen_by t s)
-fits_told t d n Unrecorded x h = ap (fits_by d n) h
-fits_told t d n (StandsPrepared p) x h = ap (fits_by d n) h
-fits_told t d n (StandsDecided c) x h = ap (fits_by d n) h
-fits_told t d n HasAborted x h = ap (fits_by d n) h
 fits_told t d n (HasSettled at parts) x h = ap (fits_by d n) h.3
 fits_told t d n (HasClosed k o) x (p, same, below, h) = ap (fits_by d n) h ∙ closed_fits t d n p k o same below
+fits_told t d n _ x h = ap (fits_by d n) h
 
 ends_told : (t : Id) (s : Status) (x : Seen) → IsToldBy t s x → x.ended ≡ (seen_by t s).ended
-ends_told t Unrecorded x h = ap (λ y. y.ended) h
-ends_told t (StandsPrepared p) x h = ap (λ y. y.ended) h
-ends_told t (StandsDecided c) x h = ap (λ y. y.ended) h
-ends_told t HasAborted x h = ap (λ y. y.ended) h
 ends_told t (HasSettled at parts) x h = ap (λ y. y.ended) h.3
 ends_told t (HasClosed k o) x h = ap (λ y. y.ended) h.3
+ends_told t _ x h = ap (λ y. y.ended) h
 
 -- decisions without their reads and writes: what is left of those that are settled
 abbrev left_of : Id → List Committed → List Committed
 left_of t cs = map (λ c. settled_decision t c.at c.parts) cs
 
 decided_told : (t : Id) (s : Status) (x : Seen) → IsToldBy t s x → left_of t x.decided ≡ left_of t (seen_by t s).decided
-decided_told t Unrecorded x h = ap (λ y. left_of t y.decided) h
-decided_told t (StandsPrepared p) x h = ap (λ y. left_of t y.decided) h
-decided_told t (StandsDecided c) x h = ap (λ y. left_of t y.decided) h
-decided_told t HasAborted x h = ap (λ y. left_of t y.decided) h
 decided_told t (HasSettled at parts) x (c, same_at, same_parts, h) =
     ap (λ y. left_of t y.decided) h ∙ (λ i. settled_decision t (same_at i) (same_parts i) ∷ [])
 decided_told t (HasClosed k o) x h = ap (λ y. left_of t y.decided) h.3
+decided_told t _ x h = ap (λ y. left_of t y.decided) h
 
 -- ---- two logs, and two lists of logs
 

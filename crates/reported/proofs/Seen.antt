@@ -20,7 +20,7 @@ use Rattle.record.specs.Whole.{promises_of}
 use Rattle.record.specs.declared.record.Committed.{Committed}
 use Rattle.record.specs.declared.record.Prepared.{Prepared}
 use Rattle.record.specs.declared.record.Record.{Record}
-use Rattle.record.specs.declared.record.Record.TheVariants.{Opened, Ceiling, Prepare, Commit, Abort, Outcome, Horizon, Base, Version, Settled, Closed}
+use Rattle.record.specs.declared.record.Record.TheVariants.{Prepare, Commit, Abort, Outcome, Settled, Closed}
 use Rattle.record.proofs.Sound.{abort_new, aborted_more, closed_new, commit_new, outcome_follows, prepare_new, settled_new}
 
 -- an abort or none, the decisions, the promises and the outcomes
@@ -99,11 +99,6 @@ apart : (t u : Id) → (same_id t u || false) ≡ false → same_id u t ≡ fals
 apart t u e = same_id_comm u t ∙ sym (or-false (same_id t u)) ∙ e
 
 of_another : (r : Record) (t : Id) → list_any (same_id t) (gather id_in (r ∷ [])) ≡ false → seen (r ∷ []) t ≡ with_seen false [] [] []
-of_another (Opened epoch) t e = refl
-of_another (Ceiling at) t e = refl
-of_another (Horizon at) t e = refl
-of_another (Base epoch floor horizon) t e = refl
-of_another (Version install) t e = refl
 of_another (Prepare p) t e = ap (λ l. with_seen false [] l []) (one_if (same_id p.txn t) false p (apart t p.txn e))
 of_another (Commit c) t e = ap (λ l. with_seen false l [] []) (one_if (same_id c.txn t) false c (apart t c.txn e))
 of_another (Abort u) t e = ap (λ b. with_seen b [] [] []) e
@@ -114,17 +109,14 @@ of_another (Settled u at parts) t e =
 of_another (Closed u coordinator o) t e =
     λ i. with_seen false [] (one_if (same_id u t) false (closed_promise u coordinator o) (apart t u e) i)
     (one_if (same_id u t) false (end_of u o) (apart t u e) i)
+of_another _ t e = refl
 
 -- ---- a record of this id
 
 -- an id that is new has none
 new_none : (t : Id) (s : Status) (x : Seen) → (elim s [ Unrecorded ↦ true | _ ↦ false ]) ≡ true → IsToldBy t s x → x ≡ with_seen false [] [] []
 new_none t Unrecorded x e h = h
-new_none t (StandsPrepared p) x e h = cc
-new_none t (StandsDecided c) x e h = cc
-new_none t HasAborted x e h = cc
-new_none t (HasSettled at parts) x e h = cc
-new_none t (HasClosed coordinator outcome) x e h = cc
+new_none t _ x e h = cc
 
 no_fit : (o : Option ℕ) → ¬ (outcome_fits None None o ≡ true)
 no_fit None e = cc
@@ -195,11 +187,6 @@ module _ (shard : ℕ) (log : List Record) (t : Id) (told_before : IsTold t (see
 
   of_this : (r : Record) → follows shard log r ≡ true → list_any (same_id t) (gather id_in (r ∷ [])) ≡ true →
       IsTold t (together (seen log t) (seen (r ∷ []) t))
-  of_this (Opened epoch) g e = cc
-  of_this (Ceiling at) g e = cc
-  of_this (Horizon at) g e = cc
-  of_this (Base epoch floor horizon) g e = cc
-  of_this (Version install) g e = cc
   of_this (Prepare p) g e =
       starts p.txn _ (with_seen false [] (p ∷ []) []) e (prepare_new shard log p g)
       (ap (λ l. with_seen false [] l []) (one_if (same_id p.txn t) true p (mine p.txn e))) refl
@@ -227,6 +214,7 @@ module _ (shard : ℕ) (log : List Record) (t : Id) (told_before : IsTold t (see
         where
           le_refl : (n : ℕ) → nat_le n n ≡ true
           le_refl n = grind (arith, nat_tests)
+  of_this _ g e = cc
 
   one_more : (r : Record) → follows shard log r ≡ true → IsTold t (seen (log ++ r ∷ []) t)
   one_more r h = subst (IsTold t) (sym (seen_more log r t)) (by_id (list_any (same_id t) (gather id_in (r ∷ []))) refl)

@@ -9,7 +9,6 @@ use Rattle.record.specs.FactLaws.{learnt}
 use Rattle.record.specs.Facts.{Facts, learn, no_facts}
 use Rattle.record.specs.declared.record.Record.{Record}
 use Rattle.units.specs.declared.fault.Fault.{Fault}
-use Rattle.units.specs.declared.fault.Fault.TheVariants.{Memory as WantsMemory, Device, Stopped, TimeSpent}
 use Rattle.gatelog.specs.Slots.{begins_in}
 use Rattle.renewal.specs.Keeps.{Alike, IsRegular}
 use Rattle.renewal.specs.Laws.{AlikeStays, TurnedKeeps}
@@ -123,22 +122,3 @@ agrees_unturned file clock since counts_now old new was stopped facts gate slot 
       }));
     })
 
--- a refused append leaves the log as it was, or the core stopped
-pub stopped-or-same : (fault : Fault) (was stopped : Bool) (Full Failed Gate Same : Type 0)
-    → ((fault ≡ Stopped) × IsTrue was) ⊎ (((fault ≡ WantsMemory) × IsFalse was) ⊎ (((fault ≡ TimeSpent) × IsFalse was × Full)
-    ⊎ ((fault ≡ Device) × IsFalse was × Failed × IsTrue stopped)))
-    → (fault ≡ Device) ⊎ ((stopped ≡ was) × Gate × Same) → IsTrue stopped ⊎ ((stopped ≡ was) × Same)
-stopped-or-same fault was stopped Full Failed Gate Same cause (inr same) = inr (same.0, same.2)
-stopped-or-same fault was stopped Full Failed Gate Same (inl gone) (inl device) = absurd (gone-no-device gone.0 device)
-  where
-    gone-no-device : fault ≡ Stopped → fault ≡ Device → ⊥
-    gone-no-device is device = cc
-stopped-or-same fault was stopped Full Failed Gate Same (inr (inl want)) (inl device) = absurd (no-device want.0 device)
-  where
-    no-device : fault ≡ WantsMemory → fault ≡ Device → ⊥
-    no-device is device = cc
-stopped-or-same fault was stopped Full Failed Gate Same (inr (inr (inl full))) (inl device) = absurd (no-device full.0 device)
-  where
-    no-device : fault ≡ TimeSpent → fault ≡ Device → ⊥
-    no-device is device = cc
-stopped-or-same fault was stopped Full Failed Gate Same (inr (inr (inr failed))) (inl device) = inl failed.3

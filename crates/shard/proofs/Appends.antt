@@ -28,12 +28,6 @@ items-and_entry : (entries : Result (List Placed) Fault) (e : Placed) → items_
 items-and_entry (Ok es) e = ap (λ rs. Ok rs) (items-append es e)
 items-and_entry (Err fault) e = refl
 
--- the first record of an empty log
-pub first-logged : (before : Result (List Placed) Fault) (staged : Placed) (item : Record) → before ≡ Ok [] → staged.item ≡ item
-    → (image : List ℕ) → log image ≡ and_entry before staged → records_in image ≡ Ok (item ∷ [])
-first-logged before staged item empty is image with =
-    ap items_of (with ∙ ap (λ (entries : Result (List Placed) Fault). and_entry entries staged) empty) ∙ ap (λ (r : Record). Ok (r ∷ [])) is
-
 module _ (before now : File) (same : now ≡ before) (staged : Placed) (item : Record) (is : staged.item ≡ item) where
   -- the log with the staged record, as records
   pub logged-is : (image : List ℕ) → log image ≡ and_entry (log (surface now).seen) staged

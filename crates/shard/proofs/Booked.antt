@@ -74,21 +74,6 @@ NoPage gate b logged fault =
     ((fault ≡ WantsMemory) × (length b.pages < b.capacity))
     ⊎ ((b.capacity ≤ length b.pages) × (((fault ≡ TimeSpent) × IsLogFull gate logged) ⊎ ((fault ≡ BookFull) × HasPlace gate logged)))
 
-pub crowded-page : {D : Type 0} (core : CoreView D) (b : BookView) (logged : Option Record) (memory : Memory) (out : List Envelope) (fault : Fault)
-    → IsFalse core.stopped → b.capacity ≤ length b.pages → NoPage core.gate b logged fault → IsCrowded core core (Does logged memory out) (Err fault)
-crowded-page core b logged memory out fault running full none =
-    (refl, subst (λ s. IsFullCause s core.gate (Does logged memory out) fault) (sym running) (by_cause none))
-  where
-    by_cause : NoPage core.gate b logged fault → IsFullCause false core.gate (Does logged memory out) fault
-    by_cause (inl want) = absurd (omega (arith, full, want.1))
-    by_cause (inr (_, inl spent)) = inr (inl spent)
-    by_cause (inr (_, inr crowded)) = inr (inr (crowded.0, has-place core.gate logged crowded.1))
-
-pub wants-memory : (gate : ℕ) (b : BookView) (logged : Option Record) (fault : Fault) → NoPage gate b logged fault → length b.pages < b.capacity
-    → fault ≡ WantsMemory
-wants-memory gate b logged fault (inl want) room = want.0
-wants-memory gate b logged fault (inr full) room = absurd (omega (arith, full.0, room))
-
 -- ---- room, as its setup tells it
 
 pub room-in : (setup : Setup) (book : Option BookView) (b : BookView) (here : Stand) → ∥ IsBookOf setup book here ∥₁ → book ≡ Some b

@@ -59,11 +59,6 @@ module _ (t : Id) (c : Committed) where
   -- one record
   learn-one : (f : Facts) (r : Record) → recorded (learn f r) t ≡ StandsDecided c → (recorded f t ≡ StandsDecided c) ⊎ (is_commit t c.at r ≡ true)
   unfolding learn
-  learn-one f (Record.Opened epoch) h = inl h
-  learn-one f (Record.Ceiling at) h = inl h
-  learn-one f (Record.Horizon at) h = inl h
-  learn-one f (Record.Base _ _ _) h = inl h
-  learn-one f (Record.Version _) h = inl h
   learn-one f (Record.Settled u at parts) h =
       ⊎_elim (λ same. absurd (cc)) (λ before. inl before) (given f.entries u (HasSettled at parts) (same_id u t) refl h)
   learn-one f (Record.Closed u coordinator outcome) h =
@@ -75,6 +70,7 @@ module _ (t : Id) (c : Committed) where
   learn-one f (Record.Outcome u outcome) h =
       ⊎_elim (λ same. absurd (not-decided (recorded f u) outcome same.1)) (λ before. inl before)
       (given f.entries u (after_outcome (recorded f u) outcome) (same_id u t) refl h)
+  learn-one f _ h = inl h
 
   -- a list of records
   learn-all : (f : Facts) (rs : List Record) → recorded (fold learn f rs) t ≡ StandsDecided c → (recorded f t ≡ StandsDecided c)

@@ -33,19 +33,8 @@ may_follow shard facts (Some r) follows = follows r refl
 may_install : (facts : Facts) (logged : Option Record)
     → ((t : Id) (s : ℕ) → logged ≡ Some (Record.Outcome t (Some s)) → MayInstall facts (Some (Record.Outcome t (Some s))))
     → MayInstall facts logged
-may_install facts None installs = tt
 may_install facts (Some (Record.Outcome t (Some s))) installs = installs t s refl
-may_install facts (Some (Record.Outcome t None)) installs = tt
-may_install facts (Some (Record.Opened epoch)) installs = tt
-may_install facts (Some (Record.Prepare p)) installs = tt
-may_install facts (Some (Record.Commit c)) installs = tt
-may_install facts (Some (Record.Abort t)) installs = tt
-may_install facts (Some (Record.Ceiling at)) installs = tt
-may_install facts (Some (Record.Horizon at)) installs = tt
-may_install facts (Some (Record.Base _ _ _)) installs = tt
-may_install facts (Some (Record.Version _)) installs = tt
-may_install facts (Some (Record.Settled _ _ _)) installs = tt
-may_install facts (Some (Record.Closed _ _ _)) installs = tt
+may_install facts _ installs = tt
 
 pub by_id-prop : {A : Type 0} (id : A → Id) (xs : List A) → IsProp (IsById id xs)
 by_id-prop id [] = Unit-prop

@@ -16,8 +16,8 @@ use Rattle.record.specs.declared.record.Record.{Record}
 use Rattle.record.specs.Records.{Status, Unrecorded, StandsPrepared, StandsDecided, HasAborted, HasSettled, HasClosed}
 use Rattle.record.specs.Facts.{recorded}
 use Rattle.record.specs.declared.record.Prepared.{Prepared}
-use Rattle.protocol.specs.Rows.{Row, Idle, WaitsRead, WaitsPrepare, WaitsCommit, Collecting, IsPrepared, IsDecided, Standing, IsUnknown, WasEnded}
-use Rattle.protocol.specs.Rows.{HasRow, WasAborted, WasSettled, WasClosed, find_row}
+use Rattle.protocol.specs.Rows.{Row, IsPrepared, IsDecided, Standing}
+use Rattle.protocol.specs.Rows.{HasRow, find_row}
 use Rattle.protocol.specs.Outputs.{done_to}
 use Rattle.protocol.specs.Plan.{Before, Plan, stands}
 use Rattle.protocol.specs.Cells.{plan_settle}
@@ -60,17 +60,7 @@ settles b earliest t p (HasRow held (IsDecided at parts)) is e =
       told = sym (ap (λ (q : Plan). q.outbox) same);
       logged = sym (ap (λ (q : Plan). q.logged) same);
     }
-settles b earliest t p (HasRow held Idle) is e = absurd (cc)
-settles b earliest t p (HasRow held (WaitsRead k)) is e = absurd (cc)
-settles b earliest t p (HasRow held (WaitsPrepare c rs ws)) is e = absurd (cc)
-settles b earliest t p (HasRow held (WaitsCommit l ps rs ws)) is e = absurd (cc)
-settles b earliest t p (HasRow held (Collecting l ps rs ws votes)) is e = absurd (cc)
-settles b earliest t p (HasRow held (IsPrepared c at)) is e = absurd (cc)
-settles b earliest t p IsUnknown is e = absurd (cc)
-settles b earliest t p WasEnded is e = absurd (cc)
-settles b earliest t p WasAborted is e = absurd (cc)
-settles b earliest t p (WasSettled at parts) is e = absurd (cc)
-settles b earliest t p (WasClosed outcome) is e = absurd (cc)
+settles b earliest t p _ is e = absurd (cc)
 
 -- a row that is decided stands by its decision
 decided-stands : (installs : List Install) (last : ℕ) (status : Status) (t : Id) (held : List Lock) (at : ℕ) (parts : List ℕ) (o : Option Row)
@@ -128,8 +118,4 @@ module _ (k : Kept) (now : Interval) (p : Step) (sound : ∥ IsSound k.setup.sha
   unfolding plan_input
   durably_settled keeps disk records (Input.Settle t) result planned out durable known =
       durably keeps disk records t result (settles (start_of k) now.earliest t (plan_of k.memory.rows p) (stands (start_of k) t) refl planned) out durable known
-  durably_settled keeps disk records (Input.Deliver m) result planned out durable known = tt
-  durably_settled keeps disk records Input.Resume result planned out durable known = tt
-  durably_settled keeps disk records (Input.Advance at) result planned out durable known = tt
-  durably_settled keeps disk records (Input.Forget at) result planned out durable known = tt
-  durably_settled keeps disk records (Input.Nudge t) result planned out durable known = tt
+  durably_settled keeps disk records _ result planned out durable known = tt

@@ -15,7 +15,7 @@ use Rattle.units.proofs.IdLaws.{same_id-is}
 use Rattle.units.proofs.ByIdLaws.{all-with}
 use Rattle.units.proofs.ListLaws.{all_of_each, each_of_all}
 use Rattle.record.specs.Facts.{Facts, recorded}
-use Rattle.record.specs.Records.{Status, Unrecorded, StandsPrepared, StandsDecided, HasAborted, HasSettled, HasClosed}
+use Rattle.record.specs.Records.{Status, Unrecorded, StandsPrepared, StandsDecided}
 use Rattle.record.specs.declared.record.Record.{Record}
 use Rattle.facts.specs.Rules.{follows_facts}
 use Rattle.protocol.specs.Rows.{Memory, Phase, Row, Idle, claim_of, claims, find_row, held_in, held_stamp, safe, with_row, without_rows}
@@ -36,7 +36,7 @@ use Rattle.memory.specs.Kept.{Kept}
 use Rattle.memory.specs.Plans.{change_of, collecting, plan_of}
 use Rattle.memory.specs.declared.plan.Step.{Step}
 use Rattle.memory.specs.declared.plan.Change.{Change}
-use Rattle.memory.specs.declared.plan.Change.TheVariants.{Keeps, Ends, Drops, Reads, Waits, Collects, Counts, Stands, Decides}
+use Rattle.memory.specs.declared.plan.Change.TheVariants.{Reads, Waits, Collects, Stands}
 
 -- ---- an idle row without locks, of a transaction that has no record
 
@@ -133,9 +133,7 @@ open-unrecorded : (installs : List Install) (last : ℕ) (s : Status) (r : Row) 
 open-unrecorded installs last Unrecorded r opened a = refl
 open-unrecorded installs last (StandsPrepared p) r opened a = absurd (false≢true (sym (ap is_open a.phase) ∙ opened))
 open-unrecorded installs last (StandsDecided c) r opened a = absurd (false≢true (sym (ap is_open a.phase) ∙ opened))
-open-unrecorded installs last HasAborted r opened a = absurd a
-open-unrecorded installs last (HasSettled at ps) r opened a = absurd a
-open-unrecorded installs last (HasClosed c o) r opened a = absurd a
+open-unrecorded installs last _ r opened a = absurd a
 
 wait-is-open : (w : Wait) → is_open (phase_of_wait (Some w)) ≡ true
 wait-is-open (Wait.Read key) = refl
@@ -163,24 +161,12 @@ stands-fresh shard facts t (Some (Record.Prepare p)) is follows =
 stands-fresh shard facts t (Some (Record.Commit c)) is follows =
     subst (λ (u : Id). recorded facts u ≡ Unrecorded) is
     (unrecorded_is (recorded facts c.txn) (and_parts _ _ (and_parts _ _ (and_parts _ _ follows).1).0).1)
-stands-fresh shard facts t None is follows = absurd is
-stands-fresh shard facts t (Some (Record.Opened epoch)) is follows = absurd is
-stands-fresh shard facts t (Some (Record.Ceiling at)) is follows = absurd is
-stands-fresh shard facts t (Some (Record.Horizon at)) is follows = absurd is
-stands-fresh shard facts t (Some (Record.Abort u)) is follows = absurd is
-stands-fresh shard facts t (Some (Record.Outcome u o)) is follows = absurd is
-stands-fresh shard facts t (Some (Record.Base epoch floor horizon)) is follows = absurd is
-stands-fresh shard facts t (Some (Record.Version install)) is follows = absurd is
-stands-fresh shard facts t (Some (Record.Settled u at parts)) is follows = absurd is
-stands-fresh shard facts t (Some (Record.Closed u coordinator outcome)) is follows = absurd is
+stands-fresh shard facts t _ is follows = absurd is
 
 fresh-by : (shard : ℕ) (facts : Facts) (rows : List Row) (us : List Id) (needs : List Lock) (logged : Option Record) (h : Change) (after : Memory)
     → FitsRows rows us needs logged h → MayFollow shard facts logged → after.rows ≡ after_change (change_of rows needs logged h) (without_rows rows us)
     → IsSound shard (facts_after facts logged) after → IsFresh facts (asker h)
 unfolding after_change
-fresh-by shard facts rows us needs logged Keeps after fits follows is sound = tt
-fresh-by shard facts rows us needs logged (Ends t) after fits follows is sound = tt
-fresh-by shard facts rows us needs logged (Drops t) after fits follows is sound = tt
 fresh-by shard facts rows us needs logged (Reads t) after fits follows is sound =
     put-fresh shard facts logged after (without_rows rows us) t (with_locks (held_in (without_rows rows us) t) needs) Idle fits.1 is refl sound
 fresh-by shard facts rows us needs logged (Waits t w) after fits follows is sound =
@@ -188,9 +174,8 @@ fresh-by shard facts rows us needs logged (Waits t w) after fits follows is soun
     (wait-is-open w) sound
 fresh-by shard facts rows us needs logged (Collects t c) after fits follows is sound =
     put-fresh shard facts logged after (without_rows rows us) t (with_locks (held_in (without_rows rows us) t) needs) (collecting c []) fits.1 is refl sound
-fresh-by shard facts rows us needs logged (Counts t n p) after fits follows is sound = tt
 fresh-by shard facts rows us needs logged (Stands t) after fits follows is sound = stands-fresh shard facts t logged fits.1 follows
-fresh-by shard facts rows us needs logged (Decides t) after fits follows is sound = tt
+fresh-by shard facts rows us needs logged _ after fits follows is sound = tt
 
 -- ---- a step
 

@@ -138,152 +138,19 @@ module _ {D : Type 0} (keeps obeys : Type 0) (file : D → File) (clock : D → 
     pub failures_stay : failures disk ≤ failures mid
     pub planned : obeys → waits (plan disk) ≡ true → plan mid ≡ plan disk
 
-  module _ (disk mid : D) (gate slot : ℕ) (entries : List Placed) (found : Found disk mid gate slot entries) where
-    -- it reads as before
-    pub same_records : keeps → records_in (surface (file mid)).seen ≡ records_in (surface (file disk)).seen
-    same_records keep = ap (λ s. records_in s.seen) (found.clean keep)
-
-    pub records_are : keeps → records_in (surface (file disk)).seen ≡ Ok (items entries)
-    records_are keep = ap items_of (found.entries_are keep)
-
-    opening_is : keeps → opening_of (records_in (surface (file disk)).seen) ≡ Some (next_opening (items entries))
-    opening_is keep = ap opening_of (records_are keep)
-
-    -- with the opening
-    with_opening : keeps → and_logged (records_in (surface (file mid)).seen) (Some (next_opening (items entries)))
-        ≡ and_logged (records_in (surface (file disk)).seen) (opening_of (records_in (surface (file disk)).seen))
-    with_opening keep =
-        ap (λ rs. and_logged rs (Some (next_opening (items entries)))) (same_records keep)
-        ∙ ap (and_logged (records_in (surface (file disk)).seen)) (sym (opening_is keep))
-
-    -- what a crash leaves of it
-    leaves : keeps → (end : D) → LeavesOnly clock since mid end (HoldsOldOrWith (records_in (surface (file mid)).seen) (Some (next_opening (items entries))))
-        → LeavesOnly clock since disk end (LeavesOpening (surface (file disk)))
-    leaves keep end second =
-        and_then clock since disk mid end (MayLeave (surface (file disk))) (HoldsOldOrWith (records_in (surface (file mid)).seen)
-        (Some (next_opening (items entries))))
-        (LeavesOpening (surface (file disk))) (found.moment keep) second (λ image left. inl left)
-        (λ image held. inr (⊎_elim (λ old. inl (old ∙ same_records keep)) (λ new. inr (new ∙ with_opening keep)) held))
-
-    as_synced : keeps → (image : List ℕ) → MayLeave (surface (file mid)) image → image ≡ (surface (file disk)).seen
-    as_synced keep image left =
-        let may : MayLeave (after_sync (surface (file disk))) image = subst (λ s. MayLeave s image) (found.clean keep) left in
-        may.unchanged refl
-
-    -- and it begins there
-    begun : keeps → (end : D) → LeavesOnly clock since mid end (BeginsAsBefore (surface (file mid)))
-        → LeavesOnly clock since disk end (BeginsAsBefore (surface (file disk)))
-    begun keep end second =
-        and_then clock since disk mid end (MayLeave (surface (file disk))) (BeginsAsBefore (surface (file mid)))
-        (BeginsAsBefore (surface (file disk))) (found.moment keep) second (λ image left. inl left)
-        (λ image begins. ⊎_elim
-        (λ left. inr (ap begins_in (as_synced keep image left)))
-        (λ same. inr (same ∙ ap (λ s. begins_in s.seen) (found.clean keep))) begins)
-
-    -- from then on it begins where the one that was read does
-    starts : IsSince → keeps → (end : D) → LeavesOnly clock since mid end (BeginsAsBefore (surface (file mid)))
-        → Begins (surface (file end)) (begins_in (surface (file disk)).seen)
-    starts counts_now keep end second image may =
-        ⊎_elim (λ left. ap begins_in (as_synced keep image left)) (λ same. same ∙ ap (λ s. begins_in s.seen) (found.clean keep))
-        (second.each image (counts_now end (clock mid) image second.later may))
-
-    pub opened : IsSince → (told : Setup) (item : Record) (core : CoreView D) → item ≡ next_opening (items entries) →
-        HasAppended keeps obeys file clock since failures plan mid gate item core
-        → core.slot ≡ slot → core.setup ≡ told → core.memory ≡ rebuilt core.facts → taken told (items entries) ≡ Accepted →
-        core.facts ≡ facts_of (items entries ++ next_opening (items entries) ∷ [])
-        → HasOpened keeps obeys file clock since failures plan disk told core
-    opened counts_now told item core same appended slots setup memory accepted facts =
-        let it = subst (λ r. HasAppended keeps obeys file clock since failures plan mid gate r core) same appended in
-        record {
-          setup = setup;
-          running = it.running;
-          taken = λ keep. subst (λ rs. IsTaken told rs core.facts) (sym (records_are keep)) (accepted, facts);
-          memory = memory;
-          any_moment = λ keep. leaves keep core.disk (it.any_moment keep);
-          begins = λ keep. begun keep core.disk (it.begins keep);
-          begun = λ keep. starts counts_now keep core.disk (it.begins keep);
-          slot = λ keep. slots ∙ found.slots keep;
-          durable = λ keep. subst (KeepsRecords (surface (file core.disk))) (with_opening keep) (it.durable keep);
-          read = λ keep. it.read keep ∙ with_opening keep;
-          gate = λ records keep read.
-              let all : Ok (items entries) ≡ Ok records = sym (records_are keep) ∙ read in
-              let these : items entries ≡ records = cc in
-              subst (λ rs. (core.gate ≡ next_gate (end_in (surface (file disk)).seen rs) (next_opening rs))
-              × HasPlace (end_in (surface (file disk)).seen rs) (Some (next_opening rs))) these
-              (subst (λ g. (core.gate ≡ next_gate g (next_opening (items entries))) × HasPlace g (Some (next_opening (items entries)))) (found.ends keep)
-              it.gate);
-          epoch = λ records keep read.
-              let all : Ok (items entries) ≡ Ok records = sym (records_are keep) ∙ read in
-              let these : items entries ≡ records = cc in
-              subst (λ rs. epoch_of rs + 1 < 2 ^ 62) these it.epoch;
-          failures_stay = omega (arith, found.failures_stay, it.failures_stay);
-          planned = λ obey never. it.planned obey (found.planned obey (ap waits never) ∙ never);
-          armed = λ call obey keep is. it.armed call obey keep (found.planned obey (ap waits is) ∙ is);
-        }
-
-    pub not_opened : IsSince → (told : Setup) (item : Record) (full : Type 0) (fault : Fault) (back : D) → item ≡ next_opening (items entries)
-        → taken told (items entries) ≡ Accepted → (full → (2 ^ 62 ≤ epoch_of (items entries) + 1) ⊎ IsFull gate (next_opening (items entries)))
-        → HasNotAppended keeps obeys file clock since failures plan mid gate item full fault back →
-        HasNotOpened keeps obeys file clock since failures plan disk told fault back
-    not_opened counts_now told item full fault back same accepted spent refused = record {
-      cause = ⊎_elim (λ memory. inl memory) (⊎_elim (λ device. inr (inl (device.0, omega (arith, found.failures_stay, device.1))))
-          (λ late. inr (inr (reason late)))) refused.cause;
-      any_moment = λ keep. leaves keep back (subst (λ r. LeavesOnly clock since mid back (HoldsOldOrWith (records_in (surface (file mid)).seen)
-          (Some r))) same (refused.any_moment keep));
-      begins = λ keep. begun keep back (refused.begins keep);
-      unchanged = ⊎_elim (λ device. inl device) (λ kept. inr (λ keep. ap (λ f. (surface f).seen) kept ∙ ap (λ s. s.seen) (found.clean keep))) refused.unchanged;
-      synced = ⊎_elim (λ device. inr (inl device)) (λ kept. inr (inr (λ keep. ap surface kept ∙ found.clean keep))) refused.unchanged;
-      armed = λ call records obey keep is read.
-          let all : Ok (items entries) ≡ Ok records = sym (records_are keep) ∙ read in
-          let these : items entries ≡ records = cc in (
-            subst (λ rs. FailsIn call (end_in (surface (file disk)).seen rs) (Ok rs) (Some (next_opening rs)) (file back) fault) these
-                (subst (λ g. FailsIn call g (Ok (items entries)) (Some (next_opening (items entries))) (file back) fault) (found.ends keep)
-                (subst (λ rs. FailsIn call gate rs (Some (next_opening (items entries))) (file back) fault) (same_records keep ∙ records_are keep)
-                (subst (λ r. FailsIn call gate (records_in (surface (file mid)).seen) (Some r) (file back) fault) same
-                (refused.armed call obey keep (found.planned obey (ap waits is) ∙ is))))),
-            λ device. (
-              subst (λ rs. epoch_of rs + 1 < 2 ^ 62) these (subst HasLawfulEpoch same (refused.epoch device)),
-              starts counts_now keep back (refused.begins keep),
-            ),
-          );
-      planned = λ obey never.
-          ⊎_elim (λ memory. inl memory) (⊎_elim (λ device. absurd (refused.planned obey (found.planned obey (ap waits never) ∙ never) device.0))
-          (λ late. inr (reason late))) refused.cause;
-    }
-      where
-        no_room : full → keeps → IsSpent told (surface (file disk)) (items entries)
-        no_room late keep = record {
-          read = records_are keep;
-          taken = accepted;
-          spent = subst (λ g. (2 ^ 62 ≤ epoch_of (items entries) + 1) ⊎ IsFull g (next_opening (items entries))) (found.ends keep) (spent late);
-        }
-
-        reason : (fault ≡ TimeSpent) × full → IsToldReason keeps told (surface (file disk)) fault
-        reason late = (ap is_reason late.0, λ keep. inr (late.0, (items entries, no_room late.1 keep)))
-
-    -- nor is a log that the verdict refuses, or for which memory was wanting
-    pub not_rebuilt : (told : Setup) (fault : Fault) (back : D) → back ≡ mid →
-        (fault ≡ WantsMemory) ⊎ (fault_in (taken told (items entries)) entries ≡ Some fault) →
-        HasNotOpened keeps obeys file clock since failures plan disk told fault back
-    not_rebuilt told fault back same why = record {
-      cause = ⊎_elim (λ memory. inl memory) (λ is. inr (inr (reason is))) why;
-      any_moment = λ keep. subst (λ d. LeavesOnly clock since disk d (LeavesOpening (surface (file disk)))) (sym same)
-          (weaker clock since disk mid (MayLeave (surface (file disk))) (LeavesOpening (surface (file disk))) (found.moment keep) (λ image left. inl left));
-      begins = λ keep. subst (λ d. LeavesOnly clock since disk d (BeginsAsBefore (surface (file disk)))) (sym same)
-          (weaker clock since disk mid (MayLeave (surface (file disk))) (BeginsAsBefore (surface (file disk))) (found.moment keep) (λ image left. inl left));
-      unchanged = inr (λ keep. ap (λ d. (surface (file d)).seen) same ∙ ap (λ s. s.seen) (found.clean keep));
-      synced = inr (inr (λ keep. ap (λ d. surface (file d)) same ∙ found.clean keep));
-      armed = λ call records obey keep is read. (λ device. absurd (no_device device why), λ device. absurd (no_device device why));
-      planned = λ obey never. ⊎_elim (λ memory. inl memory) (λ is. inr (reason is)) why;
-    }
-      where
-        reason : fault_in (taken told (items entries)) entries ≡ Some fault → IsToldReason keeps told (surface (file disk)) fault
-        reason is = (verdict_is_reason (taken told (items entries)) entries fault is, λ keep. inl (ap (fault_of told) (found.entries_are keep) ∙ is))
-
-        no_device : fault ≡ Device → (fault ≡ WantsMemory) ⊎ (fault_in (taken told (items entries)) entries ≡ Some fault) → ⊥
-        no_device device (inl memory) = cc
-        no_device device (inr is) =
-            false≢true (subst (λ f. IsTrue (is_reason f)) device (verdict_is_reason (taken told (items entries)) entries fault is))
+  pub found_by : (disk mid : D) (gate slot : ℕ) (entries : List Placed) → (keeps → log (surface (file disk)).seen ≡ Ok entries)
+      → (keeps → gate ≡ end_in (surface (file disk)).seen (items entries)) → (keeps → slot ≡ (begins_in (surface (file disk)).seen).slots)
+      → (keeps → surface (file mid) ≡ after_sync (surface (file disk))) → (keeps → LeavesOnly clock since disk mid (MayLeave (surface (file disk))))
+      → failures disk ≤ failures mid → (obeys → waits (plan disk) ≡ true → plan mid ≡ plan disk) → Found disk mid gate slot entries
+  found_by disk mid gate slot entries are ends slots clean moment failures_stay planned = record {
+    entries_are = are;
+    ends = ends;
+    slots = slots;
+    clean = clean;
+    moment = moment;
+    failures_stay = failures_stay;
+    planned = planned;
+  }
 
   -- a file that holds no log is not taken up
   pub no_log : (told : Setup) (disk back : D) (fault : Fault)
@@ -317,3 +184,152 @@ module _ {D : Type 0} (keeps obeys : Type 0) (file : D → File) (clock : D → 
           → ⊥
       no_device records keep read device (inl memory) = cc
       no_device records keep read device (inr none) = let two : Err fault ≡ Ok records = sym (ap items_of (none.1 keep)) ∙ read in cc
+
+module _ {D keeps obeys : Type 0} {file : D → File} {clock : D → ℕ} {since : D → ℕ → List ℕ → Type 0} {failures : D → ℕ} {plan : D → FailurePlan}
+    {disk mid : D} {gate slot : ℕ} {entries : List Placed} (found : Found keeps obeys file clock since failures plan disk mid gate slot entries) where
+  -- it reads as before
+  pub same_records : keeps → records_in (surface (file mid)).seen ≡ records_in (surface (file disk)).seen
+  same_records keep = ap (λ s. records_in s.seen) (found.clean keep)
+
+  pub records_are : keeps → records_in (surface (file disk)).seen ≡ Ok (items entries)
+  records_are keep = ap items_of (found.entries_are keep)
+
+  opening_is : keeps → opening_of (records_in (surface (file disk)).seen) ≡ Some (next_opening (items entries))
+  opening_is keep = ap opening_of (records_are keep)
+
+  -- with the opening
+  with_opening : keeps → and_logged (records_in (surface (file mid)).seen) (Some (next_opening (items entries)))
+      ≡ and_logged (records_in (surface (file disk)).seen) (opening_of (records_in (surface (file disk)).seen))
+  with_opening keep =
+      ap (λ rs. and_logged rs (Some (next_opening (items entries)))) (same_records keep)
+      ∙ ap (and_logged (records_in (surface (file disk)).seen)) (sym (opening_is keep))
+
+  -- what a crash leaves of it
+  leaves : keeps → (end : D) → LeavesOnly clock since mid end (HoldsOldOrWith (records_in (surface (file mid)).seen) (Some (next_opening (items entries))))
+      → LeavesOnly clock since disk end (LeavesOpening (surface (file disk)))
+  leaves keep end second =
+      and_then clock since disk mid end (MayLeave (surface (file disk))) (HoldsOldOrWith (records_in (surface (file mid)).seen)
+      (Some (next_opening (items entries))))
+      (LeavesOpening (surface (file disk))) (found.moment keep) second (λ image left. inl left)
+      (λ image held. inr (⊎_elim (λ old. inl (old ∙ same_records keep)) (λ new. inr (new ∙ with_opening keep)) held))
+
+  as_synced : keeps → (image : List ℕ) → MayLeave (surface (file mid)) image → image ≡ (surface (file disk)).seen
+  as_synced keep image left =
+      let may : MayLeave (after_sync (surface (file disk))) image = subst (λ s. MayLeave s image) (found.clean keep) left in
+      may.unchanged refl
+
+  -- and it begins there
+  begun : keeps → (end : D) → LeavesOnly clock since mid end (BeginsAsBefore (surface (file mid)))
+      → LeavesOnly clock since disk end (BeginsAsBefore (surface (file disk)))
+  begun keep end second =
+      and_then clock since disk mid end (MayLeave (surface (file disk))) (BeginsAsBefore (surface (file mid)))
+      (BeginsAsBefore (surface (file disk))) (found.moment keep) second (λ image left. inl left)
+      (λ image begins. ⊎_elim
+      (λ left. inr (ap begins_in (as_synced keep image left)))
+      (λ same. inr (same ∙ ap (λ s. begins_in s.seen) (found.clean keep))) begins)
+
+  -- from then on it begins where the one that was read does
+  starts : IsSince keeps obeys file clock since failures plan → keeps → (end : D) → LeavesOnly clock since mid end (BeginsAsBefore (surface (file mid)))
+      → Begins (surface (file end)) (begins_in (surface (file disk)).seen)
+  starts counts_now keep end second image may =
+      ⊎_elim (λ left. ap begins_in (as_synced keep image left)) (λ same. same ∙ ap (λ s. begins_in s.seen) (found.clean keep))
+      (second.each image (counts_now end (clock mid) image second.later may))
+
+  pub opened : IsSince keeps obeys file clock since failures plan → (told : Setup) (item : Record) (core : CoreView D) → item ≡ next_opening (items entries) →
+      HasAppended keeps obeys file clock since failures plan mid gate item core
+      → core.slot ≡ slot → core.setup ≡ told → core.memory ≡ rebuilt core.facts → taken told (items entries) ≡ Accepted →
+      core.facts ≡ facts_of (items entries ++ next_opening (items entries) ∷ [])
+      → HasOpened keeps obeys file clock since failures plan disk told core
+  opened counts_now told item core same appended slots setup memory accepted facts =
+      let it = subst (λ r. HasAppended keeps obeys file clock since failures plan mid gate r core) same appended in
+      record {
+        setup = setup;
+        running = it.running;
+        taken = λ keep. subst (λ rs. IsTaken told rs core.facts) (sym (records_are keep)) (accepted, facts);
+        memory = memory;
+        any_moment = λ keep. leaves keep core.disk (it.any_moment keep);
+        begins = λ keep. begun keep core.disk (it.begins keep);
+        begun = λ keep. starts counts_now keep core.disk (it.begins keep);
+        slot = λ keep. slots ∙ found.slots keep;
+        durable = λ keep. subst (KeepsRecords (surface (file core.disk))) (with_opening keep) (it.durable keep);
+        read = λ keep. it.read keep ∙ with_opening keep;
+        gate = λ records keep read.
+            let all : Ok (items entries) ≡ Ok records = sym (records_are keep) ∙ read in
+            let these : items entries ≡ records = cc in
+            subst (λ rs. (core.gate ≡ next_gate (end_in (surface (file disk)).seen rs) (next_opening rs))
+            × HasPlace (end_in (surface (file disk)).seen rs) (Some (next_opening rs))) these
+            (subst (λ g. (core.gate ≡ next_gate g (next_opening (items entries))) × HasPlace g (Some (next_opening (items entries)))) (found.ends keep)
+            it.gate);
+        epoch = λ records keep read.
+            let all : Ok (items entries) ≡ Ok records = sym (records_are keep) ∙ read in
+            let these : items entries ≡ records = cc in
+            subst (λ rs. epoch_of rs + 1 < 2 ^ 62) these it.epoch;
+        failures_stay = omega (arith, found.failures_stay, it.failures_stay);
+        planned = λ obey never. it.planned obey (found.planned obey (ap waits never) ∙ never);
+        armed = λ call obey keep is. it.armed call obey keep (found.planned obey (ap waits is) ∙ is);
+      }
+
+  pub not_opened : IsSince keeps obeys file clock since failures plan → (told : Setup) (item : Record) (full : Type 0) (fault : Fault) (back : D)
+      → item ≡ next_opening (items entries) → taken told (items entries) ≡ Accepted
+      → (full → (2 ^ 62 ≤ epoch_of (items entries) + 1) ⊎ IsFull gate (next_opening (items entries)))
+      → HasNotAppended keeps obeys file clock since failures plan mid gate item full fault back →
+      HasNotOpened keeps obeys file clock since failures plan disk told fault back
+  not_opened counts_now told item full fault back same accepted spent refused = record {
+    cause = ⊎_elim (λ memory. inl memory) (⊎_elim (λ device. inr (inl (device.0, omega (arith, found.failures_stay, device.1))))
+        (λ late. inr (inr (reason late)))) refused.cause;
+    any_moment = λ keep. leaves keep back (subst (λ r. LeavesOnly clock since mid back (HoldsOldOrWith (records_in (surface (file mid)).seen)
+        (Some r))) same (refused.any_moment keep));
+    begins = λ keep. begun keep back (refused.begins keep);
+    unchanged = ⊎_elim (λ device. inl device) (λ kept. inr (λ keep. ap (λ f. (surface f).seen) kept ∙ ap (λ s. s.seen) (found.clean keep))) refused.unchanged;
+    synced = ⊎_elim (λ device. inr (inl device)) (λ kept. inr (inr (λ keep. ap surface kept ∙ found.clean keep))) refused.unchanged;
+    armed = λ call records obey keep is read.
+        let all : Ok (items entries) ≡ Ok records = sym (records_are keep) ∙ read in
+        let these : items entries ≡ records = cc in (
+          subst (λ rs. FailsIn call (end_in (surface (file disk)).seen rs) (Ok rs) (Some (next_opening rs)) (file back) fault) these
+              (subst (λ g. FailsIn call g (Ok (items entries)) (Some (next_opening (items entries))) (file back) fault) (found.ends keep)
+              (subst (λ rs. FailsIn call gate rs (Some (next_opening (items entries))) (file back) fault) (same_records keep ∙ records_are keep)
+              (subst (λ r. FailsIn call gate (records_in (surface (file mid)).seen) (Some r) (file back) fault) same
+              (refused.armed call obey keep (found.planned obey (ap waits is) ∙ is))))),
+          λ device. (
+            subst (λ rs. epoch_of rs + 1 < 2 ^ 62) these (subst HasLawfulEpoch same (refused.epoch device)),
+            starts counts_now keep back (refused.begins keep),
+          ),
+        );
+    planned = λ obey never.
+        ⊎_elim (λ memory. inl memory) (⊎_elim (λ device. absurd (refused.planned obey (found.planned obey (ap waits never) ∙ never) device.0))
+        (λ late. inr (reason late))) refused.cause;
+  }
+    where
+      no_room : full → keeps → IsSpent told (surface (file disk)) (items entries)
+      no_room late keep = record {
+        read = records_are keep;
+        taken = accepted;
+        spent = subst (λ g. (2 ^ 62 ≤ epoch_of (items entries) + 1) ⊎ IsFull g (next_opening (items entries))) (found.ends keep) (spent late);
+      }
+
+      reason : (fault ≡ TimeSpent) × full → IsToldReason keeps told (surface (file disk)) fault
+      reason late = (ap is_reason late.0, λ keep. inr (late.0, (items entries, no_room late.1 keep)))
+
+  -- nor is a log that the verdict refuses, or for which memory was wanting
+  pub not_rebuilt : (told : Setup) (fault : Fault) (back : D) → back ≡ mid →
+      (fault ≡ WantsMemory) ⊎ (fault_in (taken told (items entries)) entries ≡ Some fault) →
+      HasNotOpened keeps obeys file clock since failures plan disk told fault back
+  not_rebuilt told fault back same why = record {
+    cause = ⊎_elim (λ memory. inl memory) (λ is. inr (inr (reason is))) why;
+    any_moment = λ keep. subst (λ d. LeavesOnly clock since disk d (LeavesOpening (surface (file disk)))) (sym same)
+        (weaker clock since disk mid (MayLeave (surface (file disk))) (LeavesOpening (surface (file disk))) (found.moment keep) (λ image left. inl left));
+    begins = λ keep. subst (λ d. LeavesOnly clock since disk d (BeginsAsBefore (surface (file disk)))) (sym same)
+        (weaker clock since disk mid (MayLeave (surface (file disk))) (BeginsAsBefore (surface (file disk))) (found.moment keep) (λ image left. inl left));
+    unchanged = inr (λ keep. ap (λ d. (surface (file d)).seen) same ∙ ap (λ s. s.seen) (found.clean keep));
+    synced = inr (inr (λ keep. ap (λ d. surface (file d)) same ∙ found.clean keep));
+    armed = λ call records obey keep is read. (λ device. absurd (no_device device why), λ device. absurd (no_device device why));
+    planned = λ obey never. ⊎_elim (λ memory. inl memory) (λ is. inr (reason is)) why;
+  }
+    where
+      reason : fault_in (taken told (items entries)) entries ≡ Some fault → IsToldReason keeps told (surface (file disk)) fault
+      reason is = (verdict_is_reason (taken told (items entries)) entries fault is, λ keep. inl (ap (fault_of told) (found.entries_are keep) ∙ is))
+
+      no_device : fault ≡ Device → (fault ≡ WantsMemory) ⊎ (fault_in (taken told (items entries)) entries ≡ Some fault) → ⊥
+      no_device device (inl memory) = cc
+      no_device device (inr is) =
+          false≢true (subst (λ f. IsTrue (is_reason f)) device (verdict_is_reason (taken told (items entries)) entries fault is))

@@ -88,10 +88,6 @@ wrote_on old new w is splits step traffic =
     at_work old new (Writes w) is splits (ap (λ (x : Client). x.txn) (wrote w old.session.client new.session.client step)) step
     (subst (λ (t : Traffic). AreReads old.session.client.txn t.sent) (sym traffic) is.reads)
 
--- a new transaction
-pub at_work_first : (splits : List Bytes) (t : Id) → IsAtWork (beginning splits t)
-at_work_first splits t = record { did = ([], refl); reads = refl }
-
 -- ---- attempts, one behind the other
 
 pub worked_on : (w : Worker) (xs : List Attempt) (a : Attempt) → worked_all w (xs ++ a ∷ []) ≡ worked (worked_all w xs) a

@@ -15,8 +15,8 @@ use Rattle.shard.specs.Core.{book_of, seen_machine}
 use Rattle.shard.specs.Taking.{entries_in, told_to}
 use Rattle.shard.specs.Logs.{facts_logged, items_of}
 use Rattle.shard.specs.Opened.{HasNotOpened, next_opening}
-use Rattle.shard.proofs.TakenUp.{Found, epoch_of_facts, facts_are, facts_then, first_is, first_memory, first_records, from_five, from_four, room_spent, no_log}
-use Rattle.shard.proofs.TakenUp.{not_opened, not_rebuilt, opened, records_are, same_records}
+use Rattle.shard.proofs.TakenUp.{epoch_of_facts, facts_are, facts_then, first_is, first_memory, first_records, found_by, from_five, from_four}
+use Rattle.shard.proofs.TakenUp.{no_log, not_opened, not_rebuilt, opened, records_are, room_spent, same_records}
 use Rattle.book.specs.Books.{new_book}
 use Rattle.units.specs.declared.setup.Setup.{Setup}
 use Rattle.shard.specs.Booked.{stand_of}
@@ -37,21 +37,13 @@ take_up-requires-clause-known g c = λ keep.
     let ts : List Placed = entries_in c.scan.new.sink in
     let told : told_to c.scan.new.sink ≡ c.args.setup = c.in-Ok-scan.ensures.told ∙ c.in-Ok.ensures.setup in
     let accepted : taken c.args.setup (items ts) ≡ Accepted = subst (λ s. taken s (items ts) ≡ Accepted) told c.in-Ok-finish.ensures.accepted in
-    let found : Found g.D.Disk.keeps_model g.D.Disk.obeys g.D.Disk.file g.D.Disk.clock g.D.Disk.since g.D.Disk.failures g.D.Disk.plan c.args.disk
-    (disk_of c.in-Ok-scan.gate_log) (gate_at c.in-Ok-scan.gate_log) (next_slot c.in-Ok-scan.gate_log) ts = record {
-      entries_are = λ keep. c.in-Ok-scan.ensures.entries keep;
-      ends = c.in-Ok-scan.ensures.end;
-      slots = c.in-Ok-scan.ensures.slot;
-      clean = c.in-Ok-scan.ensures.synced;
-      moment = c.in-Ok-scan.ensures.any_moment;
-      failures_stay = c.in-Ok-scan.ensures.failures_stay;
-      planned = λ obey never. (c.in-Ok-scan.ensures.planned obey never).0;
-    } in
+    let s = c.in-Ok-scan.ensures in
+    let found = found_by g.D.Disk.keeps_model g.D.Disk.obeys g.D.Disk.file g.D.Disk.clock g.D.Disk.since g.D.Disk.failures g.D.Disk.plan c.args.disk
+    (disk_of c.in-Ok-scan.gate_log) (gate_at c.in-Ok-scan.gate_log) (next_slot c.in-Ok-scan.gate_log) ts
+    s.entries s.end s.slot s.synced s.any_moment s.failures_stay (λ obey never. (s.planned obey never).0) in
     let rebuilt_as : IsRebuilt c.args.setup (items ts) (Some c.in-Some.state) = subst (λ s. IsRebuilt s (items ts) (Some c.in-Some.state)) told
     (subst (IsRebuilt (told_to c.scan.new.sink) (items ts)) c.in-Some.is c.in-Ok-finish.ensures.found) in
-    ap facts_logged (same_records g.D.Disk.keeps_model g.D.Disk.obeys g.D.Disk.file g.D.Disk.clock g.D.Disk.since g.D.Disk.failures g.D.Disk.plan
-    c.args.disk _ _ _ ts found keep ∙ records_are g.D.Disk.keeps_model g.D.Disk.obeys g.D.Disk.file g.D.Disk.clock g.D.Disk.since
-    g.D.Disk.failures g.D.Disk.plan c.args.disk _ _ _ ts found keep)
+    ap facts_logged (same_records found keep ∙ records_are found keep)
     ∙ facts_are c.learnt_agrees.ensures c.accepted_follows.ensures c.args.setup (items ts) c.in-Some.state.facts
     accepted rebuilt_as.1
 
@@ -79,16 +71,10 @@ returns-in-Some-clause-opened g c =
     let ts : List Placed = entries_in c.scan.new.sink in
     let told : told_to c.scan.new.sink ≡ c.args.setup = c.in-Ok-scan.ensures.told ∙ c.in-Ok.ensures.setup in
     let accepted : taken c.args.setup (items ts) ≡ Accepted = subst (λ s. taken s (items ts) ≡ Accepted) told c.in-Ok-finish.ensures.accepted in
-    let found : Found g.D.Disk.keeps_model g.D.Disk.obeys g.D.Disk.file g.D.Disk.clock g.D.Disk.since g.D.Disk.failures g.D.Disk.plan c.args.disk
-    (disk_of c.in-Ok-scan.gate_log) (gate_at c.in-Ok-scan.gate_log) (next_slot c.in-Ok-scan.gate_log) ts = record {
-      entries_are = λ keep. c.in-Ok-scan.ensures.entries keep;
-      ends = c.in-Ok-scan.ensures.end;
-      slots = c.in-Ok-scan.ensures.slot;
-      clean = c.in-Ok-scan.ensures.synced;
-      moment = c.in-Ok-scan.ensures.any_moment;
-      failures_stay = c.in-Ok-scan.ensures.failures_stay;
-      planned = λ obey never. (c.in-Ok-scan.ensures.planned obey never).0;
-    } in
+    let s = c.in-Ok-scan.ensures in
+    let found = found_by g.D.Disk.keeps_model g.D.Disk.obeys g.D.Disk.file g.D.Disk.clock g.D.Disk.since g.D.Disk.failures g.D.Disk.plan c.args.disk
+    (disk_of c.in-Ok-scan.gate_log) (gate_at c.in-Ok-scan.gate_log) (next_slot c.in-Ok-scan.gate_log) ts
+    s.entries s.end s.slot s.synced s.any_moment s.failures_stay (λ obey never. (s.planned obey never).0) in
     let rebuilt_as : IsRebuilt c.args.setup (items ts) (Some c.in-Some.state) = subst (λ s. IsRebuilt s (items ts) (Some c.in-Some.state)) told
     (subst (IsRebuilt (told_to c.scan.new.sink) (items ts)) c.in-Some.is c.in-Ok-finish.ensures.found) in
     let k = c.in-Some.state in
@@ -98,11 +84,8 @@ returns-in-Some-clause-opened g c =
     c.args.setup (seen_machine machine)) c.with_book.ensures.made
     (from_five c.take_up.result _ _ _ _ _ _
     (λ core setup facts memory slot appended.
-    opened g.D.Disk.keeps_model g.D.Disk.obeys g.D.Disk.file g.D.Disk.clock g.D.Disk.since g.D.Disk.failures g.D.Disk.plan c.args.disk
-    (disk_of c.in-Ok-scan.gate_log) (gate_at c.in-Ok-scan.gate_log) (next_slot c.in-Ok-scan.gate_log) ts found
-    g.met.D.Disk.counts_now c.args.setup (Record.Opened (k.facts.epoch + 1)) (seen_machine core) (epoch_of_facts rs k.facts rebuilt_as.1) appended slot
-    (setup ∙ rebuilt_as.0)
-    (memory ∙ ap rebuilt (sym facts)) accepted
+    opened found g.met.D.Disk.counts_now c.args.setup (Record.Opened (k.facts.epoch + 1)) (seen_machine core)
+    (epoch_of_facts rs k.facts rebuilt_as.1) appended slot (setup ∙ rebuilt_as.0) (memory ∙ ap rebuilt (sym facts)) accepted
     (facts ∙ facts_then c.learn_agrees.ensures c.accepted_follows.ensures c.args.setup rs k.facts accepted rebuilt_as.1))
     c.take_up.ensures.setup c.take_up.ensures.facts c.take_up.ensures.memory c.take_up.ensures.slot c.take_up.ensures.appended)
 
@@ -111,16 +94,10 @@ returns-in-Some-clause-refused g c =
     let ts : List Placed = entries_in c.scan.new.sink in
     let told : told_to c.scan.new.sink ≡ c.args.setup = c.in-Ok-scan.ensures.told ∙ c.in-Ok.ensures.setup in
     let accepted : taken c.args.setup (items ts) ≡ Accepted = subst (λ s. taken s (items ts) ≡ Accepted) told c.in-Ok-finish.ensures.accepted in
-    let found : Found g.D.Disk.keeps_model g.D.Disk.obeys g.D.Disk.file g.D.Disk.clock g.D.Disk.since g.D.Disk.failures g.D.Disk.plan c.args.disk
-    (disk_of c.in-Ok-scan.gate_log) (gate_at c.in-Ok-scan.gate_log) (next_slot c.in-Ok-scan.gate_log) ts = record {
-      entries_are = λ keep. c.in-Ok-scan.ensures.entries keep;
-      ends = c.in-Ok-scan.ensures.end;
-      slots = c.in-Ok-scan.ensures.slot;
-      clean = c.in-Ok-scan.ensures.synced;
-      moment = c.in-Ok-scan.ensures.any_moment;
-      failures_stay = c.in-Ok-scan.ensures.failures_stay;
-      planned = λ obey never. (c.in-Ok-scan.ensures.planned obey never).0;
-    } in
+    let s = c.in-Ok-scan.ensures in
+    let found = found_by g.D.Disk.keeps_model g.D.Disk.obeys g.D.Disk.file g.D.Disk.clock g.D.Disk.since g.D.Disk.failures g.D.Disk.plan c.args.disk
+    (disk_of c.in-Ok-scan.gate_log) (gate_at c.in-Ok-scan.gate_log) (next_slot c.in-Ok-scan.gate_log) ts
+    s.entries s.end s.slot s.synced s.any_moment s.failures_stay (λ obey never. (s.planned obey never).0) in
     let rebuilt_as : IsRebuilt c.args.setup (items ts) (Some c.in-Some.state) = subst (λ s. IsRebuilt s (items ts) (Some c.in-Some.state)) told
     (subst (IsRebuilt (told_to c.scan.new.sink) (items ts)) c.in-Some.is c.in-Ok-finish.ensures.found) in
     let k = c.in-Some.state in
@@ -130,10 +107,8 @@ returns-in-Some-clause-refused g c =
     c.args.setup refused.0 refused.1) c.with_book.ensures.refused
     (IfErr-weaker c.take_up.result _ _
     (λ refused h.
-    not_opened g.D.Disk.keeps_model g.D.Disk.obeys g.D.Disk.file g.D.Disk.clock g.D.Disk.since g.D.Disk.failures g.D.Disk.plan c.args.disk
-    (disk_of c.in-Ok-scan.gate_log) (gate_at c.in-Ok-scan.gate_log) (next_slot c.in-Ok-scan.gate_log) ts found
-    g.met.D.Disk.counts_now c.args.setup (Record.Opened (k.facts.epoch + 1)) _ refused.0 refused.1 (epoch_of_facts rs k.facts rebuilt_as.1) accepted
-    (room_spent rs k.facts (gate_at c.in-Ok-scan.gate_log) rebuilt_as.1) h)
+    not_opened found g.met.D.Disk.counts_now c.args.setup (Record.Opened (k.facts.epoch + 1)) _ refused.0 refused.1
+    (epoch_of_facts rs k.facts rebuilt_as.1) accepted (room_spent rs k.facts (gate_at c.in-Ok-scan.gate_log) rebuilt_as.1) h)
     c.take_up.ensures.refused)
 
 pub returns-in-None-clause-opened : goal.returns-in-None-clause-opened
@@ -141,16 +116,10 @@ returns-in-None-clause-opened g c =
     let ts : List Placed = entries_in c.scan.new.sink in
     let told : told_to c.scan.new.sink ≡ c.args.setup = c.in-Ok-scan.ensures.told ∙ c.in-Ok.ensures.setup in
     let accepted : taken c.args.setup (items ts) ≡ Accepted = subst (λ s. taken s (items ts) ≡ Accepted) told c.in-Ok-finish.ensures.accepted in
-    let found : Found g.D.Disk.keeps_model g.D.Disk.obeys g.D.Disk.file g.D.Disk.clock g.D.Disk.since g.D.Disk.failures g.D.Disk.plan c.args.disk
-    (disk_of c.in-Ok-scan.gate_log) (gate_at c.in-Ok-scan.gate_log) (next_slot c.in-Ok-scan.gate_log) ts = record {
-      entries_are = λ keep. c.in-Ok-scan.ensures.entries keep;
-      ends = c.in-Ok-scan.ensures.end;
-      slots = c.in-Ok-scan.ensures.slot;
-      clean = c.in-Ok-scan.ensures.synced;
-      moment = c.in-Ok-scan.ensures.any_moment;
-      failures_stay = c.in-Ok-scan.ensures.failures_stay;
-      planned = λ obey never. (c.in-Ok-scan.ensures.planned obey never).0;
-    } in
+    let s = c.in-Ok-scan.ensures in
+    let found = found_by g.D.Disk.keeps_model g.D.Disk.obeys g.D.Disk.file g.D.Disk.clock g.D.Disk.since g.D.Disk.failures g.D.Disk.plan c.args.disk
+    (disk_of c.in-Ok-scan.gate_log) (gate_at c.in-Ok-scan.gate_log) (next_slot c.in-Ok-scan.gate_log) ts
+    s.entries s.end s.slot s.synced s.any_moment s.failures_stay (λ obey never. (s.planned obey never).0) in
     let empty : items ts ≡ [] = subst (IsRebuilt (told_to c.scan.new.sink) (items ts)) c.in-None.is c.in-Ok-finish.ensures.found in
     let first : Record.Opened 1 ≡ next_opening (items ts) = first_is (items ts) empty in
     through c.begin.result c.with_book-in-None.result (λ core. core.machine) (λ core. book_of core ≡ c.in-Ok-finish.book)
@@ -158,9 +127,7 @@ returns-in-None-clause-opened g c =
     c.args.setup (seen_machine machine)) c.with_book-in-None.ensures.made
     (from_five c.begin.result _ _ _ _ _ _
     (λ core setup facts memory slot appended.
-    opened g.D.Disk.keeps_model g.D.Disk.obeys g.D.Disk.file g.D.Disk.clock g.D.Disk.since g.D.Disk.failures g.D.Disk.plan c.args.disk
-    (disk_of c.in-Ok-scan.gate_log) (gate_at c.in-Ok-scan.gate_log) (next_slot c.in-Ok-scan.gate_log) ts found
-    g.met.D.Disk.counts_now c.args.setup (Record.Opened 1) (seen_machine core) first appended slot setup
+    opened found g.met.D.Disk.counts_now c.args.setup (Record.Opened 1) (seen_machine core) first appended slot setup
     (memory ∙ first_memory (seen_machine core).facts facts) accepted
     (facts ∙ ap facts_of (first_records (items ts) empty)))
     c.begin.ensures.setup c.begin.ensures.facts c.begin.ensures.memory c.begin.ensures.slot c.begin.ensures.appended)
@@ -170,16 +137,10 @@ returns-in-None-clause-refused g c =
     let ts : List Placed = entries_in c.scan.new.sink in
     let told : told_to c.scan.new.sink ≡ c.args.setup = c.in-Ok-scan.ensures.told ∙ c.in-Ok.ensures.setup in
     let accepted : taken c.args.setup (items ts) ≡ Accepted = subst (λ s. taken s (items ts) ≡ Accepted) told c.in-Ok-finish.ensures.accepted in
-    let found : Found g.D.Disk.keeps_model g.D.Disk.obeys g.D.Disk.file g.D.Disk.clock g.D.Disk.since g.D.Disk.failures g.D.Disk.plan c.args.disk
-    (disk_of c.in-Ok-scan.gate_log) (gate_at c.in-Ok-scan.gate_log) (next_slot c.in-Ok-scan.gate_log) ts = record {
-      entries_are = λ keep. c.in-Ok-scan.ensures.entries keep;
-      ends = c.in-Ok-scan.ensures.end;
-      slots = c.in-Ok-scan.ensures.slot;
-      clean = c.in-Ok-scan.ensures.synced;
-      moment = c.in-Ok-scan.ensures.any_moment;
-      failures_stay = c.in-Ok-scan.ensures.failures_stay;
-      planned = λ obey never. (c.in-Ok-scan.ensures.planned obey never).0;
-    } in
+    let s = c.in-Ok-scan.ensures in
+    let found = found_by g.D.Disk.keeps_model g.D.Disk.obeys g.D.Disk.file g.D.Disk.clock g.D.Disk.since g.D.Disk.failures g.D.Disk.plan c.args.disk
+    (disk_of c.in-Ok-scan.gate_log) (gate_at c.in-Ok-scan.gate_log) (next_slot c.in-Ok-scan.gate_log) ts
+    s.entries s.end s.slot s.synced s.any_moment s.failures_stay (λ obey never. (s.planned obey never).0) in
     let empty : items ts ≡ [] = subst (IsRebuilt (told_to c.scan.new.sink) (items ts)) c.in-None.is c.in-Ok-finish.ensures.found in
     let first : Record.Opened 1 ≡ next_opening (items ts) = first_is (items ts) empty in
     not-through c.begin.result c.with_book-in-None.result
@@ -187,9 +148,7 @@ returns-in-None-clause-refused g c =
     c.args.setup refused.0 refused.1) c.with_book-in-None.ensures.refused
     (IfErr-weaker c.begin.result _ _
     (λ refused h.
-    not_opened g.D.Disk.keeps_model g.D.Disk.obeys g.D.Disk.file g.D.Disk.clock g.D.Disk.since g.D.Disk.failures g.D.Disk.plan c.args.disk
-    (disk_of c.in-Ok-scan.gate_log) (gate_at c.in-Ok-scan.gate_log) (next_slot c.in-Ok-scan.gate_log) ts found
-    g.met.D.Disk.counts_now c.args.setup (Record.Opened 1) _ refused.0 refused.1 first accepted
+    not_opened found g.met.D.Disk.counts_now c.args.setup (Record.Opened 1) _ refused.0 refused.1 first accepted
     (λ full. inr (subst (IsFull (gate_at c.in-Ok-scan.gate_log)) first full)) h)
     c.begin.ensures.refused)
 
@@ -197,19 +156,11 @@ pub returns-in-Err-finish-clause-refused : goal.returns-in-Err-finish-clause-ref
 returns-in-Err-finish-clause-refused g c =
     let ts : List Placed = entries_in c.scan.new.sink in
     let told : told_to c.scan.new.sink ≡ c.args.setup = c.in-Ok-scan.ensures.told ∙ c.in-Ok.ensures.setup in
-    let found : Found g.D.Disk.keeps_model g.D.Disk.obeys g.D.Disk.file g.D.Disk.clock g.D.Disk.since g.D.Disk.failures g.D.Disk.plan c.args.disk
-    (disk_of c.in-Ok-scan.gate_log) (gate_at c.in-Ok-scan.gate_log) (next_slot c.in-Ok-scan.gate_log) ts = record {
-      entries_are = λ keep. c.in-Ok-scan.ensures.entries keep;
-      ends = c.in-Ok-scan.ensures.end;
-      slots = c.in-Ok-scan.ensures.slot;
-      clean = c.in-Ok-scan.ensures.synced;
-      moment = c.in-Ok-scan.ensures.any_moment;
-      failures_stay = c.in-Ok-scan.ensures.failures_stay;
-      planned = λ obey never. (c.in-Ok-scan.ensures.planned obey never).0;
-    } in
-    not_rebuilt g.D.Disk.keeps_model g.D.Disk.obeys g.D.Disk.file g.D.Disk.clock g.D.Disk.since g.D.Disk.failures g.D.Disk.plan c.args.disk
-    (disk_of c.in-Ok-scan.gate_log)
-    (gate_at c.in-Ok-scan.gate_log) (next_slot c.in-Ok-scan.gate_log) ts found c.args.setup c.in-Err-finish.fault c.into_disk.result
+    let s = c.in-Ok-scan.ensures in
+    let found = found_by g.D.Disk.keeps_model g.D.Disk.obeys g.D.Disk.file g.D.Disk.clock g.D.Disk.since g.D.Disk.failures g.D.Disk.plan c.args.disk
+    (disk_of c.in-Ok-scan.gate_log) (gate_at c.in-Ok-scan.gate_log) (next_slot c.in-Ok-scan.gate_log) ts
+    s.entries s.end s.slot s.synced s.any_moment s.failures_stay (λ obey never. (s.planned obey never).0) in
+    not_rebuilt found c.args.setup c.in-Err-finish.fault c.into_disk.result
     c.into_disk.ensures (subst (λ (s : Setup). (c.in-Err-finish.fault ≡ Fault.Memory) ⊎ (fault_in (taken s (items ts)) ts ≡ Some c.in-Err-finish.fault)) told
     c.in-Err-finish.ensures.refused)
 
