@@ -8,7 +8,7 @@ top=$(dirname "$here")
 made=$(mktemp -d "${TMPDIR:-/tmp}/bench.XXXXXX")
 
 # The crates that the core of a shard stands on, the lowest first.
-crates="units truetime counts waiting disk simdisk record spelling gatelog message protocol locks facts versions renewal safetime rows
+crates="units truetime counts waiting disk simdisk record spelling frames gatelog message protocol locks facts versions renewal safetime rows
 ledger memory participant coordinator ceiling recovery book shard inspector growing board"
 
 externs() {

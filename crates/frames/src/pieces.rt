@@ -1,9 +1,8 @@
 //! A file that is read in pieces, from its front on.
 ghost use Rattle.std.specs.Prelude.{◌≡◌, ◌⊎◌, ◌≤◌, ◌<◌, ◌+◌, ◌^◌, [], List, ℕ, length, take, drop, OnOk, IfOk, IfErr, true};
-ghost use Rattle.disk.specs.Image.{MayLeave};
 ghost use Rattle.disk.specs.File.{surface};
-ghost use Rattle.disk.specs.Moments.{Elapses, HasCause};
-ghost use Rattle.frames.specs.Ahead.{IsAhead, read_to};
+ghost use Rattle.disk.specs.Moments.{Elapses};
+ghost use Rattle.frames.specs.Ahead.{IsAhead};
 ghost use Rattle.frames.specs.Calls.{waits};
 
 use disk::Disk;

@@ -233,7 +233,9 @@ module _ (file : Surface) (gate : ℕ) (item : Record) (synced : IsSynced file) 
 module _ (file : Surface) (gate : ℕ) (item : Record) (synced : IsSynced file) (whole : IsTrue (ends_at file.seen gate)) (fits : IsRecord item)
     (bytes : List ℕ) (bytes-is : bytes ≡ staged_bytes item) where
   abbrev Half : List ℕ → Type 0
-  Half image = MayLeave (tried_write (gate + 1) (length bytes) file) image ⊎ MayLeave (tried_write gate 1 (after_sync (after_write (gate + 1) bytes file))) image
+  Half image =
+      MayLeave (tried_write (gate + 1) (length bytes) file) image
+      ⊎ MayLeave (tried_write gate 1 (after_sync (after_write (gate + 1) bytes file))) image
 
   staging : (image : List ℕ) → MayLeave (tried_write (gate + 1) (length bytes) file) image →
       MayLeave (tried_write (gate + 1) (length (staged_bytes item)) file) image
