@@ -2,7 +2,6 @@
 use crate::checks::{Row, go_over};
 use made::WrongRows;
 use progress::{Ended, Screen, Turn};
-use std::alloc::Global;
 use std::io;
 use std::io::Write;
 

@@ -58,7 +58,8 @@ pub fn act_out(
                 Acts::BecomesFirm => table.firm(held),
                 Acts::GivesItsWaitUp => table.withdraw(held),
                 Acts::GoesOn => {
-                    if table.ready() != Some(held.txn()) || table.resume(held).is_err() {
+                    let goes = table.ready() == Some(held.txn()) && table.resume(held).is_ok();
+                    if !goes {
                         return None;
                     }
                 }
