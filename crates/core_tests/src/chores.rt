@@ -1,7 +1,7 @@
 //! What a node does besides its letters, while they come and while none does.
 use crate::cores::plain;
 use crate::given::{Given, message_of, reading};
-use crate::logs::{Line, compare_log};
+use crate::logs::{Line, with_log};
 use crate::nodes::fresh_node;
 use crate::verdict::end;
 use crossbeam_channel::{Receiver, Sender, unbounded};
@@ -278,7 +278,7 @@ fn tell<R: Threads + Wait + time::Clock + Sync + Abort>(
     match &row.end {
         Some(end) => {
             wrong.unless_at(served == end.served, row.name, served);
-            compare_log(wrong, alloc, disk, row.name, end.log);
+            drop(with_log(wrong, alloc, disk, row.name, end.log, &[]));
         }
         None => drop(disk),
     }

@@ -3,7 +3,7 @@ use crate::compacted_rows::{COMPACTED, Compacted, FAILING, Failing, REFUSED, Ref
 use crate::cores::{bytes_on, disk_with, formatted, plain};
 use crate::logs::with_log;
 use crate::turned_rows::{COMMIT, REOPENED, SETTLE, TURN};
-use crate::turning::{Asked, Kind, compare_bytes, crashed, left};
+use crate::turning::{Kind, compare_bytes, crashed, left};
 use crate::verdict::end;
 use compaction::{Gathered, compact};
 use disk::{Disk, Fate};
@@ -50,21 +50,20 @@ fn compacted(
     log.into_disk()
 }
 
-// The disk of a log that a core on a new one left, which was asked that.
-fn old_log<R: Wait + Abort>(
-    wrong: &mut WrongRows,
-    rt: &R,
-    alloc: Global,
-    name: &str,
-    asks: &[Asked],
-) -> SimDisk {
-    let new = formatted(rt, alloc);
-    left(wrong, rt, alloc, Kind::Core, new, plain(0, 0), name, asks)
-}
-
 fn go<R: Wait + Abort>(wrong: &mut WrongRows, rt: &R, alloc: Global, row: &Compacted) {
     let name = row.name;
-    let old = old_log(wrong, rt, alloc, name, row.asks);
+    let (new, setting) = (formatted(rt, alloc), plain(0, 0));
+    let old = left(
+        wrong,
+        rt,
+        alloc,
+        Kind::Core,
+        new,
+        setting,
+        name,
+        &[],
+        row.asks,
+    );
     wrong.unless_at(old.len() == row.old_size, name, old.len());
     let mut disk = compacted(wrong, rt, alloc, old, name);
     wrong.unless_at(disk.len() == row.new_size, name, disk.len());
@@ -73,8 +72,17 @@ fn go<R: Wait + Abort>(wrong: &mut WrongRows, rt: &R, alloc: Global, row: &Compa
     }
     let disk = crashed(rt, alloc, disk, Some(Fate::Old));
     let disk = with_log(wrong, alloc, disk, name, row.log, &[]);
-    let setting = plain(0, 0);
-    let disk = left(wrong, rt, alloc, Kind::Core, disk, setting, name, row.again);
+    let disk = left(
+        wrong,
+        rt,
+        alloc,
+        Kind::Core,
+        disk,
+        setting,
+        name,
+        &[],
+        row.again,
+    );
     drop(with_log(wrong, alloc, disk, name, row.log, REOPENED));
 }
 
@@ -108,7 +116,9 @@ fn held(alloc: Global, disk: SimDisk) -> Result<usize, Fault> {
 // A call of the new file fails, where there is one: it is not laid out before call 5.
 fn fail<R: Wait + Abort>(wrong: &mut WrongRows, rt: &R, alloc: Global, row: &Failing, call: u64) {
     let name = "a call of the new file fails";
-    let mut old = old_log(wrong, rt, alloc, name, &[COMMIT, SETTLE, TURN]);
+    let (new, setting) = (formatted(rt, alloc), plain(0, 0));
+    let asks = &[COMMIT, SETTLE, TURN];
+    let mut old = left(wrong, rt, alloc, Kind::Core, new, setting, name, &[], asks);
     let before = bytes_on(rt, alloc, &mut old);
     let gathered = Gathered::of(alloc, old).ok().expect(rt, name);
     let mut to = SimDisk::new(alloc);
@@ -159,13 +169,31 @@ fn refuse(wrong: &mut WrongRows, rt: &impl Abort, alloc: Global, row: &Refused) 
     }
 }
 
+fn tell_compacted<R: Wait + Abort>(wrong: &mut WrongRows, rt: &R, alloc: Global) {
+    for row in &COMPACTED {
+        go(wrong, rt, alloc, row);
+    }
+}
+
+fn tell_failing<R: Wait + Abort>(wrong: &mut WrongRows, rt: &R, alloc: Global) {
+    for row in &FAILING {
+        for call in 0..11 {
+            fail(wrong, rt, alloc, row, call);
+        }
+    }
+}
+
+fn tell_refused(wrong: &mut WrongRows, rt: &impl Abort, alloc: Global) {
+    for row in &REFUSED {
+        refuse(wrong, rt, alloc, row);
+    }
+}
+
 // It fails where a record is left out, or the new file is as long as the old one.
 #[test]
 fn logs_are_compacted(rt: HostRuntime) {
     let mut wrong = WrongRows::none(rt.alloc());
-    for row in &COMPACTED {
-        go(&mut wrong, &rt, rt.alloc(), row);
-    }
+    tell_compacted(&mut wrong, &rt, rt.alloc());
     go_empty(&mut wrong, &rt, rt.alloc());
     end(&rt, wrong);
 }
@@ -173,13 +201,7 @@ fn logs_are_compacted(rt: HostRuntime) {
 #[test]
 fn compactions_that_fail(rt: HostRuntime) {
     let mut wrong = WrongRows::none(rt.alloc());
-    for row in &FAILING {
-        for call in 0..11 {
-            fail(&mut wrong, &rt, rt.alloc(), row, call);
-        }
-    }
-    for row in &REFUSED {
-        refuse(&mut wrong, &rt, rt.alloc(), row);
-    }
+    tell_failing(&mut wrong, &rt, rt.alloc());
+    tell_refused(&mut wrong, &rt, rt.alloc());
     end(&rt, wrong);
 }

@@ -1,10 +1,12 @@
 //! Shards that decide for transactions of several parts.
 use crate::answers::Told;
 use crate::given::Given;
-use crate::stories::{Moment, Origin, Shows, Story};
-use made::FIRST_GATE;
+use crate::stories::{Moment, Origin, Shows, Story, tell};
+use made::{FIRST_GATE, WrongRows};
+use std::alloc::Global;
+use std::process::Abort;
 
-pub static COORDINATING: [Story; 4] = [
+static COORDINATING: [Story; 4] = [
     Story {
         name: "a vote that comes before its commit changes nothing; the same vote again decides",
         shard: 0,
@@ -107,3 +109,7 @@ pub static COORDINATING: [Story; 4] = [
         }],
     },
 ];
+
+pub fn tell_coordinating(wrong: &mut WrongRows, rt: &impl Abort, alloc: Global) {
+    tell(wrong, rt, alloc, &COORDINATING);
+}

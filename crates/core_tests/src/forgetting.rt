@@ -2,11 +2,8 @@
 use crate::answers::Told;
 use crate::given::Given;
 use crate::logs::Line;
-use crate::turned::desks;
 use crate::turned_rows::{LEFT, SAID};
 use crate::turning::{Ask, Row};
-use crate::verdict::end;
-use made::WrongRows;
 use units::Fault;
 
 // `z` is 1 at 200 and 2 at 300, and the shard serves up to 400.
@@ -40,7 +37,7 @@ const WRITTEN: Row = Row {
 
 const NOT_YET: Told = Told::Refused(Fault::NotYet);
 
-static FORGOTTEN: [Row; 6] = [
+pub static FORGOTTEN: [Row; 6] = [
     Row {
         name: "nothing is forgotten",
         asks: &[
@@ -204,10 +201,3 @@ static FORGOTTEN: [Row; 6] = [
         ..WRITTEN
     },
 ];
-
-#[test]
-fn what_is_below_the_horizon_is_too_old(rt: HostRuntime) {
-    let mut wrong = WrongRows::none(rt.alloc());
-    desks(&mut wrong, &rt, rt.alloc(), &FORGOTTEN);
-    end(&rt, wrong);
-}

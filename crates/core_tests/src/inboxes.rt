@@ -2,12 +2,12 @@
 use crate::cores::plain;
 use crate::given::{Given, Standing, message_of, reading};
 use crate::nodes::fresh_node;
+use crate::verdict::end;
 use crossbeam_channel::{Receiver, unbounded};
 use letters::{Letter, Post};
-use made::id;
+use made::{WrongRows, id};
 use message::{Address, Answer, Envelope, Message};
-use node::{Gate, Node, Served, start};
-use simdisk::SimDisk;
+use node::{Gate, Served, start};
 use std::alloc::Global;
 use std::process::Abort;
 use std::sync::Wait;
@@ -142,25 +142,19 @@ fn inbox<R: Wait + Abort>(
     from
 }
 
-// Fresh nodes of the row.
-fn nodes_of<'r, R: Wait + Abort>(rt: &'r R, alloc: Global, row: &Row) -> Vec<Node<SimDisk, &'r R>> {
+// Serves fresh nodes of the row until all letters are answered.
+fn serve<R: Threads + Wait + time::Clock + Sync + Abort>(
+    rt: &R,
+    alloc: Global,
+    gate: &Meeting<R>,
+    row: &Row,
+) {
     let mut nodes = Vec::new(alloc);
     for (shard, _) in row.nodes {
         let (node, viewers) = fresh_node(rt, rt, alloc, plain(*shard, 0));
         drop(viewers);
         nodes.push(node).ok().expect(rt, row.name);
     }
-    nodes
-}
-
-// Serves the nodes until all letters are answered.
-fn serve<'r, R: Threads + Wait + time::Clock + Sync + Abort>(
-    rt: &R,
-    alloc: Global,
-    nodes: &[Node<SimDisk, &'r R>],
-    gate: &Meeting<R>,
-    row: &Row,
-) {
     let mut served = Vec::new(alloc);
     for (node, (from, key)) in nodes.iter().zip(row.nodes) {
         let post = Answers {
@@ -181,70 +175,67 @@ fn serve<'r, R: Threads + Wait + time::Clock + Sync + Abort>(
         assert!(rt; pushed.is_ok(), "memory");
     }
     start(rt, served, gate).expect(rt, row.name);
+    drop(nodes);
 }
 
 // Each letter is answered, in order, and none was held in vain.
-fn meet<R: Threads + Wait + time::Clock + Sync + Abort>(rt: &R, alloc: Global, row: &Row) {
-    let gate = Meeting {
-        rt,
-        holds: row.meet,
-        first: AtomicU64::new(0),
-        second: AtomicU64::new(0),
-        missed: AtomicU64::new(0),
-        posted: AtomicU64::new(0),
-        right: AtomicU64::new(0),
-    };
-    let nodes = nodes_of(rt, alloc, row);
-    serve(rt, alloc, nodes.as_slice(), &gate, row);
-    drop(nodes);
-    let missed = gate.missed.load(Ordering::SeqCst);
-    let posted = gate.posted.load(Ordering::SeqCst);
-    let right = gate.right.load(Ordering::SeqCst);
-    drop(gate);
-    let answered = posted == row.answers && right == row.answers;
-    let held = answered && missed == 0;
-    assert!(rt; held, "{} ({right})", row.name);
+fn meet<R: Threads + Wait + time::Clock + Sync + Abort>(rt: &R, alloc: Global, rows: &[Row]) {
+    let mut wrong = WrongRows::none(alloc);
+    for row in rows {
+        let gate = Meeting {
+            rt,
+            holds: row.meet,
+            first: AtomicU64::new(0),
+            second: AtomicU64::new(0),
+            missed: AtomicU64::new(0),
+            posted: AtomicU64::new(0),
+            right: AtomicU64::new(0),
+        };
+        serve(rt, alloc, &gate, row);
+        let missed = gate.missed.load(Ordering::SeqCst);
+        let posted = gate.posted.load(Ordering::SeqCst);
+        let right = gate.right.load(Ordering::SeqCst);
+        drop(gate);
+        let answered = posted == row.answers && right == row.answers;
+        wrong.unless_at(answered && missed == 0, row.name, right);
+    }
+    end(rt, wrong);
 }
 
-static LETTERS: Row = Row {
-    name: "letters",
-    nodes: &[(1, b"z")],
-    letters: 100,
-    closes: false,
-    meet: false,
-    answers: 100,
-};
+static LETTERS: [Row; 2] = [
+    Row {
+        name: "letters",
+        nodes: &[(1, b"z")],
+        letters: 100,
+        closes: false,
+        meet: false,
+        answers: 100,
+    },
+    // The commit is taken first, and decided at a time that does not pass, so each read waits for its lock.
+    Row {
+        name: "reads that came beside a commit",
+        nodes: &[(1, b"z")],
+        letters: 100,
+        closes: true,
+        meet: false,
+        answers: 0,
+    },
+];
 
-// It fails where serving loses letters or answers.
+// It fails where serving loses letters or answers, or where reads are not taken behind the letters that came beside them.
 #[test]
 fn lose_letters(rt: HostRuntime) {
     meet(&rt, rt.alloc(), &LETTERS);
 }
 
-// The commit is taken first, and decided at a time that does not pass, so each read waits for its lock.
-static CLOSING: Row = Row {
-    name: "reads that came beside a commit",
-    nodes: &[(1, b"z")],
-    letters: 100,
-    closes: true,
-    meet: false,
-    answers: 0,
-};
-
-// It fails where reads are not taken behind the letters that came beside them.
-#[test]
-fn reads_before_a_commit(rt: HostRuntime) {
-    meet(&rt, rt.alloc(), &CLOSING);
-}
-
-static MEETING: Row = Row {
+static MEETING: [Row; 1] = [Row {
     name: "letters of two nodes",
     nodes: &[(0, b"a"), (1, b"z")],
     letters: 10,
     closes: false,
     meet: true,
     answers: 20,
-};
+}];
 
 // It fails where nodes are served one after the other, or one letter at a time over both.
 #[test]

@@ -4,7 +4,6 @@ use made::WrongRows;
 use record::Record;
 use simdisk::SimDisk;
 use std::alloc::Global;
-use units::Install;
 
 /// A record: an opening with its epoch, a ceiling, a horizon, or a promise, a decision or a commit of 1.number with its timestamp, or an
 /// abort; and what only a renewed log has: a base, a version of a letter with a value of one, and what is settled or closed at a timestamp.
@@ -28,15 +27,6 @@ fn is_letter(bytes: &[u8], letter: u8) -> bool {
     bytes.len() == 1 && bytes.first() == Some(&letter)
 }
 
-// A version of a letter at a timestamp, with this value.
-fn is_version(install: &Install, at: u64, letter: u8, value: u8) -> bool {
-    let same = match &install.value {
-        Some(found) => is_letter(found.as_bytes(), value),
-        None => false,
-    };
-    same && install.at.micros() == at && is_letter(install.key.as_bytes(), letter)
-}
-
 // A record that only a renewed log has.
 fn is_renewed(record: &Record, line: Line) -> bool {
     match (record, line) {
@@ -49,7 +39,11 @@ fn is_renewed(record: &Record, line: Line) -> bool {
             Line::Base(number, least, oldest),
         ) => epoch.number() == number && floor.micros() == least && horizon.micros() == oldest,
         (Record::Version(install), Line::Version(at, letter, value)) => {
-            is_version(install, at, letter, value)
+            let same = match &install.value {
+                Some(found) => is_letter(found.as_bytes(), value),
+                None => false,
+            };
+            same && install.at.micros() == at && is_letter(install.key.as_bytes(), letter)
         }
         (Record::Settled { txn, at, parts }, Line::Settled(number, micros)) => {
             txn.number() == number && at.micros() == micros && parts.mask() == 1
@@ -87,17 +81,6 @@ fn is_line(record: &Record, line: Line) -> bool {
         (Record::Abort { txn }, Line::Aborted(number)) => txn.number() == number,
         _ => is_renewed(record, line),
     }
-}
-
-/// Compares the log that a disk holds with these records.
-pub fn compare_log(
-    wrong: &mut WrongRows,
-    alloc: Global,
-    disk: SimDisk,
-    name: &str,
-    lines: &[Line],
-) {
-    drop(with_log(wrong, alloc, disk, name, lines, &[]));
 }
 
 // The line at a place among some, and those behind them.

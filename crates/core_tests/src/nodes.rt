@@ -2,8 +2,7 @@
 use crate::answers::{Told, is_told};
 use crate::cores::{Setting, formatted, opened, plain};
 use crate::given::{Given, input_of, reading};
-use crate::logs::{Line, compare_log};
-use crate::verdict::end;
+use crate::logs::{Line, with_log};
 use board::Viewer;
 use made::{WrongRows, key, stamp};
 use node::Node;
@@ -82,10 +81,6 @@ pub fn is_seen(viewers: &mut [Viewer], look: Look) -> bool {
     seen == sees && buffer == [first, 9, 9, 9]
 }
 
-fn is_seen_there<R: Threads + Sync>(rt: &R, viewers: &mut [Viewer], look: Look) -> bool {
-    thread::join(rt, || is_seen(viewers, look), || ()).0
-}
-
 // Asks the node or its viewer, and says whether the answer is as told. The viewer of a board whose node is opened again is refused.
 fn is_answered<'a, R: Threads + Wait + Sync + Abort>(
     rt: &'a R,
@@ -117,40 +112,33 @@ fn is_answered<'a, R: Threads + Wait + Sync + Abort>(
             Err(fault) => gives == Err(fault),
         },
         Ask::Look(look) => is_seen(viewers, look),
-        Ask::LookThere(look) => is_seen_there(rt, viewers, look),
+        Ask::LookThere(look) => thread::join(rt, || is_seen(viewers, look), || ()).0,
     }
 }
 
-// The story goes as it is told, up to the moment. The viewer is refused once the node is closed.
-fn go<R: Threads + Wait + Sync + Abort>(
+/// The stories go as they are told, up to each moment. The viewer is refused once the node is closed.
+pub fn tell<R: Threads + Wait + Sync + Abort>(
     wrong: &mut WrongRows,
     rt: &R,
     alloc: Global,
-    story: &Story,
-    moment: &Moment,
+    stories: &[Story],
 ) {
-    let setting = Setting {
-        fails: story.fails,
-        capacity: story.room,
-        ..plain(1, 0)
-    };
-    let (node, mut viewers) = fresh_node(rt, rt, alloc, setting);
-    for asked in story.asks.get(..moment.after).expect(rt, moment.name) {
-        let answered = is_answered(rt, alloc, &node, &mut viewers, asked);
-        wrong.unless_at(answered, moment.name, asked.0);
-    }
-    compare_log(wrong, alloc, node.close(), moment.name, moment.log);
-    let stopped = is_seen(&mut viewers, (0, Err(Fault::Stopped)));
-    drop(viewers);
-    wrong.unless_at(stopped, moment.name, 0);
-}
-
-pub fn tell<R: Threads + Wait + Sync + Abort>(rt: &R, alloc: Global, stories: &[Story]) {
-    let mut wrong = WrongRows::none(alloc);
     for story in stories {
+        let setting = Setting {
+            fails: story.fails,
+            capacity: story.room,
+            ..plain(1, 0)
+        };
         for moment in story.moments {
-            go(&mut wrong, rt, alloc, story, moment);
+            let (node, mut viewers) = fresh_node(rt, rt, alloc, setting);
+            for asked in story.asks.get(..moment.after).expect(rt, moment.name) {
+                let answered = is_answered(rt, alloc, &node, &mut viewers, asked);
+                wrong.unless_at(answered, moment.name, asked.0);
+            }
+            drop(with_log(wrong, alloc, node.close(), moment.name, moment.log, &[]));
+            let stopped = is_seen(&mut viewers, (0, Err(Fault::Stopped)));
+            drop(viewers);
+            wrong.unless_at(stopped, moment.name, 0);
         }
     }
-    end(rt, wrong);
 }

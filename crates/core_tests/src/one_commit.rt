@@ -1,15 +1,17 @@
 //! Commits of one part.
 use crate::answers::Told;
 use crate::given::{Given, LAST};
-use crate::stories::{Moment, Origin, Shows, Story};
-use made::{FIRST_GATE, ONE_COMMIT};
+use crate::stories::{Moment, Origin, Shows, Story, tell};
+use made::{FIRST_GATE, ONE_COMMIT, WrongRows};
+use std::alloc::Global;
+use std::process::Abort;
 use units::Fault;
 
 const A: Given = Given::Commit(1, 0, b"a", b"1");
 
 const DONE: Told = Told::Says(&[(b'd', 9, 1, 111)]);
 
-pub static COMMITS: [Story; 5] = [
+static COMMITS: [Story; 5] = [
     Story {
         name: "one commit and its log",
         shard: 0,
@@ -176,7 +178,7 @@ const FAILS: Story = Story {
     }],
 };
 
-pub static FAILING: [Story; 4] = [
+static FAILING: [Story; 4] = [
     FAILS,
     Story {
         origin: Origin::Failing(1),
@@ -191,3 +193,11 @@ pub static FAILING: [Story; 4] = [
         ..FAILS
     },
 ];
+
+pub fn tell_commits(wrong: &mut WrongRows, rt: &impl Abort, alloc: Global) {
+    tell(wrong, rt, alloc, &COMMITS);
+}
+
+pub fn tell_failing(wrong: &mut WrongRows, rt: &impl Abort, alloc: Global) {
+    tell(wrong, rt, alloc, &FAILING);
+}

@@ -1,11 +1,13 @@
 //! Shards that take part in transactions which another decides.
 use crate::answers::Told;
 use crate::given::Given;
-use crate::stories::{Moment, Origin, Shows, Story};
-use made::FIRST_GATE;
+use crate::stories::{Moment, Origin, Shows, Story, tell};
+use made::{FIRST_GATE, WrongRows};
+use std::alloc::Global;
+use std::process::Abort;
 use units::{Fault, Seen};
 
-pub static PROMISING: [Story; 5] = [
+static PROMISING: [Story; 5] = [
     Story {
         name: "a promise holds the served time",
         shard: 1,
@@ -138,3 +140,7 @@ pub static PROMISING: [Story; 5] = [
         }],
     },
 ];
+
+pub fn tell_promising(wrong: &mut WrongRows, rt: &impl Abort, alloc: Global) {
+    tell(wrong, rt, alloc, &PROMISING);
+}

@@ -123,13 +123,16 @@ fn written(rt: &impl Abort, alloc: Global, row: &Row) -> SimDisk {
     disk
 }
 
+fn tell_refused(wrong: &mut WrongRows, rt: &impl Abort, alloc: Global) {
+    for row in &ROWS {
+        let said = opening(rt, alloc, written(rt, alloc, row));
+        wrong.unless(said == Err(row.fault), row.name);
+    }
+}
+
 #[test]
 fn the_first_fault_counts(rt: HostRuntime) {
     let mut wrong = WrongRows::none(rt.alloc());
-    for row in &ROWS {
-        let disk = written(&rt, rt.alloc(), row);
-        let said = opening(&rt, rt.alloc(), disk);
-        wrong.unless(said == Err(row.fault), row.name);
-    }
+    tell_refused(&mut wrong, &rt, rt.alloc());
     end(&rt, wrong);
 }

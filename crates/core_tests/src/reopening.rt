@@ -1,8 +1,10 @@
 //! Shards whose disks crash and are opened again.
 use crate::answers::Told;
 use crate::given::Given;
-use crate::stories::{Exchange, Moment, Origin, Shows, Story};
-use made::FIRST_GATE;
+use crate::stories::{Exchange, Moment, Origin, Shows, Story, tell};
+use made::{FIRST_GATE, WrongRows};
+use std::alloc::Global;
+use std::process::Abort;
 use units::{Fault, Seen};
 
 const SERVED: &[Exchange] = &[(150, 160, Given::Advance(150), Told::Says(&[]))];
@@ -38,7 +40,7 @@ const FAILS: &[Exchange] = &[
     ),
 ];
 
-pub static REOPENED: [Story; 5] = [
+static REOPENED: [Story; 5] = [
     // The greatest timestamp is the log's, and promises go on above it.
     Story {
         name: "a ceiling outlives a crash",
@@ -153,7 +155,7 @@ const HIDDEN: Story = Story {
     }],
 };
 
-pub static ARMED: [Story; 4] = [
+static ARMED: [Story; 4] = [
     HIDDEN,
     Story {
         origin: Origin::Armed(1, FAILS),
@@ -179,7 +181,7 @@ pub static ARMED: [Story; 4] = [
 ];
 
 // Disks that are opened as that of another shard, or that have no log.
-pub static REFUSED: [Story; 3] = [
+static REFUSED: [Story; 3] = [
     Story {
         name: "a disk without a log",
         shard: 0,
@@ -215,3 +217,15 @@ pub static REFUSED: [Story; 3] = [
         }],
     },
 ];
+
+pub fn tell_reopened(wrong: &mut WrongRows, rt: &impl Abort, alloc: Global) {
+    tell(wrong, rt, alloc, &REOPENED);
+}
+
+pub fn tell_armed(wrong: &mut WrongRows, rt: &impl Abort, alloc: Global) {
+    tell(wrong, rt, alloc, &ARMED);
+}
+
+pub fn tell_refused(wrong: &mut WrongRows, rt: &impl Abort, alloc: Global) {
+    tell(wrong, rt, alloc, &REFUSED);
+}

@@ -2,7 +2,12 @@
 use crate::answers::Told;
 use crate::given::Given;
 use crate::logs::Line;
-use crate::nodes::{Ask, Asked, Moment, Story};
+use crate::nodes::{Ask, Asked, Moment, Story, tell};
+use made::WrongRows;
+use std::alloc::Global;
+use std::process::Abort;
+use std::sync::Wait;
+use std::thread::Threads;
 use units::{Fault, Reason, Seen};
 
 const FAILS: Asked = (250, 260, Ask::Advance(250, Err(Fault::Device)));
@@ -17,7 +22,7 @@ const SERVES: Asked = (
     Ask::Restart(1, Err(Fault::BadRequest(Reason::Again))),
 );
 
-pub static NODES: [Story; 6] = [
+static NODES: [Story; 6] = [
     Story {
         fails: None,
         room: 0,
@@ -139,7 +144,7 @@ pub static NODES: [Story; 6] = [
 ];
 
 // A book of three inputs, and what fills it. So it fails where a call of the node makes two of its core, whichever of them it answers by.
-pub static ONCE: [Story; 1] = [Story {
+static ONCE: [Story; 1] = [Story {
     fails: None,
     room: 3,
     asks: &[
@@ -172,3 +177,11 @@ pub static ONCE: [Story; 1] = [Story {
         ],
     }],
 }];
+
+pub fn tell_nodes<R: Threads + Wait + Sync + Abort>(wrong: &mut WrongRows, rt: &R, alloc: Global) {
+    tell(wrong, rt, alloc, &NODES);
+}
+
+pub fn tell_once<R: Threads + Wait + Sync + Abort>(wrong: &mut WrongRows, rt: &R, alloc: Global) {
+    tell(wrong, rt, alloc, &ONCE);
+}

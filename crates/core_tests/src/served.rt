@@ -1,8 +1,10 @@
 //! Served time and looks.
 use crate::answers::Told;
 use crate::given::{Given, LAST};
-use crate::stories::{Exchange, Moment, Origin, Shows, Story};
-use made::FIRST_GATE;
+use crate::stories::{Exchange, Moment, Origin, Shows, Story, tell};
+use made::{FIRST_GATE, WrongRows};
+use std::alloc::Global;
+use std::process::Abort;
 use units::{Fault, Seen};
 
 const COMMITTED: &[Exchange] = &[
@@ -10,7 +12,7 @@ const COMMITTED: &[Exchange] = &[
     (112, 121, Given::Settle(1), Told::Says(&[(b'd', 9, 1, 111)])),
 ];
 
-pub static SERVING: [Story; 6] = [
+static SERVING: [Story; 6] = [
     // A ceiling in the log of a fresh shard is a frame of nine bytes behind the opening, and its gate.
     Story {
         name: "advances",
@@ -139,3 +141,7 @@ pub static SERVING: [Story; 6] = [
         }],
     },
 ];
+
+pub fn tell_serving(wrong: &mut WrongRows, rt: &impl Abort, alloc: Global) {
+    tell(wrong, rt, alloc, &SERVING);
+}

@@ -1,8 +1,7 @@
 //! Stories of one core: how its disk came to be, what it is given and is to answer, and what it shows then.
 use crate::answers::{Told, is_told};
-use crate::cores::{Setting, formatted, opened, plain};
+use crate::cores::{Setting, bytes_on, formatted, opened, plain};
 use crate::given::{Given, input_of, reading};
-use disk::Disk;
 use made::{WrongRows, stamp, with_slots};
 use shard::Core;
 use simdisk::{Choice, SimDisk};
@@ -87,17 +86,13 @@ fn stands(found: Option<(TxnId, Stamp)>, number: u64, at: u64) -> bool {
     }
 }
 
-fn number_of(found: Option<TxnId>) -> u64 {
-    match found {
-        Some(txn) => txn.number(),
-        None => 0,
-    }
-}
-
 fn is_shown(rt: &impl Abort, core: &Core<SimDisk>, fact: &Shows) -> bool {
     match *fact {
         Shows::Refused(_) => false,
-        Shows::Ready(number) => number_of(core.ready()) == number,
+        Shows::Ready(number) => match core.ready() {
+            Some(txn) => txn.number() == number,
+            None => number == 0,
+        },
         Shows::Prepared(number, at) => stands(core.prepared(0), number, at),
         Shows::Decided(number, at) => stands(core.decided(0), number, at),
         Shows::Second(number, at) => stands(core.decided(1), number, at),
@@ -141,18 +136,6 @@ pub fn play(
     }
 }
 
-// These are the bytes of a file that is told without its slots.
-fn is_whole(alloc: Global, bytes: &[u8], told: &[u8]) -> bool {
-    match with_slots(alloc, told) {
-        Ok(whole) => {
-            let same = whole.as_slice() == bytes;
-            drop(whole);
-            same
-        }
-        Err(_) => false,
-    }
-}
-
 fn is_in(alloc: Global, bytes: &[u8], fact: &Shows) -> bool {
     match *fact {
         Shows::Size(size) => bytes.len() as u64 == size,
@@ -160,31 +143,16 @@ fn is_in(alloc: Global, bytes: &[u8], fact: &Shows) -> bool {
             Some(rest) => rest.starts_with(wanted),
             None => false,
         },
-        Shows::File(told) => is_whole(alloc, bytes, told),
+        Shows::File(told) => match with_slots(alloc, told) {
+            Ok(whole) => {
+                let same = whole.as_slice() == bytes;
+                drop(whole);
+                same
+            }
+            Err(_) => false,
+        },
         _ => true,
     }
-}
-
-// Compares the bytes of the file with what the part says of them.
-fn compare_file(
-    wrong: &mut WrongRows,
-    rt: &impl Abort,
-    alloc: Global,
-    disk: &mut SimDisk,
-    part: &Part,
-) {
-    let mut bytes = vec![in alloc; 0u8; disk.len() as usize]
-        .ok()
-        .expect(rt, "memory");
-    disk.read_at(0, &mut bytes).expect(rt, "a read");
-    for fact in part.shows {
-        wrong.unless_at(
-            is_in(alloc, bytes.as_slice(), fact),
-            part.name,
-            part.exchanges.len() as u64,
-        );
-    }
-    drop(bytes);
 }
 
 // The disk that a core leaves behind which begins on this one and plays the part, or is refused as that says.
@@ -200,7 +168,12 @@ fn left(
         Ok(mut core) => {
             play(wrong, rt, alloc, &mut core, part);
             let mut disk = core.stop();
-            compare_file(wrong, rt, alloc, &mut disk, part);
+            let bytes = bytes_on(rt, alloc, &mut disk);
+            for fact in part.shows {
+                let held = is_in(alloc, bytes.as_slice(), fact);
+                wrong.unless_at(held, part.name, part.exchanges.len() as u64);
+            }
+            drop(bytes);
             disk
         }
         Err((fault, disk)) => {
@@ -250,25 +223,21 @@ pub fn disk_of(
     }
 }
 
-// The story goes as it is told, up to the moment.
-fn go(wrong: &mut WrongRows, rt: &impl Abort, alloc: Global, story: &Story, moment: &Moment) {
-    let mut setting = plain(story.shard, story.stride);
-    if let Origin::Failing(call) = story.origin {
-        setting.fails = Some(call);
-    }
-    let part = Part {
-        name: story.name,
-        exchanges: story.exchanges.get(..moment.after).expect(rt, story.name),
-        shows: moment.shows,
-    };
-    let disk = disk_of(wrong, rt, alloc, story.name, setting, story.origin);
-    drop(left(wrong, rt, alloc, disk, setting, &part));
-}
-
+// The stories go as they are told, up to each moment.
 pub fn tell(wrong: &mut WrongRows, rt: &impl Abort, alloc: Global, stories: &[Story]) {
     for story in stories {
+        let mut setting = plain(story.shard, story.stride);
+        if let Origin::Failing(call) = story.origin {
+            setting.fails = Some(call);
+        }
         for moment in story.moments {
-            go(wrong, rt, alloc, story, moment);
+            let part = Part {
+                name: story.name,
+                exchanges: story.exchanges.get(..moment.after).expect(rt, story.name),
+                shows: moment.shows,
+            };
+            let disk = disk_of(wrong, rt, alloc, story.name, setting, story.origin);
+            drop(left(wrong, rt, alloc, disk, setting, &part));
         }
     }
 }

@@ -1,35 +1,30 @@
-//! The tests of cores, and of nodes with their viewers.
+//! The tests of cores, and of nodes with their viewers. A body that names several tables costs much to prove, so each has a function of its own.
 use crate::booked::keep_books;
-use crate::coordinating::COORDINATING;
-use crate::one_commit::{COMMITS, FAILING};
-use crate::promising::PROMISING;
-use crate::reopening::{ARMED, REFUSED, REOPENED};
-use crate::restarts::{NODES, ONCE};
-use crate::served::SERVING;
-use crate::turned_nodes::TURNING;
 use crate::verdict::end;
-use crate::viewed::VIEWED;
-use crate::{damaged, nodes, stories, together};
+use crate::{
+    coordinating, damaged, one_commit, promising, reopening, restarts, served, together,
+    turned_nodes, viewed,
+};
 use made::WrongRows;
 
 // It fails where a call always answers that there is no memory.
 #[test]
 fn always_memory(rt: HostRuntime) {
     let mut wrong = WrongRows::none(rt.alloc());
-    stories::tell(&mut wrong, &rt, rt.alloc(), &COMMITS);
+    one_commit::tell_commits(&mut wrong, &rt, rt.alloc());
     end(&rt, wrong);
 }
 
 #[test]
 fn cores(rt: HostRuntime) {
     let mut wrong = WrongRows::none(rt.alloc());
-    stories::tell(&mut wrong, &rt, rt.alloc(), &FAILING);
-    stories::tell(&mut wrong, &rt, rt.alloc(), &COORDINATING);
-    stories::tell(&mut wrong, &rt, rt.alloc(), &PROMISING);
-    stories::tell(&mut wrong, &rt, rt.alloc(), &SERVING);
-    stories::tell(&mut wrong, &rt, rt.alloc(), &REOPENED);
-    stories::tell(&mut wrong, &rt, rt.alloc(), &ARMED);
-    stories::tell(&mut wrong, &rt, rt.alloc(), &REFUSED);
+    one_commit::tell_failing(&mut wrong, &rt, rt.alloc());
+    coordinating::tell_coordinating(&mut wrong, &rt, rt.alloc());
+    promising::tell_promising(&mut wrong, &rt, rt.alloc());
+    served::tell_serving(&mut wrong, &rt, rt.alloc());
+    reopening::tell_reopened(&mut wrong, &rt, rt.alloc());
+    reopening::tell_armed(&mut wrong, &rt, rt.alloc());
+    reopening::tell_refused(&mut wrong, &rt, rt.alloc());
     keep_books(&mut wrong, &rt, rt.alloc());
     end(&rt, wrong);
 }
@@ -57,25 +52,27 @@ fn shards_are_opened_side_by_side(rt: HostRuntime) {
     together::open_rows(&rt, rt.alloc());
 }
 
+// It fails where a node answers that it turned its log over, and did not.
 #[test]
-fn what_was_stopped_is_opened_again(rt: HostRuntime) {
-    nodes::tell(&rt, rt.alloc(), &NODES);
+fn nodes_are_opened_again_and_turned_over(rt: HostRuntime) {
+    let mut wrong = WrongRows::none(rt.alloc());
+    restarts::tell_nodes(&mut wrong, &rt, rt.alloc());
+    turned_nodes::tell_turning(&mut wrong, &rt, rt.alloc());
+    end(&rt, wrong);
 }
 
 // It fails where a node delivers an input twice, or advances twice.
 #[test]
 fn each_call_is_one_input(rt: HostRuntime) {
-    nodes::tell(&rt, rt.alloc(), &ONCE);
-}
-
-// It fails where a node answers that it turned its log over, and did not.
-#[test]
-fn nodes_turn_their_logs_over(rt: HostRuntime) {
-    nodes::tell(&rt, rt.alloc(), &TURNING);
+    let mut wrong = WrongRows::none(rt.alloc());
+    restarts::tell_once(&mut wrong, &rt, rt.alloc());
+    end(&rt, wrong);
 }
 
 // It fails where viewers always answer that they are stopped.
 #[test]
 fn always_stopped_viewer(rt: HostRuntime) {
-    nodes::tell(&rt, rt.alloc(), &VIEWED);
+    let mut wrong = WrongRows::none(rt.alloc());
+    viewed::tell_viewed(&mut wrong, &rt, rt.alloc());
+    end(&rt, wrong);
 }

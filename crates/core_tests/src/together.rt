@@ -148,30 +148,23 @@ fn open<R: Threads + time::Clock + Sync + Abort>(
         let told = (disk, setup(rt, alloc, plain(given.shard, 0)));
         disks.push(told).ok().expect(rt, "memory");
     }
-    compare(wrong, rt, row, opened_all(rt, alloc, disks));
+    compare(wrong, rt, alloc, row, disks);
 }
 
-fn opened_all<'a, R: Threads + time::Clock + Sync + Abort>(
+fn compare<'a, R: Threads + time::Clock + Sync + Abort>(
+    wrong: &mut WrongRows,
     rt: &'a R,
     alloc: Global,
+    row: &Row,
     disks: Vec<(Strained<'a, R>, Setup)>,
-) -> Vec<Result<Core<Strained<'a, R>>, (Fault, Strained<'a, R>)>> {
-    match open_all(rt, alloc, disks) {
+) {
+    let mut opened = match open_all(rt, alloc, disks) {
         Ok(opened) => opened,
         Err(refused) => {
             drop(refused);
             rt.panic("memory")
         }
-    }
-}
-
-fn compare<R: time::Clock + Abort>(
-    wrong: &mut WrongRows,
-    rt: &R,
-    row: &Row,
-    opened: Vec<Result<Core<Strained<R>>, (Fault, Strained<R>)>>,
-) {
-    let mut opened = opened;
+    };
     wrong.unless_at(opened.len() == row.disks.len(), row.name, 0);
     for _ in 0..opened.len() {
         match opened.pop() {

@@ -1,6 +1,7 @@
 //! Logs that are turned over: of cores and desks, with each of its device calls failing, and where no slot is left.
 use crate::answers::Told;
 use crate::cores::formatted;
+use crate::forgetting::FORGOTTEN;
 use crate::given::Given;
 use crate::logs::Line;
 use crate::renewing::RENEWED;
@@ -83,8 +84,9 @@ fn turnover_of(row: &Failing, call: u64) -> Row {
     }
 }
 
-// Writes a file whose slots are all open, each of which names an area of no record. The last begins at 10,248.
-fn open_all(disk: &mut SimDisk) -> bool {
+// A disk with a file whose slots are all open, each of which names an area of no record. The last begins at 10,248.
+fn spent(rt: &impl Abort, alloc: Global) -> SimDisk {
+    let mut disk = SimDisk::new(alloc);
     let mut bytes = [0; 9];
     bytes[0] = 0xa5;
     let mut whole = disk.write_at(0, &HEADER).is_ok();
@@ -94,7 +96,9 @@ fn open_all(disk: &mut SimDisk) -> bool {
         let at = 8 + 9 * slot;
         whole = whole && at <= disk.len() && disk.write_at(at, &bytes).is_ok();
     }
-    whole && FIRST_GATE <= disk.len() && disk.write_at(FIRST_GATE, &[0; 1_040]).is_ok()
+    whole = whole && FIRST_GATE <= disk.len() && disk.write_at(FIRST_GATE, &[0; 1_040]).is_ok();
+    assert!(rt; whole, "a file without a slot");
+    disk
 }
 
 // With no slot left a turnover is refused, and all goes on.
@@ -131,6 +135,7 @@ static SPENT_ROWS: [Row; 2] = [
     Row {
         name: "no slot is left",
         asks: SPENT,
+        is_spent: true,
         size: Some(10_378),
         fate: None,
         log: SPENT_LOG,
@@ -140,6 +145,7 @@ static SPENT_ROWS: [Row; 2] = [
     Row {
         name: "no slot is left to a desk",
         asks: SPENT_DESK,
+        is_spent: true,
         size: Some(10_378),
         fate: None,
         log: SPENT_LOG,
@@ -148,64 +154,80 @@ static SPENT_ROWS: [Row; 2] = [
     },
 ];
 
-fn spend<R: Wait + Abort>(wrong: &mut WrongRows, rt: &R, alloc: Global, kind: Kind, row: &Row) {
-    let mut disk = SimDisk::new(alloc);
-    wrong.unless(open_all(&mut disk), row.name);
-    go_on(wrong, rt, alloc, kind, disk, row);
+fn tell<R: Wait + Abort>(wrong: &mut WrongRows, rt: &R, alloc: Global, kind: Kind, rows: &[Row]) {
+    for row in rows {
+        let disk = if row.is_spent {
+            spent(rt, alloc)
+        } else {
+            formatted(rt, alloc)
+        };
+        go_on(wrong, rt, alloc, kind, disk, row);
+    }
 }
 
-fn go<R: Wait + Abort>(wrong: &mut WrongRows, rt: &R, alloc: Global, row: &Row) {
-    go_on(wrong, rt, alloc, Kind::Core, formatted(rt, alloc), row);
-    go_on(wrong, rt, alloc, Kind::Desk, formatted(rt, alloc), row);
+// Each row is one of cores and one of desks.
+fn tell_both<R: Wait + Abort>(wrong: &mut WrongRows, rt: &R, alloc: Global, rows: &[Row]) {
+    tell(wrong, rt, alloc, Kind::Core, rows);
+    tell(wrong, rt, alloc, Kind::Desk, rows);
 }
 
+// A body that names several tables costs much to prove, so each has a function of its own.
+fn tell_settled<R: Wait + Abort>(wrong: &mut WrongRows, rt: &R, alloc: Global) {
+    tell_both(wrong, rt, alloc, &SETTLED);
+}
+
+fn tell_looked<R: Wait + Abort>(wrong: &mut WrongRows, rt: &R, alloc: Global) {
+    tell_both(wrong, rt, alloc, &LOOKED);
+}
+
+fn tell_standing<R: Wait + Abort>(wrong: &mut WrongRows, rt: &R, alloc: Global) {
+    tell_both(wrong, rt, alloc, &STANDING);
+}
+
+fn tell_failing<R: Wait + Abort>(wrong: &mut WrongRows, rt: &R, alloc: Global) {
+    for row in &FAILING {
+        for call in 0..6 {
+            tell_both(wrong, rt, alloc, &[turnover_of(row, call)]);
+        }
+    }
+}
+
+fn tell_spent<R: Wait + Abort>(wrong: &mut WrongRows, rt: &R, alloc: Global) {
+    tell(wrong, rt, alloc, Kind::Core, &SPENT_ROWS[..1]);
+    tell(wrong, rt, alloc, Kind::Desk, &SPENT_ROWS);
+}
+
+fn tell_renewed<R: Wait + Abort>(wrong: &mut WrongRows, rt: &R, alloc: Global) {
+    tell(wrong, rt, alloc, Kind::Desk, &RENEWED);
+}
+
+fn tell_forgotten<R: Wait + Abort>(wrong: &mut WrongRows, rt: &R, alloc: Global) {
+    tell(wrong, rt, alloc, Kind::Desk, &FORGOTTEN);
+}
+
+// What stands is there behind a turnover.
 #[test]
 fn logs_are_turned_over(rt: HostRuntime) {
     let mut wrong = WrongRows::none(rt.alloc());
-    for row in &SETTLED {
-        go(&mut wrong, &rt, rt.alloc(), row);
-    }
-    end(&rt, wrong);
-}
-
-#[test]
-fn what_stands_is_there_behind_a_turnover(rt: HostRuntime) {
-    let mut wrong = WrongRows::none(rt.alloc());
-    for row in &LOOKED {
-        go(&mut wrong, &rt, rt.alloc(), row);
-    }
-    for row in &STANDING {
-        go(&mut wrong, &rt, rt.alloc(), row);
-    }
+    tell_settled(&mut wrong, &rt, rt.alloc());
+    tell_looked(&mut wrong, &rt, rt.alloc());
+    tell_standing(&mut wrong, &rt, rt.alloc());
     end(&rt, wrong);
 }
 
 #[test]
 fn turnovers_that_fail(rt: HostRuntime) {
     let mut wrong = WrongRows::none(rt.alloc());
-    for row in &FAILING {
-        for call in 0..6 {
-            go(&mut wrong, &rt, rt.alloc(), &turnover_of(row, call));
-        }
-    }
-    spend(&mut wrong, &rt, rt.alloc(), Kind::Core, &SPENT_ROWS[0]);
-    for row in &SPENT_ROWS {
-        spend(&mut wrong, &rt, rt.alloc(), Kind::Desk, row);
-    }
+    tell_failing(&mut wrong, &rt, rt.alloc());
+    tell_spent(&mut wrong, &rt, rt.alloc());
     end(&rt, wrong);
 }
 
-// It fails where a desk forgets its board, turns over before the horizon is raised, or never.
+// It fails where a desk forgets its board, turns over before the horizon is raised, or never. What is below a horizon is too old.
 #[test]
 fn desks_renew_their_logs(rt: HostRuntime) {
     let mut wrong = WrongRows::none(rt.alloc());
-    desks(&mut wrong, &rt, rt.alloc(), &RENEWED);
+    tell_renewed(&mut wrong, &rt, rt.alloc());
+    tell_forgotten(&mut wrong, &rt, rt.alloc());
     end(&rt, wrong);
-}
-
-/// The rows of desks alone.
-pub fn desks<R: Wait + Abort>(wrong: &mut WrongRows, rt: &R, alloc: Global, rows: &[Row]) {
-    for row in rows {
-        go_on(wrong, rt, alloc, Kind::Desk, formatted(rt, alloc), row);
-    }
 }

@@ -2,7 +2,12 @@
 use crate::answers::Told;
 use crate::given::Given;
 use crate::logs::Line;
-use crate::nodes::{Ask, Asked, Moment, Story};
+use crate::nodes::{Ask, Asked, Moment, Story, tell};
+use made::WrongRows;
+use std::alloc::Global;
+use std::process::Abort;
+use std::sync::Wait;
+use std::thread::Threads;
 use units::{Fault, Seen};
 
 const PROMISE: Asked = (
@@ -67,7 +72,7 @@ const FAILING: Story = Story {
     ],
 };
 
-pub static TURNING: [Story; 4] = [
+static TURNING: [Story; 4] = [
     Story {
         fails: None,
         room: 0,
@@ -175,3 +180,11 @@ pub static TURNING: [Story; 4] = [
         ],
     },
 ];
+
+pub fn tell_turning<R: Threads + Wait + Sync + Abort>(
+    wrong: &mut WrongRows,
+    rt: &R,
+    alloc: Global,
+) {
+    tell(wrong, rt, alloc, &TURNING);
+}

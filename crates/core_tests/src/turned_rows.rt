@@ -85,6 +85,7 @@ const TWICE: &Bytes = &Bytes {
 const WHOLE: Row = Row {
     name: "one settled commit, byte for byte",
     shard: 0,
+    is_spent: false,
     fails: None,
     before: &[],
     asks: &[COMMIT, SETTLE, TURN],

@@ -6,7 +6,6 @@ use crate::logs::{Line, with_log};
 use board::Viewer;
 use disk::{Disk, Fate};
 use made::{WrongRows, key, stamp, with_slots};
-use message::{Input, Outbox};
 use node::Desk;
 use shard::Core;
 use simdisk::{Choice, SimDisk};
@@ -51,6 +50,8 @@ pub struct Bytes {
 pub struct Row {
     pub name: &'static str,
     pub shard: u8,
+    // No slot is left: each names an area of no record.
+    pub is_spent: bool,
     // A device call that is to fail, counted from the first write behind the opening.
     pub fails: Option<u64>,
     pub before: &'static [Asked],
@@ -108,35 +109,10 @@ fn shard_of<'a, R: Wait + Abort>(
 }
 
 impl<R: Wait> Shard<'_, R> {
-    fn on(&mut self, alloc: Global, now: &Reading, input: &Input) -> Result<Outbox, Fault> {
-        match self {
-            Shard::Core(core) => core.on(alloc, now, input),
-            Shard::Desk(watched) => watched.desk.deliver(now, input),
-        }
-    }
-
-    fn turn_over(&mut self, alloc: Global) -> Result<(), Fault> {
-        match self {
-            Shard::Core(core) => core.turn_over(alloc),
-            Shard::Desk(watched) => watched.desk.turn_over(),
-        }
-    }
-
     fn core(&self) -> &Core<SimDisk> {
         match self {
             Shard::Core(core) => core,
             Shard::Desk(watched) => watched.desk.core(),
-        }
-    }
-
-    fn close(self) -> SimDisk {
-        match self {
-            Shard::Core(core) => core.stop(),
-            Shard::Desk(watched) => {
-                let Watched { desk, viewers } = watched;
-                drop(viewers);
-                desk.close()
-            }
         }
     }
 }
@@ -185,11 +161,17 @@ fn is_answered<R: Wait + Abort>(
     match asked.2 {
         Ask::Given(given, wanted) => {
             let input = input_of(rt, alloc, given);
-            let answer = shard.on(alloc, &now, &input);
+            let answer = match shard {
+                Shard::Core(core) => core.on(alloc, &now, &input),
+                Shard::Desk(watched) => watched.desk.deliver(&now, &input),
+            };
             drop(input);
             is_told(answer, wanted)
         }
-        Ask::Turn(wanted) => shard.turn_over(alloc) == wanted,
+        Ask::Turn(wanted) => match shard {
+            Shard::Core(core) => core.turn_over(alloc) == wanted,
+            Shard::Desk(watched) => watched.desk.turn_over() == wanted,
+        },
         Ask::Look(letter, at, wanted) => {
             let mut buffer = [9u8; 4];
             let seen = shard.core().look(&key(letter), stamp(at), &mut buffer);
@@ -218,7 +200,7 @@ fn ask_all<R: Wait + Abort>(
     }
 }
 
-// The disk that a shard leaves behind which was asked all that.
+// The disk that a shard leaves behind which was asked all that, the first first.
 pub fn left<R: Wait + Abort>(
     wrong: &mut WrongRows,
     rt: &R,
@@ -227,11 +209,20 @@ pub fn left<R: Wait + Abort>(
     disk: SimDisk,
     setting: Setting,
     name: &str,
+    before: &[Asked],
     asks: &[Asked],
 ) -> SimDisk {
     let mut shard = shard_of(rt, alloc, kind, disk, setting);
+    ask_all(wrong, rt, alloc, &mut shard, name, before);
     ask_all(wrong, rt, alloc, &mut shard, name, asks);
-    shard.close()
+    match shard {
+        Shard::Core(core) => core.stop(),
+        Shard::Desk(watched) => {
+            let Watched { desk, viewers } = watched;
+            drop(viewers);
+            desk.close()
+        }
+    }
 }
 
 // The bytes of a file whose first two slots are these.
@@ -289,10 +280,8 @@ pub fn go_on<R: Wait + Abort>(
         ..again
     };
     let name = row.name;
-    let mut shard = shard_of(rt, alloc, kind, disk, setting);
-    ask_all(wrong, rt, alloc, &mut shard, name, row.before);
-    ask_all(wrong, rt, alloc, &mut shard, name, row.asks);
-    let mut disk = shard.close();
+    let (before, asks) = (row.before, row.asks);
+    let mut disk = left(wrong, rt, alloc, kind, disk, setting, name, before, asks);
     if let Some(wanted) = row.bytes {
         compare_bytes(wrong, rt, alloc, &mut disk, name, wanted);
     }
@@ -301,6 +290,6 @@ pub fn go_on<R: Wait + Abort>(
     }
     let disk = crashed(rt, alloc, disk, row.fate);
     let disk = with_log(wrong, alloc, disk, name, row.log, &[]);
-    let disk = left(wrong, rt, alloc, kind, disk, again, name, row.again);
+    let disk = left(wrong, rt, alloc, kind, disk, again, name, &[], row.again);
     drop(with_log(wrong, alloc, disk, name, row.log, row.then));
 }

@@ -1,2 +1,1 @@
 mod Boards
-pub mod Claims

@@ -7,7 +7,7 @@ use std::alloc::{AllocError, Global};
 use std::fmt::Display;
 use std::process::Abort;
 use texts::Text;
-use units::Value;
+use units::{Line, Value};
 
 /// Ends the test where rows are wrong, with all of them.
 pub fn end(rt: &impl Abort, wrong: WrongRows) {
@@ -46,11 +46,39 @@ pub fn is_printed(alloc: Global, thing: &impl Display, text: &str) -> bool {
     is_text(thing.to_string(alloc), text)
 }
 
-/// Whether the message is printed as this line.
-pub fn is_line(alloc: Global, envelope: Envelope, line: &str) -> bool {
-    let printed = is_printed(alloc, &Text(&envelope), line);
-    drop(envelope);
-    printed
+/// What is printed as one line.
+pub trait Printed {
+    fn is_line(&self, alloc: Global, line: &str) -> bool;
+}
+
+impl Printed for Record {
+    fn is_line(&self, alloc: Global, line: &str) -> bool {
+        is_printed(alloc, &Text(self), line)
+    }
+}
+
+impl Printed for Line {
+    fn is_line(&self, alloc: Global, line: &str) -> bool {
+        is_printed(alloc, &Text(self), line)
+    }
+}
+
+impl Printed for Envelope {
+    fn is_line(&self, alloc: Global, line: &str) -> bool {
+        is_printed(alloc, &Text(self), line)
+    }
+}
+
+/// Whether these are printed as the lines of a text, one after another.
+pub fn are_printed<T: Printed>(alloc: Global, items: &[T], text: &str) -> bool {
+    let mut wanted = text.lines();
+    for item in items {
+        match wanted.next() {
+            Some(line) if item.is_line(alloc, line) => {}
+            _ => return false,
+        }
+    }
+    wanted.next().is_none()
 }
 
 /// Whether these are the bytes of a record.

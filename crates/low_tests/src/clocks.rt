@@ -1,5 +1,5 @@
 //! Readings of the clock, commit wait, the safe time, and ceilings.
-use crate::checks::Row;
+use crate::checks::{Row, go_over};
 use ceiling::needed;
 use made::{WrongRows, stamp};
 use record::Record;
@@ -21,7 +21,7 @@ pub struct Beside {
     passed: bool,
 }
 
-pub static BESIDE: [Beside; 10] = [
+static BESIDE: [Beside; 10] = [
     Beside {
         name: "99",
         earliest: 100,
@@ -164,7 +164,7 @@ pub struct Ahead {
 }
 
 // Above the floor alone, and not past the greatest timestamp.
-pub static AHEAD: [Ahead; 5] = [
+static AHEAD: [Ahead; 5] = [
     Ahead {
         name: "0 to 110",
         floor: 0,
@@ -257,4 +257,12 @@ pub fn are_lifted(alloc: Global) -> bool {
     let still = stands(&times, 111, 111);
     drop(times);
     two && one && none && still
+}
+
+pub fn tell_readings(wrong: &mut WrongRows, rt: &HostRuntime) {
+    go_over(wrong, rt, "clocks", &BESIDE);
+}
+
+pub fn tell_ceilings(wrong: &mut WrongRows, rt: &HostRuntime) {
+    go_over(wrong, rt, "ceilings", &AHEAD);
 }

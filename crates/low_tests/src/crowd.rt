@@ -1,5 +1,6 @@
 //! The lock table with a crowd in it: a thousand waiters behind one holder, and behind a thousand.
-use crate::tokens::{enters, goes_on, leaves, release_all, requests};
+use crate::checks::Row;
+use crate::tokens::{Acts, act_out, enters, leaves, release_all};
 use locks::{Held, Table};
 use made::{WrongRows, id};
 use std::alloc::Global;
@@ -17,152 +18,133 @@ pub fn account(number: u16) -> Key {
     }
 }
 
-/// What a request gets.
+/// What comes of what a transaction does.
 #[derive(Clone, Copy, PartialEq)]
 pub enum Gets {
     Granted,
     Waits,
+    /// It ends 1.2 alone.
     Wounds,
-    // There is no memory, or no token.
+    /// It ends others, or there is no memory, or no token.
     Nothing,
 }
 
-// The transaction comes, asks for one account, and gets this.
-fn comes(
+/// Whether this comes of what a transaction does.
+pub fn comes_to(
     table: &mut Table,
     alloc: Global,
     tokens: &mut Vec<Held>,
     number: u16,
-    lock: Lock,
+    act: Acts<'_>,
     wanted: Gets,
 ) -> bool {
-    enters(table, alloc, tokens, number)
-        && what_comes(table, alloc, tokens, number, &[lock]) == wanted
-}
-
-fn what_comes(
-    table: &mut Table,
-    alloc: Global,
-    tokens: &mut Vec<Held>,
-    number: u16,
-    needs: &[Lock],
-) -> Gets {
-    match requests(table, alloc, tokens, number, needs) {
+    let came = match act_out(table, alloc, tokens, number, act) {
         Some(Asked::Granted) => Gets::Granted,
         Some(Asked::Waits) => Gets::Waits,
         Some(Asked::Wounds(ids)) => {
+            let alone = ids.as_slice() == [id(2)].as_slice();
             drop(ids);
-            Gets::Wounds
+            if alone { Gets::Wounds } else { Gets::Nothing }
         }
         None => Gets::Nothing,
-    }
-}
-
-fn lock(number: u16, mode: Mode) -> Lock {
-    let key = account(number);
-    Lock { key, mode }
-}
-
-// 1.0 holds an account, and all others wait for it.
-fn wait_for_one(table: &mut Table, alloc: Global, tokens: &mut Vec<Held>, mode: Mode) -> bool {
-    let first = lock(0, Mode::Exclusive);
-    if !comes(table, alloc, tokens, 0, first, Gets::Granted) {
-        return false;
-    }
-    for number in 1..=CROWD {
-        if !comes(table, alloc, tokens, number, lock(0, mode), Gets::Waits) {
-            return false;
-        }
-    }
-    table.ready().is_none()
-}
-
-// Who writes goes on when the one before it is released, the oldest first.
-fn write_in_turn(table: &mut Table, alloc: Global, tokens: &mut Vec<Held>) -> bool {
-    if !wait_for_one(table, alloc, tokens, Mode::Exclusive) {
-        return false;
-    }
-    for number in 0..CROWD {
-        leaves(table, tokens, number);
-        if table.ready() != Some(id(number + 1)) || !goes_on(table, tokens, number + 1) {
-            return false;
-        }
-        if table.ready().is_some() {
-            return false;
-        }
-    }
-    true
-}
-
-// Who reads goes on with all others that read, the oldest first.
-fn read_at_once(table: &mut Table, alloc: Global, tokens: &mut Vec<Held>) -> bool {
-    if !wait_for_one(table, alloc, tokens, Mode::Shared) {
-        return false;
-    }
-    leaves(table, tokens, 0);
-    for number in 1..=CROWD {
-        if table.ready() != Some(id(number)) || !goes_on(table, tokens, number) {
-            return false;
-        }
-    }
-    table.ready().is_none()
-}
-
-// Each holds an account of its own, and for each of these another waits.
-fn wait_for_each(table: &mut Table, alloc: Global, tokens: &mut Vec<Held>) -> bool {
-    for number in 0..CROWD {
-        let wanted = lock(number, Mode::Exclusive);
-        if !comes(table, alloc, tokens, number, wanted, Gets::Granted) {
-            return false;
-        }
-    }
-    for number in 0..CROWD {
-        let wanted = lock(number, Mode::Shared);
-        if !comes(table, alloc, tokens, CROWD + number, wanted, Gets::Waits) {
-            return false;
-        }
-    }
-    table.ready().is_none()
-}
-
-// Whose holder is released goes on, and nobody else.
-fn go_on_apart(table: &mut Table, alloc: Global, tokens: &mut Vec<Held>) -> bool {
-    if !wait_for_each(table, alloc, tokens) {
-        return false;
-    }
-    for turn in 0..CROWD {
-        // Each number once, without order.
-        let number = turn * 7 % CROWD;
-        leaves(table, tokens, number);
-        let waiter = CROWD + number;
-        if table.ready() != Some(id(waiter)) || !goes_on(table, tokens, waiter) {
-            return false;
-        }
-        if table.ready().is_some() {
-            return false;
-        }
-    }
-    true
-}
-
-// What is told of a new table, in which nobody is left at the end.
-fn is_told(alloc: Global, which: usize) -> bool {
-    let mut table = Table::new(alloc);
-    let mut tokens = Vec::new(alloc);
-    let told = match which {
-        0 => write_in_turn(&mut table, alloc, &mut tokens),
-        1 => read_at_once(&mut table, alloc, &mut tokens),
-        _ => go_on_apart(&mut table, alloc, &mut tokens),
     };
-    release_all(&mut table, tokens);
-    let empty = !table.has(id(0)) && table.ready().is_none();
-    drop(table);
-    told && empty
+    came == wanted
 }
 
-/// Goes over the three.
-pub fn go_over(wrong: &mut WrongRows, alloc: Global) {
-    wrong.unless(is_told(alloc, 0), "write in turn");
-    wrong.unless(is_told(alloc, 1), "read at once");
-    wrong.unless(is_told(alloc, 2), "go on apart");
+/// So many hold an account each, exclusive, and a thousand others wait for these in turn.
+pub struct Crowd {
+    name: &'static str,
+    holders: u16,
+    mode: Mode,
+    // All go on when the one holder is released, and not each when the one before it is.
+    at_once: bool,
+    // In which turn they are released: each of a thousand numbers comes once.
+    apart: u16,
+}
+
+pub static CROWDS: [Crowd; 3] = [
+    // Who writes goes on when the one before it is released, the oldest first.
+    Crowd {
+        name: "write in turn",
+        holders: 1,
+        mode: Mode::Exclusive,
+        at_once: false,
+        apart: 1,
+    },
+    // Who reads goes on with all others that read, the oldest first.
+    Crowd {
+        name: "read at once",
+        holders: 1,
+        mode: Mode::Shared,
+        at_once: true,
+        apart: 1,
+    },
+    // Whose holder is released goes on, and nobody else.
+    Crowd {
+        name: "go on apart",
+        holders: CROWD,
+        mode: Mode::Shared,
+        at_once: false,
+        apart: 7,
+    },
+];
+
+// All that hold an account come, or else all that wait for one, and each request gets that.
+fn all_come(
+    table: &mut Table,
+    alloc: Global,
+    tokens: &mut Vec<Held>,
+    crowd: &Crowd,
+    waits: bool,
+) -> bool {
+    let (first, count, mode, wanted) = if waits {
+        (crowd.holders, CROWD, crowd.mode, Gets::Waits)
+    } else {
+        (0, crowd.holders, Mode::Exclusive, Gets::Granted)
+    };
+    for place in 0..count {
+        let number = first.saturating_add(place);
+        let key = account(place % crowd.holders.max(1));
+        let needs = [Lock { key, mode }];
+        if !enters(table, alloc, tokens, number)
+            || !comes_to(table, alloc, tokens, number, Acts::Asks(&needs), wanted)
+        {
+            return false;
+        }
+    }
+    true
+}
+
+// The waiters go on, each in its turn.
+fn all_go_on(table: &mut Table, alloc: Global, tokens: &mut Vec<Held>, crowd: &Crowd) -> bool {
+    for turn in 0..CROWD {
+        let number = turn.wrapping_mul(crowd.apart) % CROWD;
+        if turn == 0 || !crowd.at_once {
+            leaves(table, tokens, number);
+        }
+        let waiter = crowd.holders.saturating_add(number);
+        if !comes_to(table, alloc, tokens, waiter, Acts::GoesOn, Gets::Granted) {
+            return false;
+        }
+        if !crowd.at_once && table.ready().is_some() {
+            return false;
+        }
+    }
+    table.ready().is_none()
+}
+
+// In a new table, in which nobody is left at the end.
+impl Row for Crowd {
+    fn tell(&self, wrong: &mut WrongRows, rt: &HostRuntime) {
+        let alloc = rt.alloc();
+        let (mut table, mut tokens) = (Table::new(alloc), Vec::new(alloc));
+        let told = all_come(&mut table, alloc, &mut tokens, self, false)
+            && all_come(&mut table, alloc, &mut tokens, self, true)
+            && table.ready().is_none()
+            && all_go_on(&mut table, alloc, &mut tokens, self);
+        release_all(&mut table, tokens);
+        let empty = !table.has(id(0)) && table.ready().is_none();
+        drop(table);
+        wrong.unless(told && empty, self.name);
+    }
 }

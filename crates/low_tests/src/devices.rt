@@ -1,5 +1,5 @@
 //! Disks in memory: which calls fail, what is read, and what a crash leaves.
-use crate::checks::Row;
+use crate::checks::{Row, go_over};
 use crate::steps::{Step, Stepped, call_any, go_well};
 use disk::{FailurePlan, Fate};
 use made::WrongRows;
@@ -23,7 +23,7 @@ pub struct Failing {
     calls: &'static [(Call, bool)],
 }
 
-pub static FAILING: [Failing; 3] = [
+static FAILING: [Failing; 3] = [
     Failing {
         what: "the third call fails",
         plan: FailurePlan::After(2),
@@ -53,19 +53,6 @@ pub static FAILING: [Failing; 3] = [
     },
 ];
 
-fn fails_so(plan: &mut FailurePlan, calls: &[(Call, bool)]) -> bool {
-    for (call, wanted) in calls {
-        let fails = match call {
-            Call::Write => plan.write(),
-            Call::Other => plan.call(),
-        };
-        if fails != *wanted {
-            return false;
-        }
-    }
-    true
-}
-
 impl Row for Failing {
     fn tell(&self, wrong: &mut WrongRows, _rt: &HostRuntime) {
         let armed = match self.armed_by {
@@ -73,7 +60,14 @@ impl Row for Failing {
             None => true,
         };
         let mut plan = self.plan;
-        let fails = fails_so(&mut plan, self.calls);
+        let mut fails = true;
+        for (call, wanted) in self.calls {
+            let failed = match call {
+                Call::Write => plan.write(),
+                Call::Other => plan.call(),
+            };
+            fails = fails && failed == *wanted;
+        }
         let ended = matches!(plan, FailurePlan::Never) && !plan.write();
         wrong.unless(armed && fails && ended, self.what);
     }
@@ -123,7 +117,7 @@ const WRITES: &[Step] = &[
 // `Z` behind the first two letters alone.
 const A_CUT: &[Step] = &[Step::Cut(2), Step::Write(2, b"Z")];
 
-pub static LIVES: [Life; 15] = [
+static LIVES: [Life; 15] = [
     Life {
         what: "no write",
         changes: WRITES,
@@ -275,4 +269,12 @@ impl Row for Life {
         drop(disk);
         wrong.unless(lived, self.what);
     }
+}
+
+pub fn tell_failing(wrong: &mut WrongRows, rt: &HostRuntime) {
+    go_over(wrong, rt, "failing calls", &FAILING);
+}
+
+pub fn tell_lives(wrong: &mut WrongRows, rt: &HostRuntime) {
+    go_over(wrong, rt, "disks in memory", &LIVES);
 }

@@ -1,5 +1,5 @@
 //! Disks over files.
-use crate::checks::Row;
+use crate::checks::{Row, go_over};
 use crate::devices::sent;
 use crate::file_logs::{is_no_log, is_opened_again};
 use crate::folder::Folder;
@@ -47,7 +47,7 @@ pub struct Asked {
     left: Left,
 }
 
-pub static ROWS: [Asked; 20] = [
+static ROWS: [Asked; 20] = [
     Asked {
         what: "a new file",
         path: None,
@@ -324,23 +324,23 @@ fn is_left(rt: &HostRuntime, path: &str, left: &Left) -> bool {
     }
 }
 
-fn is_so(rt: &HostRuntime, folder: &Folder, row: &Asked) -> bool {
-    let path = match row.path {
-        Some(path) => path,
-        None => folder.log.as_str(),
-    };
-    env::set_current_dir(rt, folder.path.as_str()).is_ok()
-        && fs::create_dir(rt, "logs").is_ok()
-        && is_answered_so(rt, path, row)
-        && is_left(rt, path, &row.left)
-}
-
 impl Row for Asked {
     fn tell(&self, wrong: &mut WrongRows, rt: &HostRuntime) {
         let Some(folder) = Folder::new(rt) else {
             return wrong.unless(false, self.what);
         };
-        let so = is_so(rt, &folder, self);
+        let path = match self.path {
+            Some(path) => path,
+            None => folder.log.as_str(),
+        };
+        let so = env::set_current_dir(rt, folder.path.as_str()).is_ok()
+            && fs::create_dir(rt, "logs").is_ok()
+            && is_answered_so(rt, path, self)
+            && is_left(rt, path, &self.left);
         wrong.unless(folder.remove(rt) && so, self.what);
     }
+}
+
+pub fn tell_files(wrong: &mut WrongRows, rt: &HostRuntime) {
+    go_over(wrong, rt, "disks over files", &ROWS);
 }

@@ -118,32 +118,18 @@ fn are(splits: &[Key], wanted: &[&[u8]]) -> bool {
     splits.len() == wanted.len()
 }
 
-fn is_folder(dir: &Option<String>, wanted: Option<&str>) -> bool {
-    match dir {
-        Some(dir) => wanted == Some(dir.as_str()),
-        None => wanted.is_none(),
-    }
-}
-
 fn gives(settings: &Settings, wanted: &Wanted) -> bool {
-    are(settings.splits.as_slice(), wanted.splits)
+    let folder = match &settings.dir {
+        Some(dir) => wanted.dir == Some(dir.as_str()),
+        None => wanted.dir.is_none(),
+    };
+    folder
+        && are(settings.splits.as_slice(), wanted.splits)
         && settings.stride.micros() == wanted.stride
         && settings.epsilon == wanted.epsilon
         && settings.workers == wanted.workers
         && settings.transactions == wanted.transactions
         && settings.keys == wanted.keys
-        && is_folder(&settings.dir, wanted.dir)
-}
-
-fn is_taken(alloc: Global, row: &Taken) -> bool {
-    match Settings::read(alloc, row.text) {
-        Ok(settings) => {
-            let gives = gives(&settings, &row.wanted);
-            drop(settings);
-            gives
-        }
-        Err(_) => false,
-    }
 }
 
 // A document that is taken, a line for each key.
@@ -239,19 +225,13 @@ static CHANGED: [Changed; 7] = [
     },
 ];
 
-// The document with a text in place of one line. A line that memory is wanting for is left out.
-fn document(alloc: Global, at: usize, text: &str) -> String {
+// How the document is refused that has a text in place of one line. A line that memory is wanting for is left out.
+fn refusal(alloc: Global, at: usize, text: &str) -> Option<Fault> {
     let mut whole = String::new(alloc);
     for (n, line) in LINES.iter().enumerate() {
         let _ = whole.push_str(if n == at { text } else { *line });
         let _ = whole.push('\n');
     }
-    whole
-}
-
-// How the document is refused.
-fn refusal(alloc: Global, at: usize, text: &str) -> Option<Fault> {
-    let whole = document(alloc, at, text);
     let refusal = Settings::read(alloc, whole.as_str()).err();
     drop(whole);
     refusal
@@ -274,7 +254,15 @@ fn go_over_texts(
 /// Goes over all rows.
 pub fn go_over(wrong: &mut WrongRows, alloc: Global) {
     for row in &TAKEN {
-        wrong.unless(is_taken(alloc, row), row.what);
+        let taken = match Settings::read(alloc, row.text) {
+            Ok(settings) => {
+                let gives = gives(&settings, &row.wanted);
+                drop(settings);
+                gives
+            }
+            Err(_) => false,
+        };
+        wrong.unless(taken, row.what);
     }
     let refused = Some(Fault::BadRequest(Reason::Settings));
     for row in &CHANGED {

@@ -1,38 +1,31 @@
 //! Lines of a drive, and its table.
-use crate::checks::{Row, is_text};
+use crate::checks::{Row, go_over, is_text};
 use made::WrongRows;
 use progress::{Ended, Progress, Turn};
 
-// So many turns that ended alike.
+// So many turns that ended alike, or looks, that took as long.
 struct Group {
-    ended: Ended,
+    ended: Option<Ended>,
     micros: u64,
     times: u64,
 }
 
-// So many looks that took as long.
-struct Looks {
-    micros: u64,
-    times: u64,
-}
-
-/// Some turns of a drive, and looks, of which no more count than there are turns, its line after so many microseconds, and its table.
+/// Some turns of a drive, and looks behind them, of which no more count than there are turns, its line after so many microseconds, and its
+/// table.
 pub struct Drive {
     name: &'static str,
     turns: u64,
     groups: &'static [Group],
-    looks: &'static [Looks],
     micros: u64,
     line: &'static str,
     table: &'static str,
 }
 
-pub static ROWS: [Drive; 6] = [
+static ROWS: [Drive; 6] = [
     Drive {
         name: "nothing",
         turns: 200,
         groups: &[],
-        looks: &[],
         micros: 0,
         line: "0 of 200 done, 0 commits a second",
         table: "     us       count        half   90 of 100   99 of 100        most\n\
@@ -45,27 +38,27 @@ pub static ROWS: [Drive; 6] = [
         turns: 200,
         groups: &[
             Group {
-                ended: Ended::Aborted,
+                ended: Some(Ended::Aborted),
                 micros: 2,
                 times: 2,
             },
             Group {
-                ended: Ended::Committed,
+                ended: Some(Ended::Committed),
                 micros: 3_000,
                 times: 117,
             },
             Group {
-                ended: Ended::Unknown,
+                ended: Some(Ended::Unknown),
                 micros: 2_000_000,
                 times: 1,
             },
-        ],
-        looks: &[
-            Looks {
+            Group {
+                ended: None,
                 micros: 4,
                 times: 90,
             },
-            Looks {
+            Group {
+                ended: None,
                 micros: 50,
                 times: 10,
             },
@@ -82,25 +75,26 @@ pub static ROWS: [Drive; 6] = [
         turns: 200,
         groups: &[
             Group {
-                ended: Ended::Committed,
+                ended: Some(Ended::Committed),
                 micros: 9_120,
                 times: 90,
             },
             Group {
-                ended: Ended::Committed,
+                ended: Some(Ended::Committed),
                 micros: 1_850,
                 times: 109,
             },
             Group {
-                ended: Ended::Committed,
+                ended: Some(Ended::Committed),
                 micros: 50_000,
                 times: 1,
             },
+            Group {
+                ended: None,
+                micros: 7,
+                times: 1,
+            },
         ],
-        looks: &[Looks {
-            micros: 7,
-            times: 1,
-        }],
         micros: 655_000,
         line: "200 of 200 done, 305 commits a second",
         table: "     us       count        half   90 of 100   99 of 100        most\n\
@@ -113,17 +107,16 @@ pub static ROWS: [Drive; 6] = [
         turns: 3,
         groups: &[
             Group {
-                ended: Ended::Aborted,
+                ended: Some(Ended::Aborted),
                 micros: 5,
                 times: 2,
             },
             Group {
-                ended: Ended::Unknown,
+                ended: Some(Ended::Unknown),
                 micros: 5,
                 times: 1,
             },
         ],
-        looks: &[],
         micros: 1_000_000,
         line: "3 of 3 done, 0 commits a second",
         table: "     us       count        half   90 of 100   99 of 100        most\n\
@@ -136,30 +129,31 @@ pub static ROWS: [Drive; 6] = [
         turns: 100,
         groups: &[
             Group {
-                ended: Ended::Committed,
+                ended: Some(Ended::Committed),
                 micros: 30,
                 times: 9,
             },
             Group {
-                ended: Ended::Committed,
+                ended: Some(Ended::Committed),
                 micros: 40,
                 times: 1,
             },
             Group {
-                ended: Ended::Committed,
+                ended: Some(Ended::Committed),
                 micros: 10,
                 times: 50,
             },
             Group {
-                ended: Ended::Committed,
+                ended: Some(Ended::Committed),
                 micros: 20,
                 times: 40,
             },
+            Group {
+                ended: None,
+                micros: 1,
+                times: 101,
+            },
         ],
-        looks: &[Looks {
-            micros: 1,
-            times: 101,
-        }],
         micros: 1_000_000,
         line: "100 of 100 done, 100 commits a second",
         table: "     us       count        half   90 of 100   99 of 100        most\n\
@@ -171,11 +165,10 @@ pub static ROWS: [Drive; 6] = [
         name: "a number wider than its column",
         turns: 1,
         groups: &[Group {
-            ended: Ended::Aborted,
+            ended: Some(Ended::Aborted),
             micros: 9_999_999_999_999,
             times: 1,
         }],
-        looks: &[],
         micros: 1_000_000,
         line: "1 of 1 done, 0 commits a second",
         table: "     us       count        half   90 of 100   99 of 100        most\n\
@@ -185,23 +178,23 @@ pub static ROWS: [Drive; 6] = [
     },
 ];
 
-// Counts the turns of a group.
+// Counts the turns of a group, or its looks.
 fn count(progress: &mut Progress, group: &Group) {
     for _turn in 0..group.times {
-        if !progress.is_done() {
-            let _ = progress.count(Turn {
-                ended: group.ended,
-                micros: group.micros,
-            });
-        }
-    }
-}
-
-// Counts some looks.
-fn count_looks(progress: &mut Progress, looks: &Looks) {
-    for _look in 0..looks.times {
-        if !progress.has_looked() {
-            let _ = progress.count_look(looks.micros);
+        match group.ended {
+            Some(ended) => {
+                if !progress.is_done() {
+                    let _ = progress.count(Turn {
+                        ended,
+                        micros: group.micros,
+                    });
+                }
+            }
+            None => {
+                if !progress.has_looked() {
+                    let _ = progress.count_look(group.micros);
+                }
+            }
         }
     }
 }
@@ -223,11 +216,12 @@ impl Row for Drive {
         for group in self.groups {
             count(&mut progress, group);
         }
-        for looks in self.looks {
-            count_looks(&mut progress, looks);
-        }
         let has_line = is_text(progress.line(alloc, self.micros), self.line);
         let has_table = is_text(progress.table(alloc), self.table);
         wrong.unless(has_table && has_line && is_narrow(self.table), self.name);
     }
+}
+
+pub fn tell_drives(wrong: &mut WrongRows, rt: &HostRuntime) {
+    go_over(wrong, rt, "lines", &ROWS);
 }

@@ -1,9 +1,10 @@
 //! The log in its file.
-use crate::checks::{Row, is_spelled};
+use crate::checks::{Row, go_over, is_spelled};
 use crate::devices::crash;
 use crate::spellings::{CEILING, COMMIT, OPENED, OUTCOME};
 use crate::steps::read_back;
 use crate::text_logs::record_of;
+use crate::turned::{has_slots, turn};
 use disk::{Disk, Fate};
 use gatelog::{Entry, GateLog};
 use made::{FIRST_GATE, ONE_COMMIT, WrongRows, stamp, with_slots};
@@ -91,22 +92,37 @@ pub fn put_lines<D: Disk>(alloc: Global, log: &mut GateLog<D>, lines: &str) -> b
     true
 }
 
+/// What a log does.
+#[derive(Clone, Copy)]
+pub enum Does {
+    /// It takes ceiling 200.
+    Appends,
+    /// It is turned over to an area of these records.
+    TurnsOver(&'static str),
+}
+
 /// Records that are logged, what is done then, and what the log is when it is opened again.
 #[derive(Clone, Copy)]
 pub struct Case {
-    what: &'static str,
-    lines: &'static str,
-    // Ceiling 200 is to be logged, each time while that call of the append is to fail, and it is answered so.
-    armed: &'static [(u64, Result<(), Fault>)],
-    is_stopped: bool,
-    // The fate of what is not synced, where there is a crash then.
-    fate: Option<Fate>,
-    // All bytes of the file, told without its slots.
-    bytes: Option<&'static [u8]>,
-    places: &'static [Place],
-    // More records that are logged then, and the entries with these.
-    more: &'static str,
-    places_with_more: &'static [Place],
+    pub what: &'static str,
+    pub lines: &'static str,
+    /// What it does then, each time while that call of it is to fail, where one is, and how this is answered.
+    pub does: &'static [(Does, Option<u64>, Result<(), Fault>)],
+    /// Records that are logged behind that.
+    pub behind: &'static str,
+    pub is_stopped: bool,
+    /// The fate of what is not synced, where there is a crash then.
+    pub fate: Option<Fate>,
+    /// All bytes of the file, told without its slots.
+    pub bytes: Option<&'static [u8]>,
+    /// All that its first two slots hold, and how many bytes it has.
+    pub slots: Option<(&'static [u8; 18], u64)>,
+    pub places: &'static [Place],
+    /// Where its closed gate stands, and how many slots are open.
+    pub ends: Option<(u64, u64)>,
+    /// More records that are logged then, and the entries with these.
+    pub more: &'static str,
+    pub places_with_more: &'static [Place],
 }
 
 const AT_FIRST: &[Place] = &[(FIRST_GATE, OPENED)];
@@ -132,16 +148,19 @@ const COMMITTED: &[Place] = &[
 const OPENED_ONCE: Case = Case {
     what: "a log that was opened once",
     lines: "opened 1",
-    armed: &[],
+    does: &[],
+    behind: "",
     is_stopped: false,
     fate: None,
     bytes: None,
+    slots: None,
     places: AT_FIRST,
+    ends: None,
     more: "",
     places_with_more: AT_FIRST,
 };
 
-pub static CASES: [Case; 11] = [
+static CASES: [Case; 11] = [
     Case {
         what: "an empty log",
         lines: "",
@@ -160,28 +179,28 @@ pub static CASES: [Case; 11] = [
     },
     Case {
         what: "the first call fails",
-        armed: &[(0, Err(Fault::Device))],
+        does: &[(Does::Appends, Some(0), Err(Fault::Device))],
         is_stopped: true,
         fate: Some(Fate::New),
         ..OPENED_ONCE
     },
     Case {
         what: "the second call fails",
-        armed: &[(1, Err(Fault::Device))],
+        does: &[(Does::Appends, Some(1), Err(Fault::Device))],
         is_stopped: true,
         fate: Some(Fate::Filled(0xa5)),
         ..OPENED_ONCE
     },
     Case {
         what: "the third call fails, with its change lost",
-        armed: &[(2, Err(Fault::Device))],
+        does: &[(Does::Appends, Some(2), Err(Fault::Device))],
         is_stopped: true,
         fate: Some(Fate::Old),
         ..OPENED_ONCE
     },
     Case {
         what: "the third call fails, with its change kept",
-        armed: &[(2, Err(Fault::Device))],
+        does: &[(Does::Appends, Some(2), Err(Fault::Device))],
         is_stopped: true,
         fate: Some(Fate::New),
         places: WITH_CEILING,
@@ -190,7 +209,7 @@ pub static CASES: [Case; 11] = [
     },
     Case {
         what: "the third call fails, with its change filled",
-        armed: &[(2, Err(Fault::Device))],
+        does: &[(Does::Appends, Some(2), Err(Fault::Device))],
         is_stopped: true,
         fate: Some(Fate::Filled(0xa5)),
         places: WITH_CEILING,
@@ -199,14 +218,14 @@ pub static CASES: [Case; 11] = [
     },
     Case {
         what: "the fourth call fails",
-        armed: &[(3, Err(Fault::Device))],
+        does: &[(Does::Appends, Some(3), Err(Fault::Device))],
         is_stopped: true,
         fate: Some(Fate::Filled(0x37)),
         ..OPENED_ONCE
     },
     Case {
         what: "the fifth call fails",
-        armed: &[(4, Ok(()))],
+        does: &[(Does::Appends, Some(4), Ok(()))],
         fate: Some(Fate::Old),
         places: WITH_CEILING,
         places_with_more: WITH_CEILING,
@@ -214,7 +233,7 @@ pub static CASES: [Case; 11] = [
     },
     Case {
         what: "a closed gate is used again",
-        armed: &[(2, Err(Fault::Device))],
+        does: &[(Does::Appends, Some(2), Err(Fault::Device))],
         is_stopped: true,
         fate: Some(Fate::Filled(0x37)),
         more: "ceiling 300",
@@ -224,7 +243,10 @@ pub static CASES: [Case; 11] = [
     // The file has both entries, as it is read.
     Case {
         what: "a failure stops it",
-        armed: &[(3, Err(Fault::Device)), (3, Err(Fault::Stopped))],
+        does: &[
+            (Does::Appends, Some(3), Err(Fault::Device)),
+            (Does::Appends, Some(3), Err(Fault::Stopped)),
+        ],
         is_stopped: true,
         places: WITH_CEILING,
         places_with_more: WITH_CEILING,
@@ -232,18 +254,21 @@ pub static CASES: [Case; 11] = [
     },
 ];
 
-// The row's records are logged, and each call that is to fail is answered so.
+// The row's records are logged, and what it does then is answered so.
 fn is_filled(alloc: Global, log: &mut GateLog<SimDisk>, row: &Case) -> bool {
     if !put_lines(alloc, log, row.lines) {
         return false;
     }
-    for (call, answer) in row.armed {
-        let item = Record::Ceiling { at: stamp(200) };
-        if put(alloc, log, item, Some(*call)) != *answer {
+    for (does, call, wanted) in row.does {
+        let answer = match does {
+            Does::Appends => put(alloc, log, Record::Ceiling { at: stamp(200) }, *call),
+            Does::TurnsOver(lines) => turn(alloc, log, *lines, *call),
+        };
+        if answer != *wanted {
             return false;
         }
     }
-    log.is_stopped() == row.is_stopped
+    put_lines(alloc, log, row.behind) && log.is_stopped() == row.is_stopped
 }
 
 /// The file on the disk is the one that is told without its slots.
@@ -263,10 +288,15 @@ fn is_left(alloc: Global, disk: &mut SimDisk, row: &Case) -> bool {
     if let Some(fate) = row.fate {
         crash(alloc, disk, &[fate]);
     }
-    match row.bytes {
+    let slots = match row.slots {
+        Some((slots, len)) => has_slots(disk, slots, len),
+        None => true,
+    };
+    let bytes = match row.bytes {
         Some(told) => is_file(alloc, disk, told),
         None => true,
-    }
+    };
+    slots && bytes
 }
 
 // The log is filled, and opened again; then it takes more.
@@ -282,68 +312,77 @@ impl Row for Case {
         let Ok(mut again) = open(alloc, disk, self.places) else {
             return wrong.unless(false, self.what);
         };
-        let logged = put_lines(alloc, &mut again, self.more);
+        let ends = match self.ends {
+            Some((gate, slot)) => again.gate() == gate && again.slot() == slot,
+            None => true,
+        };
+        let logged = put_lines(alloc, &mut again, self.more) && ends;
         let refused = refusal(alloc, again.into_disk(), self.places_with_more);
         wrong.unless(filled && left && logged && refused.is_none(), self.what);
     }
 }
 
-/// A file that is told without its slots, of which so many bytes are left, where they are not all; and how it is refused.
-pub struct Refused {
+/// A file that is told without its slots, what these begin with, and how many of its bytes are left, where they are not all. Then its log
+/// has these entries, or is refused.
+pub struct File {
     what: &'static str,
     told: &'static [u8],
+    slots: &'static [u8],
     len: Option<u64>,
+    places: &'static [Place],
     fault: Option<Fault>,
 }
 
 // A file of no record.
-const EMPTY: Refused = Refused {
+const EMPTY: File = File {
     what: "a file of no record",
     told: b"SPNLOG02\0",
+    slots: &[],
     len: None,
+    places: &[],
     fault: None,
 };
 
 const DAMAGED: Option<Fault> = Some(Fault::Damaged { offset: FIRST_GATE });
 
-pub static REFUSED: [Refused; 12] = [
-    Refused {
+static REFUSED: [File; 12] = [
+    File {
         what: "past the end",
         told: b"SPNLOG02\xa5\0\0\0\x09",
         fault: DAMAGED,
         ..EMPTY
     },
-    Refused {
+    File {
         what: "no gate",
         told: b"SPNLOG02",
         fault: DAMAGED,
         ..EMPTY
     },
-    Refused {
+    File {
         what: "length 0",
         told: b"SPNLOG02\xa5\0\0\0\0",
         fault: DAMAGED,
         ..EMPTY
     },
-    Refused {
+    File {
         what: "no record",
         told: b"SPNLOG02\xa5\0\0\0\x01\x09",
         fault: DAMAGED,
         ..EMPTY
     },
-    Refused {
+    File {
         what: "no slot",
         len: Some(8),
         fault: Some(Fault::Damaged { offset: 8 }),
         ..EMPTY
     },
-    Refused {
+    File {
         what: "the first slot is not whole",
         len: Some(16),
         fault: Some(Fault::Damaged { offset: 8 }),
         ..EMPTY
     },
-    Refused {
+    File {
         what: "the last slot is not whole",
         len: Some(FIRST_GATE - 1),
         fault: Some(Fault::Damaged {
@@ -351,31 +390,31 @@ pub static REFUSED: [Refused; 12] = [
         }),
         ..EMPTY
     },
-    Refused {
+    File {
         what: "a part of the header",
         len: Some(7),
         fault: Some(Fault::NotALog),
         ..EMPTY
     },
-    Refused {
+    File {
         what: "version 1",
         told: b"SPNLOG01\0",
         fault: Some(Fault::NotALog),
         ..EMPTY
     },
-    Refused {
+    File {
         what: "version 3",
         told: b"SPNLOG03\0",
         fault: Some(Fault::NotALog),
         ..EMPTY
     },
-    Refused {
+    File {
         what: "no byte",
         told: b"",
         fault: Some(Fault::NotALog),
         ..EMPTY
     },
-    Refused {
+    File {
         what: "an empty log",
         ..EMPTY
     },
@@ -401,65 +440,69 @@ pub fn disk_of(alloc: Global, told: &[u8], len: Option<u64>) -> Option<SimDisk> 
     }
 }
 
-impl Row for Refused {
+impl Row for File {
     fn tell(&self, wrong: &mut WrongRows, rt: &HostRuntime) {
         let alloc = rt.alloc();
-        let refused = match disk_of(alloc, self.told, self.len) {
-            Some(disk) => refusal(alloc, disk, &[]) == self.fault,
-            None => false,
+        let Some(mut disk) = disk_of(alloc, self.told, self.len) else {
+            return wrong.unless(false, self.what);
         };
-        wrong.unless(refused, self.what);
+        let written = self.slots.is_empty()
+            || (disk.len() >= 8 && disk.write_at(8, self.slots).is_ok());
+        let same = refusal(alloc, disk, self.places) == self.fault;
+        wrong.unless(written && same, self.what);
     }
 }
 
-/// The file of one commit whose slots begin with these bytes, and the log that it has then.
-pub struct Area {
-    what: &'static str,
-    slots: &'static [u8],
-    places: &'static [Place],
-}
-
-// In hexadecimal digits the commit's gate is at 2416, its outcome's at 2440, the closed one at 245f.
-pub static AREAS: [Area; 5] = [
-    Area {
+// Files of one commit. In hexadecimal digits the commit's gate is at 2416, its outcome's at 2440, the closed one at 245f.
+static AREAS: [File; 5] = [
+    File {
         what: "no slot is open",
-        slots: &[],
+        told: &ONE_COMMIT,
         places: COMMITTED,
+        ..EMPTY
     },
-    Area {
+    File {
         what: "an area that begins at the commit",
+        told: &ONE_COMMIT,
         slots: &[0xa5, 0, 0, 0, 0, 0, 0, 0x24, 0x16],
         places: &[(BEHIND_ONE, COMMIT), (FIRST_GATE + 56, OUTCOME)],
+        ..EMPTY
     },
-    Area {
+    File {
         what: "the last open slot counts",
+        told: &ONE_COMMIT,
         slots: &[
             0xa5, 0, 0, 0, 0, 0, 0, 0x24, 0x16, 0xa5, 0, 0, 0, 0, 0, 0, 0x24, 0x40,
         ],
         places: &[(FIRST_GATE + 56, OUTCOME)],
+        ..EMPTY
     },
-    Area {
+    File {
         what: "a filled gate is closed",
+        told: &ONE_COMMIT,
         slots: &[
             0xa5, 0, 0, 0, 0, 0, 0, 0x24, 0x40, 0x37, 0, 0, 0, 0, 0, 0, 0x24, 0x16,
         ],
         places: &[(FIRST_GATE + 56, OUTCOME)],
+        ..EMPTY
     },
-    Area {
+    File {
         what: "an area of no record",
+        told: &ONE_COMMIT,
         slots: &[0xa5, 0, 0, 0, 0, 0, 0, 0x24, 0x5f],
         places: &[],
+        ..EMPTY
     },
 ];
 
-impl Row for Area {
-    fn tell(&self, wrong: &mut WrongRows, rt: &HostRuntime) {
-        let alloc = rt.alloc();
-        let Some(mut disk) = disk_of(alloc, &ONE_COMMIT, None) else {
-            return wrong.unless(false, self.what);
-        };
-        let written = disk.len() >= 8 && disk.write_at(8, self.slots).is_ok();
-        let found = refusal(alloc, disk, self.places).is_none();
-        wrong.unless(found && written, self.what);
-    }
+pub fn tell_cases(wrong: &mut WrongRows, rt: &HostRuntime) {
+    go_over(wrong, rt, "the log in its file", &CASES);
+}
+
+pub fn tell_refused(wrong: &mut WrongRows, rt: &HostRuntime) {
+    go_over(wrong, rt, "files that are no logs", &REFUSED);
+}
+
+pub fn tell_areas(wrong: &mut WrongRows, rt: &HostRuntime) {
+    go_over(wrong, rt, "areas of logs", &AREAS);
 }

@@ -2,13 +2,12 @@
 ghost use Rattle.std.specs.Prelude.{IsTrue};
 ghost use Rattle.ledger.specs.Ledger.{CanInstall};
 
-use crate::checks::{Row, is_printed};
+use crate::checks::{Row, are_printed, go_over};
 use crate::text_logs::record_of;
 use ledger::{Ledger, Recorder};
 use made::{WrongRows, shard};
 use record::Record;
 use std::alloc::Global;
-use texts::Text;
 use units::Fault;
 
 // The records that were handed on.
@@ -33,7 +32,7 @@ pub struct Renewal {
     handed: &'static str,
 }
 
-pub static HANDED: [Renewal; 8] = [
+static HANDED: [Renewal; 8] = [
     Renewal {
         what: "a commit that settled",
         shard: 0,
@@ -145,18 +144,6 @@ pub fn all_come(alloc: Global, ledger: &mut Ledger, lines: &str) -> bool {
     true
 }
 
-// The records are printed as these lines.
-fn are_of(alloc: Global, records: &[Record], lines: &str) -> bool {
-    let mut wanted = lines.lines();
-    for item in records {
-        match wanted.next() {
-            Some(line) if is_printed(alloc, &Text(item), line) => {}
-            _ => return false,
-        }
-    }
-    wanted.next().is_none()
-}
-
 // Whether the ledger hands on these records, and no others.
 fn hands_on(alloc: Global, ledger: &Ledger, lines: &str) -> bool {
     if ledger.epoch() == 0 {
@@ -167,7 +154,7 @@ fn hands_on(alloc: Global, ledger: &Ledger, lines: &str) -> bool {
     };
     let done = ledger.renew(alloc, &mut handed).is_ok();
     let Handed { records } = handed;
-    let same = done && are_of(alloc, &records, lines);
+    let same = done && are_printed(alloc, records.as_slice(), lines);
     drop(records);
     same
 }
@@ -182,4 +169,8 @@ impl Row for Renewal {
         drop(ledger);
         wrong.unless(holds, self.what);
     }
+}
+
+pub fn tell_handed(wrong: &mut WrongRows, rt: &HostRuntime) {
+    go_over(wrong, rt, "records that are handed on", &HANDED);
 }

@@ -1,7 +1,9 @@
 //! The bytes of the records of a renewed log's head.
+use crate::checks::go_over;
 use crate::spellings::{Read, Vector};
+use made::WrongRows;
 
-pub static VECTORS: [Vector; 8] = [
+static VECTORS: [Vector; 8] = [
     Vector {
         what: "a base",
         line: "base 1 111 0",
@@ -56,7 +58,7 @@ pub static VECTORS: [Vector; 8] = [
     },
 ];
 
-pub static READ: [Read; 34] = [
+static READ: [Read; 34] = [
     Read {
         what: "a base of its kind alone",
         bytes: &[8],
@@ -268,3 +270,11 @@ pub static READ: [Read; 34] = [
         is_record: false,
     },
 ];
+
+pub fn tell_vectors(wrong: &mut WrongRows, rt: &HostRuntime) {
+    go_over(wrong, rt, "spellings of heads", &VECTORS);
+}
+
+pub fn tell_read(wrong: &mut WrongRows, rt: &HostRuntime) {
+    go_over(wrong, rt, "bytes of heads", &READ);
+}

@@ -99,35 +99,23 @@ fn show_turns(versions: &Versions, keys: u32, turns: Range<u32>) -> bool {
     true
 }
 
-// How many versions there are.
-fn count_all(versions: &Versions) -> usize {
-    versions
-        .find(&key(255), stamp(u32::MAX), &mut Count::none())
-        .0
-}
-
-fn is_forgotten(alloc: Global, versions: &mut Versions, row: &Many) -> bool {
-    let end = row.versions.saturating_add(1);
-    let later = end.saturating_add(row.behind);
-    if !install_turns(alloc, versions, row.keys, 1..end) {
-        return false;
-    }
-    versions.forget(stamp(row.horizon));
-    let before = stamp(row.horizon.saturating_sub(1));
-    count_all(versions) == row.left
-        && versions
-            .at(&in_turn(row.horizon, row.keys).key, before)
-            .is_none()
-        && show_turns(versions, row.keys, row.horizon..end)
-        && install_turns(alloc, versions, row.keys, end..later)
-        && show_turns(versions, row.keys, row.horizon..later)
-}
-
 impl Row for Many {
     fn tell(&self, wrong: &mut WrongRows, rt: &HostRuntime) {
         let alloc = rt.alloc();
         let mut versions = Versions::none(alloc);
-        let shown = is_forgotten(alloc, &mut versions, self);
+        let end = self.versions.saturating_add(1);
+        let later = end.saturating_add(self.behind);
+        let installed = install_turns(alloc, &mut versions, self.keys, 1..end);
+        versions.forget(stamp(self.horizon));
+        let before = stamp(self.horizon.saturating_sub(1));
+        let (left, _) = versions.find(&key(255), stamp(u32::MAX), &mut Count::none());
+        let old = versions.at(&in_turn(self.horizon, self.keys).key, before);
+        let shown = installed
+            && left == self.left
+            && old.is_none()
+            && show_turns(&versions, self.keys, self.horizon..end)
+            && install_turns(alloc, &mut versions, self.keys, end..later)
+            && show_turns(&versions, self.keys, self.horizon..later);
         drop(versions);
         wrong.unless(shown, self.what);
     }

@@ -1,5 +1,5 @@
 //! What a log determines, and which records may come next.
-use crate::checks::Row;
+use crate::checks::{Row, go_over};
 use crate::text_logs::record_of;
 use facts::{Facts, Status};
 use made::{WrongRows, id, key, shard};
@@ -78,7 +78,7 @@ pub struct Case {
     determined: Option<Determined>,
 }
 
-pub static CASES: [Case; 18] = [
+static CASES: [Case; 18] = [
     Case {
         what: "a decision",
         shard: 0,
@@ -335,7 +335,7 @@ pub static CASES: [Case; 18] = [
 ];
 
 /// What renewed logs determine.
-pub static RENEWED: [Case; 3] = [
+static RENEWED: [Case; 3] = [
     Case {
         what: "behind a base",
         shard: 0,
@@ -441,15 +441,6 @@ fn is_known(facts: &Facts, row: &Known) -> bool {
         && facts.aborted(txn) == row.aborted
 }
 
-fn are_known(facts: &Facts, rows: &[Known]) -> bool {
-    for row in rows {
-        if !is_known(facts, row) {
-            return false;
-        }
-    }
-    true
-}
-
 fn are_installs(installs: &[Install], rows: &[(u64, u8)]) -> bool {
     for (number, install) in installs.iter().enumerate() {
         match rows.get(number) {
@@ -461,10 +452,14 @@ fn are_installs(installs: &[Install], rows: &[(u64, u8)]) -> bool {
 }
 
 fn is_determined(facts: &Facts, row: &Determined) -> bool {
+    for known in row.known {
+        if !is_known(facts, known) {
+            return false;
+        }
+    }
     let (floor, horizon) = (facts.floor().micros(), facts.horizon().micros());
     (facts.epoch(), floor, horizon) == (row.epoch, row.floor, row.horizon)
         && are_installs(facts.installs(), row.installs)
-        && are_known(facts, row.known)
 }
 
 // The records come one after another, none of the refused ones may come next, and the log determines what it should.
@@ -483,4 +478,12 @@ impl Row for Case {
         drop(facts);
         wrong.unless(come && determined && same, self.what);
     }
+}
+
+pub fn tell_renewed(wrong: &mut WrongRows, rt: &HostRuntime) {
+    go_over(wrong, rt, "what renewed logs determine", &RENEWED);
+}
+
+pub fn tell_cases(wrong: &mut WrongRows, rt: &HostRuntime) {
+    go_over(wrong, rt, "what logs determine", &CASES);
 }

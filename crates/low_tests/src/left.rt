@@ -1,5 +1,5 @@
 //! Logs that are opened again: what they leave, and which are refused.
-use crate::checks::Row;
+use crate::checks::{Row, go_over};
 use crate::files::put_lines;
 use gatelog::{Entry, GateLog};
 use made::{FIRST_GATE, WrongRows, key};
@@ -8,22 +8,6 @@ use recovery::rebuild;
 use simdisk::SimDisk;
 use std::alloc::Global;
 use units::{Book, Fault, Setup, ShardNo, Splits, Stamp, Stride, TxnId};
-
-// A shard of two, which are split at `m`.
-fn setup(alloc: Global, number: u8) -> Option<Setup> {
-    let (Some(shard), Some(stride)) = (ShardNo::new(number), Stride::new(0)) else {
-        return None;
-    };
-    let Ok(splits) = Splits::new(alloc, &[key(b'm')]) else {
-        return None;
-    };
-    Some(Setup {
-        shard,
-        splits,
-        stride,
-        book: Book::Off,
-    })
-}
 
 /// What a log leaves: the first that is prepared and the first that is decided, each by its number and timestamp (0 where there
 /// is none), the greatest timestamp, the safe time, the horizon, the epoch, and how many versions there are.
@@ -79,7 +63,7 @@ pub struct Reopened {
     pub left: Rebuilt,
 }
 
-pub static REOPENED: [Reopened; 23] = [
+static REOPENED: [Reopened; 23] = [
     Reopened {
         what: "a promise stands",
         shard: 1,
@@ -331,10 +315,16 @@ fn put_promises(alloc: Global, log: &mut GateLog<SimDisk>, count: u16) -> bool {
     true
 }
 
-// What the entries of its log leave of a shard, or why they are refused.
+// What the entries of its log leave of a shard, or why they are refused. It is one of two, which are split at `m`.
 fn rebuilt(alloc: Global, number: u8, entries: &[Entry]) -> Rebuilt {
-    let Some(setup) = setup(alloc, number) else {
+    let (Some(shard), Some(stride)) = (ShardNo::new(number), Stride::new(0)) else {
         return Err(Fault::Memory);
+    };
+    let setup = Setup {
+        shard,
+        splits: Splits::new(alloc, &[key(b'm')])?,
+        stride,
+        book: Book::Off,
     };
     let state = rebuild(alloc, entries, &setup);
     drop(setup);
@@ -371,4 +361,8 @@ impl Row for Reopened {
         };
         wrong.unless(put && same, self.what);
     }
+}
+
+pub fn tell_reopened(wrong: &mut WrongRows, rt: &HostRuntime) {
+    go_over(wrong, rt, "logs that are opened again", &REOPENED);
 }

@@ -1,5 +1,5 @@
 //! Files of version 1, and what they are migrated to.
-use crate::checks::Row;
+use crate::checks::{Row, go_over};
 use crate::devices::crash;
 use crate::files::is_file;
 use crate::steps::read_back;
@@ -31,7 +31,7 @@ const OPENED: Result<&[u8], Fault> = Ok(b"SPNLOG02\xa5\0\0\0\x09\x01\0\0\0\0\0\0
 
 const DAMAGED: Result<&[u8], Fault> = Err(Fault::Damaged { offset: 8 });
 
-pub static MIGRATED: [Migrated; 13] = [
+static MIGRATED: [Migrated; 13] = [
     Migrated {
         what: "no record",
         ..EMPTY
@@ -180,7 +180,7 @@ pub struct Failing {
     fate: Fate,
 }
 
-pub static FAILING: [Failing; 4] = [
+static FAILING: [Failing; 4] = [
     Failing {
         what: "a call of the first disk fails",
         is_old: true,
@@ -259,4 +259,12 @@ impl Row for Failing {
         }
         wrong.unless(false, self.what);
     }
+}
+
+pub fn tell_migrated(wrong: &mut WrongRows, rt: &HostRuntime) {
+    go_over(wrong, rt, "files of version 1", &MIGRATED);
+}
+
+pub fn tell_failing(wrong: &mut WrongRows, rt: &HostRuntime) {
+    go_over(wrong, rt, "migrations that fail", &FAILING);
 }

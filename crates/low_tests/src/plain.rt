@@ -1,6 +1,6 @@
 //! Drawn requests for several accounts, answered by the lock table and by a plain table that goes over everybody.
-use crate::crowd::account;
-use crate::tokens::{becomes_firm, enters, gives_up, goes_on, leaves, release_all, requests};
+use crate::crowd::{Gets, account, comes_to};
+use crate::tokens::{Acts, act_out, enters, leaves, release_all};
 use locks::{Held, Table};
 use made::{WrongRows, id};
 use std::alloc::Global;
@@ -177,7 +177,7 @@ fn agrees_on(
         return false;
     }
     let opens = opens(plains, number, wanted);
-    match requests(table, alloc, tokens, (number % 7) as u16, locks) {
+    match act_out(table, alloc, tokens, (number % 7) as u16, Acts::Asks(locks)) {
         Some(Asked::Granted) => {
             is_granted(&mut plains[number % 7], wanted);
             opens
@@ -231,14 +231,21 @@ fn asks(
 }
 
 // Whoever is ready goes on.
-fn resumes(table: &mut Table, tokens: &mut Vec<Held>, plains: &mut Plains) -> bool {
+fn resumes(table: &mut Table, alloc: Global, tokens: &mut Vec<Held>, plains: &mut Plains) -> bool {
     match first_ready(plains) {
         Some(txn) => {
             let number = (txn.number() % 7) as usize;
             let plain = &mut plains[number];
             let wanted = plain.waits;
             is_granted(plain, &wanted);
-            goes_on(table, tokens, number as u16)
+            comes_to(
+                table,
+                alloc,
+                tokens,
+                number as u16,
+                Acts::GoesOn,
+                Gets::Granted,
+            )
         }
         None => table.ready().is_none(),
     }
@@ -252,22 +259,27 @@ fn agrees_once(
     drawn: u64,
 ) -> bool {
     let number = (drawn % 7) as usize;
-    match drawn / 7 % 16 {
-        0 => starts_anew(table, alloc, tokens, plains, number),
+    let act = match drawn / 7 % 16 {
+        0 => return starts_anew(table, alloc, tokens, plains, number),
         1 => {
-            becomes_firm(table, tokens, (number % 7) as u16);
             plains[number % 7].firm = true;
-            true
+            Acts::BecomesFirm
         }
         2 => {
-            gives_up(table, tokens, (number % 7) as u16);
             plains[number % 7].waits = [None; 5];
-            true
+            Acts::GivesItsWaitUp
         }
-        3 => resumes(table, tokens, plains),
-        4 => resumes(table, tokens, plains),
-        _ => asks(table, alloc, tokens, plains, number, drawn / 112),
-    }
+        3 | 4 => return resumes(table, alloc, tokens, plains),
+        _ => return asks(table, alloc, tokens, plains, number, drawn / 112),
+    };
+    comes_to(
+        table,
+        alloc,
+        tokens,
+        (number % 7) as u16,
+        act,
+        Gets::Granted,
+    )
 }
 
 fn agrees(table: &mut Table, alloc: Global, tokens: &mut Vec<Held>, turns: u64) -> bool {

@@ -1,10 +1,10 @@
 //! Records and lines as they are printed, and lines that are refused.
-use crate::checks::is_printed;
+use crate::checks::are_printed;
 use crate::text_logs::reads;
 use made::WrongRows;
 use std::alloc::Global;
-use texts::{Text, lines};
-use units::{Fault, Line, Reason};
+use texts::lines;
+use units::{Fault, Reason};
 
 // One of each kind, with empty and longer lists.
 static RECORDS: &str = "opened 1
@@ -88,31 +88,19 @@ look key_1 0 =1
     },
 ];
 
-fn are_printed(alloc: Global, found: &[Line], texts: &str) -> bool {
-    let mut wanted = texts.lines();
-    for line in found {
-        match wanted.next() {
-            Some(text) if is_printed(alloc, &Text(line), text) => {}
-            _ => return false,
-        }
-    }
-    wanted.next().is_none()
-}
-
 // So many lines are read, and each is printed as it was; or the text is refused.
 fn is_read(alloc: Global, row: &Row) -> bool {
-    match (lines(alloc, row.text), row.read) {
-        (Ok(found), Ok(count)) => {
-            let same = found.len() == count && are_printed(alloc, found.as_slice(), row.text);
+    match lines(alloc, row.text) {
+        Ok(found) => {
+            let same = row.read == Ok(found.len())
+                && are_printed(alloc, found.as_slice(), row.text);
             drop(found);
             same
         }
-        (Ok(found), Err(_)) => {
-            drop(found);
-            false
-        }
-        (Err(fault), Err(line)) => fault == Fault::BadRequest(Reason::Syntax(line)),
-        (Err(_), Ok(_)) => false,
+        Err(fault) => match row.read {
+            Ok(_) => false,
+            Err(line) => fault == Fault::BadRequest(Reason::Syntax(line)),
+        },
     }
 }
 

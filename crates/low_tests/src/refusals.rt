@@ -94,17 +94,10 @@ fn is_taken(kind: &Kind, word: &str) -> bool {
     }
 }
 
-fn is_spelt(row: &Spelt) -> bool {
-    match fate(row.word) {
-        Ok(fate) => row.fate == Some(fate),
-        Err(_) => row.fate.is_none(),
-    }
-}
-
 /// Goes over all rows.
 pub fn go_over(wrong: &mut WrongRows) {
     for row in &FATES {
-        wrong.unless(is_spelt(row), row.word);
+        wrong.unless(fate(row.word).ok() == row.fate, row.word);
     }
     for row in &LIMITS {
         let within = is_taken(&row.kind, row.taken) && !is_taken(&row.kind, row.refused);

@@ -1,11 +1,12 @@
 //! Renewed logs that are opened again: what they leave, and which are refused.
+use crate::checks::go_over;
 use crate::left::{NOTHING, Reopened, Shown};
-use made::FIRST_GATE;
+use made::{FIRST_GATE, WrongRows};
 use units::Fault;
 
 // A frame has 5 bytes and its record: an opening takes 14, a base 30, a version of one letter 20, what is settled 32, what is closed
 // by an abort 24, an abort 22, a decision of one letter 42, a promise of one letter 41.
-pub static TAKEN: [Reopened; 11] = [
+static TAKEN: [Reopened; 11] = [
     Reopened {
         what: "one settled commit",
         shard: 0,
@@ -149,7 +150,7 @@ pub static TAKEN: [Reopened; 11] = [
 ];
 
 /// Bases and versions that are out of place.
-pub static MISPLACED: [Reopened; 14] = [
+static MISPLACED: [Reopened; 14] = [
     Reopened {
         what: "a base behind an opening",
         shard: 0,
@@ -271,7 +272,7 @@ pub static MISPLACED: [Reopened; 14] = [
 ];
 
 /// What ended, and what may not stand beside it.
-pub static ENDED: [Reopened; 23] = [
+static ENDED: [Reopened; 23] = [
     Reopened {
         what: "settled twice",
         shard: 0,
@@ -476,3 +477,15 @@ pub static ENDED: [Reopened; 23] = [
         }),
     },
 ];
+
+pub fn tell_taken(wrong: &mut WrongRows, rt: &HostRuntime) {
+    go_over(wrong, rt, "renewed logs", &TAKEN);
+}
+
+pub fn tell_misplaced(wrong: &mut WrongRows, rt: &HostRuntime) {
+    go_over(wrong, rt, "bases and versions", &MISPLACED);
+}
+
+pub fn tell_ended(wrong: &mut WrongRows, rt: &HostRuntime) {
+    go_over(wrong, rt, "what ended", &ENDED);
+}

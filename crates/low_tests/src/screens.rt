@@ -1,8 +1,7 @@
 //! Screens that are told of turns at given moments.
-use crate::checks::Row;
+use crate::checks::{Row, go_over};
 use made::WrongRows;
 use progress::{Ended, Screen, Turn};
-use std::alloc::Global;
 use std::io;
 use std::io::Write;
 
@@ -37,7 +36,7 @@ pub struct Shown {
     written: &'static str,
 }
 
-pub static ROWS: [Shown; 7] = [
+static ROWS: [Shown; 7] = [
     Shown {
         name: "too short to show a line",
         moments: &[1, 2, 199_999, 199_999],
@@ -139,4 +138,8 @@ impl Row for Shown {
         drop(paper);
         wrong.unless(same, self.name);
     }
+}
+
+pub fn tell_screens(wrong: &mut WrongRows, rt: &HostRuntime) {
+    go_over(wrong, rt, "screens", &ROWS);
 }

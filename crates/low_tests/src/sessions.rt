@@ -1,9 +1,9 @@
 //! Transactions at their clients. Shard 0 has the keys below `m`, and shard 1 all others.
 ghost use Rattle.std.specs.Prelude.{◌≡◌};
 
-use crate::checks::{is_line, is_printed};
+use crate::checks::{Printed, are_printed, is_printed};
 use made::{WrongRows, id, key, shard, stamp};
-use message::{Answer, Done, Envelope, Outbox, ReadAnswer};
+use message::{Answer, Done, Outbox, ReadAnswer};
 use session::{Closed, Closing, Finished, Heard, Ongoing, Open, Tx};
 use std::alloc::Global;
 use texts::Text;
@@ -31,11 +31,11 @@ struct Story {
     name: &'static str,
     // What comes of each step: a message, a value, a word, or a fault.
     does: &'static [(Does, &'static str)],
-    // What it says when it is closed, and once more, or else how that is refused.
-    closing: &'static [&'static str],
+    // What it says when it is closed, and once more, or else how that is refused. A line is a message.
+    closing: &'static str,
     refused: &'static str,
     // What it says when it is given up then, unless it hears its end.
-    farewells: &'static [&'static str],
+    farewells: &'static str,
     then: Then,
 }
 
@@ -43,9 +43,9 @@ static STORIES: [Story; 7] = [
     Story {
         name: "nothing is not closed, and is given up",
         does: &[],
-        closing: &[],
+        closing: "",
         refused: "7 BadRequest(nothing)",
-        farewells: &[],
+        farewells: "",
         then: Then::GivesUp,
     },
     Story {
@@ -55,12 +55,9 @@ static STORIES: [Story; 7] = [
             (Does::Erase(b'a'), "done"),
             (Does::Write(b'a', b"1"), "done"),
         ],
-        closing: &[
-            "shard 0 commit 1.2 0,1 0 - a=1",
-            "shard 1 prepare 1.2 0 0 - z=2",
-        ],
+        closing: "shard 0 commit 1.2 0,1 0 - a=1\nshard 1 prepare 1.2 0 0 - z=2",
         refused: "",
-        farewells: &["shard 0 giveup 1.2", "shard 1 giveup 1.2"],
+        farewells: "shard 0 giveup 1.2\nshard 1 giveup 1.2",
         then: Then::GivesUp,
     },
     Story {
@@ -72,9 +69,9 @@ static STORIES: [Story; 7] = [
             (Does::Hears(b'z', 1, b"2"), "again"),
             (Does::Read(b'z'), "7 BadRequest(again)"),
         ],
-        closing: &["shard 1 commit 1.2 1 1 z -"],
+        closing: "shard 1 commit 1.2 1 1 z -",
         refused: "",
-        farewells: &["shard 1 giveup 1.2"],
+        farewells: "shard 1 giveup 1.2",
         then: Then::GivesUp,
     },
     Story {
@@ -86,17 +83,17 @@ static STORIES: [Story; 7] = [
             (Does::Hears(b'n', 2, b"3"), "doomed"),
             (Does::Erase(b'z'), "7 BadRequest(doomed)"),
         ],
-        closing: &[],
+        closing: "",
         refused: "7 BadRequest(doomed)",
-        farewells: &["shard 1 giveup 1.2"],
+        farewells: "shard 1 giveup 1.2",
         then: Then::GivesUp,
     },
     Story {
         name: "it takes its own end, and no other",
         does: &[(Does::Erase(b'a'), "done")],
-        closing: &["shard 0 commit 1.2 0 0 - a!"],
+        closing: "shard 0 commit 1.2 0 0 - a!",
         refused: "",
-        farewells: &[],
+        farewells: "",
         then: Then::Hears,
     },
     Story {
@@ -105,17 +102,11 @@ static STORIES: [Story; 7] = [
             (Does::Write(b'z', b"2"), "done"),
             (Does::Write(b'a', b"1"), "done"),
         ],
-        closing: &[
-            "shard 0 commit 1.2 0,1 0 - a=1",
-            "shard 1 prepare 1.2 0 0 - z=2",
-        ],
+        closing: "shard 0 commit 1.2 0,1 0 - a=1\nshard 1 prepare 1.2 0 0 - z=2",
         refused: "",
-        farewells: &[
-            "shard 0 giveup 1.2",
-            "shard 1 giveup 1.2",
-            "shard 0 commit 1.2 0,1 0 - a=1",
-            "shard 1 prepare 1.2 0 0 - z=2",
-        ],
+        farewells: "shard 0 giveup 1.2\n\
+            shard 1 giveup 1.2\nshard 0 commit 1.2 0,1 0 - a=1\n\
+            shard 1 prepare 1.2 0 0 - z=2",
         then: Then::Quits(Some(200)),
     },
     Story {
@@ -124,33 +115,27 @@ static STORIES: [Story; 7] = [
             (Does::Read(b'z'), "shard 1 read 1.2 z"),
             (Does::Hears(b'z', 1, b"2"), "=2"),
         ],
-        closing: &["shard 1 commit 1.2 1 1 z -"],
+        closing: "shard 1 commit 1.2 1 1 z -",
         refused: "",
-        farewells: &["shard 1 giveup 1.2", "shard 1 commit 1.2 1 1 z -"],
+        farewells: "shard 1 giveup 1.2\nshard 1 commit 1.2 1 1 z -",
         then: Then::Quits(None),
     },
 ];
 
 // The messages are printed so.
-fn are_said(alloc: Global, envelopes: &[Envelope], lines: &[&str]) -> bool {
-    for (place, line) in lines.iter().enumerate() {
-        match envelopes.get(place) {
-            Some(envelope) if is_printed(alloc, &Text(envelope), *line) => {}
-            _ => return false,
-        }
-    }
-    envelopes.len() == lines.len()
-}
-
-fn says(alloc: Global, out: Outbox, lines: &[&str]) -> bool {
-    let said = are_said(alloc, out.as_slice(), lines);
+fn says(alloc: Global, out: Outbox, lines: &str) -> bool {
+    let said = are_printed(alloc, out.as_slice(), lines);
     drop(out);
     said
 }
 
 fn reads(tx: &mut Tx<'_, Open>, alloc: Global, key: Key, gets: &str) -> bool {
     match tx.read(key) {
-        Ok(envelope) => is_line(alloc, envelope, gets),
+        Ok(envelope) => {
+            let printed = envelope.is_line(alloc, gets);
+            drop(envelope);
+            printed
+        }
         Err(fault) => is_printed(alloc, &fault, gets),
     }
 }
@@ -214,7 +199,7 @@ fn goes_on(tx: &mut Tx<'_, Open>, alloc: Global, does: &[(Does, &str)]) -> bool 
     went
 }
 
-fn gives_up<S: Ongoing>(tx: Tx<'_, S>, alloc: Global, lines: &[&str]) -> bool {
+fn gives_up<S: Ongoing>(tx: Tx<'_, S>, alloc: Global, lines: &str) -> bool {
     match tx.give_up(alloc) {
         Ok(out) => says(alloc, out, lines),
         Err((_, tx)) => {
@@ -229,7 +214,7 @@ fn quits(tx: Tx<'_, Closing>, alloc: Global, story: &Story, at: u32) -> bool {
     match tx.quit(alloc) {
         Ok((tx, out)) => {
             let said = says(alloc, out, story.farewells) && says_again(&tx, alloc, story.closing);
-            takes_no_other(tx, at) && said
+            takes_its_end(tx, at) && said
         }
         Err((_, tx)) => {
             tx.spend();
@@ -247,46 +232,30 @@ fn end_of(number: u16, at: u32) -> Done {
     }
 }
 
-fn finished_at(at: u32) -> Finished {
-    if at == 0 {
-        Finished::Aborted
-    } else {
-        Finished::Committed(stamp(at))
-    }
-}
-
+// It takes no other's end, and then its own.
 fn takes_its_end<S: Closed>(tx: Tx<'_, S>, at: u32) -> bool {
-    let done = end_of(2, at);
-    match tx.take(&done) {
-        Ok(finished) => finished == finished_at(at),
-        Err((_, tx)) => {
-            tx.spend();
-            false
+    let other = end_of(3, at);
+    match tx.take(&other) {
+        Ok(_) => false,
+        Err((fault, tx)) => {
+            let own = end_of(2, at);
+            let took = match tx.take(&own) {
+                Ok(Finished::Aborted) => at == 0,
+                Ok(Finished::Committed(found)) => found == stamp(at),
+                Err((_, tx)) => {
+                    tx.spend();
+                    false
+                }
+            };
+            took && fault == Fault::Stranger
         }
     }
 }
 
-fn takes_no_other<S: Closed>(tx: Tx<'_, S>, at: u32) -> bool {
-    let done = end_of(3, at);
-    match tx.take(&done) {
-        Ok(_) => false,
-        Err((fault, tx)) => takes_its_end(tx, at) && fault == Fault::Stranger,
-    }
-}
-
-fn says_again<S: Closed>(tx: &Tx<'_, S>, alloc: Global, lines: &[&str]) -> bool {
+fn says_again<S: Closed>(tx: &Tx<'_, S>, alloc: Global, lines: &str) -> bool {
     match tx.again(alloc) {
         Ok(out) => says(alloc, out, lines),
         Err(_) => false,
-    }
-}
-
-fn goes_on_closed(tx: Tx<'_, Closing>, alloc: Global, story: &Story) -> bool {
-    match story.then {
-        Then::GivesUp => gives_up(tx, alloc, story.farewells),
-        Then::Hears => takes_no_other(tx, 200),
-        Then::Quits(None) => quits(tx, alloc, story, 0),
-        Then::Quits(Some(at)) => quits(tx, alloc, story, at),
     }
 }
 
@@ -294,18 +263,18 @@ fn closes(tx: Tx<'_, Open>, alloc: Global, story: &Story) -> bool {
     match tx.close(alloc) {
         Ok((tx, out)) => {
             let said = says(alloc, out, story.closing) && says_again(&tx, alloc, story.closing);
-            goes_on_closed(tx, alloc, story) && said
+            let ended = match story.then {
+                Then::GivesUp => gives_up(tx, alloc, story.farewells),
+                Then::Hears => takes_its_end(tx, 200),
+                Then::Quits(None) => quits(tx, alloc, story, 0),
+                Then::Quits(Some(at)) => quits(tx, alloc, story, at),
+            };
+            ended && said
         }
         Err((fault, tx)) => {
             gives_up(tx, alloc, story.farewells) && is_printed(alloc, &fault, story.refused)
         }
     }
-}
-
-fn is_told(alloc: Global, splits: &Splits, story: &Story) -> bool {
-    let mut tx = Tx::begin(alloc, id(2), splits);
-    let went = goes_on(&mut tx, alloc, story.does);
-    closes(tx, alloc, story) && went
 }
 
 // A new transaction of run 7 asks for `a` by this line.
@@ -355,7 +324,9 @@ pub fn go_over(wrong: &mut WrongRows, alloc: Global) {
         return wrong.unless(false, "no splits");
     };
     for story in &STORIES {
-        wrong.unless(is_told(alloc, &splits, story), story.name);
+        let mut tx = Tx::begin(alloc, id(2), &splits);
+        let went = goes_on(&mut tx, alloc, story.does);
+        wrong.unless(closes(tx, alloc, story) && went, story.name);
     }
     wrong.unless(are_drawn(alloc, &splits), "7.0 and 7.1");
     drop(splits);

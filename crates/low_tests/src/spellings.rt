@@ -1,5 +1,5 @@
 //! The bytes of records.
-use crate::checks::{Row, is_spelled};
+use crate::checks::{Row, go_over, is_spelled};
 use crate::text_logs::record_of;
 use made::WrongRows;
 use record::Record;
@@ -41,7 +41,7 @@ const READS: &[u8] = &[
     0x61, 1, 0x62, 0, 0,
 ];
 
-pub static VECTORS: [Vector; 7] = [
+static VECTORS: [Vector; 7] = [
     Vector {
         what: "an opening",
         line: "opened 1",
@@ -120,7 +120,7 @@ pub struct Read {
     pub is_record: bool,
 }
 
-pub static READ: [Read; 21] = [
+static READ: [Read; 21] = [
     Read {
         what: "no byte",
         bytes: &[],
@@ -258,4 +258,12 @@ impl Row for Read {
         };
         wrong.unless(right, self.what);
     }
+}
+
+pub fn tell_vectors(wrong: &mut WrongRows, rt: &HostRuntime) {
+    go_over(wrong, rt, "spellings", &VECTORS);
+}
+
+pub fn tell_read(wrong: &mut WrongRows, rt: &HostRuntime) {
+    go_over(wrong, rt, "bytes that are read", &READ);
 }

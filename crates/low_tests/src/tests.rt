@@ -1,4 +1,4 @@
-//! The tests, each of some areas.
+//! The tests, each of some areas. A body that names several tables costs much to prove, so most tables have a function of their own.
 use crate::checks::{end, go_over};
 use crate::{
     clocks, crowd, devices, disks, documents, drawers, drive_lines, figures, files, forgotten,
@@ -17,9 +17,10 @@ fn small_types_and_texts(rt: HostRuntime) {
     records::go_over(wrong.of("records"), alloc);
     messages::go_over(wrong.of("messages"), alloc);
     documents::go_over(wrong.of("settings"), alloc);
-    verdicts::go_over(wrong.of("verdicts"), alloc);
-    go_over(&mut wrong, &rt, "clocks", &clocks::BESIDE);
-    go_over(&mut wrong, &rt, "ceilings", &clocks::AHEAD);
+    verdicts::tell_cases(wrong.of("verdicts"), alloc);
+    verdicts::tell_renewed(wrong.of("verdicts of renewed logs"), alloc);
+    clocks::tell_readings(&mut wrong, &rt);
+    clocks::tell_ceilings(&mut wrong, &rt);
     wrong.of("safe times").unless(
         clocks::is_held_below(alloc),
         "below a promise until it is settled",
@@ -32,14 +33,14 @@ fn small_types_and_texts(rt: HostRuntime) {
 fn stories_and_what_is_shown(rt: HostRuntime) {
     let alloc = rt.alloc();
     let mut wrong = WrongRows::none(alloc);
-    go_over(&mut wrong, &rt, "the lock table", &tables::STORIES);
+    tables::tell_stories(&mut wrong, &rt);
     seated::go_over(wrong.of("rows"), alloc);
     sessions::go_over(wrong.of("sessions"), alloc);
     drawers::go_over(wrong.of("tickets"), &rt, alloc);
     looks::go_over(wrong.of("looks"), &rt, alloc);
     figures::go_over(wrong.of("figures"));
-    go_over(&mut wrong, &rt, "lines", &drive_lines::ROWS);
-    go_over(&mut wrong, &rt, "screens", &screens::ROWS);
+    drive_lines::tell_drives(&mut wrong, &rt);
+    screens::tell_screens(&mut wrong, &rt);
     terminals::go_over(wrong.of("terminals"), &rt, alloc);
     end(&rt, wrong);
 }
@@ -48,7 +49,7 @@ fn stories_and_what_is_shown(rt: HostRuntime) {
 fn crowded_lock_tables(rt: HostRuntime) {
     let alloc = rt.alloc();
     let mut wrong = WrongRows::none(alloc);
-    crowd::go_over(wrong.of("a thousand waiters"), alloc);
+    go_over(&mut wrong, &rt, "a thousand waiters", &crowd::CROWDS);
     plain::go_over(wrong.of("a plain lock table"), alloc);
     end(&rt, wrong);
 }
@@ -56,41 +57,31 @@ fn crowded_lock_tables(rt: HostRuntime) {
 #[test]
 fn disks_and_logs(rt: HostRuntime) {
     let mut wrong = WrongRows::none(rt.alloc());
-    go_over(&mut wrong, &rt, "failing calls", &devices::FAILING);
-    go_over(&mut wrong, &rt, "disks in memory", &devices::LIVES);
-    go_over(&mut wrong, &rt, "disks over files", &disks::ROWS);
-    go_over(&mut wrong, &rt, "spellings", &spellings::VECTORS);
-    go_over(&mut wrong, &rt, "bytes that are read", &spellings::READ);
-    go_over(&mut wrong, &rt, "the log in its file", &files::CASES);
-    go_over(&mut wrong, &rt, "files that are no logs", &files::REFUSED);
-    go_over(&mut wrong, &rt, "areas of logs", &files::AREAS);
+    devices::tell_failing(&mut wrong, &rt);
+    devices::tell_lives(&mut wrong, &rt);
+    disks::tell_files(&mut wrong, &rt);
+    spellings::tell_vectors(&mut wrong, &rt);
+    spellings::tell_read(&mut wrong, &rt);
+    files::tell_cases(&mut wrong, &rt);
+    files::tell_refused(&mut wrong, &rt);
+    files::tell_areas(&mut wrong, &rt);
     end(&rt, wrong);
 }
 
 #[test]
 fn turned_and_migrated_logs(rt: HostRuntime) {
     let mut wrong = WrongRows::none(rt.alloc());
-    go_over(
-        &mut wrong,
-        &rt,
-        "logs that are turned over",
-        &turned::TURNED,
-    );
+    turned::tell_turned(&mut wrong, &rt);
     wrong.unless(turned::ends(&rt), "a log without a slot left");
-    go_over(&mut wrong, &rt, "files of version 1", &migrated::MIGRATED);
-    go_over(&mut wrong, &rt, "migrations that fail", &migrated::FAILING);
+    migrated::tell_migrated(&mut wrong, &rt);
+    migrated::tell_failing(&mut wrong, &rt);
     end(&rt, wrong);
 }
 
 #[test]
 fn forgotten_versions(rt: HostRuntime) {
     let mut wrong = WrongRows::none(rt.alloc());
-    go_over(
-        &mut wrong,
-        &rt,
-        "versions behind a horizon",
-        &forgotten::FORGOTTEN,
-    );
+    forgotten::tell_forgotten(&mut wrong, &rt);
     go_over(
         &mut wrong,
         &rt,
@@ -103,43 +94,28 @@ fn forgotten_versions(rt: HostRuntime) {
 #[test]
 fn renewed_logs(rt: HostRuntime) {
     let mut wrong = WrongRows::none(rt.alloc());
-    go_over(&mut wrong, &rt, "spellings of heads", &heads::VECTORS);
-    go_over(&mut wrong, &rt, "bytes of heads", &heads::READ);
-    go_over(
-        &mut wrong,
-        &rt,
-        "what renewed logs determine",
-        &known::RENEWED,
-    );
-    go_over(
-        &mut wrong,
-        &rt,
-        "records that are handed on",
-        &handed::HANDED,
-    );
+    heads::tell_vectors(&mut wrong, &rt);
+    heads::tell_read(&mut wrong, &rt);
+    known::tell_renewed(&mut wrong, &rt);
+    handed::tell_handed(&mut wrong, &rt);
     end(&rt, wrong);
 }
 
 #[test]
 fn renewed_logs_that_are_opened(rt: HostRuntime) {
     let mut wrong = WrongRows::none(rt.alloc());
-    go_over(&mut wrong, &rt, "renewed logs", &renewed::TAKEN);
-    go_over(&mut wrong, &rt, "bases and versions", &renewed::MISPLACED);
-    go_over(&mut wrong, &rt, "what ended", &renewed::ENDED);
+    renewed::tell_taken(&mut wrong, &rt);
+    renewed::tell_misplaced(&mut wrong, &rt);
+    renewed::tell_ended(&mut wrong, &rt);
     end(&rt, wrong);
 }
 
 #[test]
 fn what_is_kept_of_logs(rt: HostRuntime) {
     let mut wrong = WrongRows::none(rt.alloc());
-    go_over(&mut wrong, &rt, "what logs determine", &known::CASES);
-    go_over(
-        &mut wrong,
-        &rt,
-        "logs that are opened again",
-        &left::REOPENED,
-    );
-    go_over(&mut wrong, &rt, "versions", &versioned::LOOKED);
+    known::tell_cases(&mut wrong, &rt);
+    left::tell_reopened(&mut wrong, &rt);
+    versioned::tell_looked(&mut wrong, &rt);
     go_over(&mut wrong, &rt, "drawn versions", &versioned::DRAWN);
     let installed = ledgers::is_installed(rt.alloc());
     wrong

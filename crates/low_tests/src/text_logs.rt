@@ -5,7 +5,7 @@ use made::shard;
 use record::{Committed, Prepared, Record};
 use std::alloc::Global;
 use texts::Text;
-use units::{Epoch, Install, Key, Keys, Parts, Stamp, TxnId, Value, Write, Writes};
+use units::{Epoch, Install, Key, Keys, Parts, ShardNo, Stamp, TxnId, Value, Write, Writes};
 
 /// Adds the records of a text to a log, one a line. Says whether each is printed as its line.
 pub fn reads(alloc: Global, text: &str, log: &mut Vec<Record>) -> bool {
@@ -48,23 +48,26 @@ fn pieces(text: &str, separator: char) -> [&str; 6] {
 fn read(alloc: Global, line: &str) -> Record {
     let words = pieces(line, ' ');
     let txn = txn_of(words[1]);
-    let epoch = Epoch::new(number(words[1])).unwrap_or(Epoch::first());
-    let coordinator = shard((number(words[2]) % 16) as u8);
-    let (first, second, third) = (stamp_of(words[1]), stamp_of(words[2]), stamp_of(words[3]));
     match words[0] {
-        "opened" => Record::Opened { epoch },
-        "ceiling" => Record::Ceiling { at: first },
-        "horizon" => Record::Horizon { at: first },
+        "opened" => Record::Opened {
+            epoch: epoch_of(words[1]),
+        },
+        "ceiling" => Record::Ceiling {
+            at: stamp_of(words[1]),
+        },
+        "horizon" => Record::Horizon {
+            at: stamp_of(words[1]),
+        },
         "prepare" => Record::Prepare(Prepared {
             txn,
-            coordinator,
-            at: third,
+            coordinator: coordinator_of(words[2]),
+            at: stamp_of(words[3]),
             reads: keys_of(alloc, words[4]),
             writes: writes_of(alloc, words[5]),
         }),
         "commit" => Record::Commit(Committed {
             txn,
-            at: second,
+            at: stamp_of(words[2]),
             parts: parts_of(words[3]),
             reads: keys_of(alloc, words[4]),
             writes: writes_of(alloc, words[5]),
@@ -73,30 +76,36 @@ fn read(alloc: Global, line: &str) -> Record {
             txn,
             outcome: outcome_of(words[2], words[3]),
         },
+        _ => of_head(alloc, &words),
+    }
+}
+
+// A record that a renewed log alone has, and else an abort.
+fn of_head(alloc: Global, words: &[&str; 6]) -> Record {
+    let txn = txn_of(words[1]);
+    match words[0] {
         "base" => Record::Base {
-            epoch,
-            floor: second,
-            horizon: third,
+            epoch: epoch_of(words[1]),
+            floor: stamp_of(words[2]),
+            horizon: stamp_of(words[3]),
         },
-        "version" => version_of(alloc, first, words[2]),
+        "version" => {
+            let Write { key, value } = write_of(alloc, words[2]);
+            let at = stamp_of(words[1]);
+            Record::Version(Install { key, at, value })
+        }
         "settled" => Record::Settled {
             txn,
-            at: second,
+            at: stamp_of(words[2]),
             parts: parts_of(words[3]),
         },
         "closed" => Record::Closed {
             txn,
-            coordinator,
+            coordinator: coordinator_of(words[2]),
             outcome: outcome_of(words[3], words[4]),
         },
         _ => Record::Abort { txn },
     }
-}
-
-// The version that a word writes.
-fn version_of(alloc: Global, at: Stamp, word: &str) -> Record {
-    let Write { key, value } = write_of(alloc, word);
-    Record::Version(Install { key, at, value })
 }
 
 // What two words tell of an end.
@@ -115,6 +124,14 @@ pub fn txn_of(word: &str) -> TxnId {
 
 fn stamp_of(word: &str) -> Stamp {
     Stamp::new(number(word)).unwrap_or(Stamp::zero())
+}
+
+fn epoch_of(word: &str) -> Epoch {
+    Epoch::new(number(word)).unwrap_or(Epoch::first())
+}
+
+fn coordinator_of(word: &str) -> ShardNo {
+    shard((number(word) % 16) as u8)
 }
 
 fn number(word: &str) -> u64 {

@@ -32,51 +32,42 @@ fn place(tokens: &[Held], number: u16) -> Option<usize> {
     None
 }
 
-/// What a transaction's request gets.
-pub fn requests(
+/// What a transaction does that stays in the table.
+#[derive(Clone, Copy)]
+pub enum Acts<'a> {
+    Asks(&'a [Lock]),
+    /// From now on nobody ends it.
+    BecomesFirm,
+    GivesItsWaitUp,
+    /// It is ready, and gets what it waits for.
+    GoesOn,
+}
+
+/// What comes of it, where the transaction has a token: of all but a request, that it is granted.
+pub fn act_out(
     table: &mut Table,
     alloc: Global,
     tokens: &mut [Held],
     number: u16,
-    needs: &[Lock],
+    act: Acts<'_>,
 ) -> Option<Asked> {
     for held in tokens {
         if held.txn() == id(number) && table.has(held.txn()) {
-            return match table.request(alloc, held, needs) {
-                Ok(asked) => Some(asked),
-                Err(_) => None,
-            };
+            match act {
+                Acts::Asks(needs) => return table.request(alloc, held, needs).ok(),
+                Acts::BecomesFirm => table.firm(held),
+                Acts::GivesItsWaitUp => table.withdraw(held),
+                Acts::GoesOn => {
+                    let goes = table.ready() == Some(held.txn()) && table.resume(held).is_ok();
+                    if !goes {
+                        return None;
+                    }
+                }
+            }
+            return Some(Asked::Granted);
         }
     }
     None
-}
-
-/// The transaction is ready, and gets what it waits for.
-pub fn goes_on(table: &mut Table, tokens: &mut [Held], number: u16) -> bool {
-    for held in tokens {
-        if held.txn() == id(number) {
-            return table.ready() == Some(held.txn()) && table.resume(held).is_ok();
-        }
-    }
-    false
-}
-
-/// From now on nobody ends the transaction.
-pub fn becomes_firm(table: &mut Table, tokens: &[Held], number: u16) {
-    for held in tokens {
-        if held.txn() == id(number) && table.has(held.txn()) {
-            table.firm(held);
-        }
-    }
-}
-
-/// The transaction waits no longer.
-pub fn gives_up(table: &mut Table, tokens: &[Held], number: u16) {
-    for held in tokens {
-        if held.txn() == id(number) && table.has(held.txn()) {
-            table.withdraw(held);
-        }
-    }
 }
 
 /// The transaction is released, if it has a token.

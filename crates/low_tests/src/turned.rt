@@ -1,7 +1,6 @@
 //! Logs that are turned over.
-use crate::checks::Row;
-use crate::devices::crash;
-use crate::files::{Place, open, put_lines};
+use crate::checks::go_over;
+use crate::files::{Case, Does, Place, open, put_lines};
 use crate::spellings::{COMMIT, OPENED, OUTCOME};
 use crate::text_logs::record_of;
 use disk::{Disk, Fate};
@@ -33,47 +32,33 @@ const NEW_WITH_ONE: &[Place] = &[(9312, SECOND), (9326, HIGHER), (9340, HIGHER)]
 
 const NEXT: &[Place] = &[(9341, SECOND), (9355, HIGHER)];
 
-/// A log of one commit that is turned over, while a call may be to fail, how this is answered, and what is left of it.
-#[derive(Clone, Copy)]
-pub struct Turned {
-    what: &'static str,
-    areas: &'static [&'static str],
-    call: Option<u64>,
-    answer: Result<(), Fault>,
-    fate: Option<Fate>,
-    // Records that are logged then.
-    more: &'static str,
-    places: &'static [Place],
-    gate: u64,
-    slot: u64,
-    // All that its first two slots hold then, and how many bytes the file has, where there was no crash.
-    slots: Option<(&'static [u8; 18], u64)>,
-}
-
-const WHOLE: Turned = Turned {
+// A log of one commit that is turned over.
+const WHOLE: Case = Case {
     what: "one turnover",
-    areas: &[AREA],
-    call: None,
-    answer: Ok(()),
+    lines: LINES,
+    does: &[(Does::TurnsOver(AREA), None, Ok(()))],
+    behind: "",
+    is_stopped: false,
     fate: None,
-    more: "",
-    places: NEW,
-    gate: 9340,
-    slot: 1,
+    bytes: None,
     slots: None,
+    places: NEW,
+    ends: Some((9340, 1)),
+    more: "",
+    places_with_more: NEW,
 };
 
-const FAILED: Turned = Turned {
+const FAILED: Case = Case {
     what: "a turnover that fails",
-    answer: Err(Fault::Device),
+    is_stopped: true,
     places: OLD,
-    gate: 9311,
-    slot: 0,
+    ends: Some((9311, 0)),
+    places_with_more: OLD,
     ..WHOLE
 };
 
-pub static TURNED: [Turned; 16] = [
-    Turned {
+static TURNED: [Case; 16] = [
+    Case {
         what: "one turnover, byte for byte",
         slots: Some((
             &[
@@ -83,103 +68,108 @@ pub static TURNED: [Turned; 16] = [
         )),
         ..WHOLE
     },
-    Turned {
+    Case {
         what: "a crash behind it",
         fate: Some(Fate::Old),
         ..WHOLE
     },
-    Turned {
+    Case {
         what: "an area of no record",
-        areas: &[""],
+        does: &[(Does::TurnsOver(""), None, Ok(()))],
         places: &[],
-        gate: 9312,
+        places_with_more: &[],
+        ends: Some((9312, 1)),
         ..WHOLE
     },
-    Turned {
+    Case {
         what: "an append behind it",
-        more: "ceiling 300",
+        behind: "ceiling 300",
         places: NEW_WITH_ONE,
-        gate: 9354,
+        places_with_more: NEW_WITH_ONE,
+        ends: Some((9354, 1)),
         ..WHOLE
     },
-    Turned {
+    Case {
         what: "two turnovers",
-        areas: &[AREA, AREA],
+        does: &[
+            (Does::TurnsOver(AREA), None, Ok(())),
+            (Does::TurnsOver(AREA), None, Ok(())),
+        ],
         places: NEXT,
-        gate: 9369,
-        slot: 2,
+        places_with_more: NEXT,
         slots: Some((
             &[
                 0xa5, 0, 0, 0, 0, 0, 0, 0x24, 0x60, 0xa5, 0, 0, 0, 0, 0, 0, 0x24, 0x7d,
             ],
             9370,
         )),
+        ends: Some((9369, 2)),
         ..WHOLE
     },
-    Turned {
+    Case {
         what: "the first call fails",
-        call: Some(0),
+        does: &[(Does::TurnsOver(AREA), Some(0), Err(Fault::Device))],
         fate: Some(Fate::New),
         ..FAILED
     },
-    Turned {
+    Case {
         what: "the second call fails",
-        call: Some(1),
+        does: &[(Does::TurnsOver(AREA), Some(1), Err(Fault::Device))],
         fate: Some(Fate::Filled(0xa5)),
         ..FAILED
     },
-    Turned {
+    Case {
         what: "the third call fails",
-        call: Some(2),
+        does: &[(Does::TurnsOver(AREA), Some(2), Err(Fault::Device))],
         fate: Some(Fate::New),
         ..FAILED
     },
-    Turned {
+    Case {
         what: "the fourth call fails, with its change lost",
-        call: Some(3),
+        does: &[(Does::TurnsOver(AREA), Some(3), Err(Fault::Device))],
         fate: Some(Fate::Old),
         ..FAILED
     },
-    Turned {
+    Case {
         what: "the fourth call fails, with its change filled",
-        call: Some(3),
+        does: &[(Does::TurnsOver(AREA), Some(3), Err(Fault::Device))],
         fate: Some(Fate::Filled(0x37)),
         ..FAILED
     },
-    Turned {
+    Case {
         what: "the fourth call fails, with its change kept",
-        call: Some(3),
-        answer: Err(Fault::Device),
+        does: &[(Does::TurnsOver(AREA), Some(3), Err(Fault::Device))],
         fate: Some(Fate::New),
+        is_stopped: true,
         ..WHOLE
     },
-    Turned {
+    Case {
         what: "the fourth call fails, and there is no crash",
-        call: Some(3),
+        does: &[(Does::TurnsOver(AREA), Some(3), Err(Fault::Device))],
         ..FAILED
     },
-    Turned {
+    Case {
         what: "the fifth call fails, with its change lost",
-        call: Some(4),
+        does: &[(Does::TurnsOver(AREA), Some(4), Err(Fault::Device))],
         fate: Some(Fate::Old),
         ..FAILED
     },
-    Turned {
+    Case {
         what: "the fifth call fails, with its change kept",
-        call: Some(4),
-        answer: Err(Fault::Device),
+        does: &[(Does::TurnsOver(AREA), Some(4), Err(Fault::Device))],
         fate: Some(Fate::New),
+        is_stopped: true,
         ..WHOLE
     },
-    Turned {
+    Case {
         what: "the fifth call fails, and there is no crash",
-        call: Some(4),
-        answer: Err(Fault::Device),
+        does: &[(Does::TurnsOver(AREA), Some(4), Err(Fault::Device))],
+        is_stopped: true,
         ..WHOLE
     },
-    Turned {
+    Case {
         what: "the sixth call fails, which is none of its own",
-        call: Some(5),
+        does: &[(Does::TurnsOver(AREA), Some(5), Ok(()))],
         fate: Some(Fate::Old),
         ..WHOLE
     },
@@ -203,8 +193,8 @@ fn area_of(alloc: Global, lines: &str) -> Option<Area> {
     Some(area)
 }
 
-// Turns a log over to an area of these records, while that call is to fail, where one is.
-fn turn(
+/// Turns a log over to an area of these records, while that call is to fail, where one is.
+pub fn turn(
     alloc: Global,
     log: &mut GateLog<SimDisk>,
     lines: &str,
@@ -218,21 +208,8 @@ fn turn(
     log.turn_over(staged)
 }
 
-// The log of the row, once it was turned over, and took more.
-fn is_turned(alloc: Global, log: &mut GateLog<SimDisk>, row: &Turned) -> bool {
-    if !put_lines(alloc, log, LINES) {
-        return false;
-    }
-    for lines in row.areas {
-        if turn(alloc, log, *lines, row.call) != row.answer {
-            return false;
-        }
-    }
-    put_lines(alloc, log, row.more) && log.is_stopped() == row.answer.is_err()
-}
-
-// The slots of the file, and how many bytes it has.
-fn has_slots(disk: &mut SimDisk, slots: &[u8; 18], len: u64) -> bool {
+/// Whether the first slots of the file hold this, and it has so many bytes.
+pub fn has_slots(disk: &mut SimDisk, slots: &[u8; 18], len: u64) -> bool {
     let size = disk.len();
     if size < 26 {
         return false;
@@ -241,32 +218,10 @@ fn has_slots(disk: &mut SimDisk, slots: &[u8; 18], len: u64) -> bool {
     disk.read_at(8, &mut found).is_ok() && found == *slots && size == len
 }
 
-impl Row for Turned {
-    fn tell(&self, wrong: &mut WrongRows, rt: &HostRuntime) {
-        let alloc = rt.alloc();
-        let Ok(mut log) = GateLog::format(SimDisk::new(alloc)) else {
-            return wrong.unless(false, self.what);
-        };
-        let turned = is_turned(alloc, &mut log, self);
-        let mut disk = log.into_disk();
-        if let Some(fate) = self.fate {
-            crash(alloc, &mut disk, &[fate]);
-        }
-        let slots = match self.slots {
-            Some((slots, len)) => has_slots(&mut disk, slots, len),
-            None => true,
-        };
-        let Ok(again) = open(alloc, disk, self.places) else {
-            return wrong.unless(false, self.what);
-        };
-        let ends = again.gate() == self.gate && again.slot() == self.slot;
-        drop(again);
-        wrong.unless(turned && slots && ends, self.what);
-    }
-}
-
-// A file whose slots are all open, each of which names an area of no record.
-fn all_open(alloc: Global) -> Option<SimDisk> {
+/// Behind the last slot there is no turnover, and it is no failure: of a file whose slots are all open, each of which names an area of no
+/// record.
+pub fn ends(rt: &HostRuntime) -> bool {
+    let alloc = rt.alloc();
     let mut disk = SimDisk::new(alloc);
     let mut bytes = [0; 9];
     bytes[0] = 0xa5;
@@ -278,25 +233,15 @@ fn all_open(alloc: Global) -> Option<SimDisk> {
         whole = whole && at <= disk.len() && disk.write_at(at, &bytes).is_ok();
     }
     whole = whole && FIRST_GATE <= disk.len() && disk.write_at(FIRST_GATE, &[0; 1040]).is_ok();
-    if whole {
-        Some(disk)
-    } else {
-        drop(disk);
-        None
-    }
-}
-
-/// Behind the last slot there is no turnover, and it is no failure.
-pub fn ends(rt: &HostRuntime) -> bool {
-    let alloc = rt.alloc();
-    let Some(disk) = all_open(alloc) else {
-        return false;
-    };
     let Ok(mut log) = open(alloc, disk, &[]) else {
         return false;
     };
     let spent = log.slot() == 1024 && turn(alloc, &mut log, AREA, None) == Err(Fault::TimeSpent);
     let goes_on = !log.is_stopped() && put_lines(alloc, &mut log, "opened 1");
     drop(log);
-    spent && goes_on
+    whole && spent && goes_on
+}
+
+pub fn tell_turned(wrong: &mut WrongRows, rt: &HostRuntime) {
+    go_over(wrong, rt, "logs that are turned over", &TURNED);
 }

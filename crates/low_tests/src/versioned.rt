@@ -1,7 +1,7 @@
 //! The versions of keys.
 ghost use Rattle.std.specs.Prelude.{◌≡◌, ◌<◌, []};
 
-use crate::checks::{Row, byte};
+use crate::checks::{Row, byte, go_over};
 use crate::horizons::forget_both;
 use counts::Count;
 use made::{WrongRows, key, stamp};
@@ -91,20 +91,32 @@ fn install_two(alloc: Global, versions: &mut Versions) -> bool
 /// versions stand up to there, and how many of all are compared at most.
 pub type Lookup = (u8, Option<u64>, Option<u8>, Option<(usize, u32)>);
 
-/// Versions, and what is found of them.
+/// Versions, the horizons below which they are forgotten one after another, versions that come behind that, and what is found.
+#[derive(Clone, Copy)]
 pub struct Looked {
-    what: &'static str,
-    versions: &'static [Version],
-    // Instead of them, a value of `1` is written to `a` and `z` is erased, by writes at 200.
-    written: bool,
-    lookups: &'static [Lookup],
+    pub what: &'static str,
+    pub versions: &'static [Version],
+    /// Instead of them, a value of `1` is written to `a` and `z` is erased, by writes at 200.
+    pub written: bool,
+    pub horizons: &'static [u64],
+    pub behind: &'static [Version],
+    pub lookups: &'static [Lookup],
 }
 
-pub static LOOKED: [Looked; 5] = [
+/// No version.
+pub const EMPTY: Looked = Looked {
+    what: "",
+    versions: &[],
+    written: false,
+    horizons: &[],
+    behind: &[],
+    lookups: &[],
+};
+
+static LOOKED: [Looked; 5] = [
     Looked {
         what: "a value from its timestamp on",
         versions: &[(b'a', 111, Some(b'1')), (b'z', 200, Some(b'2'))],
-        written: false,
         lookups: &[
             (b'a', Some(110), None, None),
             (b'a', Some(111), Some(b'1'), None),
@@ -115,16 +127,17 @@ pub static LOOKED: [Looked; 5] = [
             (b'z', None, Some(b'2'), None),
             (b'k', None, None, None),
         ],
+        ..EMPTY
     },
     Looked {
         what: "an erasure hides older values",
         versions: &[(b'a', 111, Some(b'1')), (b'a', 200, None)],
-        written: false,
         lookups: &[
             (b'a', Some(199), Some(b'1'), None),
             (b'a', Some(200), None, None),
             (b'a', None, None, None),
         ],
+        ..EMPTY
     },
     // Keys and timestamps without an order, one of them twice. Four versions are below 2^3.
     Looked {
@@ -136,7 +149,6 @@ pub static LOOKED: [Looked; 5] = [
             (b'a', 20, None),
             (b'a', 20, None),
         ],
-        written: false,
         lookups: &[
             (b'b', Some(30), None, Some((3, 3))),
             (b'a', Some(10), None, Some((1, 3))),
@@ -144,16 +156,15 @@ pub static LOOKED: [Looked; 5] = [
             (b'a', Some(20), None, Some((2, 3))),
             (b'b', Some(29), None, Some((2, 3))),
         ],
+        ..EMPTY
     },
     Looked {
         what: "no version",
-        versions: &[],
-        written: false,
         lookups: &[(b'b', Some(29), None, Some((0, 0)))],
+        ..EMPTY
     },
     Looked {
         what: "writes at one timestamp",
-        versions: &[],
         written: true,
         lookups: &[
             (b'a', Some(199), None, None),
@@ -161,6 +172,7 @@ pub static LOOKED: [Looked; 5] = [
             (b'z', None, None, None),
             (b'z', Some(200), None, Some((2, 2))),
         ],
+        ..EMPTY
     },
 ];
 
@@ -186,6 +198,16 @@ pub fn all_found(versions: &Versions, rows: &[Lookup]) -> bool {
     true
 }
 
+fn forget_all(versions: &mut Versions, horizons: &[u64]) -> bool {
+    for horizon in horizons {
+        let Ok(horizon) = Stamp::new(*horizon) else {
+            return false;
+        };
+        versions.forget(horizon);
+    }
+    true
+}
+
 impl Row for Looked {
     fn tell(&self, wrong: &mut WrongRows, rt: &HostRuntime) {
         let alloc = rt.alloc();
@@ -195,7 +217,10 @@ impl Row for Looked {
         } else {
             install_rows(alloc, &mut versions, self.versions)
         };
-        let shown = installed && all_found(&versions, self.lookups);
+        let shown = installed
+            && forget_all(&mut versions, self.horizons)
+            && install_rows(alloc, &mut versions, self.behind)
+            && all_found(&versions, self.lookups);
         drop(versions);
         wrong.unless(shown, self.what);
     }
@@ -405,4 +430,8 @@ impl Row for Drawn {
         drop(all);
         wrong.unless(agreed, self.what);
     }
+}
+
+pub fn tell_looked(wrong: &mut WrongRows, rt: &HostRuntime) {
+    go_over(wrong, rt, "versions", &LOOKED);
 }
