@@ -121,4 +121,3 @@ agrees_unturned file clock since counts_now old new was stopped facts gate slot 
             (moments.each image (counts_now new (clock old) image moments.later may));
       }));
     })
-
