@@ -324,19 +324,23 @@ fn is_left(rt: &HostRuntime, path: &str, left: &Left) -> bool {
     }
 }
 
+fn is_so(rt: &HostRuntime, folder: &Folder, row: &Asked) -> bool {
+    let path = match row.path {
+        Some(path) => path,
+        None => folder.log.as_str(),
+    };
+    env::set_current_dir(rt, folder.path.as_str()).is_ok()
+        && fs::create_dir(rt, "logs").is_ok()
+        && is_answered_so(rt, path, row)
+        && is_left(rt, path, &row.left)
+}
+
 impl Row for Asked {
     fn tell(&self, wrong: &mut WrongRows, rt: &HostRuntime) {
         let Some(folder) = Folder::new(rt) else {
             return wrong.unless(false, self.what);
         };
-        let path = match self.path {
-            Some(path) => path,
-            None => folder.log.as_str(),
-        };
-        let so = env::set_current_dir(rt, folder.path.as_str()).is_ok()
-            && fs::create_dir(rt, "logs").is_ok()
-            && is_answered_so(rt, path, self)
-            && is_left(rt, path, &self.left);
+        let so = is_so(rt, &folder, self);
         wrong.unless(folder.remove(rt) && so, self.what);
     }
 }

@@ -214,7 +214,7 @@ fn quits(tx: Tx<'_, Closing>, alloc: Global, story: &Story, at: u32) -> bool {
     match tx.quit(alloc) {
         Ok((tx, out)) => {
             let said = says(alloc, out, story.farewells) && says_again(&tx, alloc, story.closing);
-            takes_its_end(tx, at) && said
+            takes_no_other(tx, at) && said
         }
         Err((_, tx)) => {
             tx.spend();
@@ -232,23 +232,30 @@ fn end_of(number: u16, at: u32) -> Done {
     }
 }
 
-// It takes no other's end, and then its own.
+fn finished_at(at: u32) -> Finished {
+    if at == 0 {
+        Finished::Aborted
+    } else {
+        Finished::Committed(stamp(at))
+    }
+}
+
 fn takes_its_end<S: Closed>(tx: Tx<'_, S>, at: u32) -> bool {
-    let other = end_of(3, at);
-    match tx.take(&other) {
-        Ok(_) => false,
-        Err((fault, tx)) => {
-            let own = end_of(2, at);
-            let took = match tx.take(&own) {
-                Ok(Finished::Aborted) => at == 0,
-                Ok(Finished::Committed(found)) => found == stamp(at),
-                Err((_, tx)) => {
-                    tx.spend();
-                    false
-                }
-            };
-            took && fault == Fault::Stranger
+    let done = end_of(2, at);
+    match tx.take(&done) {
+        Ok(finished) => finished == finished_at(at),
+        Err((_, tx)) => {
+            tx.spend();
+            false
         }
+    }
+}
+
+fn takes_no_other<S: Closed>(tx: Tx<'_, S>, at: u32) -> bool {
+    let done = end_of(3, at);
+    match tx.take(&done) {
+        Ok(_) => false,
+        Err((fault, tx)) => takes_its_end(tx, at) && fault == Fault::Stranger,
     }
 }
 
@@ -265,7 +272,7 @@ fn closes(tx: Tx<'_, Open>, alloc: Global, story: &Story) -> bool {
             let said = says(alloc, out, story.closing) && says_again(&tx, alloc, story.closing);
             let ended = match story.then {
                 Then::GivesUp => gives_up(tx, alloc, story.farewells),
-                Then::Hears => takes_its_end(tx, 200),
+                Then::Hears => takes_no_other(tx, 200),
                 Then::Quits(None) => quits(tx, alloc, story, 0),
                 Then::Quits(Some(at)) => quits(tx, alloc, story, at),
             };
