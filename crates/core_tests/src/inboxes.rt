@@ -7,7 +7,8 @@ use crossbeam_channel::{Receiver, unbounded};
 use letters::{Letter, Post};
 use made::{WrongRows, id};
 use message::{Address, Answer, Envelope, Message};
-use node::{Gate, Served, start};
+use node::{Gate, Node, Served, start};
+use simdisk::SimDisk;
 use std::alloc::Global;
 use std::process::Abort;
 use std::sync::Wait;
@@ -142,19 +143,25 @@ fn inbox<R: Wait + Abort>(
     from
 }
 
-// Serves fresh nodes of the row until all letters are answered.
-fn serve<R: Threads + Wait + time::Clock + Sync + Abort>(
-    rt: &R,
-    alloc: Global,
-    gate: &Meeting<R>,
-    row: &Row,
-) {
+// Fresh nodes of the row.
+fn nodes_of<'r, R: Wait + Abort>(rt: &'r R, alloc: Global, row: &Row) -> Vec<Node<SimDisk, &'r R>> {
     let mut nodes = Vec::new(alloc);
     for (shard, _) in row.nodes {
         let (node, viewers) = fresh_node(rt, rt, alloc, plain(*shard, 0));
         drop(viewers);
         nodes.push(node).ok().expect(rt, row.name);
     }
+    nodes
+}
+
+// Serves the nodes until all letters are answered.
+fn serve<'r, R: Threads + Wait + time::Clock + Sync + Abort>(
+    rt: &R,
+    alloc: Global,
+    nodes: &[Node<SimDisk, &'r R>],
+    gate: &Meeting<R>,
+    row: &Row,
+) {
     let mut served = Vec::new(alloc);
     for (node, (from, key)) in nodes.iter().zip(row.nodes) {
         let post = Answers {
@@ -175,7 +182,6 @@ fn serve<R: Threads + Wait + time::Clock + Sync + Abort>(
         assert!(rt; pushed.is_ok(), "memory");
     }
     start(rt, served, gate).expect(rt, row.name);
-    drop(nodes);
 }
 
 // Each letter is answered, in order, and none was held in vain.
@@ -191,7 +197,9 @@ fn meet<R: Threads + Wait + time::Clock + Sync + Abort>(rt: &R, alloc: Global, r
             posted: AtomicU64::new(0),
             right: AtomicU64::new(0),
         };
-        serve(rt, alloc, &gate, row);
+        let nodes = nodes_of(rt, alloc, row);
+        serve(rt, alloc, nodes.as_slice(), &gate, row);
+        drop(nodes);
         let missed = gate.missed.load(Ordering::SeqCst);
         let posted = gate.posted.load(Ordering::SeqCst);
         let right = gate.right.load(Ordering::SeqCst);
