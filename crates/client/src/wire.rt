@@ -76,13 +76,6 @@ impl<'r, 's, R> Wire<'r, 's, R> {
         }
     }
 
-    /// From now on it waits so often 20 milliseconds in silence.
-    pub fn be_patient(&mut self, patience: u32)
-        ensures { self.new ≡ self.old }
-    {
-        self.patience = patience;
-    }
-
     // Its patience begins anew.
     pub(crate) fn listen_anew(&mut self)
         ensures { self.new ≡ self.old }

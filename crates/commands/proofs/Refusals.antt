@@ -1,6 +1,6 @@
 -- For what a command is refused, by what drives and what puts, and what it tells.
 use Rattle.std.proofs.Common.{◌≡◌, ◌⊎◌, ℕ, List, inl, inr, Result, Ok, Err, refl, subst, sym}
-use Rattle.std.specs.Prelude.{IfErr}
+use Rattle.std.specs.Prelude.{IfErr, IfOk, MatchResult}
 use Rattle.units.specs.declared.fault.Fault.{Fault}
 use Rattle.units.specs.declared.fault.Fault.TheVariants.{Memory}
 use Rattle.output.specs.declared.failure.Failure.{Failure}
@@ -76,6 +76,15 @@ module _ (drives puts : Fault → Type 0) where
   -- words that are no command may be refused for anything
   pub none_of : (asked : Result Asked Fault) (fault why : Fault) → asked ≡ Err why → MayRefuseTo drives puts asked fault
   none_of asked fault why is = subst (λ (r : Result Asked Fault). MayRefuseTo drives puts r fault) (sym is) tt
+
+-- a refusal that was passed on in place of a text is that of whoever was to tell it
+pub passed_on : {T : Type 0} (refuses : Fault → Type 0) (Printed : T → ℕ → Type 0) (failed same : Type 0) (told : Result T Fault) (printed : Result ℕ Failure)
+    → IfErr told refuses → IfOk told (λ t. MatchResult printed (Printed t) (λ failure. (failure ≡ Unwritten) × failed))
+    → IfErr told (λ fault. (printed ≡ Err (Refused fault)) × same) → IfErr printed (FailsAs refuses)
+passed_on refuses Printed failed same (Ok t) (Ok status) why ended passed = tt
+passed_on refuses Printed failed same (Ok t) (Err failure) why ended passed = inl ended.0
+passed_on refuses Printed failed same (Err fault) printed why ended passed =
+    subst (λ (r : Result ℕ Failure). IfErr r (FailsAs refuses)) (sym passed.0) (inr (fault, refl, why))
 
 -- who says why there is no verdict fails for that, or for a write
 pub fails_by : {T : Type 0} (drives : Fault → Type 0) (x : Result T Failure) (none : NoVerdict) → IsNotDriven drives none.fault

@@ -19,28 +19,26 @@ ghost use Rattle.commands.specs.Puts.{IsPutBy};
 ghost use Rattle.commands.specs.Replies.{Tells, TellsTo, reply_of, reply_to};
 ghost use Rattle.output.specs.Streams.{failures_of, fault_line, writer_of};
 
-use crate::compact::compact;
 use crate::drive_command::run_drive;
-use crate::dump::dump;
 use crate::engine::{Engine, Put};
-use crate::format::format;
 use crate::help::help;
 use crate::hints::{Hints, tell_place};
 use crate::inspect::inspect;
 use crate::key_commands::{get, history};
-use crate::migrate::migrate;
 use crate::play::play;
+use crate::printing::{done, print, print_text};
 use crate::put_command::put;
-use crate::stats_command::stats;
 use client::Ended;
 use command_line::{Command, command};
+use compaction::compact_file;
 use once::once;
 use output::{Failure, Stream};
 use settings::Settings;
+use showing::{dump_file, stats_files};
 use simdisk::SimDisk;
 use std::alloc::Global;
 use std::io::Write;
-use system::{Driven, Files, NoVerdict, System};
+use system::{Driven, Files, NoVerdict, System, format_file, migrate_file};
 use units::Fault;
 
 /// Carries a command line out, with what it asks of the system, on an empty disk and over standard output and standard error.
@@ -209,6 +207,7 @@ fn run<
     ensures counted { (fault : Fault) → result.0 ≡ Err (Refused fault)
         → failures_of out.new ≡ failures_of out.old }
 {
+    let files = &system.files;
     match asked {
         Command::Help => (help(out), disk),
         Command::Once {
@@ -217,18 +216,22 @@ fn run<
             first,
             second,
         } => once(alloc, key, value, &first, &second, disk, out),
-        Command::Format { file } => (format(alloc, file, &system.files), disk),
-        Command::Play { file } => (play(alloc, file, &system.files, out), disk),
+        Command::Format { file } => (done(format_file(alloc, files, file)), disk),
+        Command::Play { file } => (print(play(alloc, file, files), out), disk),
         Command::Inspect { lines, logs } => {
-            (inspect(alloc, lines, &logs, &system.files, out), disk)
+            (print(inspect(alloc, lines, &logs, files), out), disk)
         }
         Command::Drive { file } => (run_drive(alloc, file, system, out), disk),
-        Command::Dump { file } => (dump(alloc, file, &system.files, out), disk),
-        Command::History { dir, key } => (history(alloc, dir, &key, &system.files, out), disk),
-        Command::Get { dir, key, at } => (get(alloc, dir, &key, at, &system.files, out), disk),
-        Command::Put { dir, key, value } => (put(alloc, dir, &key, &value, system, out), disk),
-        Command::Stats { logs } => (stats(alloc, &logs, &system.files, out), disk),
-        Command::Migrate { old, new } => (migrate(alloc, old, new, &system.files), disk),
-        Command::Compact { old, new } => (compact(alloc, old, new, &system.files), disk),
+        Command::Dump { file } => (print_text(dump_file(alloc, files, file), out), disk),
+        Command::History { dir, key } => (print_text(history(alloc, dir, &key, files), out), disk),
+        Command::Get { dir, key, at } => {
+            (print_text(get(alloc, dir, &key, at, files), out), disk)
+        }
+        Command::Put { dir, key, value } => {
+            (print(put(alloc, dir, &key, &value, system), out), disk)
+        }
+        Command::Stats { logs } => (print_text(stats_files(alloc, files, &logs), out), disk),
+        Command::Migrate { old, new } => (done(migrate_file(alloc, files, old, new)), disk),
+        Command::Compact { old, new } => (done(compact_file(alloc, files, old, new)), disk),
     }
 }

@@ -2,21 +2,17 @@
 #![tactic(auto)]
 
 mod answers;
-mod compact;
 mod drive_command;
-mod dump;
 mod engine;
-mod format;
 mod help;
 mod hints;
 mod inspect;
 mod key_commands;
-mod migrate;
 mod places;
 mod play;
+mod printing;
 mod put_command;
 mod settings_text;
-mod stats_command;
 mod store_folder;
 
 pub use answers::answer;

@@ -11,11 +11,10 @@ ghost use Rattle.workers.specs.Summaries.{tried};
 ghost use Rattle.inspection.specs.Judged.{IsJudged};
 
 use crate::watched::Watched;
-use crossbeam_channel::Receiver;
 use disk::Disk;
 use fleet::{Closes, Opened, SteadyClock, Unopened, open_shards, run_of};
 use inspection::judge;
-use letters::{Gate, Inboxes, Letter, Mail, Post, Served, Serves, start_in};
+use letters::{Gate, Inboxes, Post, Served, Serves, start_in, to_serve};
 use progress::Watch;
 use settings::Settings;
 use std::alloc::Global;
@@ -374,7 +373,7 @@ fn run<
         drawers,
         viewers,
     };
-    let report = match served(rt, &shared, nodes, to_nodes, clock) {
+    let report = match to_serve(rt, alloc, &shared.network, nodes, to_nodes, clock) {
         Ok(served) => run_all(rt, &shared, course, served, staff, clock, gate, watch),
         Err(fault) => {
             drop(staff);
@@ -383,32 +382,6 @@ fn run<
     };
     drop(shared);
     report
-}
-
-// What each node is served with.
-fn served<'r, 's, 'n, N, R: Wait, C: Clock + Copy>(
-    rt: &'r R,
-    shared: &'s Shared,
-    nodes: &'n [N],
-    inboxes: Vec<Receiver<Letter>>,
-    clock: C,
-) -> Result<Vec<Served<'n, N, Mail<'r, 's, R>, C>>, Fault>
-    ensures { IfErr result (λ fault. fault ≡ Fault.Memory) }
-{
-    let mut all = Vec::new(shared.alloc);
-    for (node, inbox) in nodes.iter().zip(inboxes) {
-        let post = Mail {
-            rt,
-            network: &shared.network,
-        };
-        all.push(Served {
-            node,
-            inbox,
-            post,
-            clock,
-        })?;
-    }
-    Ok(all)
 }
 
 // Runs the nodes and the workers, who are told where a node has stopped.

@@ -16,4 +16,4 @@ pub use gate::Gate;
 pub use letter::{Letter, Post, Refused, Reply};
 pub use network::{Inboxes, Mail, Network};
 pub use serves::{Due, Serves, serve};
-pub use threads::{Served, start, start_in};
+pub use threads::{Served, start, start_in, to_serve};

@@ -4,8 +4,10 @@ ghost use Rattle.std.specs.Thread.{IsSync, IsSend};
 
 use crate::gate::Gate;
 use crate::letter::{Letter, Post};
+use crate::network::{Mail, Network};
 use crate::serves::{Serves, serve};
 use crossbeam_channel::Receiver;
+use std::alloc::Global;
 use std::sync::Wait;
 use std::thread::{Scope, Threads};
 use std::{thread, time};
@@ -19,6 +21,29 @@ pub struct Served<'a, N, P, C> {
     pub inbox: Receiver<Letter>,
     pub post: P,
     pub clock: C,
+}
+
+/// What each of some nodes is served with, over a network.
+pub fn to_serve<'r, 's, 'n, N, R: Wait, C: Clock + Copy>(
+    rt: &'r R,
+    alloc: Global,
+    network: &'s Network,
+    nodes: &'n [N],
+    inboxes: Vec<Receiver<Letter>>,
+    clock: C,
+) -> Result<Vec<Served<'n, N, Mail<'r, 's, R>, C>>, Fault>
+    ensures { IfErr result (λ fault. fault ≡ Fault.Memory) }
+{
+    let mut all = Vec::new(alloc);
+    for (node, inbox) in nodes.iter().zip(inboxes) {
+        all.push(Served {
+            node,
+            inbox,
+            post: Mail { rt, network },
+            clock,
+        })?;
+    }
+    Ok(all)
 }
 
 /// Starts a thread of a scope for each node, which serves it. It says whether all have started.

@@ -8,7 +8,6 @@ pub mod Formatting
 pub mod Happened
 pub mod Holding
 pub mod Living
-pub mod Newest
 pub mod Opening
 pub mod Replying
 pub mod Shared

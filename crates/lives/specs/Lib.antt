@@ -4,7 +4,6 @@ pub mod Held
 pub mod Inputs
 pub mod Lives
 pub mod Looks
-pub mod Newer
 pub mod Runs
 pub mod Shows
 pub mod Unopened

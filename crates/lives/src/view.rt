@@ -1,16 +1,14 @@
 //! What a shard shows at one moment.
 ghost use Rattle.std.specs.Prelude.{◌≡◌, ◌≤◌, true, IfOk, IfErr, length, take, drop};
 ghost use Rattle.std.specs.List.{list_all};
-ghost use Rattle.std.specs.Option.{option_copied};
 ghost use Rattle.units.specs.Versions.{at_time};
 ghost use Rattle.shard.specs.Core.{seen};
-ghost use Rattle.lives.specs.Newer.{newer, newest_upto};
 ghost use Rattle.lives.specs.Looks.{is_above, look_at};
 ghost use Rattle.lives.specs.Shows.{view_now};
 
 use shard::Core;
 use simdisk::SimDisk;
-use units::{Fault, Install, Key, Stamp, Value, copy_value, may_look};
+use units::{Fault, Install, Key, Stamp, Value, may_look};
 use world::Reply;
 
 /// A moment of a shard: where the versions of its core begin among all that the shard ever showed, how many there were, the
@@ -123,45 +121,13 @@ fn is_same_value(value: &Option<Value>, other: &Option<Value>) -> bool
     }
 }
 
-// The newest version of a key up to a time.
-fn newest_at<'a>(installs: &'a [Install], key: &Key, at: Stamp) -> Option<&'a Install>
-    ensures { option_copied result ≡ newest_upto installs.now key.now at }
-{
-    let mut best: Option<&Install> = None;
-    let mut left = installs.len();
-    while left > 0 {
-        left -= 1;
-        best = newer(&installs[left], best, key, at);
-    }
-    best
-}
-
-// The version itself, where it is of the key and of a time that has come, unless a later one is known.
-fn newer<'a>(
-    one: &'a Install,
-    best: Option<&'a Install>,
-    key: &Key,
-    at: Stamp,
-) -> Option<&'a Install>
-    ensures { option_copied result ≡ newer one.now key.now at (option_copied best.entry) }
-{
-    if one.at.micros() > at.micros() || one.key != *key {
-        return best;
-    }
-    match best {
-        Some(other) if one.at.micros() < other.at.micros() => Some(other),
-        _ => Some(one),
-    }
-}
-
-/// The value of a key at a time.
-#[tactic(auto, using(crate::proofs::Newest::value_of))]
+/// A copy of the value of a key at a time.
 pub fn value_at(installs: &[Install], key: &Key, at: Stamp) -> Result<Option<Value>, Fault>
     ensures value { IfOk result (λ value. value ≡ at_time installs.now key.now at) }
     ensures memory { IfErr result (λ fault. fault ≡ Fault.Memory) }
 {
-    match newest_at(installs, key, at) {
+    match units::value_at(installs, key, at) {
+        Some(value) => Ok(Some(value.copy()?)),
         None => Ok(None),
-        Some(install) => copy_value(&install.value),
     }
 }

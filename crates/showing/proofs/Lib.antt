@@ -2,7 +2,6 @@ mod Accepting
 mod Counted
 mod Doubting
 mod Ends
-mod Latest
 mod Numbered
 mod Summing
 mod Telling

@@ -2,7 +2,6 @@ pub mod Counting
 pub mod Dumps
 pub mod Histories
 pub mod HistoryTexts
-pub mod Newer
 pub mod Stats
 pub mod StatsTexts
 pub mod Whose

@@ -9,7 +9,6 @@ mod history_lines;
 mod kinds;
 mod learning;
 mod lines;
-mod newest;
 mod reading;
 mod shard_log;
 mod stats;

@@ -6,14 +6,13 @@ ghost use Rattle.recovery.specs.Recovered.{IsRebuilt, items};
 ghost use Rattle.showing.specs.Histories.{history_in, is_no_shard_log, log_in, value_in, value_with};
 
 use crate::learning::learn_all;
-use crate::newest::value_at;
 use crate::told::{Told, history};
 use disk::Disk;
 use gatelog::{Entry, GateLog};
 use memory::State;
 use recovery::rebuild;
 use std::alloc::Global;
-use units::{Fault, Key, Setup, Stamp, Value};
+use units::{Fault, Key, Setup, Stamp, Value, value_at};
 
 /// What the log of a shard says of a key: each write that was promised or decided and not aborted, in its order, with how it
 /// stands. A log that an opening of the shard refuses is refused for the same. Nothing is written.

@@ -6,6 +6,7 @@ use std::alloc::Global;
 use units::{Fault, Reason, Splits, Stride};
 
 /// How a store is parted over shards, and how it is served.
+#[derive(Drop)]
 pub struct Options {
     /// The keys that part the shards: one shard more than there are.
     pub splits: Splits,
@@ -27,20 +28,6 @@ pub struct Options {
     /// to be more than twice as long as it was behind the last turnover. Or `None`, never. So an opening reads no more than some twice of
     /// what is held. The file does not shrink, and takes 1,024 turnovers: of a few bytes they are soon spent, and then its log grows on.
     pub renew: Option<u64>,
-}
-
-impl Drop for Options {
-    fn drop(self) {
-        let Options {
-            splits: _,
-            stride: _,
-            epsilon: _,
-            clients: _,
-            patience: _,
-            keep: _,
-            renew: _,
-        } = self;
-    }
 }
 
 // A tenth of a second: some ten ceilings a second of a shard that is looked at.

@@ -14,7 +14,7 @@ use client::Stop;
 use crossbeam_channel::Receiver;
 use disk::Disk;
 use fleet::run_of;
-use letters::{Inboxes, Letter, Mail, Network, Post, Served, Serves, start_in};
+use letters::{Inboxes, Letter, Network, Post, Served, Serves, start_in, to_serve};
 use node::Node;
 use std::alloc::Global;
 use std::sync::Wait;
@@ -84,7 +84,7 @@ fn serve_nodes<
         from: last.micros(),
         reached: &reached,
     };
-    match served(rt, &shared, nodes, to_nodes, clock) {
+    match to_serve(rt, alloc, &shared.network, nodes, to_nodes, clock) {
         Ok(served) => work_beside(rt, &shared, served, crew, clock, options.patience, work),
         Err(fault) => {
             drop(crew);
@@ -129,30 +129,6 @@ fn shared_of(
         viewers,
     };
     Ok((shared, to_nodes, crew))
-}
-
-// What each node is served with.
-fn served<'r, 's, 'n, N, R: Wait, C: Clock + Copy>(
-    rt: &'r R,
-    shared: &'s Shared,
-    nodes: &'n [N],
-    inboxes: Vec<Receiver<Letter>>,
-    clock: C,
-) -> Result<Vec<Served<'n, N, Mail<'r, 's, R>, C>>, Fault> {
-    let mut all = Vec::new(shared.alloc);
-    for (node, inbox) in nodes.iter().zip(inboxes) {
-        let post = Mail {
-            rt,
-            network: &shared.network,
-        };
-        all.push(Served {
-            node,
-            inbox,
-            post,
-            clock,
-        })?;
-    }
-    Ok(all)
 }
 
 // The nodes on a thread each, beside the work of the clients. Where one has none, no client begins.

@@ -8,6 +8,7 @@ use units::{Run, ShardNo, Splits};
 
 /// What the clients of a store share: the run of their ids and the source of their numbers, the splits, the network, and which shards have
 /// stopped.
+#[derive(Drop)]
 pub struct Shared {
     pub alloc: Global,
     pub run: Run,
@@ -16,20 +17,6 @@ pub struct Shared {
     pub ids: Tickets,
     pub stop: Stop,
     pub stopped: Stopped,
-}
-
-impl Drop for Shared {
-    fn drop(self) {
-        let Shared {
-            alloc: _,
-            run: _,
-            splits: _,
-            network: _,
-            ids: _,
-            stop: _,
-            stopped: _,
-        } = self;
-    }
 }
 
 /// Which shards have stopped, since their device failed: a bit for each.

@@ -10,4 +10,5 @@ pub mod ListLaws
 pub mod InOrder
 pub mod Marked
 pub mod KeyOrder
+pub mod Latest
 pub mod ByIdHalves

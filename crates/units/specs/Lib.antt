@@ -11,6 +11,7 @@ pub mod LockLaws
 pub mod Locks
 pub mod Padded
 pub mod Masks
+pub mod Newer
 pub mod Parts
 pub mod Texts
 pub mod Value

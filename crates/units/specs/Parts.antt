@@ -47,14 +47,14 @@ pub mask_again : (mask : ℕ) → mask < 2 ^ 16 → mask_of (shards_of_mask mask
 mask_again mask h = mask_from 16 0 mask h ∙ one-mul mask
 
 -- no bit is set in 0
-shards_from-zero : (bits n : ℕ) → shards_from bits n 0 ≡ []
-shards_from-zero zero n = refl
-shards_from-zero (suc bits) n = shards_from-zero bits (suc n)
+pub no_shards : (bits n : ℕ) → shards_from bits n 0 ≡ []
+no_shards zero n = refl
+no_shards (suc bits) n = no_shards bits (suc n)
 
 -- one bit is one shard
 pub shards_from-bit : (bits n k : ℕ) → k < bits → shards_from bits n (2 ^ k) ≡ (n + k) ∷ []
 shards_from-bit zero n k h = absurd (omega (arith, h))
-shards_from-bit (suc bits) n zero h = ap (λ rest. n ∷ rest) (shards_from-zero bits (suc n)) ∙ ap (λ m. m ∷ []) (sym (add-zero n))
+shards_from-bit (suc bits) n zero h = ap (λ rest. n ∷ rest) (no_shards bits (suc n)) ∙ ap (λ m. m ∷ []) (sym (add-zero n))
 shards_from-bit (suc bits) n (suc k) h =
     let bit : 2 ^ suc k % 2 ≡ 0 = ap (λ p. p % 2) (pow-suc 2 k) ∙ mul-mod_left (2 ^ k) 2 in
     let half : 2 ^ suc k / 2 ≡ 2 ^ k = ap (λ p. p / 2) (pow-suc 2 k) ∙ mul-div_cancel (2 ^ k) (omega arith) in

@@ -114,22 +114,24 @@ impl Parts {
 }
 
 // A shard is among those of some bits, from number n on.
+#[tactic(auto, using(crate::specs::Parts::no_shards))]
 fn has_from(mask: u16, bits: u32, n: u8, shard: u8) -> bool
     requires { bits + n ≡ 16 }
     ensures { result ≡ has (shards_from bits n mask) shard }
 {
-    if bits == 0 {
+    if bits == 0 || mask == 0 {
         return false;
     }
     (mask % 2 == 1 && shard == n) || has_from(mask / 2, bits - 1, n + 1, shard)
 }
 
 // Another shard is among those of some bits, from number n on.
+#[tactic(auto, using(crate::specs::Parts::no_shards))]
 fn has_others_from(mask: u16, bits: u32, n: u8, shard: u8) -> bool
     requires { bits + n ≡ 16 }
     ensures { result ≡ list_any (λ k. not (nat_eq k shard)) (shards_from bits n mask) }
 {
-    if bits == 0 {
+    if bits == 0 || mask == 0 {
         return false;
     }
     (mask % 2 == 1 && n != shard) || has_others_from(mask / 2, bits - 1, n + 1, shard)

@@ -10,6 +10,7 @@ use units::{Fault, Run, Splits};
 
 /// What all workers share: the run of their ids, the splits, the network, and the sources of the ids' numbers and of the moments
 /// of lines.
+#[derive(Drop)]
 pub struct Shared {
     pub alloc: Global,
     pub run: Run,
@@ -20,30 +21,11 @@ pub struct Shared {
     pub stop: Stop,
 }
 
-impl Drop for Shared {
-    fn drop(self) {
-        let Shared {
-            alloc: _,
-            run: _,
-            splits: _,
-            network: _,
-            ids: _,
-            moments: _,
-            stop: _,
-        } = self;
-    }
-}
-
 /// What each worker has of its own to draw with.
+#[derive(Drop)]
 pub struct Drawers {
     pub ids: Vec<Drawer>,
     pub moments: Vec<Drawer>,
-}
-
-impl Drop for Drawers {
-    fn drop(self) {
-        let Drawers { ids: _, moments: _ } = self;
-    }
 }
 
 impl Shared {

@@ -6,14 +6,9 @@ use std::alloc::Global;
 use units::Fault;
 
 /// What the workers look through, by the worker's number: a viewer of each shard, by the shard's number.
+#[derive(Drop)]
 pub struct Viewers {
     pub by_worker: Vec<Vec<Viewer>>,
-}
-
-impl Drop for Viewers {
-    fn drop(self) {
-        let Viewers { by_worker: _ } = self;
-    }
 }
 
 impl Viewers {

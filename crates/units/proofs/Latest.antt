@@ -4,7 +4,7 @@ use Rattle.units.specs.Keys.{Bytes}
 use Rattle.units.specs.Lists.{follow}
 use Rattle.units.specs.Versions.{at_time, latest}
 use Rattle.units.specs.declared.writes.Install.{Install}
-use Rattle.showing.specs.Newer.{newest_upto}
+use Rattle.units.specs.Newer.{newest_upto}
 
 pub value_of : (installs : List Install) (k : Bytes) (at : ℕ) → at_time installs k at ≡ follow (newest_upto installs k at) (λ i. i.value)
 unfolding at_time latest

@@ -1,10 +1,10 @@
-//! The newest version of a key up to a time, among all that a log installs.
+//! The newest version of a key up to a time, among versions in any order.
 ghost use Rattle.std.specs.Prelude.{◌≡◌};
 ghost use Rattle.std.specs.Option.{option_copied};
 ghost use Rattle.units.specs.Versions.{at_time};
-ghost use Rattle.showing.specs.Newer.{newer, newest_upto};
+ghost use Rattle.units.specs.Newer.{newer, newest_upto};
 
-use units::{Install, Key, Stamp, Value};
+use crate::{Install, Key, Stamp, Value};
 
 /// The value of a key at a time.
 #[tactic(auto, using(crate::proofs::Latest::value_of))]
