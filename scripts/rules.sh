@@ -1,5 +1,6 @@
 #!/bin/sh
-# Checks the page of rules, docs/RULES.md: that each definition, function and wrong body that it names exists. And that no other files
+# Checks the page of rules, docs/RULES.md: that each definition, function and wrong body that it names exists; that the wrong bodies exist
+# which docs/CHEATS.md names with their crates; and that no document has the marks of a merge that was not ended. And that no other files
 # than these make an end of a transaction for which nothing was waited: of what a log tells, of the messages of a model, and of tests.
 set -eu
 cd "$(dirname "$(dirname "$(readlink -f "$0")")")"
@@ -7,6 +8,10 @@ missing=0
 say() {
     echo "rules: $*" >&2
     missing=1
+}
+# The wrong body stands at the gate or outside it.
+is_body() {
+    [ -f "crates/${1%/*}/must-fail/${1#*/}.edit" ] || [ -f "wrong-bodies/$1.edit" ]
 }
 rows=$(mktemp)
 trap 'rm -f "$rows"' EXIT
@@ -23,8 +28,16 @@ while IFS='|' read -r definition function body; do
     fi
     crate=${function%%::*}
     grep -qrE "fn ${function##*::}[(<]" "crates/$crate/src" || say "no function $function"
-    [ "$body" = - ] || [ -f "crates/${body%/*}/must-fail/${body#*/}.edit" ] || [ -f "wrong-bodies/$body.edit" ] || say "no wrong body $body"
+    [ "$body" = - ] || is_body "$body" || say "no wrong body $body"
 done <"$rows"
+for body in $(grep -oE '`[a-z_]+/[a-z0-9_]+`' docs/CHEATS.md | tr -d '`' | sort -u); do
+    case $body in
+    misuse/*) [ -f "$body.case" ] || say "no case $body" ;;
+    wrong-bodies/*) [ -d "$body" ] || say "no folder $body" ;;
+    *) is_body "$body" || say "no wrong body $body" ;;
+    esac
+done
+! grep -nE '^(<<<<<<<|=======$|>>>>>>>)' README.md docs/*.md bench/*.md crates/*/README.md >&2 || say "a merge was not ended"
 for file in $(grep -rlE '::said\b' crates/*/src | sort); do
     case $file in
     crates/message/src/message.rt | crates/memory/src/standing.rt | crates/world/src/begun.rt | crates/*_tests/src/*) ;;

@@ -149,7 +149,7 @@ fn open(
     ensures { OpensDisk disk setup.now call result.0 result.1 }
 {
     let mut disk = disk;
-    let told = match setup_with(alloc, setup.shard, &setup.splits, setup.stride, setup.book) {
+    let told = match setup.copy(alloc) {
         Ok(told) => told,
         Err(fault) => return (Life::Down(disk), Err(fault)),
     };
