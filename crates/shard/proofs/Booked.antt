@@ -5,7 +5,7 @@ use Rattle.std.proofs.Math.Logic.{∥∥₁_elim}
 use Rattle.std.proofs.Props.{props}
 use Rattle.std.proofs.lemmas.Bool.{cases_lt, false≢true}
 use Rattle.units.specs.declared.fault.Fault.{Fault}
-use Rattle.units.specs.declared.fault.Fault.TheVariants.{Memory as WantsMemory, Stopped, TimeSpent, BookFull}
+use Rattle.units.specs.declared.fault.Fault.TheVariants.{Memory as WantsMemory, Stopped, TimeSpent}
 use Rattle.units.specs.declared.setup.Setup.{Setup}
 use Rattle.units.specs.declared.setup.Book.{Book}
 use Rattle.units.specs.declared.setup.Book.TheVariants.{Off, On}
@@ -68,12 +68,6 @@ module _ {D : Type 0} (keeps obeys : Type 0) (file : D → File) (clock : D → 
   crowded-refused core memory p planned fault own h first =
       (refl, first-cause memory core.stopped core.gate p _ planned fault own (λ failed. absurd (omega (arith, failed.0))) h.cause first)
 
--- why there is no page
-abbrev pub NoPage : ℕ → BookView → Option Record → Fault → Type 0
-NoPage gate b logged fault =
-    ((fault ≡ WantsMemory) × (length b.pages < b.capacity))
-    ⊎ ((b.capacity ≤ length b.pages) × (((fault ≡ TimeSpent) × IsLogFull gate logged) ⊎ ((fault ≡ BookFull) × HasPlace gate logged)))
-
 -- ---- room, as its setup tells it
 
 pub room-in : (setup : Setup) (book : Option BookView) (b : BookView) (here : Stand) → ∥ IsBookOf setup book here ∥₁ → book ≡ Some b
@@ -99,6 +93,23 @@ pub room-or-full : (setting : Book) (book : Option BookView) → HasBookRoom set
 room-or-full Off book = inl tt
 room-or-full (On capacity) None = inl tt
 room-or-full (On capacity) (Some b) = cases_lt (length b.pages) capacity
+
+-- where a book had room for a page, or none is kept, there was room, as its setup tells it
+pub roomy : (setup : Setup) (book : Option BookView) (b : BookView) (here : Stand) → ∥ IsBookOf setup book here ∥₁ → book ≡ Some b
+    → length b.pages < b.capacity
+    → HasBookRoom setup.book book
+roomy setup book b here h is room =
+    ⊎_elim (λ has. has) (λ full. absurd (omega (arith, room, full-in setup book b here h is full))) (room-or-full setup.book book)
+
+pub roomy-without : (setting : Book) (book : Option BookView) → book ≡ None → HasBookRoom setting book
+roomy-without Off book is = tt
+roomy-without (On capacity) book is = subst (HasBookRoom (On capacity)) (sym is) tt
+
+-- want of memory was answered where this was so, and so was that
+pub in-order : (result : Result (List Envelope) Fault) (Had Has : Type 0) → (Had → Has) → IfErr result (λ fault. fault ≡ WantsMemory → Had)
+    → IfErr result (λ fault. fault ≡ WantsMemory → Has)
+in-order (Ok out) Had Has from order = tt
+in-order (Err fault) Had Has from order = λ want. from (order want)
 
 module _ {D : Type 0} (keeps obeys : Type 0) (file : D → File) (clock : D → ℕ) (since : D → ℕ → List ℕ → Type 0) (failures : D → ℕ) (plan : D → FailurePlan)
     (old new : CoreView D) (step : Stepped) where

@@ -46,7 +46,7 @@ pub(crate) fn book_of_records(
     }
 }
 
-// The page of an input that would be taken. Its memory is taken here.
+// The page of an input that would be taken. Its memory is taken here, once the log has room for the record and the book for the page.
 fn page_of<D: Disk>(
     machine: &Machine<D>,
     book: &Book,
@@ -59,14 +59,17 @@ fn page_of<D: Disk>(
         (λ page. page ≡ record { input = input.now; now = now.now; outbox = step.now.plan.outbox }) }
     ensures room { OnOk result (length book.now.pages < book.now.capacity) }
     ensures cause { IfErr result
-        (λ fault. ((fault ≡ Fault.Memory) × (length book.now.pages < book.now.capacity))
-        ⊎ ((book.now.capacity ≤ length book.now.pages)
-        × (((fault ≡ Fault.TimeSpent)
+        (λ fault. ((fault ≡ Fault.TimeSpent)
         × IsLogFull (seen_machine machine.now).gate step.now.logged)
-        ⊎ ((fault ≡ Fault.BookFull) × HasPlace (seen_machine machine.now).gate step.now.logged)))) }
+        ⊎ (HasPlace (seen_machine machine.now).gate step.now.logged
+        × (((fault ≡ Fault.BookFull) × (book.now.capacity ≤ length book.now.pages))
+        ⊎ ((fault ≡ Fault.Memory) × (length book.now.pages < book.now.capacity))))) }
 {
+    if !machine.has_place(step) {
+        return Err(Fault::TimeSpent);
+    }
     if book.is_full() {
-        return Err(machine.crowded(step));
+        return Err(Fault::BookFull);
     }
     Page::of(alloc, now, input, &step.plan.outbox)
 }
@@ -106,6 +109,9 @@ pub(crate) fn write_page<D: Disk>(
         (λ out. book.new ≡ with_page book.old
         (record { input = input.now; now = now.now; outbox = out })) }
     ensures kept { IfErr result (λ fault. book.new ≡ book.old) }
+    ensures order { IfErr result (λ fault. fault ≡ Fault.Memory
+        → HasPlace (seen_machine machine.old).gate step.logged
+        × (length book.old.pages < book.old.capacity)) }
 {
     let page = match page_of(machine, book, alloc, now, input, &step) {
         Ok(page) => page,

@@ -7,7 +7,7 @@ ghost use Rattle.disk.specs.Image.{MayLeave};
 ghost use Rattle.disk.specs.Moments.{LeavesOnly};
 ghost use Rattle.gatelog.specs.Frames.{next_gate, staged_bytes, IsFull};
 ghost use Rattle.gatelog.specs.Shown.{disk_of, gate_at, next_slot, is_stopped};
-ghost use Rattle.shard.specs.Armed.{FailsIn, GoesPast};
+ghost use Rattle.shard.specs.Armed.{FailsIn, GoesPast, HasPlace};
 ghost use Rattle.shard.specs.On.{IsLogFull};
 ghost use Rattle.shard.specs.Staged.{IsPlaced};
 ghost use Rattle.shard.specs.Logs.{records_in, and_logged, KeepsRecords, HoldsOldOrWith, BeginsAsBefore};
@@ -96,7 +96,9 @@ pub fn stage_record<D: Disk>(
     ensures failures_stay { D.failures (disk_of gate_log.old) ≤ D.failures (disk_of gate_log.new) }
     ensures time { LeavesOnly D.clock D.since (disk_of gate_log.old) (disk_of gate_log.new)
         (MayLeave (surface (D.file (disk_of gate_log.old)))) }
-    ensures cause { IfErr result (λ fault. (fault ≡ Fault.Memory)
+    ensures place { OnOk result (HasPlace (gate_at gate_log.old) item) }
+    ensures cause { IfErr result
+        (λ fault. ((fault ≡ Fault.Memory) × HasPlace (gate_at gate_log.old) item)
         ⊎ ((fault ≡ Fault.TimeSpent) × IsLogFull (gate_at gate_log.old) item)) }
 {
     match item {

@@ -83,15 +83,14 @@ impl<D: Disk> Machine<D> {
         self.gate_log.is_near_limit()
     }
 
-    // Why a step is refused where there is no room for its page: the log has none for its record, or else the book.
-    pub(crate) fn crowded(&self, step: &Step) -> Fault
-        ensures { ((result ≡ Fault.TimeSpent)
-            × IsLogFull (seen_machine self.now).gate step.now.logged)
-            ⊎ ((result ≡ Fault.BookFull) × HasPlace (seen_machine self.now).gate step.now.logged) }
+    // The log has room for the record of a step, where it has one.
+    pub(crate) fn has_place(&self, step: &Step) -> bool
+        ensures there { IsTrue result → HasPlace (seen_machine self.now).gate step.now.logged }
+        ensures full { IsFalse result → IsLogFull (seen_machine self.now).gate step.now.logged }
     {
         match &step.logged {
-            Some(item) if !self.gate_log.has_place(item) => Fault::TimeSpent,
-            Some(_) | None => Fault::BookFull,
+            Some(item) => self.gate_log.has_place(item),
+            None => true,
         }
     }
 
@@ -102,11 +101,13 @@ impl<D: Disk> Machine<D> {
             → KeepsRecords (surface (D.file (seen_machine self.old).disk))
             (records_in (surface (D.file (seen_machine self.old).disk)).seen) }
         requires due { IsDue self.old.state step }
-        ensures { HasStepped D.keeps_model D.obeys D.file D.clock D.since D.failures D.plan
+        ensures stepped { HasStepped D.keeps_model D.obeys D.file D.clock D.since D.failures D.plan
             (seen_machine self.old) (seen_machine self.new)
             (Does step.logged
             (carried (plan_of self.old.state.memory.rows step) self.old.state.memory)
             step.plan.outbox) result }
+        ensures order { IfErr result (λ fault. fault ≡ Fault.Memory
+            → HasPlace (seen_machine self.old).gate step.logged) }
     {
         let staged = match self.stage(alloc, step) {
             Ok(staged) => staged,

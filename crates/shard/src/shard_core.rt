@@ -15,6 +15,7 @@ ghost use Rattle.rows.specs.RowTable.{nth_prepared, nth_decided, decided_row, Is
 ghost use Rattle.units.specs.Lists.{gather};
 ghost use Rattle.protocol.specs.Showable.{IsShowable};
 ghost use Rattle.shard.specs.Agrees.{AgreesWithLog};
+ghost use Rattle.shard.specs.Armed.{HasPlace};
 ghost use Rattle.shard.specs.Booked.{HasEntered, IsCrowded, IsFirst, stand_of};
 ghost use Rattle.shard.specs.Due.{IsDue};
 ghost use Rattle.shard.specs.Logs.{records_in, KeepsRecords};
@@ -188,6 +189,9 @@ impl<D: Disk> Core<D> {
             (surface (D.file (seen self.new).disk)) input.now result }
         ensures entered { HasEntered (book_of self.old)
             (book_of self.new) now.now input.now result }
+        ensures order { IfErr result (λ fault. fault ≡ Fault.Memory
+            → HasPlace (seen self.old).gate step.logged
+            × HasBookRoom (seen self.old).setup.book (book_of self.old)) }
     {
         a_page_is_a_step();
         match &mut self.book {

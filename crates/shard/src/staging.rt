@@ -1,6 +1,7 @@
 //! A step is staged, and then committed: between the two all memory is taken, and nothing is written.
-ghost use Rattle.std.specs.Prelude.{IsFalse, IfOk, IfErr, Err};
+ghost use Rattle.std.specs.Prelude.{◌≡◌, IsFalse, IfOk, IfErr, Err};
 ghost use Rattle.disk.specs.File.{surface};
+ghost use Rattle.shard.specs.Armed.{HasPlace};
 ghost use Rattle.shard.specs.Due.{IsDue};
 ghost use Rattle.shard.specs.Logs.{records_in, KeepsRecords};
 ghost use Rattle.shard.specs.On.{HasStepped};
@@ -42,6 +43,8 @@ impl<D: Disk> Machine<D> {
             (λ fault. HasStepped D.keeps_model D.obeys D.file D.clock D.since D.failures D.plan
             (seen_machine self.old) (seen_machine self.new)
             (does step (seen_machine self.old).memory) (Err fault)) }
+        ensures order { IfErr result (λ fault. fault ≡ Fault.Memory
+            → HasPlace (seen_machine self.old).gate step.logged) }
     {
         ready_plans_can_be_carried();
         let Step { plan, logged } = step;
@@ -67,10 +70,11 @@ impl<D: Disk> Machine<D> {
     pub(crate) fn commit(&mut self, staged: StagedStep) -> Result<Outbox, Fault>
         requires { IsReady D.keeps_model D.obeys D.file D.has_room
             (seen_machine self.old) self.old.state staged }
-        ensures { HasStepped D.keeps_model D.obeys D.file D.clock D.since D.failures D.plan
+        ensures stepped { HasStepped D.keeps_model D.obeys D.file D.clock D.since D.failures D.plan
             (seen_unstaged (seen_machine self.old) staged) (seen_machine self.new)
             (does (step_staged staged) (seen_unstaged (seen_machine self.old) staged).memory)
             result }
+        ensures device { IfErr result (λ fault. fault ≡ Fault.Device) }
     {
         ready_plans_can_be_carried();
         alike_stays();

@@ -63,8 +63,8 @@ invariant_of-self g c =
       lasting = lasting_then k ready s c.requires.due c.requires.memory c.lasting_follows.ensures c.carry.new.self.facts facts c.args.self.now.lasting;
     }
 
-pub returns-in_default : goal.returns-in_default
-returns-in_default g c =
+pub returns-in_default-clause-stepped : goal.returns-in_default-clause-stepped
+returns-in_default-clause-stepped g c =
     let ready = c.args.self.now.state in
     let k = unstaged ready c.args.staged in
     let s = step_staged c.args.staged in
@@ -122,8 +122,8 @@ invariant_of-self-in-Err g c =
       lasting = subst (λ f. ∥ IsLasting f ∥₁) (sym c.undo.ensures.facts) c.args.self.now.lasting;
     }
 
-pub returns-in-Ok : goal.returns-in-Ok
-returns-in-Ok g c =
+pub returns-in-Ok-clause-stepped : goal.returns-in-Ok-clause-stepped
+returns-in-Ok-clause-stepped g c =
     let ready = c.args.self.now.state in
     let k = unstaged ready c.args.staged in
     let s = step_staged c.args.staged in

@@ -40,7 +40,7 @@ carry_out-requires-clause-due g c =
 pub returns-clause-memory : goal.returns-clause-memory
 returns-clause-memory g c =
     let k = c.args.state in
-    c.in-Ok-carry_out.ensures.done.2.1
+    c.in-Ok-carry_out.ensures.stepped.done.2.1
     ∙ opened_memory k (plan_of k.memory.rows c.serves-step.result) c.last-last.result _ c.requires.rebuilt c.last-last.ensures c.serves-step.ensures.plan
 
 pub returns-in-Err-carry_out-clause-refused : goal.returns-in-Err-carry_out-clause-refused
@@ -64,7 +64,7 @@ returns-in-Err-carry_out-clause-refused g c =
       armed = λ call obey keep is.
           subst (λ d. FailsIn call gate before (Some (Record.Opened (k.facts.epoch + 1))) (g.D.Disk.file d) fault) (sym back)
           (subst (λ l. FailsIn call gate before l (g.D.Disk.file left) fault) logged
-          ((c.in-Err-carry_out.ensures.written.armed call c.requires.running obey keep is).1));
+          ((c.in-Err-carry_out.ensures.stepped.written.armed call c.requires.running obey keep is).1));
     }
 
 pub returns-clause-appended : goal.returns-clause-appended
@@ -74,14 +74,14 @@ returns-clause-appended g c =
     let logged : c.serves-step.result.logged ≡ Some (Record.Opened (k.facts.epoch + 1)) =
     ap (λ (p : protocol.Plan). p.logged) c.serves-step.ensures.plan ∙ ap (λ n. Some (Record.Opened n)) epoch in
     appended_by g.D.Disk.keeps_model g.D.Disk.obeys g.D.Disk.file g.D.Disk.clock g.D.Disk.since g.D.Disk.failures g.D.Disk.plan
-    _ (seen_machine c.carry_out.new.self) (Record.Opened (k.facts.epoch + 1)) _ _ logged c.requires.running c.in-Ok-carry_out.ensures.done.1
-    (omega (arith, c.in-Ok.ensures.1, c.epoch.ensures)) c.in-Ok-carry_out.ensures.written
+    _ (seen_machine c.carry_out.new.self) (Record.Opened (k.facts.epoch + 1)) _ _ logged c.requires.running c.in-Ok-carry_out.ensures.stepped.done.1
+    (omega (arith, c.in-Ok.ensures.1, c.epoch.ensures)) c.in-Ok-carry_out.ensures.stepped.written
 
 pub returns-clause-slot : goal.returns-clause-slot
-returns-clause-slot g c = c.in-Ok-carry_out.ensures.written.slot
+returns-clause-slot g c = c.in-Ok-carry_out.ensures.stepped.written.slot
 
 pub returns-clause-setup : goal.returns-clause-setup
-returns-clause-setup g c = c.in-Ok-carry_out.ensures.written.setup
+returns-clause-setup g c = c.in-Ok-carry_out.ensures.stepped.written.setup
 
 pub returns-clause-facts : goal.returns-clause-facts
 returns-clause-facts g c =
@@ -89,7 +89,7 @@ returns-clause-facts g c =
     let epoch : c.in-Ok.epoch ≡ k.facts.epoch + 1 = c.in-Ok.ensures.0 ∙ ap (λ n. n + 1) c.epoch.ensures in
     let logged : c.serves-step.result.logged ≡ Some (Record.Opened (k.facts.epoch + 1)) =
     ap (λ (p : protocol.Plan). p.logged) c.serves-step.ensures.plan ∙ ap (λ n. Some (Record.Opened n)) epoch in
-    c.in-Ok-carry_out.ensures.done.2.0 ∙ ap (facts_after k.facts) logged
+    c.in-Ok-carry_out.ensures.stepped.done.2.0 ∙ ap (facts_after k.facts) logged
 
 pub returns-in-Err-clause-refused : goal.returns-in-Err-clause-refused
 returns-in-Err-clause-refused g c =
