@@ -1,5 +1,5 @@
 -- What contracts see of a file of the system.
-use Rattle.std.specs.Prelude.{◌≡◌, ◌+◌, ℕ, [], Result, MatchResult}
+use Rattle.std.specs.Prelude.{◌≡◌, ◌+◌, ℕ, Bool, [], Result, MatchResult}
 use Rattle.disk.specs.File.{File}
 use Rattle.units.specs.declared.fault.Fault.{Fault}
 use Rattle.units.specs.declared.fault.Fault.TheVariants.{Device}
@@ -12,6 +12,10 @@ file_length d = d.len
 -- how often a call has failed
 abbrev pub file_failures : FileDisk → ℕ
 file_failures d = d.failures.number
+
+-- a sync of it has failed since it was opened
+abbrev pub file_is_torn : FileDisk → Bool
+file_is_torn d = d.torn
 
 -- What stands for its bytes, of which no contract knows anything.
 abbrev pub unknown : File

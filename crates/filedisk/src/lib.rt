@@ -1,7 +1,7 @@
 //! A disk over a file of the system.
 #![tactic(auto)]
 
-ghost use Rattle.std.specs.Prelude.{◌≡◌, ◌+◌, IfOk, IfErr, OnOk, length, max};
+ghost use Rattle.std.specs.Prelude.{◌≡◌, ◌+◌, IfOk, IfErr, OnOk, IsTrue, false, length, max};
 
 mod names;
 
@@ -29,7 +29,7 @@ pub struct FileDisk {
 }
 
 impl FileDisk {
-    ghost use Rattle.filedisk.specs.State.{file_length, file_failures};
+    ghost use Rattle.filedisk.specs.State.{file_length, file_failures, file_is_torn};
 
     /// Makes a new file, which is empty. Its name is on the device when this returns: the folder that it stands in is synced
     /// (`fsync`). `Device` where there is something of that name, also a link, or where the system refuses; a file that was made
@@ -37,6 +37,7 @@ impl FileDisk {
     pub fn create<R: Files<File = File>>(rt: &R, path: &str) -> Result<FileDisk, Fault>
         ensures length { IfOk result (λ disk. file_length disk ≡ 0) }
         ensures failures { IfOk result (λ disk. file_failures disk ≡ 0) }
+        ensures whole { IfOk result (λ disk. file_is_torn disk ≡ false) }
         ensures cause { IfErr result (λ fault. fault ≡ Fault.Device) }
     {
         let file = locked(or_device(File::create_new(rt, path))?)?;
@@ -50,6 +51,7 @@ impl FileDisk {
     /// the one of that name.
     pub fn open<R: Files<File = File>>(rt: &R, path: &str) -> Result<FileDisk, Fault>
         ensures failures { IfOk result (λ disk. file_failures disk ≡ 0) }
+        ensures whole { IfOk result (λ disk. file_is_torn disk ≡ false) }
         ensures cause { IfErr result (λ fault. fault ≡ Fault.Device) }
     {
         plain(rt, path)?;
@@ -64,6 +66,7 @@ impl FileDisk {
     /// system refuses. Each write and each cut is refused, and a sync has nothing to do.
     pub fn open_to_read<R: Files<File = File>>(rt: &R, path: &str) -> Result<FileDisk, Fault>
         ensures failures { IfOk result (λ disk. file_failures disk ≡ 0) }
+        ensures whole { IfOk result (λ disk. file_is_torn disk ≡ false) }
         ensures cause { IfErr result (λ fault. fault ≡ Fault.Device) }
     {
         let file = or_device(File::open(rt, path))?;
@@ -75,6 +78,7 @@ impl FileDisk {
     fn over(file: File, len: u64, read_only: bool) -> FileDisk
         ensures length { file_length result ≡ len }
         ensures failures { file_failures result ≡ 0 }
+        ensures whole { file_is_torn result ≡ false }
     {
         FileDisk {
             file,
@@ -89,6 +93,7 @@ impl FileDisk {
     fn refused(&mut self) -> Fault
         ensures fault { result ≡ Fault.Device }
         ensures failures { file_failures self.new ≡ file_failures self.old + 1 }
+        ensures torn { file_is_torn self.new ≡ file_is_torn self.old }
     {
         self.failures.rise();
         if let Ok(metadata) = self.file.metadata() {
@@ -103,7 +108,8 @@ impl Disk for FileDisk {
     ghost use Rattle.disk.specs.File.{surface};
     ghost use Rattle.disk.specs.Image.{MayLeave};
     ghost use Rattle.disk.specs.declared.plan.FailurePlan.TheVariants.{Never};
-    ghost use Rattle.filedisk.specs.State.{Counts, file_length, file_failures, unknown};
+    ghost use Rattle.filedisk.specs.State.{Counts, file_length, file_failures, file_is_torn, unknown};
+    ghost use Rattle.units.specs.declared.fault.Fault.TheVariants.{Device};
 
     // What a file holds, no contract knows. So nothing that rests on the disk model is said of it here.
     ghost keeps_model = { ⊥ };
@@ -143,6 +149,7 @@ impl Disk for FileDisk {
     fn read_at(&mut self, at: u64, buffer: &mut [u8]) -> Result<(), Fault>
         ensures length { OnOk result (file_length self.new ≡ file_length self.old) }
         ensures cause { Counts (file_failures self.old) (file_failures self.new) result }
+        ensures torn { file_is_torn self.new ≡ file_is_torn self.old }
     {
         match self.file.read_exact_at(buffer, at) {
             Ok(()) => Ok(()),
@@ -154,6 +161,7 @@ impl Disk for FileDisk {
         ensures length { OnOk result
             (file_length self.new ≡ max (file_length self.old) (at + length bytes.now)) }
         ensures cause { Counts (file_failures self.old) (file_failures self.new) result }
+        ensures torn { file_is_torn self.new ≡ file_is_torn self.old }
     {
         let end = match at.checked_add(bytes.len() as u64) {
             Some(end) if !self.read_only => end,
@@ -171,6 +179,7 @@ impl Disk for FileDisk {
     fn cut(&mut self, len: u64) -> Result<(), Fault>
         ensures length { OnOk result (file_length self.new ≡ len) }
         ensures cause { Counts (file_failures self.old) (file_failures self.new) result }
+        ensures torn { file_is_torn self.new ≡ file_is_torn self.old }
     {
         if !self.read_only && self.file.set_len(len).is_ok() {
             self.len = len;
@@ -183,8 +192,12 @@ impl Disk for FileDisk {
     fn sync(&mut self) -> Result<(), Fault>
         ensures length { OnOk result (file_length self.new ≡ file_length self.old) }
         ensures cause { Counts (file_failures self.old) (file_failures self.new) result }
+        // A sync that failed is not forgotten: from then on each one fails.
+        ensures torn { IfErr result (λ fault. IsTrue (file_is_torn self.new)) }
+        ensures stays { IsTrue (file_is_torn self.old) → result ≡ Err Device }
+        ensures whole { OnOk result (file_is_torn self.new ≡ file_is_torn self.old) }
     {
-        if self.read_only || !self.torn && self.file.sync_all().is_ok() {
+        if !self.torn && (self.read_only || self.file.sync_all().is_ok()) {
             return Ok(());
         }
         self.torn = true;
