@@ -1,8 +1,11 @@
 #!/usr/bin/env python3
 """Counts the calls of fsync in drives over files: two for each record that is logged, two for each log that is made and one for each opening;
 and the folder is synced behind the last name that is given and before the first record is logged, also by a drive that finds all logs. A
-second drive goes on with the bytes that the first one left. It wants the program built and strace; without that it says so and ends well."""
+second drive goes on with the bytes that the first one left. Each file is written and synced in turn: what was written has been synced before
+more is. And `format` does so with the file that it makes, and syncs the folder then. It wants the program built and strace; without that it
+says so and ends well."""
 import os
+import re
 import sys
 import tempfile
 
@@ -16,6 +19,52 @@ def fail(why):
     sys.exit(1)
 
 
+class Opened:
+    """A file as one call opened it: its path, and what was done to it in order: written or cut (w), and synced (s)."""
+
+    def __init__(self, path):
+        self.path, self.order = path, ""
+
+
+# A write may be several calls, and one sync stands before the next. A sync that is left out, and made up for by two, is another order.
+TURNS = re.compile("s?(w+s)*s?")
+
+
+def calls_of(trace, name):
+    """The calls of a trace that came back well, in order, each with the file that it opens, writes, cuts or syncs. Files have their turns."""
+    calls, files, opened = [], {}, []
+    for call, begins in traced.events(trace):
+        if begins or call.result is None or call.result < 0:
+            continue
+        file = None
+        if call.name == "openat":
+            file = files[call.result] = Opened(call.text(0).decode())
+            opened.append(file)
+        elif call.name in ("fsync", "ftruncate", "pwrite64"):
+            file = files[call.number(0)]
+            file.order += "s" if call.name == "fsync" else "w"
+        calls.append((call, file))
+    for file in opened:
+        if "w" in file.order and not TURNS.fullmatch(file.order):
+            fail(f"{name}: {file.path} is not written and synced in turn, but {file.order}")
+    return calls
+
+
+def one_format(room):
+    """Formats a log. Its two writes are synced, and so is its folder, once it is there."""
+    folder = os.path.realpath(os.path.join(room, "made"))
+    os.mkdir(folder)
+    log, trace = os.path.join(folder, "shard-0.log"), os.path.join(room, "trace")
+    ran = traced.run(traced.by_strace([traced.PROGRAM, "format", log], trace=trace))
+    if ran.returncode or ran.stdout or ran.stderr:
+        fail(f"format: status {ran.returncode}, {ran.stdout!r}, {ran.stderr!r}")
+    calls = calls_of(trace, "format")
+    made = next((place for place, (call, file) in enumerate(calls) if call.name == "openat" and file.path == log), len(calls))
+    synced = [os.path.realpath(file.path) for call, file in calls[made:] if call.name == "fsync"]
+    if folder not in synced or synced.count(log) != 2:
+        fail(f"format: behind the making of {log} these are synced: {synced}")
+
+
 def one_drive(room, folder, settings, name):
     """Drives, and compares the calls with the records that were added."""
     before = [traced.records_in(path) for path in traced.logs_of(folder, SHARDS)]
@@ -24,14 +73,10 @@ def one_drive(room, folder, settings, name):
     answer = traced.drive(settings, trace=trace)
     if not answer.is_yes:
         fail(f"{name} did not go well: {answer}")
-    files, synced, order = {}, {}, []
-    for call, begins in traced.events(trace):
-        if begins or call.result is None or call.result < 0:
-            continue
-        if call.name == "openat":
-            files[call.result] = call.text(0).decode()
-        elif call.name == "fsync":
-            path = files[call.number(0)]
+    synced, order = {}, []
+    for call, file in calls_of(trace, name):
+        if call.name == "fsync":
+            path = file.path
             place = "folder" if os.path.realpath(path) == folder else os.path.basename(path).removesuffix(".new")
             synced[place] = synced.get(place, 0) + 1
             order.append(place)
@@ -66,7 +111,8 @@ def main():
         second, more = one_drive(room, folder, settings, "a drive that finds them")
         if (runs, more) != (1, 2):
             fail(f"the logs were opened {runs} and {more} times")
-        print(f"count_syncs: {first} and {second} syncs, two for each record; the second drive went on with run 2")
+        one_format(room)
+        print(f"count_syncs: {first} and {second} syncs, two for each record; the second drive went on with run 2; format synced its folder")
 
 
 main()

@@ -70,19 +70,23 @@ def run(words, seconds=120):
         return subprocess.CompletedProcess(words, 124, "", f"no end within {seconds} seconds")
 
 
+def by_strace(words, inject=None, trace=None, path=None):
+    """The same words by strace, where calls are injected into what they run or recorded."""
+    if not inject and not trace:
+        return words
+    strace = ["strace", "-f", "-qq", "-e", f"trace={CALLS}", "-o", trace or "/dev/null"]
+    if trace:
+        strace += ["-xx", "-s", "1100000"]
+    if path:
+        strace += ["-P", path]
+    if inject:
+        strace += ["-e", f"inject={inject}"]
+    return strace + words
+
+
 def drive(settings_file, inject=None, trace=None, path=None):
     """A drive, by strace where calls are injected into it or recorded."""
-    words = [PROGRAM, "drive", settings_file]
-    if inject or trace:
-        strace = ["strace", "-f", "-qq", "-e", f"trace={CALLS}", "-o", trace or "/dev/null"]
-        if trace:
-            strace += ["-xx", "-s", "1100000"]
-        if path:
-            strace += ["-P", path]
-        if inject:
-            strace += ["-e", f"inject={inject}"]
-        words = strace + words
-    return answer(words)
+    return answer(by_strace([PROGRAM, "drive", settings_file], inject, trace, path))
 
 
 def answer(words):

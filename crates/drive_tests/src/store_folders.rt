@@ -75,9 +75,19 @@ const TAKEN: Scene = Scene {
     ],
 };
 
+// What is made in an empty folder, and the drafts of that.
+static MADE: [&str; 6] = [
+    "store.toml",
+    "store.toml.new",
+    "shard-0.log",
+    "shard-0.log.new",
+    "shard-1.log",
+    "shard-1.log.new",
+];
+
 const SETTINGS: Option<Fault> = Some(Fault::BadRequest(Reason::Settings));
 
-static SCENES: [Scene; 20] = [
+static SCENES: [Scene; 23] = [
     TAKEN,
     Scene {
         what: "a store",
@@ -198,6 +208,43 @@ static SCENES: [Scene; 20] = [
             ("shard-1.log.new", b"SPN"),
             ("store.toml.new", b"version"),
         ],
+        ..TAKEN
+    },
+    // An opening refuses it. It may be a log that somebody cut off, so it is not made anew.
+    Scene {
+        what: "a store whose second log was emptied",
+        files: &[
+            ("store.toml", MANIFEST),
+            ("shard-0.log", OF_SHARD_0),
+            ("shard-1.log", b""),
+        ],
+        left: &[
+            ("store.toml", MANIFEST),
+            ("shard-0.log", OF_SHARD_0),
+            ("shard-1.log", b""),
+        ],
+        ..TAKEN
+    },
+    Scene {
+        what: "a store one of whose logs was emptied before it got its name",
+        files: &[
+            ("store.toml", MANIFEST),
+            ("shard-0.log", OF_SHARD_0),
+            ("shard-1.log.new", b""),
+        ],
+        left: &[
+            ("store.toml", MANIFEST),
+            ("shard-0.log", OF_SHARD_0),
+            ("shard-1.log", b""),
+        ],
+        ..TAKEN
+    },
+    Scene {
+        what: "an emptied log without a manifest",
+        files: &[("shard-0.log", OF_SHARD_0), ("shard-1.log", b"")],
+        refused: Some(Fault::NotALog),
+        left: &[("shard-0.log", OF_SHARD_0), ("shard-1.log", b"")],
+        gone: &["shard-0.log.new", "shard-1.log.new", "store.toml"],
         ..TAKEN
     },
     // An opening refuses it.
@@ -457,7 +504,48 @@ fn folders(rt: HostRuntime) {
     end(&rt, wrong);
 }
 
-// One worker, two transactions, over a folder.
+// While another has the lock of a folder its logs are refused, and nothing is made in it; then they are given.
+#[test]
+fn locked_folders(rt: HostRuntime) {
+    let folder = Folder::new(&rt).ok().expect(&rt, "a folder");
+    let path = path_of(&rt, &rt, &folder, ".");
+    let held = File::open(&rt, path.as_str())
+        .ok()
+        .expect(&rt, "the folder");
+    drop(path);
+    let mut right = held.try_lock().is_ok();
+    let (locked, _) = asked(&rt, &rt, &folder, u64::MAX);
+    for name in MADE {
+        right = right && lacks(&rt, &rt, &folder, name);
+    }
+    drop(held);
+    let (free, _) = asked(&rt, &rt, &folder, u64::MAX);
+    right = right && locked == Some(Fault::Device) && free.is_none();
+    assert!(rt; folder.remove(&rt) && right);
+}
+
+// The manifest of a new store.
+fn new_manifest(rt: &HostRuntime, test: &impl Abort) -> Vec<u8> {
+    let folder = Folder::new(rt).ok().expect(test, "a folder");
+    let (fault, _) = asked(rt, test, &folder, u64::MAX);
+    let manifest = folder.read(rt, "store.toml").ok();
+    let right = folder.remove(rt) && fault.is_none();
+    assert!(test; right);
+    manifest.expect(test, "a manifest")
+}
+
+// Each new store has a name of its own.
+#[test]
+fn names_of_stores(rt: HostRuntime) {
+    let first = new_manifest(&rt, &rt);
+    let second = new_manifest(&rt, &rt);
+    let same = first.as_slice() == second.as_slice();
+    drop(first);
+    drop(second);
+    assert!(rt; !same);
+}
+
+// One worker, four transactions, over a folder.
 fn settings_of(rt: &HostRuntime, test: &impl Abort, folder: &Folder) -> Settings {
     let dir = path_of(rt, test, folder, ".");
     let text = format!(in rt.alloc();
@@ -470,7 +558,14 @@ fn settings_of(rt: &HostRuntime, test: &impl Abort, folder: &Folder) -> Settings
     settings
 }
 
-// The logs behind a drive over a folder.
+// Whether a drive that printed this has committed something, and its verdict is yes.
+fn went_well(text: &str) -> bool {
+    text.starts_with("committed ")
+        && !text.starts_with("committed 0\n")
+        && text.ends_with("\nverdict yes\n")
+}
+
+// The logs behind a drive over a folder, which goes well.
 fn driven<R: Files<File = File> + RandomSource + Threads + Wait + time::Clock + Sync + Abort>(
     rt: &HostRuntime,
     test: &R,
@@ -478,18 +573,24 @@ fn driven<R: Files<File = File> + RandomSource + Threads + Wait + time::Clock + 
     settings: &Settings,
 ) -> [Vec<u8>; 2] {
     let driven = drive_shards(test, rt.alloc(), settings, None::<Vec<u8>>);
-    drop(driven.ok().expect(test, "a drive"));
+    let driven = driven.ok().expect(test, "a drive");
+    let well = went_well(&driven.text);
+    drop(driven);
+    assert!(test; well);
     let first = folder.read(rt, "shard-0.log").ok();
     let second = folder.read(rt, "shard-1.log").ok();
     [first.expect(test, "a log"), second.expect(test, "a log")]
 }
 
+// What a log has behind what it was.
+fn rest_of<'a>(before: &[u8], after: &'a [u8]) -> Option<&'a [u8]> {
+    let (_, kept) = before.split_last()?;
+    after.strip_prefix(kept)
+}
+
 // Whether a log begins with what it was, and goes on with the second opening.
 fn goes_on(before: &[u8], after: &[u8]) -> bool {
-    let Some((_, kept)) = before.split_last() else {
-        return false;
-    };
-    match after.strip_prefix(kept) {
+    match rest_of(before, after) {
         Some(rest) => rest.starts_with(b"\xa5\0\0\0\x09\x01\0\0\0\0\0\0\0\x02".as_slice()),
         None => false,
     }
@@ -509,4 +610,41 @@ fn a_second_drive(rt: HostRuntime) {
     drop(first_again);
     drop(second_again);
     assert!(rt; folder.remove(&rt) && went);
+}
+
+// Why a drive over a folder is refused, where it is.
+fn drive_refused<R: Files<File = File> + RandomSource + Threads + Wait + time::Clock + Sync>(
+    rt: &R,
+    alloc: Global,
+    settings: &Settings,
+) -> Option<Fault> {
+    match drive_shards(rt, alloc, settings, None::<Vec<u8>>) {
+        Ok(driven) => {
+            drop(driven);
+            None
+        }
+        Err(none) => {
+            let fault = none.fault;
+            drop(none);
+            Some(fault)
+        }
+    }
+}
+
+// A log that is emptied between two drives is refused, and no drive makes it anew; the other one loses nothing.
+#[test]
+fn an_emptied_log(rt: HostRuntime) {
+    let folder = Folder::new(&rt).ok().expect(&rt, "a folder");
+    let settings = settings_of(&rt, &rt, &folder);
+    let [first, second] = driven(&rt, &rt, &folder, &settings);
+    drop(second);
+    let put = folder.put(&rt, "shard-1.log", b"");
+    put.ok().expect(&rt, "an empty file");
+    let fault = drive_refused(&rt, rt.alloc(), &settings);
+    drop(settings);
+    let after = folder.read(&rt, "shard-0.log").ok().expect(&rt, "a log");
+    let kept = rest_of(&first, &after).is_some() && folder.has(&rt, "shard-1.log", b"");
+    drop(first);
+    drop(after);
+    assert!(rt; folder.remove(&rt) && fault == Some(Fault::NotALog) && kept);
 }

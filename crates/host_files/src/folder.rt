@@ -30,6 +30,11 @@ use units::{Fault, Reason, Splits};
 /// without a manifest gets one, and the logs that are missing, where each log that is there belongs to its shard and none has a number
 /// beyond them (`settings`). Until the manifest has its name on the device no log gets one, and nothing is written to a log that
 /// holds a record. Before this returns all names are on the device.
+///
+/// What is made here is a draft until it is whole: `shard-0.log.new`, `store.toml.new`. Where there is a manifest, a draft whose log is
+/// missing gets that name, whatever it holds. Where there is none, a draft that holds a record is the log, and gets its name too; one of
+/// version 1, that is damaged or another shard's is refused; and each other draft is taken away and made anew, also a link. A file that has the name of
+/// a log and is none, an empty one too, is never made anew: it is refused, here or as it is opened.
 pub fn logs_in<R: Files<File = File> + RandomSource>(
     rt: &R,
     alloc: Global,
