@@ -1,11 +1,14 @@
 -- What is told of a drive.
-use Rattle.std.specs.Prelude.{◌≡◌, ◌⊎◌, ◌≤◌, ℕ, List, None, IsTrue}
+use Rattle.std.specs.Prelude.{◌≡◌, ◌⊎◌, ◌≤◌, ℕ, List, length, None, IsTrue}
 use Rattle.units.specs.declared.fault.Fault.{Fault}
 use Rattle.units.specs.declared.fault.Fault.TheVariants.{Device, Memory}
+use Rattle.units.specs.declared.line.Line.{Line}
 use Rattle.units.specs.declared.line.Verdict.{Verdict}
 use Rattle.gatelog.specs.Log.{is_no_log}
 use Rattle.host_files.specs.Folders.{IsFolderFault}
+use Rattle.inspection.specs.Judged.{IsJudged}
 use Rattle.workers.specs.Refusals.{IsCutShort}
+use Rattle.workers.specs.Reports.{IsTally}
 use Rattle.workers.specs.declared.summary.Counts.{Counts}
 use Rattle.workers.specs.Summaries.{counts_text, summary_text, tried}
 use Rattle.fleet.specs.Unopened.{IsUnmade}
@@ -17,6 +20,17 @@ pub record IsTold (transactions : ℕ) (text : List ℕ) (verdict : Verdict) : T
   pub summary : text ≡ summary_text counts verdict
   pub all : tried counts ≡ transactions
   pub looks : counts.looks ≤ tried counts
+
+-- It is the summary of some counts and a verdict. The counts are those of the lines of so many transactions, and the verdict is that on
+-- these lines and on so many disks, where what these hold is known.
+pub record IsToldOf {D : Type 0} (keeps : Type 0) (seen : D → List ℕ) (shards transactions : ℕ) (text : List ℕ) (verdict : Verdict) : Type 0 where
+  pub counts : Counts
+  pub lines : List Line
+  pub disks : List D
+  pub summary : text ≡ summary_text counts verdict
+  pub tally : IsTally transactions counts lines
+  pub count : length disks ≡ shards
+  pub judged : keeps → IsJudged seen disks lines verdict
 
 -- it is the counts of so many transactions in all
 pub record AreCounts (transactions : ℕ) (text : List ℕ) : Type 0 where

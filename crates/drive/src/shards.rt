@@ -1,10 +1,12 @@
 //! Shards on the machine's threads.
-ghost use Rattle.std.specs.Prelude.{◌≡◌, ◌*◌, IfErr, IfOk, IfSome, IsOk, Some, string_bytes};
+ghost use Rattle.std.specs.Prelude.{◌≡◌, ◌+◌, ◌*◌, IfErr, IfOk, IfSome, IsOk, None, Some, length, string_bytes};
+ghost use Rattle.disk.specs.File.{surface};
+ghost use Rattle.simdisk.specs.State.{disk_file};
 ghost use Rattle.units.specs.declared.line.Verdict.{Verdict};
 ghost use Rattle.workers.specs.Course.{IsDrivable};
 ghost use Rattle.workers.specs.Summaries.{counts_text, summary_text};
 ghost use Rattle.workers.specs.declared.summary.Counts.{Counts};
-ghost use Rattle.drive.specs.Told.{AreCounts, HasNoVerdict, IsTold, IsUndriven, IsUnjudged};
+ghost use Rattle.drive.specs.Told.{AreCounts, HasNoVerdict, IsTold, IsToldOf, IsUndriven, IsUnjudged};
 
 use crate::engine::{self, clock_of, drive_counted};
 use disk::Disk;
@@ -32,6 +34,11 @@ pub fn drive_shards<
 >(rt: &R, alloc: Global, settings: &Settings, terminal: Option<W>) -> Result<Driven, NoVerdict>
     ensures told { IfOk result (λ driven. IsTold
         (settings.now.workers * settings.now.transactions)
+        (string_bytes driven.text) driven.verdict) }
+    // On disks in memory the verdict is that on what the shards left there.
+    ensures judged { settings.now.dir ≡ None → IfOk result (λ driven.
+        IsToldOf (Unit {0}) (λ disk. (surface (disk_file disk)).seen)
+        (length settings.now.splits + 1) (settings.now.workers * settings.now.transactions)
         (string_bytes driven.text) driven.verdict) }
     ensures counted { IfErr result (λ none. IfSome none.text (λ text.
         AreCounts (settings.now.workers * settings.now.transactions) (string_bytes text))) }
@@ -61,6 +68,11 @@ pub fn run<
 >(rt: &R, alloc: Global, settings: &Settings, gate: &G) -> Result<String, Fault>
     ensures told { IfOk result (λ text. (verdict : Verdict) × IsTold
         (settings.now.workers * settings.now.transactions) (string_bytes text) verdict) }
+    // On disks in memory the verdict is that on what the shards left there.
+    ensures judged { settings.now.dir ≡ None → IfOk result (λ text. (verdict : Verdict)
+        × IsToldOf (Unit {0}) (λ disk. (surface (disk_file disk)).seen)
+        (length settings.now.splits + 1) (settings.now.workers * settings.now.transactions)
+        (string_bytes text) verdict) }
     ensures refused { IfErr result HasNoVerdict }
     ensures limits { IsOk result
         → IsDrivable settings.now.workers settings.now.transactions settings.now.keys }
@@ -78,6 +90,11 @@ fn drive_watched<
 >(rt: &R, alloc: Global, settings: &Settings, gate: &G, watch: &W) -> Result<Driven, NoVerdict>
     ensures told { IfOk result (λ driven. IsTold
         (settings.now.workers * settings.now.transactions)
+        (string_bytes driven.text) driven.verdict) }
+    // On disks in memory the verdict is that on what the shards left there.
+    ensures judged { settings.now.dir ≡ None → IfOk result (λ driven.
+        IsToldOf (Unit {0}) (λ disk. (surface (disk_file disk)).seen)
+        (length settings.now.splits + 1) (settings.now.workers * settings.now.transactions)
         (string_bytes driven.text) driven.verdict) }
     ensures counted { IfErr result (λ none. IfSome none.text (λ text.
         AreCounts (settings.now.workers * settings.now.transactions) (string_bytes text))) }
@@ -113,6 +130,10 @@ fn drive_over<
     watch: &W,
 ) -> Result<Driven, NoVerdict>
     ensures told { IfOk result (λ driven. IsTold
+        (settings.now.workers * settings.now.transactions)
+        (string_bytes driven.text) driven.verdict) }
+    ensures judged { IfOk result (λ driven.
+        IsToldOf D.keeps_model (λ disk. (surface (D.file disk)).seen) (length logs.items)
         (settings.now.workers * settings.now.transactions)
         (string_bytes driven.text) driven.verdict) }
     ensures counted { IfErr result (λ none. IfSome none.text (λ text.
