@@ -1,3 +1,4 @@
+pub mod Faults
 pub mod Follow
 pub mod InStep
 pub mod Kept

@@ -1,3 +1,4 @@
+pub mod Faults
 pub mod InStep
 pub mod Opening
 pub mod Renewed

@@ -1,10 +1,11 @@
 //! The core of a shard, and the publisher of its board.
-ghost use Rattle.std.specs.Prelude.{◌≡◌, ◌<◌, ◌+◌, ◌++◌, true, length, IfOk, IfErr, OnOk};
+ghost use Rattle.std.specs.Prelude.{◌≡◌, ◌<◌, ◌+◌, ◌++◌, true, length, IfOk, IfErr, IsTrue, OnOk};
 ghost use Rattle.std.specs.Option.{option_copied};
 ghost use Rattle.board.specs.Board.{first_entries, horizon_on, is_board};
 ghost use Rattle.disk.specs.File.{surface};
+ghost use Rattle.desk.specs.Faults.{refuses_input, refuses_advance, refuses_horizon, refuses_turnover};
 ghost use Rattle.desk.specs.InStep.{InStep, IsInStep, IsNewBoard, AreOnBoard, IsNoDesk, StillShows, ShowsAll, HasAdvanced, HasNotAdvanced, HasTaken};
-ghost use Rattle.desk.specs.InStep.{HasKept, horizon_for as horizon_kept};
+ghost use Rattle.desk.specs.InStep.{HasKept, IsCount, horizon_for as horizon_kept};
 ghost use Rattle.desk.specs.Opening.{HasNoDesk, IsBegun};
 ghost use Rattle.desk.specs.Renewed.{HasTurnedOver, HasRenewed, unmeasured};
 ghost use Rattle.book.specs.Books.{IsBookOf};
@@ -19,7 +20,7 @@ use board::{Publisher, Told, Viewer, check_viewers, copy_install, start};
 use book::Book;
 use disk::Disk;
 use message::{Input, Outbox};
-use protocol::{step_keeps_showable, writes_ascend};
+use protocol::{own_refusals, step_keeps_showable, writes_ascend};
 use shard::Core;
 use std::alloc::Global;
 use std::sync::Wait;
@@ -67,6 +68,7 @@ impl<D: Disk + Drop, R: Wait + Drop> Desk<D, R> {
             (λ made. AreOnBoard n (seen core).setup (seen_desk made.0).board made.1.items) }
         ensures measure { IfOk result
             (λ made. (seen_desk made.0).measure ≡ unmeasured (seen core).gate) }
+        ensures count { OnOk result (IsCount n) }
         ensures refused { IfErr result
             (λ refused. IsNoDesk n refused.0 × (seen refused.1 ≡ seen core)
             × (book_of refused.1 ≡ book_of core)) }
@@ -125,6 +127,7 @@ impl<D: Disk + Drop, R: Wait + Drop> Desk<D, R> {
             (λ made. AreOnBoard n setup.now (seen_desk made.0).board made.1.items) }
         ensures measure { IfOk result (λ made. (seen_desk made.0).measure
             ≡ unmeasured (seen_desk made.0).core.gate) }
+        ensures count { OnOk result (IsCount n) }
         ensures refused { IfErr result
             (λ refused. HasNoDesk D.keeps_model D.obeys D.file D.clock D.since D.failures D.plan
             disk setup.now n refused.0 refused.1) }
@@ -152,7 +155,9 @@ impl<D: Disk + Drop, R: Wait + Drop> Desk<D, R> {
             (surface (D.file (seen_desk self.new).core.disk)) input.now result }
         ensures board { (seen_desk self.new).board ≡ (seen_desk self.old).board }
         ensures measure { (seen_desk self.new).measure ≡ (seen_desk self.old).measure }
+        ensures faults { IfErr result (λ fault. IsTrue (refuses_input fault)) }
     {
+        own_refusals();
         step_keeps_showable();
         writes_ascend(input);
         self.core.is_sound();
@@ -163,8 +168,9 @@ impl<D: Disk + Drop, R: Wait + Drop> Desk<D, R> {
     /// is served. Where that is above the core's horizon the core takes it as an input, and else nothing happens. The board stays: it is
     /// told by the next advance.
     pub fn keep_for(&mut self, now: &Reading, micros: u64) -> Result<(), Fault>
-        ensures { HasKept D.keeps_model D.obeys D.file D.clock D.since D.failures D.plan
+        ensures kept { HasKept D.keeps_model D.obeys D.file D.clock D.since D.failures D.plan
             (seen_desk self.old) (seen_desk self.new) now.now micros result }
+        ensures faults { IfErr result (λ fault. IsTrue (refuses_horizon fault)) }
     {
         let served = self.core.safe();
         let at = horizon_for(served, now.earliest(), micros);
@@ -180,8 +186,9 @@ impl<D: Disk + Drop, R: Wait + Drop> Desk<D, R> {
 
     /// Exactly the core's turnover of its log. The board and the book stay, and the log is measured.
     pub fn turn_over(&mut self) -> Result<(), Fault>
-        ensures { HasTurnedOver D.keeps_model D.obeys D.file D.clock D.since D.failures D.plan
+        ensures turned { HasTurnedOver D.keeps_model D.obeys D.file D.clock D.since D.failures D.plan
             (seen_desk self.old) (seen_desk self.new) result }
+        ensures faults { IfErr result (λ fault. IsTrue (refuses_turnover fault)) }
     {
         let before = self.core.gate();
         let turned = self.core.turn_over(self.alloc);
@@ -192,8 +199,9 @@ impl<D: Disk + Drop, R: Wait + Drop> Desk<D, R> {
     /// `keep_for`, and where that was not refused a turnover of the log, if this has grown: by so many bytes at least since its turnover was
     /// tried last, or the desk was made, and by more than it had behind the last turnover of the desk.
     pub fn renew(&mut self, now: &Reading, micros: u64, least: u64) -> Result<(), Fault>
-        ensures { HasRenewed D.keeps_model D.obeys D.file D.clock D.since D.failures D.plan
+        ensures renewed { HasRenewed D.keeps_model D.obeys D.file D.clock D.since D.failures D.plan
             (seen_desk self.old) (seen_desk self.new) now.now micros least result }
+        ensures faults { IfErr result (λ fault. IsTrue (refuses_horizon fault)) }
     {
         self.keep_for(now, micros)?;
         if !self.measure.has_grown(self.core.gate(), least) {
@@ -211,6 +219,7 @@ impl<D: Disk + Drop, R: Wait + Drop> Desk<D, R> {
         ensures refused { IfErr result
             (HasNotAdvanced D.keeps_model D.obeys D.file D.clock D.since D.failures D.plan
             (seen_desk self.old) (seen_desk self.new) now.now to) }
+        ensures faults { IfErr result (λ fault. IsTrue (refuses_advance fault)) }
     {
         let input = Input::Advance(to);
         let told = self.deliver(now, &input);
@@ -287,6 +296,7 @@ fn board_of<R: Wait + Drop>(
     ensures board { IfOk result
         (λ made. IsNewBoard made.0 (first_entries installs.now safe horizon)) }
     ensures viewers { IfOk result (λ made. AreOnBoard n setup.now made.0 made.1.items) }
+    ensures count { OnOk result (IsCount n) }
     ensures refused { IfErr result (λ fault. IsNoDesk n fault) }
 {
     check_viewers(n)?;

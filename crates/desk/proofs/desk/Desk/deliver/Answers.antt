@@ -2,6 +2,7 @@ use Rattle.std.proofs.Common.{◌++◌}
 use Rattle.shard.specs.Core.{seen, book_of}
 use Rattle.shard.specs.On.{step_of}
 use Rattle.shard.proofs.Booked.{room-or-full, went}
+use Rattle.desk.proofs.Faults.{taken_or_refused}
 use Rattle.desk.proofs.Kept.{kept_in_step}
 use Rattle.desk.proofs.desk.Desk.deliver.Goals as goal
 
@@ -18,3 +19,10 @@ invariant_of-self g c =
           (self.publisher.published ++ self.publisher.pending) stood.0 stood.1 self.in_step;
       horizon = self.horizon;
     }
+
+pub returns-clause-faults : goal.returns-clause-faults
+returns-clause-faults g c =
+    let self = c.args.self.now in
+    taken_or_refused g.D.Disk.keeps_model g.D.Disk.obeys g.D.Disk.file g.D.Disk.clock g.D.Disk.since g.D.Disk.failures g.D.Disk.plan
+    (seen self.core) (seen c.on.new.self) (book_of self.core) (book_of c.on.new.self) c.args.now.now c.on.result c.args.input.now c.own_refusals.ensures
+    (record { stepped = c.on.ensures.stepped; crowded = c.on.ensures.crowded; entered = c.on.ensures.entered })
