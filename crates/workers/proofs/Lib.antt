@@ -4,3 +4,4 @@ pub mod Staffs
 pub mod Buffered
 pub mod Turns
 pub mod Refusals
+mod Reading

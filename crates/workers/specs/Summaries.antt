@@ -17,6 +17,18 @@ one_if_committed Committed = 1
 one_if_committed Aborted = 0
 one_if_committed Unknown = 0
 
+-- among those that were aborted
+abbrev pub one_if_aborted : Ended → ℕ
+one_if_aborted Committed = 0
+one_if_aborted Aborted = 1
+one_if_aborted Unknown = 0
+
+-- and among those whose end is not known
+abbrev pub one_if_unknown : Ended → ℕ
+one_if_unknown Committed = 0
+one_if_unknown Aborted = 0
+one_if_unknown Unknown = 1
+
 -- a look that was answered counts once
 abbrev pub one_if : Bool → ℕ
 one_if true = 1

@@ -1,6 +1,6 @@
 //! What a drive comes to, and how that is printed.
 ghost use Rattle.std.specs.Prelude.{◌≡◌, ◌+◌, ◌<◌, ◌≤◌, ◌^◌, Some};
-ghost use Rattle.workers.specs.Summaries.{one_if, one_if_committed, tried};
+ghost use Rattle.workers.specs.Summaries.{one_if, one_if_aborted, one_if_committed, one_if_unknown, tried};
 
 use output::VerdictText;
 use progress::Ended;
@@ -35,6 +35,8 @@ impl Counts {
         requires { (tried self.old + 1 < 2 ^ 64) × (self.old.looks ≤ tried self.old) }
         ensures tried { tried self.new ≡ tried self.old + 1 }
         ensures committed { self.new.committed ≡ self.old.committed + one_if_committed ended }
+        ensures aborted { self.new.aborted ≡ self.old.aborted + one_if_aborted ended }
+        ensures unknown { self.new.unknown ≡ self.old.unknown + one_if_unknown ended }
         ensures looks { self.new.looks ≡ self.old.looks + one_if looked }
     {
         match ended {
@@ -55,6 +57,8 @@ impl Counts {
             × (self.old.looks + other.looks < 2 ^ 64) }
         ensures tried { tried self.new ≡ tried self.old + tried other }
         ensures committed { self.new.committed ≡ self.old.committed + other.committed }
+        ensures aborted { self.new.aborted ≡ self.old.aborted + other.aborted }
+        ensures unknown { self.new.unknown ≡ self.old.unknown + other.unknown }
         ensures looks { self.new.looks ≡ self.old.looks + other.looks }
     {
         self.committed += other.committed;

@@ -3,7 +3,7 @@ ghost use Rattle.std.specs.Prelude.{◌≡◌, ◌++◌, [], List, IfErr, MatchR
 ghost use Rattle.units.specs.declared.line.Line.{Line};
 ghost use Rattle.client.specs.Refusals.{IsReadHalt, IsStepHalt};
 ghost use Rattle.workers.specs.Refusals.{IsCutShort};
-ghost use Rattle.workers.specs.Turns.{IsReported, IsTransaction, asked_keys};
+ghost use Rattle.workers.specs.Turns.{AreNext, IsReported, IsTransaction, asked_keys};
 
 use crate::reads::Reads;
 use crate::worker::Worker;
@@ -49,6 +49,8 @@ impl<'s, R: Wait + time::Clock, C: Clock + Drop, W: Watch> Worker<'_, 's, R, C, 
         requires { reads.old.asked.items ≡ [] }
         ensures txn { reads.new.txn ≡ reads.old.txn }
         ensures keys { OnOk result (asked_keys reads.new.asked.items ≡ keys.now) }
+        ensures writes { OnOk result (AreNext reads.new.asked.items tx.old.client.writes
+            tx.new.client.writes) }
         ensures refused { IfErr result IsStepHalt }
     {
         match self.read_each(tx, reads, keys) {
@@ -68,6 +70,8 @@ impl<'s, R: Wait + time::Clock, C: Clock + Drop, W: Watch> Worker<'_, 's, R, C, 
         requires { reads.old.asked.items ≡ [] }
         ensures txn { reads.new.txn ≡ reads.old.txn }
         ensures keys { OnOk result (asked_keys reads.new.asked.items ≡ keys.now) }
+        ensures writes { OnOk result (AreNext reads.new.asked.items tx.old.client.writes
+            tx.new.client.writes) }
         ensures refused { IfErr result IsReadHalt }
     {
         self.wire.fetch(tx, keys)?;
