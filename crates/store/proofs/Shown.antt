@@ -1,6 +1,6 @@
 -- What a look that is answered shows.
 use Rattle.std.proofs.Common.{◌≡◌, ℕ, Bool, true, false, true≢false, nat_lt, List, [], ◌++◌, length, take, drop, Option, Some, None, Result, Ok, Err}
-use Rattle.std.proofs.Common.{refl, ap, sym, ◌∙◌, subst, append_assoc, append-nil}
+use Rattle.std.proofs.Common.{refl, ap, sym, ◌∙◌, subst, append_assoc, append-nil, inl, inr}
 use Rattle.std.specs.Prelude.{if◌then◌else◌, IfOk}
 use mathlib.Core.List.{IsPrefix}
 use Rattle.std.proofs.lemmas.List.{take_at}
@@ -15,7 +15,7 @@ use Rattle.board.specs.Look.{is_at_home}
 use Rattle.board.specs.Views.{LookedBy, Viewing}
 use Rattle.board.specs.declared.entry.BoardEntry.{BoardEntry}
 use Rattle.board.specs.declared.home.Home.{Home}
-use Rattle.store.specs.Views.{IsShown, seen_in}
+use Rattle.store.specs.Views.{IsShown, IsUnseen, seen_in}
 
 prefix_self : {A : Type 0} (xs : List A) → IsPrefix xs xs
 prefix_self xs = ([], append-nil xs)
@@ -110,3 +110,42 @@ pub if_shown : (old now after : Viewing) (key : Bytes) (at : ℕ) (buffer new : 
     → IsLater old now → LookedBy now key at buffer (Ok seen) after new → IfOk r (λ value. value ≡ seen_in seen new) → IfOk r (IsShown old key at)
 if_shown old now after key at buffer new seen (Ok value) later looked is = shown_by old now after key at buffer new seen value later looked is
 if_shown old now after key at buffer new seen (Err e) later looked is = tt
+
+-- why a look is refused
+abbrev fault_of : {A : Type 0} → Result A Fault → Fault → Fault
+fault_of (Ok x) f = f
+fault_of (Err e) f = e
+
+by_room : (value : Option Bytes) (room : ℕ) (fault : Fault) → Err fault ≡ value_seen value room → IsUnseen fault
+by_room None room fault is = absurd (true≢false (sym (ap is_ok is)))
+by_room (Some value) room fault is = by_length (nat_lt room (length value)) is
+  where
+    by_length : (b : Bool) → Err fault ≡ (if b then Err Room else Ok (Value (length value))) → IsUnseen fault
+    by_length true is = inr (inr (inr (inr (inl (ap (λ r. fault_of r fault) is)))))
+    by_length false is = absurd (true≢false (sym (ap is_ok is)))
+
+by_answer : (here old late : Bool) (value : Option Bytes) (room : ℕ) (fault : Fault)
+    → Err fault ≡ (if here then (if old then Err TooOld else (if late then Err NotYet else value_seen value room)) else Err Stranger) → IsUnseen fault
+by_answer true true late value room fault is = inr (inl (ap (λ r. fault_of r fault) is))
+by_answer true false true value room fault is = inl (ap (λ r. fault_of r fault) is)
+by_answer true false false value room fault is = by_room value room fault is
+by_answer false old late value room fault is = inr (inr (inr (inl (ap (λ r. fault_of r fault) is))))
+
+abbrev is_stopped : {A : Type 0} → Result A Fault → Bool
+is_stopped (Err Stopped) = true
+is_stopped _ = false
+
+stopped_is : (fault : Fault) → is_stopped {A = Seen} (Err fault) ≡ true → fault ≡ Stopped
+stopped_is Stopped is = refl
+stopped_is _ is = absurd (true≢false (sym is))
+
+pub unseen : (now after : Viewing) (key : Bytes) (at : ℕ) (buffer new : List ℕ) (result : Result Seen Fault) (fault : Fault)
+    → result ≡ Err fault → ((result ≡ Err Stopped → ⊥) → LookedBy now key at buffer result after new) → IsUnseen fault
+unseen now after key at buffer new result fault refused looked = by_kind (is_stopped {A = Seen} (Err fault)) refl
+  where
+    by_kind : (b : Bool) → is_stopped {A = Seen} (Err fault) ≡ b → IsUnseen fault
+    by_kind true is = inr (inr (inl (stopped_is fault is)))
+    by_kind false is =
+        let other = looked (λ stopped. true≢false (sym (ap is_stopped stopped) ∙ (ap is_stopped refused ∙ is))) in
+        by_answer (is_at_home now.home key) (nat_lt at (horizon_on after.seen)) (nat_lt (safe_on after.seen) at) (shown_at after.seen key at) (length buffer)
+        fault (sym refused ∙ other.answered)

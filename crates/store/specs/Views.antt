@@ -1,7 +1,9 @@
 -- What a view tells of a key.
-use Rattle.std.specs.Prelude.{◌≡◌, ℕ, true, false, nat_lt, List, take, Option, Some, None}
+use Rattle.std.specs.Prelude.{◌≡◌, ◌⊎◌, ℕ, true, false, nat_lt, List, take, Option, Some, None}
 use mathlib.Core.List.{IsPrefix}
 use Rattle.units.specs.Keys.{Bytes}
+use Rattle.units.specs.declared.fault.Fault.{Fault}
+use Rattle.units.specs.declared.fault.Fault.TheVariants.{Memory, NotYet, Room, Stopped, Stranger, TooOld}
 use Rattle.units.specs.declared.line.Seen.{Seen}
 use Rattle.units.specs.declared.line.Seen.TheVariants.{Absent, Value}
 use Rattle.board.specs.Board.{is_board, horizon_on, safe_on, shown_at}
@@ -26,3 +28,9 @@ pub record IsShown (viewer : Viewing) (key : Bytes) (at : ℕ) (value : Option B
   pub served : nat_lt (safe_on list) at ≡ false
   pub shows : shown_at list key at ≡ value
   pub stays : AnswerStays key at list
+
+-- why a view does not tell the value of a key: its shard does not serve the timestamp, has forgotten it, or gives no entry; there is no such shard,
+-- or the key is not its; or there is no room or no memory for the value
+abbrev pub IsUnseen : Fault → Type 0
+IsUnseen fault =
+    (fault ≡ NotYet) ⊎ ((fault ≡ TooOld) ⊎ ((fault ≡ Stopped) ⊎ ((fault ≡ Stranger) ⊎ ((fault ≡ Room) ⊎ (fault ≡ Memory)))))

@@ -1,5 +1,5 @@
 //! What clients are made of.
-ghost use Rattle.std.specs.Prelude.{◌≡◌, All, IfOk, IfSome};
+ghost use Rattle.std.specs.Prelude.{◌≡◌, All, IfErr, IfOk, IfSome};
 ghost use Rattle.store.specs.Attempts.{IsFresh};
 
 use crate::clients::Client;
@@ -63,9 +63,10 @@ pub fn clients_of<'s, R>(
     patience: u32,
 ) -> Result<Vec<Client<'s, R>>, Fault>
     requires { All (λ drawer. drawer.source ≡ shared.now.ids) crew.drawers.items }
-    ensures { IfOk result (λ clients. All (λ client.
+    ensures clients { IfOk result (λ clients. All (λ client.
         IsFresh shared.now.run shared.now.splits client
         × (client.drawing.source ≡ shared.now.ids)) clients.items) }
+    ensures refused { IfErr result (λ fault. fault ≡ Fault.Memory) }
 {
     let mut crew = crew;
     let mut clients = Vec::new(shared.alloc);

@@ -1,4 +1,6 @@
 //! Nodes whose shards keep the past for a while, and their logs short.
+ghost use Rattle.std.specs.Prelude.{◌≡◌, IfErr};
+
 use disk::Disk;
 use letters::{Due, Serves};
 use message::{Input, Outbox};
@@ -111,7 +113,9 @@ pub fn kept_nodes<'n, D: Disk + Drop, H: Wait + Drop>(
     nodes: &'n [Node<D, H>],
     keep: Option<u64>,
     renew: Option<u64>,
-) -> Result<Vec<Kept<'n, D, H>>, Fault> {
+) -> Result<Vec<Kept<'n, D, H>>, Fault>
+    ensures { IfErr result (λ fault. fault ≡ Fault.Memory) }
+{
     let mut kept = Vec::new(alloc);
     for node in nodes {
         kept.push(Kept {

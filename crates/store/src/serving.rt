@@ -1,5 +1,5 @@
 //! A store is served while its clients work.
-ghost use Rattle.std.specs.Prelude.{◌≡◌, All, IfOk};
+ghost use Rattle.std.specs.Prelude.{◌≡◌, ◌<◌, ◌≤◌, All, length, IfErr, IfOk};
 ghost use Rattle.store.specs.Attempts.{IsFresh};
 ghost use Rattle.std.specs.Thread.{IsSync, IsSend};
 
@@ -24,7 +24,7 @@ use std::{thread, time};
 use tickets::Tickets;
 use truetime::Clock;
 use units::{Epoch, Fault, Stamp};
-use workers::{MachineClock, Viewers};
+use workers::Viewers;
 
 /// Serves nodes, each on a thread, while `work` goes on with its clients. They keep the past for as long as the options say, and
 /// renew their logs as these say.
@@ -45,8 +45,11 @@ pub fn serve_kept<
     work: F,
 ) -> Result<T, Fault>
     requires { F.IsAlwaysCallable work }
-    ensures { IfOk result (λ answer. (clients : _) × F.post work clients answer
+    ensures clients { IfOk result (λ answer. (clients : _) × F.post work clients answer
         × All (IsFresh epoch options.now.splits) clients.items) }
+    ensures refused { 0 < length viewers.by_worker.items
+        → length viewers.by_worker.items ≤ 256
+        → IfErr result (λ fault. fault ≡ Fault.Memory) }
 {
     let kept = kept_nodes(alloc, nodes, options.keep, options.renew)?;
     serve_nodes(rt, alloc, options, epoch, last, &kept, viewers, work)
@@ -69,21 +72,16 @@ fn serve_nodes<
     work: F,
 ) -> Result<T, Fault>
     requires { F.IsAlwaysCallable work }
-    ensures { IfOk result (λ answer. (clients : _) × F.post work clients answer
+    ensures clients { IfOk result (λ answer. (clients : _) × F.post work clients answer
         × All (IsFresh epoch options.now.splits) clients.items) }
+    ensures refused { 0 < length viewers.by_worker.items
+        → length viewers.by_worker.items ≤ 256
+        → IfErr result (λ fault. fault ≡ Fault.Memory) }
 {
     let made = shared_of(alloc, options, epoch, nodes.len(), viewers);
     let (shared, to_nodes, crew) = made?;
     let reached = AtomicU64::new(last.micros());
-    let machine = MachineClock {
-        rt,
-        epsilon: options.epsilon,
-    };
-    let clock = StoreClock {
-        machine,
-        from: last.micros(),
-        reached: &reached,
-    };
+    let clock = StoreClock::new(rt, options, last, &reached);
     match to_serve(rt, alloc, &shared.network, nodes, to_nodes, clock) {
         Ok(served) => work_beside(rt, &shared, served, crew, clock, options.patience, work),
         Err(fault) => {
@@ -105,6 +103,9 @@ fn shared_of(
         (λ made. All (λ drawer. drawer.source ≡ made.0.ids) made.2.drawers.items) }
     ensures run { IfOk result (λ made. made.0.run ≡ epoch) }
     ensures splits { IfOk result (λ made. made.0.splits ≡ options.now.splits) }
+    ensures refused { 0 < length viewers.by_worker.items
+        → length viewers.by_worker.items ≤ 256
+        → IfErr result (λ fault. fault ≡ Fault.Memory) }
 {
     let clients = viewers.by_worker.len();
     let splits = options.splits.copy(alloc)?;
@@ -150,8 +151,9 @@ fn work_beside<
 ) -> Result<T, Fault>
     requires work { F.IsAlwaysCallable work }
     requires drawers { All (λ drawer. drawer.source ≡ shared.now.ids) crew.drawers.items }
-    ensures { IfOk result (λ answer. (clients : _) × F.post work clients answer
+    ensures clients { IfOk result (λ answer. (clients : _) × F.post work clients answer
         × All (IsFresh shared.now.run shared.now.splits) clients.items) }
+    ensures refused { IfErr result (λ fault. fault ≡ Fault.Memory) }
 {
     thread::scope(
         thread::scope_env(),
@@ -160,8 +162,9 @@ fn work_beside<
             requires threads { IsSync R.row × IsSync N.row × IsSend P.row }
             requires work { F.IsAlwaysCallable work }
             requires drawers { All (λ drawer. drawer.source ≡ shared.now.ids) crew.drawers.items }
-            ensures { IfOk result (λ answer. (clients : _) × F.post work clients answer
+            ensures clients { IfOk result (λ answer. (clients : _) × F.post work clients answer
                 × All (IsFresh shared.entry.now.run shared.entry.now.splits) clients.items) }
+            ensures refused { IfErr result (λ fault. fault ≡ Fault.Memory) }
         {
             let answer = if start_in(scope, rt, served, &shared.stopped) {
                 work_with(rt, shared, crew, clock, patience, work)
@@ -192,8 +195,9 @@ fn work_with<
 ) -> Result<T, Fault>
     requires work { F.IsAlwaysCallable work }
     requires drawers { All (λ drawer. drawer.source ≡ shared.now.ids) crew.drawers.items }
-    ensures { IfOk result (λ answer. (clients : _) × F.post work clients answer
+    ensures clients { IfOk result (λ answer. (clients : _) × F.post work clients answer
         × All (IsFresh shared.now.run shared.now.splits) clients.items) }
+    ensures refused { IfErr result (λ fault. fault ≡ Fault.Memory) }
 {
     let clients = clients_of(rt, shared, crew, clock, patience)?;
     Ok(work(clients))

@@ -1,6 +1,7 @@
 //! The clock of a store.
 ghost use Rattle.std.specs.Prelude.{◌≡◌, ◌≤◌, ⊤, IfSome};
 
+use crate::Options;
 use fleet::SteadyClock;
 use std::alloc::AllocError;
 use std::sync::atomic::AtomicU64;
@@ -12,9 +13,31 @@ use workers::MachineClock;
 /// The machine's clock, but one that does not go back (`SteadyClock`): its copies share the latest microsecond that was reached, and its readings
 /// end at a microsecond from which it goes on, or later.
 pub struct StoreClock<'a, R> {
-    pub machine: MachineClock<'a, R>,
-    pub from: u64,
-    pub reached: &'a AtomicU64,
+    machine: MachineClock<'a, R>,
+    from: u64,
+    reached: &'a AtomicU64,
+}
+
+impl<'a, R> StoreClock<'a, R> {
+    /// The clock of a store that is served by these options, behind logs whose greatest timestamp is `last`.
+    pub fn new(
+        rt: &'a R,
+        options: &Options,
+        last: Stamp,
+        reached: &'a AtomicU64,
+    ) -> StoreClock<'a, R>
+        ensures epsilon { result.machine.epsilon ≡ options.now.epsilon }
+        ensures from { result.from ≡ last }
+    {
+        StoreClock {
+            machine: MachineClock {
+                rt,
+                epsilon: options.epsilon,
+            },
+            from: last.micros(),
+            reached,
+        }
+    }
 }
 
 impl<R> Clone for StoreClock<'_, R> {

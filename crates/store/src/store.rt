@@ -1,6 +1,7 @@
 //! An open store.
-ghost use Rattle.std.specs.Prelude.{◌≡◌, ◌⊎◌, ◌<◌, ◌+◌, All, length, Err, IfErr, IfOk, IsOk};
-ghost use Rattle.fleet.specs.Unopened.{IsFirst, IsLastIn, IsRunOver, unopened_for};
+ghost use Rattle.std.specs.Prelude.{◌≡◌, ◌⊎◌, ◌<◌, ◌+◌, All, length, Err, IfErr, IfNone, IfOk, IsOk};
+ghost use Rattle.fleet.specs.Unopened.{IsFirst, IsLastIn, IsRunOver, IsUnmade, unopened_for};
+ghost use Rattle.host_files.specs.Folders.{IsFolderFault};
 ghost use Rattle.store.specs.Attempts.{IsFresh};
 
 use crate::Options;
@@ -33,7 +34,7 @@ pub struct Store<'r, R: Wait, D: Disk + Drop> {
 }
 
 impl<'r, R: Wait, D: Disk + Drop> Model for Store<'r, R, D> {
-    ghost use Rattle.std.specs.Prelude.{length};
+    ghost use Rattle.std.specs.Prelude.{◌<◌, ◌≤◌, length};
     ghost use Rattle.store.specs.Standing.{Standing};
 
     ghost Value = { Standing };
@@ -45,6 +46,9 @@ impl<'r, R: Wait, D: Disk + Drop> Model for Store<'r, R, D> {
       clients = length s.opened.viewers.by_worker.items;
       last = s.opened.last;
     } };
+
+    ghost invariant = { λ s. (0 < length s.opened.viewers.by_worker.items)
+        × (length s.opened.viewers.by_worker.items ≤ 64) };
 }
 
 impl<'r, R: Threads + Wait + Sync, D: Disk + Drop + Send> Store<'r, R, D> {
@@ -70,6 +74,7 @@ impl<'r, R: Threads + Wait + Sync, D: Disk + Drop + Send> Store<'r, R, D> {
         ensures limits { (1000000 < options.epsilon)
             ⊎ ((options.clients ≡ 0) ⊎ (64 < options.clients))
             → result ≡ Err (unopened_for (Fault.BadRequest Reason.Settings)) }
+        ensures unmade { IfErr result (λ unopened. IsUnmade unopened.fault) }
         ensures first { IfErr result
             (IsFirst D.keeps_model D.file options.splits options.stride disks.items) }
     {
@@ -102,6 +107,7 @@ impl<'r, R: Threads + Wait + time::Clock + Sync, D: Disk + Drop + Send> Store<'r
         ensures disks { IfOk result (λ done. length done.1.items ≡ self.entry.shards) }
         ensures clients { IfOk result (λ done. (clients : _) × F.post work clients done.0
             × All (IsFresh self.entry.run self.entry.splits) clients.items) }
+        ensures refused { IfErr result (λ fault. fault ≡ Fault.Memory) }
     {
         let Store {
             rt,
@@ -136,7 +142,18 @@ impl<'r, R: Files<File = File> + RandomSource + Threads + Wait + Sync> Store<'r,
         alloc: Global,
         folder: &str,
         options: Options,
-    ) -> Result<Store<'r, R, FileDisk>, Unopened> {
+    ) -> Result<Store<'r, R, FileDisk>, Unopened>
+        ensures splits { IfOk result (λ store. store.splits ≡ options.splits) }
+        ensures shards { IfOk result (λ store. store.shards ≡ length options.splits + 1) }
+        ensures clients { IfOk result (λ store. store.clients ≡ options.clients) }
+        ensures limits { (1000000 < options.epsilon)
+            ⊎ ((options.clients ≡ 0) ⊎ (64 < options.clients))
+            → IfOk result (λ _. ⊥) }
+        ensures refused { IfErr result (λ unopened. IsFolderFault unopened.fault
+            ⊎ IsUnmade unopened.fault) }
+        ensures whole { IfErr result
+            (λ unopened. IfNone unopened.shard (IsFolderFault unopened.fault)) }
+    {
         match logs_in(rt, alloc, folder, &options.splits) {
             Ok(logs) => Store::open(rt, alloc, logs, options),
             Err(fault) => {
@@ -152,7 +169,8 @@ fn closed<D: Disk + Drop, H: Wait + Drop>(
     alloc: Global,
     nodes: Vec<Node<D, H>>,
 ) -> Result<Vec<D>, Fault>
-    ensures { IfOk result (λ disks. length disks.items ≡ length nodes.items) }
+    ensures disks { IfOk result (λ disks. length disks.items ≡ length nodes.items) }
+    ensures refused { IfErr result (λ fault. fault ≡ Fault.Memory) }
 {
     let mut disks = Vec::new(alloc);
     for node in nodes {

@@ -1,8 +1,8 @@
 //! A view of the whole store at one timestamp.
-ghost use Rattle.std.specs.Prelude.{◌≡◌, Some, slice_get, IfOk};
+ghost use Rattle.std.specs.Prelude.{◌≡◌, ◌⊎◌, ◌≤◌, Some, length, slice_get, IfErr, IfOk};
 ghost use Rattle.units.specs.Keys.{shard_of};
 ghost use Rattle.board.specs.Views.{Viewing};
-ghost use Rattle.store.specs.Views.{IsShown, seen_in};
+ghost use Rattle.store.specs.Views.{IsShown, IsUnseen, seen_in};
 
 use crate::shared::Shared;
 use board::{Snapshot, Viewer};
@@ -41,6 +41,7 @@ impl<R: Wait + time::Clock> View<'_, '_, R> {
             × (slice_get self.old.viewers.now.items
             (shard_of self.old.shared.now.splits key.now) ≡ Some viewer)
             × IsShown viewer key.now self.old.at value) }
+        ensures refused { IfErr result IsUnseen }
     {
         let shard = self.shared.splits.shard_of(key);
         match self.viewers.get_mut(usize::from(shard.number())) {
@@ -64,7 +65,8 @@ fn shown<R: Wait + time::Clock>(
     at: Stamp,
     key: &Key,
 ) -> Result<Option<Value>, Fault>
-    ensures { IfOk result (IsShown viewer.old key.now snapshot) }
+    ensures shown { IfOk result (IsShown viewer.old key.now snapshot) }
+    ensures refused { IfErr result IsUnseen }
 {
     let shard = shared.splits.shard_of(key);
     let longest = Duration::from_millis(PAUSE);
@@ -81,7 +83,9 @@ fn shown<R: Wait + time::Clock>(
 
 // The value that a look put at the front of the buffer.
 fn value_seen(alloc: Global, seen: Seen, buffer: &[u8]) -> Result<Option<Value>, Fault>
-    ensures { IfOk result (λ value. value ≡ seen_in seen buffer.now) }
+    ensures value { IfOk result (λ value. value ≡ seen_in seen buffer.now) }
+    ensures refused { length buffer.now ≤ 4096
+        → IfErr result (λ fault. (fault ≡ Fault.Memory) ⊎ (fault ≡ Fault.Room)) }
 {
     match seen {
         Seen::Absent => Ok(None),

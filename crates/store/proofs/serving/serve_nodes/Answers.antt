@@ -3,8 +3,8 @@ use Rattle.std.proofs.lemmas.Result.{IfOk-weaker}
 use Rattle.store.proofs.serving.serve_nodes.Goals as goal
 
 -- the clients are of the run and the splits that they share
-pub returns-in-Ok : goal.returns-in-Ok
-returns-in-Ok g c =
+pub returns-in-Ok-clause-clients : goal.returns-in-Ok-clause-clients
+returns-in-Ok-clause-clients g c =
     IfOk-weaker c.work_beside.result _ _
     (λ answer worked. (
       worked.0,
@@ -15,4 +15,4 @@ returns-in-Ok g c =
         (worked.2 k d lt).2,
       ),
     ))
-    c.work_beside.ensures
+    c.work_beside.ensures.clients

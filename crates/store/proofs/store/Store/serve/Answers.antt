@@ -1,11 +1,11 @@
-use Rattle.std.proofs.Common.{◌∙◌, ap}
+use Rattle.std.proofs.Common.{◌∙◌, ap, arith}
 use Rattle.store.specs.Standing.{Standing}
 use Rattle.store.proofs.store.Store.serve.Goals as goal
 
 -- the clients are of the run and the splits of the store
 pub returns-in_ok-closed-in-Ok-clause-clients : goal.returns-in_ok-closed-in-Ok-clause-clients
 returns-in_ok-closed-in-Ok-clause-clients g c =
-    let worked = c.in-Ok.ensures in (
+    let worked = c.in-Ok.ensures.clients in (
       worked.0,
       worked.1,
       λ k d lt. (
@@ -14,3 +14,6 @@ returns-in_ok-closed-in-Ok-clause-clients g c =
         (worked.2 k d lt).2,
       ),
     )
+
+pub returns-in-Err-clause-refused : goal.returns-in-Err-clause-refused
+returns-in-Err-clause-refused g c = c.in-Err.ensures.refused c.self.invariant.0 (omega (arith, c.self.invariant.1))
