@@ -1,8 +1,8 @@
 #!/bin/sh
 # Runs programs with the N-th growth of their memory refused, for N = 1, 2, .. until none is. `refusing` has to ask again, and to end as
 # without. The program has to end as without, or with `1 Memory` behind what it printed so far: `once`, `play`, `inspect`, `migrate`, `compact`, and `drive`
-# at some of its growths, whose number depends on its threads. It wants both programs built (as the gate does), and the kit's own clang;
-# where there is none, nothing is tried.
+# at some of its growths, whose number depends on its threads. And a drive over files has to sync each write of a file before the next one, and
+# the last. It wants both programs built (as the gate does), and the kit's own clang; where there is none, nothing is tried.
 set -eu
 root=$(dirname "$(dirname "$(readlink -f "$0")")")
 clang=$(dirname "$(rt doc | head -n 1)")/toolchain/bin/clang
@@ -12,7 +12,9 @@ if [ ! -x "$clang" ]; then
 fi
 room=$(mktemp -d)
 trap 'rm -rf "$room"' EXIT
-"$clang" -O1 -shared -fPIC -nostdlib -fuse-ld=lld -o "$room/refuse.so" "$root/scripts/refuse.c"
+for source in refuse turns; do
+    "$clang" -O1 -shared -fPIC -nostdlib -fuse-ld=lld -o "$room/$source.so" "$root/scripts/$source.c"
+done
 program=$root/crates/shards/out/shards
 
 fail() {
@@ -100,8 +102,15 @@ keys = 10
 END
 mkdir "$room/logs"
 (cat "$room/settings" && echo "dir = \"$room/logs\"") >"$room/with.files"
-"$program" drive "$room/with.files" >/dev/null
 : >"$room/no.lines"
+
+# How many writes a drive over files makes, each of which is synced before the next one of its file.
+writes_in_turn() {
+    LD_PRELOAD=$room/turns.so "$program" drive "$room/with.files" 9>"$room/turns" >/dev/null
+    awk '$1 == "w" { if (open[$2]) bad = 1; open[$2] = 1; count++ }
+        $1 == "s" { open[$2] = 0 }
+        END { for (file in open) if (open[file]) bad = 1; print bad ? 0 : count + 0 }' "$room/turns"
+}
 
 # Version 1: Opened 1, and a closed gate.
 printf 'SPNLOG01\245\000\000\000\011\001\000\000\000\000\000\000\000\001\000' >"$room/old.log"
@@ -110,6 +119,13 @@ cp "$room/old.log" "$room/kept.log"
 # The same in version 2.
 "$program" migrate "$room/old.log" "$room/long.log"
 cp "$room/long.log" "$room/kept.long"
+
+# Two to make each log, and two for its opening.
+writes=$(writes_in_turn)
+if [ "$writes" -lt 8 ]; then
+    echo "refused_memory: FAILED: a drive over files does not sync each write before the next one" >&2
+    exit 1
+fi
 
 from=$(date +%s)
 done=
@@ -121,4 +137,4 @@ sweep inspect 1 is_whole is_memory "$program" inspect "$room/no.lines" "$room/lo
 sweep migrate 1 is_migrated is_not_migrated "$program" migrate "$room/old.log" "$room/new.log"
 sweep compact 1 is_compacted is_not_compacted "$program" compact "$room/long.log" "$room/new.log"
 sweep drive 13 is_driven is_driven "$program" drive "$room/settings"
-echo "refused_memory: $done growths refused in $(($(date +%s) - from)) seconds, each as it should be"
+echo "refused_memory: $done growths refused in $(($(date +%s) - from)) seconds, each as it should be; $writes writes of a drive, each synced"
