@@ -17,6 +17,10 @@ file_failures d = d.failures.number
 abbrev pub file_is_torn : FileDisk → Bool
 file_is_torn d = d.torn
 
+-- it was asked for a write or a cut since it was opened
+abbrev pub file_is_changed : FileDisk → Bool
+file_is_changed d = d.changed
+
 -- What stands for its bytes, of which no contract knows anything.
 abbrev pub unknown : File
 unknown = record { durable = []; changes = [] }

@@ -25,11 +25,13 @@ pub struct FileDisk {
     read_only: bool,
     // A sync has failed. What it was to write may be lost, though a read still shows it and the system would take the next sync.
     torn: bool,
+    // It was asked for a write or a cut.
+    changed: bool,
     failures: Count,
 }
 
 impl FileDisk {
-    ghost use Rattle.filedisk.specs.State.{file_length, file_failures, file_is_torn};
+    ghost use Rattle.filedisk.specs.State.{file_length, file_failures, file_is_torn, file_is_changed};
 
     /// Makes a new file, which is empty. Its name is on the device when this returns: the folder that it stands in is synced
     /// (`fsync`). `Device` where there is something of that name, also a link, or where the system refuses; a file that was made
@@ -38,6 +40,7 @@ impl FileDisk {
         ensures length { IfOk result (λ disk. file_length disk ≡ 0) }
         ensures failures { IfOk result (λ disk. file_failures disk ≡ 0) }
         ensures whole { IfOk result (λ disk. file_is_torn disk ≡ false) }
+        ensures unchanged { IfOk result (λ disk. file_is_changed disk ≡ false) }
         ensures cause { IfErr result (λ fault. fault ≡ Fault.Device) }
     {
         let file = locked(or_device(File::create_new(rt, path))?)?;
@@ -52,6 +55,7 @@ impl FileDisk {
     pub fn open<R: Files<File = File>>(rt: &R, path: &str) -> Result<FileDisk, Fault>
         ensures failures { IfOk result (λ disk. file_failures disk ≡ 0) }
         ensures whole { IfOk result (λ disk. file_is_torn disk ≡ false) }
+        ensures unchanged { IfOk result (λ disk. file_is_changed disk ≡ false) }
         ensures cause { IfErr result (λ fault. fault ≡ Fault.Device) }
     {
         plain(rt, path)?;
@@ -67,6 +71,7 @@ impl FileDisk {
     pub fn open_to_read<R: Files<File = File>>(rt: &R, path: &str) -> Result<FileDisk, Fault>
         ensures failures { IfOk result (λ disk. file_failures disk ≡ 0) }
         ensures whole { IfOk result (λ disk. file_is_torn disk ≡ false) }
+        ensures unchanged { IfOk result (λ disk. file_is_changed disk ≡ false) }
         ensures cause { IfErr result (λ fault. fault ≡ Fault.Device) }
     {
         let file = or_device(File::open(rt, path))?;
@@ -79,12 +84,14 @@ impl FileDisk {
         ensures length { file_length result ≡ len }
         ensures failures { file_failures result ≡ 0 }
         ensures whole { file_is_torn result ≡ false }
+        ensures unchanged { file_is_changed result ≡ false }
     {
         FileDisk {
             file,
             len,
             read_only,
             torn: false,
+            changed: false,
             failures: Count::none(),
         }
     }
@@ -94,6 +101,7 @@ impl FileDisk {
         ensures fault { result ≡ Fault.Device }
         ensures failures { file_failures self.new ≡ file_failures self.old + 1 }
         ensures torn { file_is_torn self.new ≡ file_is_torn self.old }
+        ensures changed { file_is_changed self.new ≡ file_is_changed self.old }
     {
         self.failures.rise();
         if let Ok(metadata) = self.file.metadata() {
@@ -108,7 +116,7 @@ impl Disk for FileDisk {
     ghost use Rattle.disk.specs.File.{surface};
     ghost use Rattle.disk.specs.Image.{MayLeave};
     ghost use Rattle.disk.specs.declared.plan.FailurePlan.TheVariants.{Never};
-    ghost use Rattle.filedisk.specs.State.{Counts, file_length, file_failures, file_is_torn, unknown};
+    ghost use Rattle.filedisk.specs.State.{Counts, file_length, file_failures, file_is_torn, file_is_changed, unknown};
     ghost use Rattle.units.specs.declared.fault.Fault.TheVariants.{Device};
 
     // What a file holds, no contract knows. So nothing that rests on the disk model is said of it here.
@@ -150,6 +158,7 @@ impl Disk for FileDisk {
         ensures length { OnOk result (file_length self.new ≡ file_length self.old) }
         ensures cause { Counts (file_failures self.old) (file_failures self.new) result }
         ensures torn { file_is_torn self.new ≡ file_is_torn self.old }
+        ensures changed { file_is_changed self.new ≡ file_is_changed self.old }
     {
         match self.file.read_exact_at(buffer, at) {
             Ok(()) => Ok(()),
@@ -162,7 +171,9 @@ impl Disk for FileDisk {
             (file_length self.new ≡ max (file_length self.old) (at + length bytes.now)) }
         ensures cause { Counts (file_failures self.old) (file_failures self.new) result }
         ensures torn { file_is_torn self.new ≡ file_is_torn self.old }
+        ensures changed { IsTrue (file_is_changed self.new) }
     {
+        self.changed = true;
         let end = match at.checked_add(bytes.len() as u64) {
             Some(end) if !self.read_only => end,
             _ => return Err(self.refused()),
@@ -180,7 +191,9 @@ impl Disk for FileDisk {
         ensures length { OnOk result (file_length self.new ≡ len) }
         ensures cause { Counts (file_failures self.old) (file_failures self.new) result }
         ensures torn { file_is_torn self.new ≡ file_is_torn self.old }
+        ensures changed { IsTrue (file_is_changed self.new) }
     {
+        self.changed = true;
         if !self.read_only && self.file.set_len(len).is_ok() {
             self.len = len;
             return Ok(());
@@ -196,6 +209,7 @@ impl Disk for FileDisk {
         ensures torn { IfErr result (λ fault. IsTrue (file_is_torn self.new)) }
         ensures stays { IsTrue (file_is_torn self.old) → result ≡ Err Device }
         ensures whole { OnOk result (file_is_torn self.new ≡ file_is_torn self.old) }
+        ensures changed { file_is_changed self.new ≡ file_is_changed self.old }
     {
         if !self.torn && (self.read_only || self.file.sync_all().is_ok()) {
             return Ok(());

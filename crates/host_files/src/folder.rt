@@ -1,7 +1,8 @@
 //! The logs of the shards of a drive.
-ghost use Rattle.std.specs.Prelude.{◌≡◌, ◌⊎◌, ◌+◌, ◌<◌, [], IfOk, IfErr, OnOk, Ok, All, length, IsTrue};
+ghost use Rattle.std.specs.Prelude.{◌≡◌, ◌⊎◌, ◌+◌, ◌<◌, [], IfOk, IfErr, OnOk, Ok, All, length, IsTrue, false};
 ghost use Rattle.disk.specs.File.{surface};
 ghost use Rattle.disk.specs.declared.plan.FailurePlan.TheVariants.{Never};
+ghost use Rattle.filedisk.specs.State.{file_is_changed};
 ghost use Rattle.gatelog.specs.Crash.{Stands};
 ghost use Rattle.gatelog.specs.Log.{log};
 ghost use Rattle.host_files.specs.Folders.{IsFolderFault, names_are_synced};
@@ -42,6 +43,9 @@ pub fn logs_in<R: Files<File = File> + RandomSource>(
     splits: &Splits,
 ) -> Result<Vec<FileDisk>, Fault>
     ensures all { IfOk result (λ logs. length logs.items ≡ length splits.now + 1) }
+    // Each is what stands under its name: it was opened, and read alone.
+    ensures unchanged { IfOk result
+        (λ logs. All (λ log. file_is_changed log ≡ false) logs.items) }
     ensures refused { IfErr result IsFolderFault }
 {
     let mut folder = StoreFolder::lock(rt, alloc, folder)?;
@@ -58,6 +62,8 @@ fn logs_of<R: Files<File = File> + RandomSource>(
     splits: &Splits,
 ) -> Result<Vec<FileDisk>, Fault>
     ensures all { IfOk result (λ logs. length logs.items ≡ length splits.now + 1) }
+    ensures unchanged { IfOk result
+        (λ logs. All (λ log. file_is_changed log ≡ false) logs.items) }
     ensures synced { OnOk result (IsTrue (names_are_synced folder.new)) }
     ensures refused { IfErr result IsFolderFault }
 {
@@ -143,6 +149,8 @@ fn open_all<R: Files<File = File>>(
     splits: &Splits,
 ) -> Result<Vec<FileDisk>, Fault>
     ensures all { IfOk result (λ logs. length logs.items ≡ length splits.now + 1) }
+    ensures unchanged { IfOk result
+        (λ logs. All (λ log. file_is_changed log ≡ false) logs.items) }
     ensures refused { IfErr result IsFolderFault }
 {
     let shards = splits.as_slice().len() + 1;
@@ -160,7 +168,8 @@ fn opened<R: Files<File = File>>(
     splits: &Splits,
     shard: usize,
 ) -> Result<FileDisk, Fault>
-    ensures { IfErr result IsFolderFault }
+    ensures unchanged { IfOk result (λ log. file_is_changed log ≡ false) }
+    ensures refused { IfErr result IsFolderFault }
 {
     let mut log = folder.open(Name::Log(shard))?;
     let setup = setup_of(alloc, splits, shard)?;

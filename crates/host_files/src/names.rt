@@ -1,5 +1,6 @@
 //! The files of a store's folder, by their names in it.
-ghost use Rattle.std.specs.Prelude.{◌≡◌, ◌⊎◌, IfOk, IfErr, OnOk, IsTrue};
+ghost use Rattle.std.specs.Prelude.{◌≡◌, ◌⊎◌, IfOk, IfErr, OnOk, IsTrue, false};
+ghost use Rattle.filedisk.specs.State.{file_is_changed};
 ghost use Rattle.host_files.specs.Folders.{names_are_synced};
 ghost use Rattle.units.specs.declared.fault.Fault.TheVariants.{Device, Memory};
 
@@ -107,7 +108,8 @@ impl<'a, R: Files<File = File>> StoreFolder<'a, R> {
 
     /// Opens a plain file that is there.
     pub fn open(&self, name: Name) -> Result<FileDisk, Fault>
-        ensures { IfErr result (λ fault. (fault ≡ Memory) ⊎ (fault ≡ Device)) }
+        ensures unchanged { IfOk result (λ disk. file_is_changed disk ≡ false) }
+        ensures refused { IfErr result (λ fault. (fault ≡ Memory) ⊎ (fault ≡ Device)) }
     {
         let path = self.path_of(name)?;
         FileDisk::open(self.rt, &path)

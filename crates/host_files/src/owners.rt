@@ -1,5 +1,6 @@
 //! Whose log a file is.
-ghost use Rattle.std.specs.Prelude.{◌≡◌, ◌⊎◌, ◌≤◌, ◌+◌, IfOk, IfErr, IfSome, length};
+ghost use Rattle.std.specs.Prelude.{◌≡◌, ◌⊎◌, ◌≤◌, ◌+◌, IfOk, IfErr, IfSome, OnOk, length};
+ghost use Rattle.filedisk.specs.State.{file_is_changed};
 ghost use Rattle.host_files.specs.Folders.{IsFolderFault};
 ghost use Rattle.units.specs.declared.fault.Fault.TheVariants.{Device, Memory};
 
@@ -104,7 +105,8 @@ pub fn all_fit(setup: &Setup, entries: &[Entry]) -> Result<(), Fault>
 /// Whether the log in a file is that of its shard, by the first record in it that tells that, which is looked for among its
 /// first 64 KiB. Where there is none, or what is read is no log, the opening says so.
 pub fn first_fits(alloc: Global, disk: &mut FileDisk, setup: &Setup) -> Result<(), Fault>
-    ensures { IfErr result IsFolderFault }
+    ensures refused { IfErr result IsFolderFault }
+    ensures kept { OnOk result (file_is_changed disk.new ≡ file_is_changed disk.old) }
 {
     let len = disk.len();
     let front = part_of(alloc, disk, 0, len.min(FIRST_GATE))?;
@@ -123,6 +125,7 @@ pub fn first_fits(alloc: Global, disk: &mut FileDisk, setup: &Setup) -> Result<(
 fn part_of(alloc: Global, disk: &mut FileDisk, at: u64, size: u64) -> Result<Vec<u8>, Fault>
     ensures size { IfOk result (λ part. length part.items ≡ size) }
     ensures refused { IfErr result (λ fault. (fault ≡ Memory) ⊎ (fault ≡ Device)) }
+    ensures kept { file_is_changed disk.new ≡ file_is_changed disk.old }
 {
     let mut part = Vec::new(alloc);
     part.resize(size as usize, 0)?;
