@@ -1,3 +1,4 @@
+pub mod Faults
 pub mod Openings
 pub mod Restart
 pub mod Seen

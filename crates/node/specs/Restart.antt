@@ -11,7 +11,7 @@ use Rattle.shard.specs.Opened.{HasOpened}
 use Rattle.board.specs.declared.entry.BoardEntry.{BoardEntry}
 use Rattle.board.specs.Board.{first_entries}
 use Rattle.board.specs.Views.{Publishing, Viewing}
-use Rattle.desk.specs.InStep.{DeskView, IsNewBoard, AreOnBoard}
+use Rattle.desk.specs.InStep.{DeskView, IsCount, IsNewBoard, AreOnBoard}
 use Rattle.desk.specs.Opening.{HasNoDesk, IsBegun}
 
 -- so many viewers of one new board, which shows these entries, for the keys of the shard
@@ -40,8 +40,10 @@ told_of setup None = setup
 
 module _ {D : Type 0} (keeps obeys : Type 0) (file : D → File) (clock : D → ℕ) (since : D → ℕ → List ℕ → Type 0) (failures : D → ℕ)
     (plan : D → FailurePlan) where
-  -- the log of a disk was taken up, and a new board shows the versions of its core, its horizon and then its served time
+  -- The log of a disk was taken up, and a new board shows the versions of its core, its horizon and then its served time. It has as many viewers
+  -- as a board may have.
   pub record HasReopened (disk : D) (setup : Setup) (n : ℕ) (desk : DeskView D) (views : List Viewing) : Type 0 where
+    pub count : IsCount n
     pub opened : HasOpened keeps obeys file clock since failures plan disk setup desk.core
     pub book : IsBegun keeps obeys file clock since failures plan disk setup desk.book
     pub board : IsNewBoard desk.board (first_entries desk.core.facts.installs (safe_at desk.core) desk.core.facts.horizon)

@@ -1,6 +1,6 @@
 -- What the calls come to of what lies under a node's lock. A desk takes them as a desk does. A disk alone takes nothing, as a core
 -- that is stopped.
-use Rattle.std.specs.Prelude.{◌≡◌, ℕ, Bool, false, List, [], Option, Some, None, Result, Err, length, is_some, IsSomeAnd}
+use Rattle.std.specs.Prelude.{◌≡◌, ℕ, Bool, false, List, Option, None, Result, Err, length, is_some, IsSomeAnd}
 use Rattle.units.specs.declared.fault.Fault.{Fault}
 use Rattle.units.specs.declared.fault.Fault.TheVariants.{Stopped}
 use Rattle.units.specs.declared.setup.Setup.{Setup}

@@ -1,7 +1,9 @@
 //! What lies under a node's lock.
-ghost use Rattle.std.specs.Prelude.{◌≡◌, IfOk, IfErr, IfSome, IfNone, IsSome, length, option_map};
+ghost use Rattle.std.specs.Prelude.{◌≡◌, IfOk, IfErr, OnOk, IfSome, IfNone, IsSome, IsTrue, length, option_map};
 ghost use Rattle.board.specs.Board.{first_entries};
-ghost use Rattle.desk.specs.InStep.{IsNoDesk};
+ghost use Rattle.desk.specs.Faults.{refuses_input, refuses_advance, refuses_horizon, refuses_turnover};
+ghost use Rattle.desk.specs.InStep.{IsCount, IsNoDesk};
+ghost use Rattle.node.specs.Faults.{RefusesRestart};
 ghost use Rattle.node.specs.Restart.{AreOnNewBoard, HasRestarted, HasNotRestarted, is_at_rest, disk_of_place, told_of};
 ghost use Rattle.node.specs.Seen.{seen_place};
 ghost use Rattle.node.specs.Under.{IsDeskOf, IsUnder, IsEarliestIn, Became, HasDelivered, HasAdvancedIn, HasNotAdvancedIn, HasKeptUp, HasNotKeptUp, HasKeptIn};
@@ -45,6 +47,7 @@ impl<D: Disk + Drop, R: Wait + Drop> Held<D, R> {
         ensures setup { IfOk result (λ made. (seen_held made.0).setup ≡ (seen core).setup) }
         ensures desk { IfOk result (λ made. IsUnder (seen_held made.0)
             (λ place. IsDeskOf place (seen core) (book_of core) n made.1.items)) }
+        ensures count { OnOk result (IsCount n) }
         ensures viewers { IfOk result (λ made. length made.1.items ≡ n) }
         ensures board { IfOk result (λ made. AreOnNewBoard n (seen core).setup
             (first_entries (seen core).facts.installs (safe_at (seen core))
@@ -74,9 +77,10 @@ impl<D: Disk + Drop, R: Wait + Drop> Held<D, R> {
 
     /// One step of the core. A disk alone is refused as a core that is stopped.
     pub fn deliver(&mut self, now: &Reading, input: &Input) -> Result<Outbox, Fault>
-        ensures { Became (seen_held self.old) (seen_held self.new)
+        ensures delivered { Became (seen_held self.old) (seen_held self.new)
             (λ old. λ new. HasDelivered D.keeps_model D.obeys D.file D.clock D.since D.failures D.plan
             old new now.now input.now result) }
+        ensures faults { IfErr result (λ fault. IsTrue (refuses_input fault)) }
     {
         match &mut self.place {
             Some(Place::Serving(desk)) => desk.deliver(now, input),
@@ -92,6 +96,7 @@ impl<D: Disk + Drop, R: Wait + Drop> Held<D, R> {
         ensures refused { IfErr result (λ fault. Became (seen_held self.old) (seen_held self.new)
             (λ old. λ new. HasNotAdvancedIn D.keeps_model D.obeys D.file D.clock D.since D.failures D.plan
             old new now.now to fault)) }
+        ensures faults { IfErr result (λ fault. IsTrue (refuses_advance fault)) }
     {
         match &mut self.place {
             Some(Place::Serving(desk)) => desk.advance(now, to),
@@ -116,9 +121,10 @@ impl<D: Disk + Drop, R: Wait + Drop> Held<D, R> {
 
     /// Asks the core for the horizon that keeps so many microseconds. A disk alone is refused as a core that is stopped.
     pub fn keep_for(&mut self, now: &Reading, micros: u64) -> Result<(), Fault>
-        ensures { Became (seen_held self.old) (seen_held self.new)
+        ensures kept { Became (seen_held self.old) (seen_held self.new)
             (λ old. λ new. HasKeptIn D.keeps_model D.obeys D.file D.clock D.since D.failures D.plan
             old new now.now micros result) }
+        ensures faults { IfErr result (λ fault. IsTrue (refuses_horizon fault)) }
     {
         match &mut self.place {
             Some(Place::Serving(desk)) => desk.keep_for(now, micros),
@@ -128,9 +134,10 @@ impl<D: Disk + Drop, R: Wait + Drop> Held<D, R> {
 
     /// Turns the log of the core over. A disk alone is refused as a core that is stopped.
     pub fn turn_over(&mut self) -> Result<(), Fault>
-        ensures { Became (seen_held self.old) (seen_held self.new)
+        ensures turned { Became (seen_held self.old) (seen_held self.new)
             (λ old. λ new. HasTurnedIn D.keeps_model D.obeys D.file D.clock D.since D.failures D.plan
             old new result) }
+        ensures faults { IfErr result (λ fault. IsTrue (refuses_turnover fault)) }
     {
         match &mut self.place {
             Some(Place::Serving(desk)) => desk.turn_over(),
@@ -140,9 +147,10 @@ impl<D: Disk + Drop, R: Wait + Drop> Held<D, R> {
 
     /// Asks the core for that horizon, and turns its log over where it has grown. A disk alone is refused as a core that is stopped.
     pub fn renew(&mut self, now: &Reading, micros: u64, least: u64) -> Result<(), Fault>
-        ensures { Became (seen_held self.old) (seen_held self.new)
+        ensures renewed { Became (seen_held self.old) (seen_held self.new)
             (λ old. λ new. HasRenewedIn D.keeps_model D.obeys D.file D.clock D.since D.failures D.plan
             old new now.now micros least result) }
+        ensures faults { IfErr result (λ fault. IsTrue (refuses_horizon fault)) }
     {
         match &mut self.place {
             Some(Place::Serving(desk)) => desk.renew(now, micros, least),
@@ -211,6 +219,9 @@ impl<D: Disk + Drop, R: Wait + Drop> Held<D, R> {
         ensures refused { IfErr result (λ fault. Became (seen_held self.old) (seen_held self.new)
             (λ old. λ new. HasNotRestarted D.keeps_model D.obeys D.file D.clock D.since D.failures D.plan
             old new (seen_held self.old).setup n fault)) }
+        ensures count { OnOk result (IsCount n) }
+        ensures viewers { IfOk result (λ viewers. length viewers.items ≡ n) }
+        ensures faults { IfErr result (λ fault. RefusesRestart n fault) }
     {
         let Some(place) = self.place.take() else {
             unreachable!()

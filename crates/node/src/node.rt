@@ -1,7 +1,9 @@
 //! A desk under a lock.
-ghost use Rattle.std.specs.Prelude.{◌≡◌, length, IfOk, IfErr};
+ghost use Rattle.std.specs.Prelude.{◌≡◌, length, IfOk, IfErr, IsTrue, OnOk};
 ghost use Rattle.board.specs.Board.{first_entries};
-ghost use Rattle.desk.specs.InStep.{IsNoDesk};
+ghost use Rattle.desk.specs.Faults.{refuses_input, refuses_advance, refuses_horizon, refuses_turnover};
+ghost use Rattle.desk.specs.InStep.{IsCount, IsNoDesk};
+ghost use Rattle.node.specs.Faults.{RefusesRestart};
 ghost use Rattle.node.specs.Restart.{AreOnNewBoard};
 ghost use Rattle.shard.specs.Core.{seen, book_of};
 ghost use Rattle.shard.specs.Look.{safe_at};
@@ -42,6 +44,7 @@ impl<D: Disk + Drop, R: Wait + Drop> Node<D, R> {
         core: Core<D>,
         n: usize,
     ) -> Result<(Node<D, R>, Vec<Viewer>), (Fault, Core<D>)>
+        ensures count { OnOk result (IsCount n) }
         ensures viewers { IfOk result (λ made. length made.1.items ≡ n) }
         ensures board { IfOk result (λ made. AreOnNewBoard n (seen core).setup
             (first_entries (seen core).facts.installs (safe_at (seen core))
@@ -66,23 +69,31 @@ impl<D: Disk + Drop, R: Wait + Drop> Node<D, R> {
     }
 
     /// One step of the core, under the lock.
-    pub fn deliver<W: Wait>(&self, rt: &W, now: &Reading, input: &Input) -> Result<Outbox, Fault> {
+    pub fn deliver<W: Wait>(&self, rt: &W, now: &Reading, input: &Input) -> Result<Outbox, Fault>
+        ensures { IfErr result (λ fault. IsTrue (refuses_input fault)) }
+    {
         self.held.lock(rt).deliver(now, input)
     }
 
     /// Advances the core and publishes its board, under the lock.
-    pub fn advance<W: Wait>(&self, rt: &W, now: &Reading, to: Stamp) -> Result<Told, Fault> {
+    pub fn advance<W: Wait>(&self, rt: &W, now: &Reading, to: Stamp) -> Result<Told, Fault>
+        ensures { IfErr result (λ fault. IsTrue (refuses_advance fault)) }
+    {
         self.held.lock(rt).advance(now, to)
     }
 
     /// Asks the core for the horizon that keeps so many microseconds behind a reading, under the lock. The board is told by the next
     /// advance. A service that wants the past for a while calls it now and then; an idle node does not.
-    pub fn keep_for<W: Wait>(&self, rt: &W, now: &Reading, micros: u64) -> Result<(), Fault> {
+    pub fn keep_for<W: Wait>(&self, rt: &W, now: &Reading, micros: u64) -> Result<(), Fault>
+        ensures { IfErr result (λ fault. IsTrue (refuses_horizon fault)) }
+    {
         self.held.lock(rt).keep_for(now, micros)
     }
 
     /// Turns the log of the core over, under the lock.
-    pub fn turn_over<W: Wait>(&self, rt: &W) -> Result<(), Fault> {
+    pub fn turn_over<W: Wait>(&self, rt: &W) -> Result<(), Fault>
+        ensures { IfErr result (λ fault. IsTrue (refuses_turnover fault)) }
+    {
         self.held.lock(rt).turn_over()
     }
 
@@ -93,7 +104,9 @@ impl<D: Disk + Drop, R: Wait + Drop> Node<D, R> {
         now: &Reading,
         micros: u64,
         least: u64,
-    ) -> Result<(), Fault> {
+    ) -> Result<(), Fault>
+        ensures { IfErr result (λ fault. IsTrue (refuses_horizon fault)) }
+    {
         self.held.lock(rt).renew(now, micros, least)
     }
 
@@ -106,7 +119,11 @@ impl<D: Disk + Drop, R: Wait + Drop> Node<D, R> {
         own: R,
         alloc: Global,
         n: usize,
-    ) -> Result<Vec<Viewer>, Fault> {
+    ) -> Result<Vec<Viewer>, Fault>
+        ensures count { OnOk result (IsCount n) }
+        ensures viewers { IfOk result (λ viewers. length viewers.items ≡ n) }
+        ensures faults { IfErr result (λ fault. RefusesRestart n fault) }
+    {
         self.held.lock(rt).restart(own, alloc, n)
     }
 

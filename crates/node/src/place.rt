@@ -1,5 +1,7 @@
 //! A desk, or the disk of one that was stopped.
-ghost use Rattle.std.specs.Prelude.{◌≡◌, IfOk, IfErr};
+ghost use Rattle.std.specs.Prelude.{◌≡◌, length, IfOk, IfErr, OnOk};
+ghost use Rattle.desk.specs.InStep.{IsCount};
+ghost use Rattle.node.specs.Faults.{RefusesRestart};
 
 use board::Viewer;
 use desk::Desk;
@@ -33,6 +35,9 @@ impl<D: Disk + Drop, R: Wait + Drop> Place<D, R> {
         ensures refused { IfErr result.1
             (HasNotRestarted D.keeps_model D.obeys D.file D.clock D.since D.failures D.plan
             (seen_place self) (seen_place result.0) setup.now n) }
+        ensures count { OnOk result.1 (IsCount n) }
+        ensures viewers { IfOk result.1 (λ viewers. length viewers.items ≡ n) }
+        ensures faults { IfErr result.1 (λ fault. RefusesRestart n fault) }
     {
         let disk = match self {
             Place::Serving(desk) => {

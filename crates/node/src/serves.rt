@@ -1,4 +1,7 @@
 //! A node as threads serve it.
+ghost use Rattle.std.specs.Prelude.{IfErr, IsTrue};
+ghost use Rattle.desk.specs.Faults.{refuses_horizon};
+
 use crate::node::Node;
 use crossbeam_channel::Receiver;
 use disk::Disk;
@@ -66,7 +69,9 @@ impl<D: Disk + Drop, R: Wait + Drop> Node<D, R> {
         rt: &W,
         clock: &mut C,
         micros: u64,
-    ) -> Result<(), Fault> {
+    ) -> Result<(), Fault>
+        ensures { IfErr result (λ fault. IsTrue (refuses_horizon fault)) }
+    {
         let mut held = self.held.lock(rt);
         match clock.now() {
             Some(now) => held.keep_for(&now, micros),
@@ -81,7 +86,9 @@ impl<D: Disk + Drop, R: Wait + Drop> Node<D, R> {
         clock: &mut C,
         micros: u64,
         least: u64,
-    ) -> Result<(), Fault> {
+    ) -> Result<(), Fault>
+        ensures { IfErr result (λ fault. IsTrue (refuses_horizon fault)) }
+    {
         let mut held = self.held.lock(rt);
         match clock.now() {
             Some(now) => held.renew(&now, micros, least),

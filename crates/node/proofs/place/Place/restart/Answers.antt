@@ -1,5 +1,6 @@
 use Rattle.std.proofs.Common.{rules, ◌≡◌, subst}
 use Rattle.desk.specs.Opening.{HasNoDesk}
+use Rattle.node.proofs.Faults.{no_desk}
 use Rattle.node.proofs.place.Place.restart.Goals as goal
 use Rattle.node.proofs.place.Place.restart.Goals.{in-Serving+else-not-is_stopped, in-Resting}
 
@@ -13,3 +14,8 @@ returns-in-Err-clause-refused g c =
       | in-Serving+else-not-is_stopped w ↦ (search rules, back _ (search rules))
       | in-Resting w ↦ (search rules, back _ (search rules))
     ]
+
+pub returns-in-Err-clause-faults : goal.returns-in-Err-clause-faults
+returns-in-Err-clause-faults g c =
+    no_desk g.D.Disk.keeps_model g.D.Disk.obeys g.D.Disk.file g.D.Disk.clock g.D.Disk.since g.D.Disk.failures g.D.Disk.plan
+    c.match-self.disk c.args.setup.now c.args.n c.in-Err.fault c.in-Err.disk c.in-Err.ensures.refused
