@@ -16,6 +16,8 @@ mod coordinating;
 #[cfg(test)]
 mod cores;
 #[cfg(test)]
+mod counted;
+#[cfg(test)]
 mod damaged;
 #[cfg(test)]
 mod forgetting;

@@ -98,6 +98,11 @@ static NODES: [Story; 6] = [
                 260,
                 Ask::Restart(0, Err(Fault::BadRequest(Reason::Many))),
             ),
+            (
+                250,
+                260,
+                Ask::Restart(65, Err(Fault::BadRequest(Reason::Many))),
+            ),
             STOPPED,
             OPENS,
             (250, 260, Ask::Look((250, Ok(Seen::Absent)))),
@@ -105,7 +110,7 @@ static NODES: [Story; 6] = [
         // A number of viewers that no board has is refused before anything is opened.
         moments: &[Moment {
             name: "a node with its disk alone",
-            after: 5,
+            after: 6,
             log: &[Line::Opened(1), Line::Ceiling(250), Line::Opened(2)],
         }],
     },
@@ -143,10 +148,11 @@ static NODES: [Story; 6] = [
     },
 ];
 
-// A book of three inputs, and what fills it. So it fails where a call of the node makes two of its core, whichever of them it answers by.
+// A book of four inputs, and what fills it; the last call before it is full is no advance. So it fails where a call of the node makes two of its
+// core, whichever of them it answers by.
 static ONCE: [Story; 1] = [Story {
     fails: None,
-    room: 3,
+    room: 4,
     asks: &[
         (
             100,
@@ -159,6 +165,7 @@ static ONCE: [Story; 1] = [Story {
             Ask::Deliver(Given::Settle(2), Told::Says(&[(b'd', 9, 2, 111)])),
         ),
         (112, 122, Ask::Advance(120, Ok(120))),
+        (112, 122, Ask::Deliver(Given::Resume, Told::Says(&[]))),
         (
             112,
             122,
@@ -168,7 +175,7 @@ static ONCE: [Story; 1] = [Story {
     ],
     moments: &[Moment {
         name: "each call is one input",
-        after: 5,
+        after: 6,
         log: &[
             Line::Opened(1),
             Line::Decided(2, 111),
