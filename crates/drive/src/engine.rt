@@ -23,7 +23,7 @@ use std::sync::atomic::AtomicU64;
 use std::thread::Threads;
 use std::{thread, time};
 use truetime::Clock;
-use units::{Fault, Line, Reason, Run, Verdict};
+use units::{Fault, Line, Reason, Run, Stamp, Verdict};
 use workers::{
     Counts, Course, MachineClock, Report, Shared, Staff, Summary, Viewers, work_and_close,
 };
@@ -109,7 +109,10 @@ pub fn drive<
     ensures undriven { IfErr result IsUndriven }
 {
     let clock = clock_of(rt, settings);
-    drive_by(rt, alloc, settings, disks, clock, gate, watch)
+    match drive_wide(rt, alloc, settings, disks, clock, gate, watch) {
+        Ok(driven) => Ok(driven),
+        Err(none) => Err(none.fault),
+    }
 }
 
 /// The machine's clock, whose readings are as wide as the settings say.
@@ -211,6 +214,50 @@ pub fn drive_counted<
     drive_nodes(rt, alloc, settings, course, opened, clock, gate, watch)
 }
 
+/// The same by the machine's clock, whose readings are as wide as the settings say.
+pub(crate) fn drive_wide<
+    R: Threads + Wait + time::Clock + Sync,
+    D: Disk + Drop + Send,
+    G: Gate + Sync,
+    W: Watch + Sync,
+>(
+    rt: &R,
+    alloc: Global,
+    settings: &Settings,
+    disks: Vec<D>,
+    clock: MachineClock<'_, R>,
+    gate: &G,
+    watch: &W,
+) -> Result<Driven<D>, NoVerdict>
+    requires wide { clock.epsilon ≡ settings.now.epsilon }
+    ensures verdict { IfOk result (λ driven. D.keeps_model
+        → IsJudged (λ disk. (surface (D.file disk)).seen) driven.disks.items driven.lines.items
+        driven.summary.verdict) }
+    ensures disks { IfOk result (λ driven. length driven.disks.items ≡ length disks.items) }
+    ensures tried { IfOk result (λ driven.
+        tried driven.summary.counts ≡ settings.now.workers * settings.now.transactions) }
+    ensures looks { IfOk result (λ driven.
+        driven.summary.counts.looks ≤ tried driven.summary.counts) }
+    ensures told { IfOk result (λ driven.
+        IsTally (settings.now.workers * settings.now.transactions)
+        driven.summary.counts driven.lines.items) }
+    ensures counted { IfErr result (λ none. IfSome none.counts (λ counts.
+        (tried counts ≡ settings.now.workers * settings.now.transactions)
+        × (counts.looks ≤ tried counts))) }
+    ensures unjudged { IfErr result (λ none. IfSome none.counts (λ counts.
+        IsUnjudged none.fault)) }
+    ensures shards { IsOk result → length disks.items ≡ length settings.now.splits + 1 }
+    ensures limits { IsOk result
+        → IsDrivable settings.now.workers settings.now.transactions settings.now.keys }
+    ensures beyond { ¬ IsDrivable settings.now.workers settings.now.transactions settings.now.keys
+        → result ≡ Err (refused_for (Fault.BadRequest Reason.Settings)) }
+    ensures many { length disks.items ≢ length settings.now.splits + 1
+        → result ≡ Err (refused_for (Fault.BadRequest Reason.Settings)) }
+    ensures undriven { IfErr result (λ none. IsUndriven none.fault) }
+{
+    drive_counted(rt, alloc, settings, disks, clock, gate, watch)
+}
+
 // Drives nodes of any kind, with a viewer for each worker.
 fn drive_nodes<
     N: Closes<D> + Serves + Drop + Sync,
@@ -256,11 +303,7 @@ fn drive_nodes<
     } = opened;
     let ids = run_of(epoch);
     let reached = AtomicU64::new(last.micros());
-    let clock = SteadyClock {
-        clock,
-        from: last,
-        reached: &reached,
-    };
+    let clock = steady_from(clock, last, &reached);
     match run(
         rt, alloc, settings, course, ids, &nodes, viewers, clock, gate, watch,
     ) {
@@ -269,6 +312,17 @@ fn drive_nodes<
             drop(nodes);
             Err(NoVerdict::from(fault))
         }
+    }
+}
+
+// A clock that does not go back behind the greatest timestamp of the logs.
+fn steady_from<'a, C>(clock: C, last: Stamp, reached: &'a AtomicU64) -> SteadyClock<'a, C>
+    ensures { (result.clock ≡ clock) × (result.from ≡ last) }
+{
+    SteadyClock {
+        clock,
+        from: last,
+        reached,
     }
 }
 

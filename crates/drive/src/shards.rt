@@ -8,7 +8,7 @@ ghost use Rattle.workers.specs.Summaries.{counts_text, summary_text};
 ghost use Rattle.workers.specs.declared.summary.Counts.{Counts};
 ghost use Rattle.drive.specs.Told.{AreCounts, HasNoVerdict, IsTold, IsToldOf, IsUndriven, IsUnjudged};
 
-use crate::engine::{self, clock_of, drive_counted};
+use crate::engine::{self, clock_of, drive_wide};
 use disk::Disk;
 use host_files::{logs_in, logs_in_memory};
 use letters::Gate;
@@ -145,7 +145,7 @@ fn drive_over<
         → IsDrivable settings.now.workers settings.now.transactions settings.now.keys }
 {
     let clock = clock_of(rt, settings);
-    match drive_counted(rt, alloc, settings, logs, clock, gate, watch) {
+    match drive_wide(rt, alloc, settings, logs, clock, gate, watch) {
         Ok(
             engine::Driven {
                 summary,
