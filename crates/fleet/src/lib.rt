@@ -6,5 +6,5 @@ mod steady;
 mod unopened;
 
 pub use opening::{Closes, Opened, open_shards, run_of};
-pub use steady::SteadyClock;
+pub use steady::{SteadyClock, steady_over};
 pub use unopened::{Unopened, UnopenedIn};

@@ -1,5 +1,5 @@
 //! A clock that does not go back.
-ghost use Rattle.std.specs.Prelude.{◌≡◌, ◌≤◌, ⊤, IfSome};
+ghost use Rattle.std.specs.Prelude.{◌≡◌, ◌≤◌, ⊤, max, IfSome};
 
 use std::alloc::AllocError;
 use std::sync::atomic::{AtomicU64, Ordering};
@@ -36,9 +36,32 @@ impl<C: Clock> Clock for SteadyClock<'_, C> {
         ensures from { IfSome result (λ now. self.old.from ≤ now.latest) }
     {
         let now = self.clock.now()?;
-        let latest = now.latest().later(self.from);
-        let reached = self.reached.fetch_max(latest.micros(), Ordering::SeqCst);
-        let reached = Stamp::new(reached).ok()?;
-        Reading::new(now.earliest(), latest.later(reached)).ok()
+        steady_over(now, self.from, self.reached)
+    }
+}
+
+/// A reading of a clock, as it is where none may end before a timestamp from which it goes on, or before the latest microsecond that one
+/// has reached. There is none where that is no timestamp.
+pub fn steady_over(now: Reading, from: Stamp, reached: &AtomicU64) -> Option<Reading>
+    ensures earliest { IfSome result (λ told. told.earliest ≡ now.earliest) }
+    ensures latest { IfSome result (λ told. now.latest ≤ told.latest) }
+    ensures from { IfSome result (λ told. from ≤ told.latest) }
+{
+    let latest = now.latest().later(from);
+    let reached = reached.fetch_max(latest.micros(), Ordering::SeqCst);
+    let reached = Stamp::new(reached).ok()?;
+    Some(steady(now, from, reached))
+}
+
+// The reading that begins where one does, and ends there too, or at a timestamp from which it goes on or one that was reached, if that
+// is later.
+fn steady(now: Reading, from: Stamp, reached: Stamp) -> Reading
+    ensures earliest { result.earliest ≡ now.earliest }
+    ensures latest { result.latest ≡ max (max now.latest from) reached }
+{
+    let latest = now.latest().later(from).later(reached);
+    match Reading::new(now.earliest(), latest) {
+        Ok(told) => told,
+        Err(_) => unreachable!(),
     }
 }
