@@ -1,8 +1,8 @@
 //! The clock of a store.
-ghost use Rattle.std.specs.Prelude.{◌≡◌, ◌≤◌, ⊤, IfSome};
+ghost use Rattle.std.specs.Prelude.{◌≡◌, ◌+◌, ◌-◌, ◌≤◌, ⊤, ℕ, IfSome};
 
 use crate::Options;
-use fleet::SteadyClock;
+use fleet::steady_over;
 use std::alloc::AllocError;
 use std::sync::atomic::AtomicU64;
 use std::time;
@@ -55,13 +55,13 @@ impl<R> Copy for StoreClock<'_, R> {}
 impl<R: time::Clock> Clock for StoreClock<'_, R> {
     fn now(&mut self) -> Option<Reading>
         ensures from { IfSome result (λ now. self.old.from ≤ now.latest) }
+        ensures wide { IfSome result (λ now. (micros : ℕ)
+            × (now.earliest ≡ micros - self.old.machine.epsilon)
+            × (micros + self.old.machine.epsilon ≤ now.latest)) }
     {
         let from = Stamp::new(self.from).ok()?;
-        let mut steady = SteadyClock {
-            clock: self.machine,
-            from,
-            reached: self.reached,
-        };
-        steady.now()
+        let mut machine = self.machine;
+        let now = machine.now()?;
+        steady_over(now, from, self.reached)
     }
 }
