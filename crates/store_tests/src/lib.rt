@@ -6,6 +6,8 @@ mod clients;
 #[cfg(test)]
 mod command_lines;
 #[cfg(test)]
+mod commit_waits;
+#[cfg(test)]
 mod compacting;
 #[cfg(test)]
 mod forgetting;
