@@ -1,5 +1,5 @@
 //! The program: what it answers to words.
-ghost use Rattle.std.specs.Prelude.{◌≡◌, ◌≢◌, ◌⊎◌, ◌<◌, Some, Ok, Err, IfOk, IfErr, map, true, List, ℕ};
+ghost use Rattle.std.specs.Prelude.{◌≡◌, ◌≢◌, ◌⊎◌, ◌<◌, ◌*◌, Some, Ok, Err, IfOk, IfErr, map, true, List, ℕ, string_bytes};
 ghost use Rattle.std.specs.Io.KnownBytes.{Appends};
 ghost use Rattle.units.specs.declared.fault.Fault.{Fault};
 ghost use Rattle.units.specs.declared.fault.Fault.TheVariants.{Memory};
@@ -9,8 +9,10 @@ ghost use Rattle.command_line.specs.declared.usage.TheConstants.{USAGE};
 ghost use Rattle.command_line.specs.Lines.{are_plain, asks_help};
 ghost use Rattle.output.specs.Replies.{Is};
 ghost use Rattle.commands.specs.Faults.{AnyFault, MayRefuseTo};
+ghost use Rattle.cli.specs.Ends.{IsDriven};
 ghost use Rattle.commands.specs.Puts.{AnyEnd};
-ghost use Rattle.drive.specs.Told.{HasNoVerdict};
+ghost use Rattle.drive.specs.Told.{HasNoVerdict, IsTold};
+ghost use Rattle.system.specs.declared.asked.Driven.{Driven};
 ghost use Rattle.system.specs.declared.asked.NoVerdict.{NoVerdict};
 ghost use Rattle.commands.specs.Replies.{Tells, TellsTo, reply_of, reply_to};
 ghost use Rattle.output.specs.Streams.{failures_of, fault_line, writer_of};
@@ -58,7 +60,8 @@ pub fn program<
         × Appends (O.contents (writer_of out.old)) (O.contents (writer_of out.new)) USAGE.now }
     // What files tell: a format and a migration print nothing, an inspection a verdict, which its status goes with, and a dump lines of records.
     ensures tells { are_plain (map (λ w. w.now) words.entry.now) ≡ true → result ≢ 2
-        → (text : List ℕ) × TellsTo AnyEnd (command_of (map (λ w. w.now) words.entry.now)) result text
+        → (text : List ℕ) × TellsTo IsDriven AnyEnd
+        (command_of (map (λ w. w.now) words.entry.now)) result text
         × Appends (O.contents (writer_of out.old)) (O.contents (writer_of out.new)) text }
     ensures quiet { result ≢ 2 → err.new ≡ err.old }
     // A status of 2 has a reason: a write to standard output that failed, or a fault, whose line is on standard error.
@@ -85,7 +88,10 @@ pub fn program<
     ensures silent { failures_of out.old < failures_of out.new → err.new ≡ err.old }
 {
     let drive = |alloc: Global, settings: &Settings| -> Result<Driven, NoVerdict>
-        ensures { IfErr result (λ none. HasNoVerdict none.fault) }
+        ensures told { IfOk result (λ driven. IsTold
+            (settings.now.workers * settings.now.transactions)
+            (string_bytes driven.text) driven.verdict) }
+        ensures refused { IfErr result (λ none. HasNoVerdict none.fault) }
     { drive_shards(rt, alloc, settings, terminal) };
     let files = HostFiles {
         rt,
@@ -113,6 +119,8 @@ fn answer_by<
 ) -> u8
     requires drives { D.IsAlwaysCallable engine.run }
     requires puts { P.IsAlwaysCallable engine.put }
+    requires driven { (settings : _) (driven : Driven) → D.post engine.run alloc settings (Ok driven)
+        → IsDriven (string_bytes driven.text) driven.verdict }
     requires refuses { (settings : _) (none : NoVerdict) → D.post engine.run alloc settings (Err none)
         → HasNoVerdict none.fault }
     ensures status { (result ≡ 0) ⊎ (result ≡ 1) ⊎ (result ≡ 2) }
@@ -127,7 +135,8 @@ fn answer_by<
         × Appends (O.contents (writer_of out.old)) (O.contents (writer_of out.new)) USAGE.now }
     // What files tell: a format and a migration print nothing, an inspection a verdict, which its status goes with, and a dump lines of records.
     ensures tells { are_plain (map (λ w. w.now) words.entry.now) ≡ true → result ≢ 2
-        → (text : List ℕ) × TellsTo AnyEnd (command_of (map (λ w. w.now) words.entry.now)) result text
+        → (text : List ℕ) × TellsTo IsDriven AnyEnd
+        (command_of (map (λ w. w.now) words.entry.now)) result text
         × Appends (O.contents (writer_of out.old)) (O.contents (writer_of out.new)) text }
     ensures quiet { result ≢ 2 → err.new ≡ err.old }
     // A status of 2 has a reason: a write to standard output that failed, or a fault, whose line is on standard error.

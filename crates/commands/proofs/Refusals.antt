@@ -10,7 +10,10 @@ use Rattle.command_line.specs.Commands.{get_asked, put_asked, stats_asked, migra
 use Rattle.system.specs.declared.asked.Driven.{Driven}
 use Rattle.system.specs.declared.asked.NoVerdict.{NoVerdict}
 use Rattle.commands.specs.Faults.{FailsAs, IsNotDriven, IsRefusedBy, MayRefuse, MayRefuseTo}
-use Rattle.commands.specs.Puts.{Said, AnyEnd}
+use Rattle.client.specs.declared.ended.Ended.{Ended}
+use Rattle.units.specs.declared.line.Verdict.{Verdict}
+use Rattle.commands.specs.Drives.{Driving}
+use Rattle.commands.specs.Puts.{Said}
 use Rattle.commands.specs.Replies.{Tells, TellsTo}
 
 -- what a call of what drives shards is refused for
@@ -93,22 +96,28 @@ fails_by drives (Ok x) none why told = tt
 fails_by drives (Err failure) none why (inl unwritten) = inl unwritten
 fails_by drives (Err failure) none why (inr refused) = inr (none.fault, refused, why)
 
--- what is told of a write is told of some write
-told_asked : (puts : Said) (asked : Asked) (status : ℕ) (text : List ℕ) → Tells puts asked status text → Tells AnyEnd asked status text
-told_asked puts help status text is = tt
-told_asked puts (once_asked key value first second) status text is = tt
-told_asked puts (format_asked file) status text is = is
-told_asked puts (play_asked file) status text is = is
-told_asked puts (inspect_asked lines logs) status text is = is
-told_asked puts (drive_asked file) status text is = tt
-told_asked puts (dump_asked file) status text is = is
-told_asked puts (history_asked dir key) status text is = is
-told_asked puts (get_asked dir key at) status text is = is
-told_asked puts (put_asked dir key value) status text is = (is.0, tt, is.2, is.3)
-told_asked puts (stats_asked logs) status text is = is
-told_asked puts (migrate_asked old new) status text is = is
-told_asked puts (compact_asked old new) status text is = is
+module _ (drives drives' : Driving) (puts puts' : Said) where
+  -- by what more may come of a drive and become of a write, no less is told
+  told_asked : (asked : Asked) (status : ℕ) (text : List ℕ) → ((text : List ℕ) (verdict : Verdict) → drives text verdict → drives' text verdict)
+      → ((folder key value : List ℕ) (ended : Ended) → puts folder key value ended → puts' folder key value ended)
+      → Tells drives puts asked status text → Tells drives' puts' asked status text
+  told_asked help status text more some is = tt
+  told_asked (once_asked key value first second) status text more some is = tt
+  told_asked (format_asked file) status text more some is = is
+  told_asked (play_asked file) status text more some is = is
+  told_asked (inspect_asked lines logs) status text more some is = is
+  told_asked (drive_asked file) status text more some is = (is.0, more text is.0 is.1, is.2)
+  told_asked (dump_asked file) status text more some is = is
+  told_asked (history_asked dir key) status text more some is = is
+  told_asked (get_asked dir key at) status text more some is = is
+  told_asked (put_asked dir key value) status text more some is = (is.0, some dir key value is.0 is.1, is.2, is.3)
+  told_asked (stats_asked logs) status text more some is = is
+  told_asked (migrate_asked old new) status text more some is = is
+  told_asked (compact_asked old new) status text more some is = is
 
-pub told_to : (puts : Said) (asked : Result Asked Fault) (status : ℕ) (text : List ℕ) → TellsTo puts asked status text → TellsTo AnyEnd asked status text
-told_to puts (Ok asked) status text is = told_asked puts asked status text is
-told_to puts (Err why) status text is = is
+  pub told_to : (asked : Result Asked Fault) (status : ℕ) (text : List ℕ)
+      → ((text : List ℕ) (verdict : Verdict) → drives text verdict → drives' text verdict)
+      → ((folder key value : List ℕ) (ended : Ended) → puts folder key value ended → puts' folder key value ended)
+      → TellsTo drives puts asked status text → TellsTo drives' puts' asked status text
+  told_to (Ok asked) status text more some is = told_asked asked status text more some is
+  told_to (Err why) status text more some is = is

@@ -1,4 +1,5 @@
 pub mod Disks
+pub mod Drives
 pub mod Faults
 pub mod Puts
 pub mod Replies

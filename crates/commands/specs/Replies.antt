@@ -7,6 +7,7 @@ use Rattle.command_line.specs.Commands.{history_asked, get_asked, put_asked, sta
 use Rattle.command_line.specs.Lines.{Word}
 use Rattle.command_line.specs.declared.usage.TheConstants.{USAGE}
 use Rattle.client.specs.declared.ended.Ended.{Ended}
+use Rattle.commands.specs.Drives.{Driving}
 use Rattle.commands.specs.Puts.{Said, put_status, put_text}
 use Rattle.once.specs.Replies.{once_reply}
 use Rattle.output.specs.Replies.{Expected}
@@ -41,25 +42,26 @@ abbrev pub reply_to : List Word → Expected
 reply_to words = reply_or_refusal (command_of words)
 
 -- what a command has printed that was carried out, whatever files hold: nothing, a verdict that goes with its status, or the
--- lines of a dump, of a history or of a value, or numbers of logs by their names; or what became of a write, by what may become of one
-abbrev pub Tells : Said → Asked → ℕ → List ℕ → Type 0
-Tells puts help status text = Unit {0}
-Tells puts (once_asked key value first second) status text = Unit {0}
-Tells puts (format_asked file) status text = (status ≡ 0) × (text ≡ [])
-Tells puts (play_asked file) status text = status ≡ 0
-Tells puts (inspect_asked lines logs) status text =
+-- lines of a dump, of a history or of a value, or numbers of logs by their names; or what came of a drive, whose verdict its status goes with,
+-- and what became of a write, by what may come of one and become of the other
+abbrev pub Tells : Driving → Said → Asked → ℕ → List ℕ → Type 0
+Tells drives puts help status text = Unit {0}
+Tells drives puts (once_asked key value first second) status text = Unit {0}
+Tells drives puts (format_asked file) status text = (status ≡ 0) × (text ≡ [])
+Tells drives puts (play_asked file) status text = status ≡ 0
+Tells drives puts (inspect_asked lines logs) status text =
     (verdict : Verdict) × (status ≡ exit_status verdict) × (text ≡ text_of verdict ++ codes "\n")
-Tells puts (drive_asked file) status text = Unit {0}
-Tells puts (dump_asked file) status text = (status ≡ 0) × IsADump text
-Tells puts (history_asked dir key) status text = (status ≡ 0) × IsAHistory text
-Tells puts (get_asked dir key at) status text = (status ≡ 0) × IsAValue text
-Tells puts (put_asked dir key value) status text =
+Tells drives puts (drive_asked file) status text = (verdict : Verdict) × drives text verdict × (status ≡ exit_status verdict)
+Tells drives puts (dump_asked file) status text = (status ≡ 0) × IsADump text
+Tells drives puts (history_asked dir key) status text = (status ≡ 0) × IsAHistory text
+Tells drives puts (get_asked dir key at) status text = (status ≡ 0) × IsAValue text
+Tells drives puts (put_asked dir key value) status text =
     (ended : Ended) × puts dir key value ended × (status ≡ put_status ended) × (text ≡ put_text ended)
-Tells puts (stats_asked logs) status text = (status ≡ 0) × AreStats logs text
-Tells puts (migrate_asked old new) status text = (status ≡ 0) × (text ≡ [])
-Tells puts (compact_asked old new) status text = (status ≡ 0) × (text ≡ [])
+Tells drives puts (stats_asked logs) status text = (status ≡ 0) × AreStats logs text
+Tells drives puts (migrate_asked old new) status text = (status ≡ 0) × (text ≡ [])
+Tells drives puts (compact_asked old new) status text = (status ≡ 0) × (text ≡ [])
 
 -- what the command that some words ask for has printed
-abbrev pub TellsTo : Said → Result Asked Fault → ℕ → List ℕ → Type 0
-TellsTo puts (Ok asked) status text = Tells puts asked status text
-TellsTo puts (Err fault) status text = ⊥
+abbrev pub TellsTo : Driving → Said → Result Asked Fault → ℕ → List ℕ → Type 0
+TellsTo drives puts (Ok asked) status text = Tells drives puts asked status text
+TellsTo drives puts (Err fault) status text = ⊥

@@ -14,6 +14,7 @@ ghost use Rattle.output.specs.declared.failure.Failure.TheVariants.{Refused, Unw
 ghost use Rattle.command_line.specs.Lines.{are_plain, asks_help};
 ghost use Rattle.output.specs.Replies.{Is};
 ghost use Rattle.commands.specs.Disks.{LogsCommand, LogsTo};
+ghost use Rattle.commands.specs.Drives.{IsDrivenBy};
 ghost use Rattle.commands.specs.Faults.{FailsAs, IsRefusedBy, IsUnputBy, MayRefuse, MayRefuseTo};
 ghost use Rattle.commands.specs.Puts.{IsPutBy};
 ghost use Rattle.commands.specs.Replies.{Tells, TellsTo, reply_of, reply_to};
@@ -77,7 +78,8 @@ pub fn answer<
         × Appends (O.contents (writer_of out.old)) (O.contents (writer_of out.new)) USAGE.now }
     // What files tell: a format, a migration and a compaction print nothing, an inspection a verdict, which its status goes with, and a dump lines of records.
     ensures tells { are_plain (map (λ w. w.now) words.entry.now) ≡ true → result.0 ≢ 2
-        → (text : List ℕ) × TellsTo (IsPutBy (P.post system.now.drive.put alloc))
+        → (text : List ℕ) × TellsTo (IsDrivenBy (D.post system.now.drive.run alloc))
+        (IsPutBy (P.post system.now.drive.put alloc))
         (command_of (map (λ w. w.now) words.entry.now)) result.0 text
         × Appends (O.contents (writer_of out.old)) (O.contents (writer_of out.new)) text }
     ensures quiet { result.0 ≢ 2 → err.new ≡ err.old }
@@ -140,7 +142,8 @@ fn carry_out<
         × Appends (O.contents (writer_of out.old)) (O.contents (writer_of out.new)) text) }
     ensures tells { are_plain (map (λ w. w.now) words.entry.now) ≡ true
         → IfOk result.0 (λ status. (text : List ℕ)
-        × TellsTo (IsPutBy (P.post system.now.drive.put alloc))
+        × TellsTo (IsDrivenBy (D.post system.now.drive.run alloc))
+        (IsPutBy (P.post system.now.drive.put alloc))
         (command_of (map (λ w. w.now) words.entry.now)) status text
         × Appends (O.contents (writer_of out.old)) (O.contents (writer_of out.new)) text) }
     ensures logged { are_plain (map (λ w. w.now) words.entry.now) ≡ true → IfOk result.0 (λ status.
@@ -189,7 +192,8 @@ fn run<
         (λ status. (text : List ℕ) × Is (reply_of (asked_for asked.entry)) (Ok (text, status))
         × Appends (O.contents (writer_of out.old)) (O.contents (writer_of out.new)) text) }
     ensures tells { IfOk result.0
-        (λ status. (text : List ℕ) × Tells (IsPutBy (P.post system.now.drive.put alloc))
+        (λ status. (text : List ℕ) × Tells (IsDrivenBy (D.post system.now.drive.run alloc))
+        (IsPutBy (P.post system.now.drive.put alloc))
         (asked_for asked.entry) status text
         × Appends (O.contents (writer_of out.old)) (O.contents (writer_of out.new)) text) }
     ensures logged { IfOk result.0 (λ status. LogsCommand (asked_for asked.entry) status result.1) }

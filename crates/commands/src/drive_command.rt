@@ -1,11 +1,14 @@
 //! The command `drive`: shards and workers in threads.
-ghost use Rattle.std.specs.Prelude.{◌≡◌, ◌⊎◌, ◌<◌, List, ℕ, None, Err, IfOk, IfErr};
+ghost use Rattle.std.specs.Prelude.{◌≡◌, ◌⊎◌, ◌<◌, List, ℕ, None, Ok, Err, IfOk, IfErr};
 ghost use Rattle.std.specs.Io.KnownBytes.{Appends};
 ghost use Rattle.units.specs.declared.fault.Fault.{Fault};
+ghost use Rattle.units.specs.declared.line.Verdict.{Verdict};
+ghost use Rattle.commands.specs.Drives.{IsDrivenBy};
 ghost use Rattle.commands.specs.Faults.{FailsAs, IsNotDriven, IsRefusedBy};
 ghost use Rattle.output.specs.Failures.{FailsFor};
 ghost use Rattle.output.specs.declared.failure.Failure.TheVariants.{Refused, Unwritten};
 ghost use Rattle.output.specs.Streams.{failures_of, writer_of};
+ghost use Rattle.output.specs.Verdicts.{exit_status};
 
 use crate::engine::Engine;
 use output::{Failure, Stream, status_of};
@@ -26,7 +29,9 @@ pub fn run_drive<F: Files, D: Fn(Global, &Settings) -> Result<Driven, NoVerdict>
     requires { D.IsAlwaysCallable system.now.drive.run }
     ensures status { IfOk result (λ status. (status ≡ 0) ⊎ (status ≡ 1)) }
     ensures printed { IfOk result
-        (λ status. (text : List ℕ)
+        (λ status. (text : List ℕ) × (verdict : Verdict)
+        × IsDrivenBy (D.post system.now.drive.run alloc) text verdict
+        × (status ≡ exit_status verdict)
         × Appends (O.contents (writer_of out.old)) (O.contents (writer_of out.new)) text) }
     ensures failures { IfErr result
         (λ failure. FailsFor (failures_of out.old < failures_of out.new) failure None) }
@@ -74,7 +79,9 @@ fn driven_by<F: Files, D: Fn(Global, &Settings) -> Result<Driven, NoVerdict>, P>
     system: &System<F, Engine<D, P>>,
 ) -> Result<Driven, NoVerdict>
     requires { D.IsAlwaysCallable system.now.drive.run }
-    ensures { IfErr result
+    ensures driven { IfOk result (λ driven. (settings : _)
+        × D.post system.now.drive.run alloc settings (Ok driven)) }
+    ensures refused { IfErr result
         (λ none. IsNotDriven (IsRefusedBy (D.post system.now.drive.run alloc)) none.fault) }
 {
     let text = read_text(alloc, &system.files, file, Reason::Settings)?;

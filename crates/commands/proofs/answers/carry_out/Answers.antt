@@ -4,6 +4,7 @@ use Rattle.units.specs.declared.fault.Fault.{Fault}
 use Rattle.command_line.specs.Commands.{Asked, command_of}
 use Rattle.command_line.specs.Lines.{Word, asks_help}
 use Rattle.command_line.specs.Views.{asked_for}
+use Rattle.commands.specs.Drives.{IsDrivenBy}
 use Rattle.commands.specs.Faults.{IsRefusedBy, IsUnputBy}
 use Rattle.commands.specs.Puts.{IsPutBy}
 use Rattle.commands.specs.Replies.{TellsTo}
@@ -17,8 +18,8 @@ returns-in-Ok-clause-tells g c plain =
     IfOk-weaker c.run.result.0 _ _
     (λ status told. (
       told.0,
-      subst (λ (r : Result Asked Fault). TellsTo (IsPutBy (goal.P-post g c.args.system.now.drive.put c.args.alloc)) r status
-          told.0) (sym is) told.1,
+      subst (λ (r : Result Asked Fault). TellsTo (IsDrivenBy (goal.D-post g c.args.system.now.drive.run c.args.alloc))
+          (IsPutBy (goal.P-post g c.args.system.now.drive.put c.args.alloc)) r status told.0) (sym is) told.1,
       told.2,
     ))
     c.run.ensures.tells
