@@ -10,6 +10,8 @@ mod gates;
 #[cfg(test)]
 mod kept;
 #[cfg(test)]
+mod machine_clocks;
+#[cfg(test)]
 mod stops;
 #[cfg(test)]
 mod store_folders;
