@@ -202,6 +202,40 @@ fn are_of(lines: &[Line], run: u64) -> bool {
     true
 }
 
+// The moment of a line that has one.
+fn moment_of(line: &Line) -> Option<u64> {
+    match line {
+        Line::Begin(_, moment) => Some(*moment),
+        Line::Ack(_, _, moment) => Some(*moment),
+        _ => None,
+    }
+}
+
+// Whether the moments of one worker's lines are 0, 1, 2 and so on: each is drawn when what it tells of is done, once.
+fn are_in_turn(lines: &[Line]) -> bool {
+    let mut next: u64 = 0;
+    for line in lines {
+        if let Some(moment) = moment_of(line) {
+            if moment != next {
+                return false;
+            }
+            next = next.saturating_add(1);
+        }
+    }
+    true
+}
+
+// How many lines are of reads.
+fn reads_in(lines: &[Line]) -> u64 {
+    let mut reads: u64 = 0;
+    for line in lines {
+        if let Line::Read(_, _, _) = line {
+            reads = reads.saturating_add(1);
+        }
+    }
+    reads
+}
+
 fn is_driven(summary: &Summary, lines: &[Line], comes: Comes) -> bool {
     match comes {
         Comes::Refused(_) => false,
@@ -238,7 +272,8 @@ fn go<R: Threads + Wait + time::Clock + Sync + Abort>(
                 disks,
             },
         ) => {
-            let held = is_driven(&summary, lines.as_slice(), row.comes);
+            let held = is_driven(&summary, lines.as_slice(), row.comes)
+                && (row.workers != 1 || are_in_turn(lines.as_slice()));
             drop(lines);
             (held, disks)
         }
@@ -332,9 +367,17 @@ fn last_look(lines: &[Line]) -> u64 {
     last
 }
 
+// Whether each number that was written is the next of its key, and each key was written that a commit has read.
+fn are_counted(kept: &Kept, summary: &Summary, reads: u64) -> bool {
+    kept.writes > 0
+        && kept.sum() == kept.writes
+        && (summary.counts.unknown > 0 || kept.writes == reads)
+}
+
 // A drive of one worker, with a stride of ten seconds and a clock that is within a tenth of one. Commit wait takes as long as a
 // reading is wide, but for how far two clocks of the machine go apart meanwhile. Ceilings are logged a stride ahead: one at
-// each shard that is looked at, since all is over within five seconds. And what was written behind a number is the next one.
+// each shard that is looked at, since all is over within five seconds. And what was written behind a number is the next one, at
+// each key that was read.
 #[test]
 fn as_settings_say(rt: HostRuntime) {
     let mut settings = settings_of(&rt, rt.alloc(), 1, 6, 3);
@@ -354,7 +397,7 @@ fn as_settings_say(rt: HostRuntime) {
         disks,
     } = driven.expect(&rt, "a drive");
     let told = is_sound(&summary, 6) && are_told(&summary, 6, &lines);
-    let last = last_look(&lines);
+    let (last, reads) = (last_look(&lines), reads_in(&lines));
     drop(lines);
     let kept = Kept::of(&rt, rt.alloc(), disks);
     let shortest = watch.micros.load(Ordering::SeqCst);
@@ -364,7 +407,7 @@ fn as_settings_say(rt: HostRuntime) {
         && kept.ceilings <= 2
         && last > 0
         && kept.least_ceiling > last.saturating_add(5_000_000);
-    let counted = kept.writes > 0 && kept.sum() == kept.writes;
+    let counted = are_counted(&kept, &summary, reads);
     drop(kept);
     let mut wrong = WrongRows::none(rt.alloc());
     wrong.unless(told, "what is told of transactions");
