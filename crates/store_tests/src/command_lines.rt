@@ -1,11 +1,7 @@
 //! Commands, one after the other in one folder.
 use crate::verdict::end;
-use cli::{Driven, Ended, Engine, Hints, NoVerdict, Put, Stream, System, answer, put_in_store};
-use drive::drive_shards;
-use host_files::HostFiles;
+use cli::{Stream, program};
 use made::{Folder, ONE_COMMIT, WrongRows, in_version_1, with_slots};
-use settings::Settings;
-use simdisk::SimDisk;
 use std::alloc::Global;
 use std::fs::File;
 use std::process::Abort;
@@ -14,7 +10,6 @@ use std::rt::Files;
 use std::sync::Wait;
 use std::thread::Threads;
 use std::time;
-use units::Fault;
 
 // What is printed: of a drive its counts, whose first three are of so many transactions together, and the verdict yes; of a write that it is
 // committed; of a key its value, or lines of which the last ends so.
@@ -211,6 +206,34 @@ static MIGRATIONS: [Step; 9] = [
     },
 ];
 
+// The manifest of a store of two shards.
+const MANIFEST: &[u8] =
+    b"version = 1\nshards = 2\nsplits = [\"k0005\"]\nname = \"0123456789abcdef\"\n";
+
+// Opened 1; Commit 1.1 at 111, parts 0 and 1, no reads, a=1; a closed gate. It is told without its slots.
+const OF_TWO_PARTS: &[u8] =
+    b"SPNLOG02\xa5\0\0\0\x09\x01\0\0\0\0\0\0\0\x01\xa5\0\0\0\x25\x04\0\0\0\0\0\0\0\x01\0\0\0\0\0\0\0\x01\
+\0\0\0\0\0\0\0\x6f\0\x03\0\0\0\x01\x01\x61\x01\0\x01\x31\0";
+
+// An empty log, without its slots.
+const EMPTY: &[u8] = b"SPNLOG02\0";
+
+// A drive over a store of which one shard has lost its part of a commit.
+static TORN: [Step; 2] = [
+    Step {
+        lines: &["inspect ./no.lines ./shard-0.log ./shard-1.log"],
+        output: Output::Is("no torn 1.1\n"),
+        fault: "",
+        status: 1,
+    },
+    Step {
+        lines: &["drive ./files.settings"],
+        output: Output::Ends("\nverdict no torn 1.1\n"),
+        fault: "",
+        status: 1,
+    },
+];
+
 // Settings of disks in memory.
 const IN_MEMORY: &str =
     "shards = 2\nsplits = [\"k0005\"]\nstride = 1000\nepsilon = 100\nworkers = 4\ntransactions = 50\nkeys = 10\n";
@@ -300,21 +323,16 @@ fn is_right(out: &[u8], err: &[u8], step: &Step) -> bool {
     is_printed(text, step.output) && err == step.fault.as_bytes()
 }
 
-// Whether the words print what the step says, and give its status.
-fn prints<
-    'w,
-    F: Hints,
-    D: Fn(Global, &Settings) -> Result<Driven, NoVerdict>,
-    P: Fn(Global, Put<'_>) -> Result<Ended, Fault>,
->(alloc: Global, system: &System<F, Engine<D, P>>, words: &'w [&'w str], step: &Step) -> bool
-    requires drives { D.IsAlwaysCallable system.now.drive.run }
-    requires puts { P.IsAlwaysCallable system.now.drive.put }
-{
+// Whether the program prints what the step says, and gives its status.
+fn prints<'w, R: Files<File = File> + Eprint + RandomSource + Threads + Wait + time::Clock + Sync>(
+    rt: &R,
+    alloc: Global,
+    words: &'w [&'w str],
+    step: &Step,
+) -> bool {
     let mut out = Stream::new(Vec::new(alloc));
     let mut err = Stream::new(Vec::new(alloc));
-    let disk = SimDisk::new(alloc);
-    let (status, disk) = answer(alloc, words, system, disk, &mut out, &mut err);
-    drop(disk);
+    let status = program(rt, alloc, None, words, &mut out, &mut err);
     let (out, err) = (out.into_writer(), err.into_writer());
     let right = is_right(&out, &err, step) && status == step.status;
     drop(out);
@@ -322,57 +340,22 @@ fn prints<
     right
 }
 
-// Goes over some commands, one after another. Each is named by its line and its place among them.
-fn follow<
-    F: Hints,
-    D: Fn(Global, &Settings) -> Result<Driven, NoVerdict>,
-    P: Fn(Global, Put<'_>) -> Result<Ended, Fault>,
->(
-    wrong: &mut WrongRows,
-    rt: &HostRuntime,
-    test: &impl Abort,
-    system: &System<F, Engine<D, P>>,
-    folder: &Folder,
-    steps: &[Step],
-)
-    requires drives { D.IsAlwaysCallable system.now.drive.run }
-    requires puts { P.IsAlwaysCallable system.now.drive.put }
-{
+/// Goes over some commands, one after another, as the program carries them out. Each is named by its line and its place among them.
+pub fn go_over<
+    T: Files<File = File> + Eprint + RandomSource + Threads + Wait + time::Clock + Sync + Abort,
+>(wrong: &mut WrongRows, rt: &HostRuntime, test: &T, folder: &Folder, steps: &[Step]) {
     let mut place = 0u64;
     for step in steps {
         for line in step.lines {
             let whole = words_of(rt, test, folder, line);
             let words = lent(test, rt.alloc(), whole.as_slice());
-            let right = prints(rt.alloc(), system, words.as_slice(), step);
+            let right = prints(test, rt.alloc(), words.as_slice(), step);
             drop(words);
             drop(whole);
             wrong.unless_at(right, line, place);
             place = place.saturating_add(1);
         }
     }
-}
-
-/// Goes over some commands as the program carries them out.
-pub fn go_over<T: Files<File = File> + RandomSource + Threads + Wait + time::Clock + Sync + Abort>(
-    wrong: &mut WrongRows,
-    rt: &HostRuntime,
-    test: &T,
-    folder: &Folder,
-    steps: &[Step],
-) {
-    let system = System {
-        files: HostFiles {
-            rt,
-            is_watched: false,
-        },
-        drive: Engine {
-            run: |alloc: Global, settings: &Settings| {
-                drive_shards(test, alloc, settings, Some(Vec::<u8>::new(alloc)))
-            },
-            put: |alloc: Global, write: Put<'_>| put_in_store(test, alloc, write),
-        },
-    };
-    follow(wrong, rt, test, &system, folder, steps);
 }
 
 #[test]
@@ -384,6 +367,26 @@ fn commands_over_files(rt: HostRuntime) {
     if folder.close(&rt, "closed") {
         go_over(wrong.of("closed"), &rt, &rt, &folder, &CLOSED);
     }
+    wrong.unless(folder.remove(&rt), "the folder");
+    end(&rt, wrong);
+}
+
+// Puts a log into a folder, with its slots.
+fn put_log(rt: &HostRuntime, test: &impl Abort, folder: &Folder, name: &str, bytes: &[u8]) {
+    let whole = with_slots(rt.alloc(), bytes).ok().expect(test, "memory");
+    put(rt, test, folder, name, &whole);
+    drop(whole);
+}
+
+// It fails where a verdict of no has status 0, or the text of a drive is another one than its verdict's.
+#[test]
+fn a_drive_over_a_torn_commit(rt: HostRuntime) {
+    let folder = furnished(&rt, &rt);
+    put(&rt, &rt, &folder, "store.toml", MANIFEST);
+    put_log(&rt, &rt, &folder, "shard-0.log", OF_TWO_PARTS);
+    put_log(&rt, &rt, &folder, "shard-1.log", EMPTY);
+    let mut wrong = WrongRows::none(rt.alloc());
+    go_over(&mut wrong, &rt, &rt, &folder, &TORN);
     wrong.unless(folder.remove(&rt), "the folder");
     end(&rt, wrong);
 }
