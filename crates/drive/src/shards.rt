@@ -35,7 +35,7 @@ pub fn drive_shards<
     ensures told { IfOk result (λ driven. IsTold
         (settings.now.workers * settings.now.transactions)
         (string_bytes driven.text) driven.verdict) }
-    // On disks in memory the verdict is that on what the shards left there.
+    // On disks in memory the verdict is that on the logs of some disks, one a shard, and on lines of which the counts are.
     ensures judged { settings.now.dir ≡ None → IfOk result (λ driven.
         IsToldOf (Unit {0}) (λ disk. (surface (disk_file disk)).seen)
         (length settings.now.splits + 1) (settings.now.workers * settings.now.transactions)
@@ -68,7 +68,7 @@ pub fn run<
 >(rt: &R, alloc: Global, settings: &Settings, gate: &G) -> Result<String, Fault>
     ensures told { IfOk result (λ text. (verdict : Verdict) × IsTold
         (settings.now.workers * settings.now.transactions) (string_bytes text) verdict) }
-    // On disks in memory the verdict is that on what the shards left there.
+    // On disks in memory the verdict is that on the logs of some disks, one a shard, and on lines of which the counts are.
     ensures judged { settings.now.dir ≡ None → IfOk result (λ text. (verdict : Verdict)
         × IsToldOf (Unit {0}) (λ disk. (surface (disk_file disk)).seen)
         (length settings.now.splits + 1) (settings.now.workers * settings.now.transactions)
@@ -91,7 +91,7 @@ fn drive_watched<
     ensures told { IfOk result (λ driven. IsTold
         (settings.now.workers * settings.now.transactions)
         (string_bytes driven.text) driven.verdict) }
-    // On disks in memory the verdict is that on what the shards left there.
+    // On disks in memory the verdict is that on the logs of some disks, one a shard, and on lines of which the counts are.
     ensures judged { settings.now.dir ≡ None → IfOk result (λ driven.
         IsToldOf (Unit {0}) (λ disk. (surface (disk_file disk)).seen)
         (length settings.now.splits + 1) (settings.now.workers * settings.now.transactions)

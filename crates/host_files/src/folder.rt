@@ -33,9 +33,9 @@ use units::{Fault, Reason, Splits};
 /// holds a record. Before this returns all names are on the device.
 ///
 /// What is made here is a draft until it is whole: `shard-0.log.new`, `store.toml.new`. Where there is a manifest, a draft whose log is
-/// missing gets that name, whatever it holds. Where there is none, a draft that holds a record is the log, and gets its name too; one of
-/// version 1, that is damaged or another shard's is refused; and each other draft is taken away and made anew, also a link. A file that has the name of
-/// a log and is none, an empty one too, is never made anew: it is refused, here or as it is opened.
+/// missing gets that name, whatever it holds. Where there is none, a draft that holds a record is the log, and gets its name too; one
+/// that is of version 1, damaged or another shard's is refused; and each other draft is taken away and made anew, also a link. A file
+/// that has the name of a log and is none, an empty one too, is never made anew: it is refused, here or as it is opened.
 pub fn logs_in<R: Files<File = File> + RandomSource>(
     rt: &R,
     alloc: Global,

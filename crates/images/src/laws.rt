@@ -7,7 +7,9 @@ use disk::Disk;
 /// From bytes to history, of every lawful run and at every moment of it: the contract of a function that does nothing.
 ///
 /// Beside the run stand cores on disks of this type. Of each call there is what the contracts of `Core::open`, `Core::on` and
-/// `Core::turn_over` say, and where the device failed in it also which call of the device that was, by what is then read. Where the disks keep the disk model, each image that a crash may leave of them, between two
+/// `Core::turn_over` say, and where the device failed in it also which call of the device that was, by what is then read.
+///
+/// Where the disks keep the disk model, each image that a crash may leave of them, between two
 /// calls or at any moment within one, is read as an area of its file, which keeps what all records of its shard say that were logged since
 /// it was formatted; these are some that `law::moments` speaks of, and what it says holds of them.
 pub fn images_have_logs<D: Disk>()

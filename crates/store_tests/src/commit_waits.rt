@@ -67,7 +67,7 @@ fn goes<R: Threads + Wait + time::Clock + Sync + Abort>(rt: &R, alloc: Global, r
     }
 }
 
-// It fails where a store's clock has another epsilon than its options.
+// It fails where a store's clock has a smaller epsilon than its options.
 #[test]
 fn commits_wait_for_the_epsilon(rt: HostRuntime) {
     let mut wrong = WrongRows::none(rt.alloc());
