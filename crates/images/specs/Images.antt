@@ -1,7 +1,8 @@
--- From bytes to history. Beside a run of the definitions stand cores on disks that keep the disk model, call by call: of each call
--- there is what the contract of `Core::on`, of `Core::turn_over` or of `Core::open` says, and where the device failed in it also which call of
--- the device that was. Whatever images a crash then leaves of these disks, between two calls or within one, each is read as an area that keeps what all records of its shard say that were
--- logged since it was formatted; and these records are some that the law of the store speaks of.
+-- From bytes to history. Beside a run of the definitions stand cores on disks that keep the disk model, call by call: of each call there
+-- is what the contract of `Core::on`, of `Core::turn_over` or of `Core::open` says, and where the device failed in it also which call of
+-- the device that was. Whatever images a crash then leaves of these disks, between two calls or within one, each is read as an area that
+-- keeps what all records of its shard say that were logged since it was formatted; and these records are some that the law of the store
+-- speaks of.
 use Rattle.std.specs.Prelude.{ℕ, ◌≡◌, ◌≢◌, ◌⊎◌, false, cond, ◌&&◌, nat_le, nat_lt, IsTrue, IsFalse, List, [], ◌∷◌, ◌++◌, length, map, slice_get}
 use Rattle.std.specs.Prelude.{Option, Some, None, Result, Ok, Err, IfOk}
 use Rattle.units.specs.declared.fault.Fault.{Fault}
