@@ -1,7 +1,7 @@
 #!/bin/sh
 # Commands over files and folders that are not as they should be: texts without an end, other settings than the store's, logs that are gone
-# or exchanged, a draft that is a link, logs of version 1, no thread to be had. Each has to be refused as docs/COMMANDS.md says, soon, and with nothing written. It wants
-# the program built (`./run --build`).
+# or exchanged, a draft that is a link, logs of version 1, no thread to be had. Each has to be refused as docs/COMMANDS.md says, soon,
+# and with nothing written. It wants the program built (`./run --build`).
 set -eu
 root=$(dirname "$(dirname "$(readlink -f "$0")")")
 program=${SHARDS_PROGRAM:-$root/crates/shards/out/shards}
