@@ -233,7 +233,7 @@ module _ {D : Type 0} (keeps obeys : Type 0) (file : D → File) (clock : D → 
       pub turned_since : (image : List ℕ) → since new.disk (clock old.disk) image → HoldsArea (read_area s) image ⊎ HoldsArea (new_area s) image
       turned_since image left = either image ((k.any_moment h.runs kept).each image left)
 
-      turned_now : (image : List ℕ) → MayLeave (surface (file new.disk)) image → HoldsArea (read_area s) image ⊎ HoldsArea (new_area s) image
+      pub turned_now : (image : List ℕ) → MayLeave (surface (file new.disk)) image → HoldsArea (read_area s) image ⊎ HoldsArea (new_area s) image
       turned_now image may = turned_since image (counts new.disk (clock old.disk) image (k.any_moment h.runs kept).later may)
 
       -- where the new area ends

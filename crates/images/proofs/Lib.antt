@@ -1,5 +1,6 @@
 pub mod Acted
 pub mod Called
+pub mod Failing
 pub mod Held
 pub mod Placed
 pub mod Told

@@ -42,13 +42,13 @@ use Rattle.images.proofs.Held.{LivesAs, LivesIn, ReadsAs, life_holds, sure_area}
 use Rattle.images.proofs.Placed.{no_input, some_shard}
 use Rattle.images.proofs.Turned.{HoldRun, MayLeaveHere, calls_read, holds}
 
-same_number : (n : ℕ) → nat_eq n n ≡ true
+pub same_number : (n : ℕ) → nat_eq n n ≡ true
 same_number n = grind (arith, nat_tests)
 
-no_later : (n : ℕ) → nat_le n n ≡ true
+pub no_later : (n : ℕ) → nat_le n n ≡ true
 no_later n = grind (arith, nat_tests)
 
-below : (n m : ℕ) → n < m → nat_lt n m ≡ true
+pub below : (n m : ℕ) → n < m → nat_lt n m ≡ true
 below n m h = grind (arith, nat_tests)
 
 -- a reading at a time holds it
@@ -59,12 +59,12 @@ same_pair : (a b : ℕ × Doing) → ◌≡◌ {A = Option (ℕ × Doing)} (Some
 same_pair a b e = cc
 
 -- the last of lawful events may happen
-last_of : (config : Config) (es : List Event) (e : Event) → lawful config (es ++ e ∷ []) ≡ true → may_happen (run config es) e ≡ true
+pub last_of : (config : Config) (es : List Event) (e : Event) → lawful config (es ++ e ∷ []) ≡ true → may_happen (run config es) e ≡ true
 unfolding run lawful
 last_of config es e fair = last_may (start config) es e fair
 
 -- a doing that may be under way may be done
-may_be_done : (w : World) (time n : ℕ) (doing : Doing) (a : Act) → doing_of w a ≡ Some (n, doing) → may_act w time a ≡ true → may_do w time n doing ≡ true
+pub may_be_done : (w : World) (time n : ℕ) (doing : Doing) (a : Act) → doing_of w a ≡ Some (n, doing) → may_act w time a ≡ true → may_do w time n doing ≡ true
 unfolding may_act
 may_be_done w time n doing (Act.At k d) of may =
     let one = same_pair (k, d) (n, doing) of in

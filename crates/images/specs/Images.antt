@@ -345,3 +345,24 @@ module _ {D : Type 0} (keeps obeys : Type 0) (file : D → File) (clock : D → 
       Leads (start config) turns first lives → (n : ℕ) (s : ShardNow) → slice_get (run config (events_of turns)).shards n ≡ Some s →
       (is_down s.state ≡ false) ⊎ (s.unsure ≡ Nothing) → (image : List ℕ) → LeavesImage config (events_of turns) lives n image →
       IsTold config (events_of turns) lives n image
+
+  -- ---- every failure of a device is told
+
+  -- an event tells how a call ended in which the device failed: it may come next, and what there is behind the call is beside the run
+  pub record IsToldFailure (config : Config) (es : List Event) (lives : ℕ → Life D) (n : ℕ) (after : Life D) : Type 0 where
+    pub event : Event
+    pub may : IsTrue (may_happen (run config es) event)
+    pub tells : (new : ℕ → Life D) → AreElsewhere n lives new → new n ≡ after → Turns (run config es) event.act lives new
+
+  -- the device failed in a call that logs a record or turns a log over, of a shard of which nothing was unsure
+  pub record HasFailed (config : Config) (es : List Event) (lives : ℕ → Life D) (n : ℕ) (after : Life D) : Type 0 where
+    pub under_way : IsUnderWay config es lives n after
+    pub device : under_way.result ≡ Err Device
+    pub sure : under_way.shard.unsure ≡ Nothing
+    pub writes : (under_way.logged ≢ None) ⊎ IsTrue (turns under_way.doing)
+
+  abbrev pub FailuresAreTold : Type 0
+  FailuresAreTold =
+      keeps → (config : Config) (turns : List Turn) (first lives : ℕ → Life D) → IsTrue (lawful config (events_of turns)) → AreFresh config first →
+      Leads (start config) turns first lives → (n : ℕ) (after : Life D) → HasFailed config (events_of turns) lives n after →
+      IsToldFailure config (events_of turns) lives n after
