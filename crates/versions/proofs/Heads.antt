@@ -1,6 +1,6 @@
 -- Heads order as their keys do, where they differ.
-use Rattle.std.proofs.Common.{◌≡◌, ℕ, zero, suc, ◌+◌, ◌*◌, ◌^◌, ◌-◌, ◌<◌, ◌≤◌, Bool, true, false, cond, nat_lt, List, [], ◌∷◌}
-use Rattle.std.proofs.Common.{length, get_or, drop, map, refl, sym, ap, ◌∙◌, arith, nat_cmp, Less, Equal, Greater, Ordering, take}
+use Rattle.std.proofs.Common.{◌≡◌, ℕ, zero, suc, ◌+◌, ◌*◌, ◌^◌, ◌-◌, ◌<◌, ◌≤◌, ◌≢◌, Bool, true, false, cond, nat_lt, List, [], ◌∷◌}
+use Rattle.std.proofs.Common.{below_more, length, get_or, set, drop, map, refl, sym, ap, ◌∙◌, arith, nat_cmp, Less, Equal, Greater, Ordering, take}
 use Rattle.std.proofs.Math.Nat.{mul-le-mul_right, pow-le-pow_right, pow-suc}
 use Rattle.std.specs.List.{AllByRecursion, insert}
 use Rattle.std.proofs.lemmas.Bool.Decides.{nat_tests}
@@ -11,7 +11,7 @@ use Rattle.std.specs.Prelude.{min, nat_eq}
 use Rattle.units.specs.Keys.{same_key, key_before}
 use Rattle.units.proofs.KeyLaws.{key_before-trans, key_before-irreflexive, same_key-not_before, same_key_comm}
 use Rattle.units.specs.declared.writes.Install.{Install}
-use Rattle.std.proofs.lemmas.List.{get_or-map, get_or_default}
+use Rattle.std.proofs.lemmas.List.{get_or-map, get_or_default, get_or-set_same, get_or-set_other, ext_get_or, length-map}
 use Rattle.versions.specs.Halves.{AllUpTo, AllAfter}
 use Rattle.versions.specs.Ordered.{is_not_after, AscendsByVersion}
 use Rattle.versions.specs.Arranged.{no_install}
@@ -193,6 +193,26 @@ pub heads_insert : (prefix : List ℕ) (t : List Install) (heads : List ℕ) (k 
 heads_insert prefix t heads k x bytes are = record {
   bytes = all_insert (λ i. AreBytes i.key) t k x bytes are.bytes;
   each = ap (λ h. insert h k (head prefix x.key)) are.each ∙ sym (map_insert (λ i. head prefix i.key) t k x);
+}
+
+-- heads that are written anew one by one
+pub written_more : (p q : List ℕ) (t : List Install) (heads new : List ℕ) (at h : ℕ) → q ≡ p → new ≡ set heads at h → at < length heads
+    → h ≡ head p (get_or t at no_install).key → ((k : ℕ) → k < at → get_or heads k 0 ≡ head p (get_or t k no_install).key)
+    → (k : ℕ) → k < at + 1 → get_or new k 0 ≡ head q (get_or t k no_install).key
+written_more p q t heads new at h same made lt is before =
+    below_more (λ k. get_or new k 0 ≡ head q (get_or t k no_install).key) at
+    (λ k less.
+    let other : k ≢ at = omega arith in
+    ap (λ l. get_or l k 0) made ∙ get_or-set_other heads at k h 0 other ∙ before k less ∙ ap (λ r. head r (get_or t k no_install).key) (sym same))
+    (ap (λ l. get_or l at 0) made ∙ get_or-set_same heads at h 0 lt ∙ is ∙ ap (λ r. head r (get_or t at no_install).key) (sym same))
+
+pub written_all : (prefix : List ℕ) (t : List Install) (heads : List ℕ) → AllByRecursion (λ i. AreBytes i.key) t → length heads ≡ length t
+    → ((k : ℕ) → k < length t → get_or heads k 0 ≡ head prefix (get_or t k no_install).key) → AreHeads prefix t heads
+written_all prefix t heads bytes long done = record {
+  bytes = bytes;
+  each = ext_get_or 0 heads (map (λ i. head prefix i.key) t) (long ∙ sym (length-map t (λ i. head prefix i.key))) (λ k lt.
+      let less : k < length t = omega (arith, lt, long) in
+      done k less ∙ sym (get_or-map (λ i. head prefix i.key) t k no_install 0 less));
 }
 
 -- the head of a version there

@@ -1,6 +1,6 @@
 -- What stands in pieces is looked up and put in.
-use Rattle.std.proofs.Common.{◌≡◌, ℕ, zero, suc, ◌+◌, ◌-◌, ◌*◌, ◌<◌, ◌≤◌, Bool, true, false, nat_lt, List, [], ◌∷◌, ◌++◌, length, get_or, set}
-use Rattle.std.proofs.Common.{refl, sym, ap, ◌∙◌, arith}
+use Rattle.std.proofs.Common.{◌≡◌, ℕ, zero, suc, ◌+◌, ◌-◌, ◌*◌, ◌/◌, ◌%◌, ◌<◌, ◌≤◌, Bool, true, false, nat_lt, List, [], ◌∷◌, ◌++◌, length, get_or, set}
+use Rattle.std.proofs.Common.{refl, sym, ap, subst, ◌∙◌, arith}
 use Rattle.std.specs.List.{insert}
 use Rattle.std.proofs.lemmas.List.{length-set}
 use Rattle.std.proofs.lemmas.List.{append_assoc, length-append, get_or_append_left, get_or-append_right, get_or-map, set-append_left, set-append_right}
@@ -113,6 +113,32 @@ laid_set (p ∷ ps) (suc i) j e x laid less lt =
     let same = ap length (set_there ps i j e x laid.1 less rest) ∙ length-set (joined ps) (i * 4096 + j) x in (
       still_filled p p (joined ps) (joined (set ps i (set (get_or ps i e) j x))) refl same laid.0,
       laid_set ps i j e x laid.1 less rest,
+    )
+
+-- the piece of a place, and the place in it
+pub within_at : (ps : List (List Spot)) (at : ℕ) (p : List Spot) → IsLaid ps → at < length (joined ps) → p ≡ get_or ps (at / 4096) p
+    → at % 4096 < length p
+within_at ps at p laid lt is =
+    subst (λ (q : List Spot). at % 4096 < length q) (sym is) (place_there ps (at / 4096) (at % 4096) p laid (omega arith) (omega (arith, lt)))
+
+pub get_at : (ps : List (List Spot)) (at : ℕ) (p : List Spot) (spot : Spot) → IsLaid ps → at < length (joined ps) → p ≡ get_or ps (at / 4096) p
+    → spot ≡ get_or p (at % 4096) spot → spot ≡ get_or (joined ps) at spot
+get_at ps at p spot laid lt is found =
+    let there : at / 4096 * 4096 + at % 4096 ≡ at = omega arith in
+    found ∙ ap (λ (q : List Spot). get_or q (at % 4096) spot) is
+    ∙ sym (get_there ps (at / 4096) (at % 4096) p spot laid (omega arith) (omega (arith, lt)))
+    ∙ ap (λ n. get_or (joined ps) n spot) there
+
+pub set_at : (ps : List (List Spot)) (at : ℕ) (p q : List Spot) (spot : Spot) → IsLaid ps → at < length (joined ps) → p ≡ get_or ps (at / 4096) p
+    → q ≡ set p (at % 4096) spot → (joined (set ps (at / 4096) q) ≡ set (joined ps) at spot) × IsLaid (set ps (at / 4096) q)
+set_at ps at p q spot laid lt is made =
+    let there : at / 4096 * 4096 + at % 4096 ≡ at = omega arith in
+    let written = made ∙ ap (λ (r : List Spot). set r (at % 4096) spot) is in (
+      ap (λ (r : List Spot). joined (set ps (at / 4096) r)) written
+          ∙ set_there ps (at / 4096) (at % 4096) p spot laid (omega arith) (omega (arith, lt))
+          ∙ ap (λ n. set (joined ps) n spot) there,
+      subst (λ (r : List Spot). IsLaid (set ps (at / 4096) r)) (sym written)
+          (laid_set ps (at / 4096) (at % 4096) p spot laid (omega arith) (omega (arith, lt))),
     )
 
 -- the head at a place stands in its piece

@@ -20,11 +20,16 @@ pub struct Spot {
 }
 
 /// At most 4,096 places in order, with the space for all of them.
-#[derive(Drop)]
 pub struct Piece {
     spots: VecDeque<Spot>,
     // The head of the last one, or 0. It stands beside those of the other pieces, so that a search for a piece reads no place.
     last: u64,
+}
+
+impl Drop for Piece {
+    fn drop(self) {
+        let Piece { spots: _, last: _ } = self;
+    }
 }
 
 impl Model for Piece {

@@ -154,7 +154,7 @@ impl Places {
     pub(crate) fn are_behind(&self, prefix: &Option<Key>) -> bool
         ensures { result ≡ same_key self.now.prefix (prefix_of prefix.now) }
     {
-        are_same(prefix_bytes(&self.prefix), prefix_bytes(prefix))
+        prefix_bytes(&self.prefix) == prefix_bytes(prefix)
     }
 
     /// Heads are behind this prefix from now on. Those that stand are to be written anew.
@@ -202,8 +202,8 @@ impl Places {
         ensures prefix { self.new.prefix ≡ self.old.prefix }
         ensures room { self.new.room ≡ self.old.room }
     {
-        let (place, head) = (self.get(from), self.head(from));
-        self.spots.set(to, Spot { place, head });
+        let spot = self.spots.get(from);
+        self.spots.set(to, spot);
     }
 
     /// Keeps so many from the front. The space of the others is room from then on.
@@ -216,10 +216,4 @@ impl Places {
     {
         self.spots.shorten(len);
     }
-}
-
-fn are_same(bytes: &[u8], others: &[u8]) -> bool
-    ensures { result ≡ same_key bytes.now others.now }
-{
-    bytes == others
 }

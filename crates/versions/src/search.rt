@@ -168,24 +168,6 @@ fn newest_in<'a>(
     if last.key == *key { Some(last) } else { None }
 }
 
-// The newest version of the key at the timestamp, in microseconds, or before.
-fn newest_by<'a>(
-    installs: &'a [Install],
-    places: &Places,
-    key: &Key,
-    at: u64,
-) -> Option<&'a Install>
-    requires within { AreWithin places.now.places (length installs.now) }
-    requires order { AscendsByVersion (arranged installs.now places.now.places) }
-    requires heads { AreHeads places.now.prefix (arranged installs.now places.now.places)
-        places.now.heads }
-    ensures { option_copied result ≡
-        newest (filter (is_by key.now at) (arranged installs.now places.now.places)) }
-{
-    let count = among(installs, places, key, places.head_of(key), at);
-    newest_in(installs, places, key, at, count)
-}
-
 // The newest version of the key.
 #[tactic(auto, using(crate::proofs::Newest::newest_is))]
 fn newest_of<'a>(installs: &'a [Install], places: &Places, key: &Key) -> Option<&'a Install>
@@ -242,9 +224,9 @@ pub fn value_at<'a>(
     ensures { option_copied result ≡
         at_time (arranged installs.now places.now.places) key.now at }
 {
-    newest_by(installs, places, key, at.micros())?
-        .value
-        .as_ref()
+    let at = at.micros();
+    let count = among(installs, places, key, places.head_of(key), at);
+    newest_in(installs, places, key, at, count)?.value.as_ref()
 }
 
 /// Adds a version, and puts in its place. There is room.

@@ -54,7 +54,7 @@ impl Sequence {
         requires { at < length self.now.spots }
         ensures { result ≡ slice_index_or self.now.spots at result }
     {
-        get(&self.pieces, at)
+        self.pieces[at / PIECE].get(at % PIECE)
     }
 
     /// The first place whose head is not below a number, where heads ascend: the piece is found by halves, and the place in it. The
@@ -133,7 +133,7 @@ impl Sequence {
         ensures spots { self.new.spots ≡ slice_set self.old.spots at spot }
         ensures room { self.new.room ≡ self.old.room }
     {
-        set(&mut self.pieces, at, spot);
+        self.pieces[at / PIECE].set(at % PIECE, spot);
     }
 
     /// Keeps so many from the front. The space of the others is room from then on.
@@ -156,26 +156,6 @@ impl Sequence {
         insert(&mut self.pieces, at, spot);
         self.len += 1;
     }
-}
-
-// The place that stands there.
-fn get(pieces: &[Piece], at: usize) -> Spot
-    requires laid { IsLaid pieces.now }
-    requires within { at < length (joined pieces.now) }
-    ensures { result ≡ slice_index_or (joined pieces.now) at result }
-{
-    pieces[at / PIECE].get(at % PIECE)
-}
-
-// Writes over the place that stands there.
-fn set(pieces: &mut [Piece], at: usize, spot: Spot)
-    requires laid { IsLaid pieces.old }
-    requires within { at < length (joined pieces.old) }
-    ensures spots { joined pieces.new ≡ slice_set (joined pieces.old) at spot }
-    ensures laid { IsLaid pieces.new }
-    ensures len { length pieces.new ≡ length pieces.old }
-{
-    pieces[at / PIECE].set(at % PIECE, spot);
 }
 
 // Keeps so many from the front; the later pieces are emptied.
