@@ -82,7 +82,7 @@ fn change_by_fate(image: &mut Vec<u8>, change: Change, bytes: &[u8], fate: Fate)
             write_by_fate(image, at as usize, bytes, fate)
         }
         Change::Cut { len } => {
-            if fate != Fate::Old {
+            if !matches!(fate, Fate::Old) {
                 image.truncate(len as usize);
             }
         }
