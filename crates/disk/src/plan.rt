@@ -55,7 +55,7 @@ impl FailurePlan {
 }
 
 /// What a crash makes of a change that is not synced.
-#[derive(Clone, Copy, PartialEq, Eq)]
+#[derive(Clone, Copy)]
 pub enum Fate {
     /// It is as if the change had not been made.
     Old,
