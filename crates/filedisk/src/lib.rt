@@ -7,7 +7,7 @@ mod names;
 
 use counts::Count;
 use disk::Disk;
-use names::{locked, or_device, plain, same_name, sync_folder};
+use names::{locked, or_device, plain, sync_folder};
 use std::fs::{File, OpenOptions};
 use std::os::unix::fs::FileExt;
 use std::rt::Files;
@@ -43,8 +43,7 @@ impl FileDisk {
         ensures unchanged { IfOk result (λ disk. file_is_changed disk ≡ false) }
         ensures cause { IfErr result (λ fault. fault ≡ Fault.Device) }
     {
-        let file = locked(or_device(File::create_new(rt, path))?)?;
-        let file = same_name(rt, path, file)?;
+        let file = locked(rt, path, File::create_new(rt, path))?;
         sync_folder(rt, path)?;
         Ok(FileDisk::over(file, 0, false))
     }
@@ -60,7 +59,7 @@ impl FileDisk {
     {
         plain(rt, path)?;
         let opened = OpenOptions::new().read(true).write(true).open(rt, path);
-        let file = same_name(rt, path, locked(or_device(opened)?)?)?;
+        let file = locked(rt, path, opened)?;
         let len = plain_len(&file)?;
         Ok(FileDisk::over(file, len, false))
     }

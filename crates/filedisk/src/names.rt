@@ -17,16 +17,6 @@ pub fn or_device(opened: std::io::Result<File>) -> Result<File, Fault>
     }
 }
 
-/// The file, once no other open one has the lock.
-pub fn locked(file: File) -> Result<File, Fault>
-    ensures { IfErr result (λ fault. fault ≡ Fault.Device) }
-{
-    match file.try_lock() {
-        Ok(()) => Ok(file),
-        Err(_) => Err(Fault::Device),
-    }
-}
-
 /// The name is that of a plain file, and of no link.
 pub fn plain<R: Files>(rt: &R, path: &str) -> Result<(), Fault>
     ensures { IfErr result (λ fault. fault ≡ Fault.Device) }
@@ -37,11 +27,13 @@ pub fn plain<R: Files>(rt: &R, path: &str) -> Result<(), Fault>
     }
 }
 
-/// The file, where the name is still its own: it was not renamed or taken away before it was locked, and the name is no link.
-pub fn same_name<R: Files>(rt: &R, path: &str, file: File) -> Result<File, Fault>
+/// The file that was opened, or `Device`: once no other open one has the lock, and where the name is still its own. It was not renamed
+/// or taken away before it was locked, and the name is no link.
+pub fn locked<R: Files>(rt: &R, path: &str, opened: std::io::Result<File>) -> Result<File, Fault>
     ensures { IfErr result (λ fault. fault ≡ Fault.Device) }
 {
-    if has_name(rt, path, &file) {
+    let file = or_device(opened)?;
+    if file.try_lock().is_ok() && has_name(rt, path, &file) {
         Ok(file)
     } else {
         Err(Fault::Device)
@@ -50,22 +42,22 @@ pub fn same_name<R: Files>(rt: &R, path: &str, file: File) -> Result<File, Fault
 
 // The name is that of this file, which is a plain one.
 fn has_name<R: Files>(rt: &R, path: &str, file: &File) -> bool {
-    match (file.metadata(), fs::symlink_metadata(rt, path)) {
-        (Ok(found), Ok(named)) => {
-            found.is_file() && found.dev() == named.dev() && found.ino() == named.ino()
-        }
-        _ => false,
-    }
+    let Ok(found) = file.metadata() else {
+        return false;
+    };
+    let Ok(named) = fs::symlink_metadata(rt, path) else {
+        return false;
+    };
+    found.is_file() && found.dev() == named.dev() && found.ino() == named.ino()
 }
 
 /// Waits until the names in the folder of a path are on the device.
 pub fn sync_folder<R: Files<File = File>>(rt: &R, path: &str) -> Result<(), Fault>
     ensures { IfErr result (λ fault. fault ≡ Fault.Device) }
 {
-    let folder = or_device(File::open(rt, folder_of(path)))?;
-    match folder.sync_all() {
-        Ok(()) => Ok(()),
-        Err(_) => Err(Fault::Device),
+    match File::open(rt, folder_of(path)) {
+        Ok(folder) if folder.sync_all().is_ok() => Ok(()),
+        _ => Err(Fault::Device),
     }
 }
 
