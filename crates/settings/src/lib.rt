@@ -66,12 +66,24 @@ fn read_table(alloc: Global, table: &Table) -> Result<Settings, Fault>
     if !are_known(table) {
         return Err(WRONG);
     }
-    let shards = number(table, "shards", 1, 16)?;
-    let stride = stride(table)?;
-    let epsilon = number(table, "epsilon", 0, 1_000_000)?;
-    let workers = number(table, "workers", 1, 64)?;
-    let transactions = number(table, "transactions", 1, 100_000)?;
-    let keys = number(table, "keys", 1, 10_000)?;
+    let Some(shards) = number(table, "shards", 1, 16) else {
+        return Err(WRONG);
+    };
+    let Some(stride) = stride(table) else {
+        return Err(WRONG);
+    };
+    let Some(epsilon) = number(table, "epsilon", 0, 1_000_000) else {
+        return Err(WRONG);
+    };
+    let Some(workers) = number(table, "workers", 1, 64) else {
+        return Err(WRONG);
+    };
+    let Some(transactions) = number(table, "transactions", 1, 100_000) else {
+        return Err(WRONG);
+    };
+    let Some(keys) = number(table, "keys", 1, 10_000) else {
+        return Err(WRONG);
+    };
     let splits = splits(alloc, table, shards)?;
     let dir = folder(alloc, table)?;
     Ok(Settings {

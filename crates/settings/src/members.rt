@@ -1,10 +1,10 @@
 // The members of a table that are read.
-ghost use Rattle.std.specs.Prelude.{◌≡◌, ◌≤◌, Some, IfOk, MatchResult, option_and_then, option_map, string_bytes, codes, length, nat_le};
+ghost use Rattle.std.specs.Prelude.{◌≡◌, ◌≤◌, Some, IfSome, MatchResult, option_and_then, option_map, string_bytes, codes, length, nat_le};
 ghost use Rattle.std.specs.BTreeMap.{keys};
 ghost use Rattle.std.specs.List.{list_all};
 ghost use Rattle.toml.specs.Data.{as_array, as_integer, get_member};
 ghost use Rattle.toml.specs.View.{array_view, table_view, view};
-ghost use Rattle.settings.specs.Documents.{Refuses, GivesNothing, dir_in, is_known, knows, number_member};
+ghost use Rattle.settings.specs.Documents.{Refuses, dir_in, is_known, knows, number_member};
 
 use crate::WRONG;
 use std::alloc::Global;
@@ -27,44 +27,29 @@ fn have_known_names(table: &Table) -> bool
 fn is_known_key(key: &str) -> bool
     ensures { result ≡ is_known key.now }
 {
-    key == "shards"
-        || key == "splits"
-        || key == "stride"
-        || key == "epsilon"
-        || key == "workers"
-        || key == "transactions"
-        || key == "keys"
-        || key == "dir"
+    match key {
+        "shards" | "splits" | "stride" | "epsilon" => true,
+        "workers" | "transactions" | "keys" | "dir" => true,
+        _ => false,
+    }
 }
 
 /// The number at a key, where it lies between the two.
-pub(crate) fn number(table: &Table, key: &str, least: u64, most: u64) -> Result<u64, Fault>
-    ensures value { MatchResult result
-        (λ n. number_member key.now least most (table_view table.now) ≡ Some n)
-        (λ fault. GivesNothing fault (number_member key.now least most (table_view table.now))) }
-    ensures limit { IfOk result (λ n. n ≤ most) }
+pub(crate) fn number(table: &Table, key: &str, least: u64, most: u64) -> Option<u64>
+    ensures value { result ≡ number_member key.now least most (table_view table.now) }
+    ensures limit { IfSome result (λ n. n ≤ most) }
 {
-    match integer_at(table, key) {
-        Some(number) => match u64::try_from(number) {
-            Ok(number) if least <= number && number <= most => Ok(number),
-            _ => Err(WRONG),
-        },
-        None => Err(WRONG),
+    match u64::try_from(integer_at(table, key)?) {
+        Ok(number) if least <= number && number <= most => Some(number),
+        _ => None,
     }
 }
 
 /// The stride.
-pub(crate) fn stride(table: &Table) -> Result<Stride, Fault>
-    ensures { MatchResult result
-        (λ n. number_member (codes "stride") 0 10000000 (table_view table.now) ≡ Some n)
-        (λ fault. GivesNothing fault
-        (number_member (codes "stride") 0 10000000 (table_view table.now))) }
+pub(crate) fn stride(table: &Table) -> Option<Stride>
+    ensures { result ≡ number_member (codes "stride") 0 10000000 (table_view table.now) }
 {
-    let micros = number(table, "stride", 0, Stride::MAX)?;
-    match Stride::new(micros) {
-        Some(stride) => Ok(stride),
-        None => Err(WRONG),
-    }
+    Stride::new(number(table, "stride", 0, Stride::MAX)?)
 }
 
 fn integer_at(table: &Table, key: &str) -> Option<i64>

@@ -1,7 +1,7 @@
 // The splits: keys that ascend, one less than the shards.
 ghost use Rattle.std.specs.Prelude.{◌≡◌, ◌≤◌, Some, MatchResult};
 ghost use Rattle.toml.specs.View.{array_view, table_view, view};
-ghost use Rattle.settings.specs.Documents.{Refuses, GivesNothing, key_in, keys_in, parted, splits_in};
+ghost use Rattle.settings.specs.Documents.{Refuses, key_in, keys_in, parted, splits_in};
 
 use crate::WRONG;
 use crate::members::array_at;
@@ -25,29 +25,24 @@ pub(crate) fn splits(alloc: Global, table: &Table, shards: u64) -> Result<Splits
 }
 
 // The keys of a list that has nothing else.
-#[tactic(auto, using(crate::proofs::Documents::keys_more, crate::proofs::Documents::keys_none))]
 fn split_keys(alloc: Global, items: &Vec<Value>) -> Result<Vec<Key>, Fault>
     ensures { MatchResult result (λ found. keys_in (array_view items.now) ≡ Some found.items)
         (λ fault. Refuses fault (keys_in (array_view items.now))) }
 {
     let mut found = Vec::new(alloc);
     for item in items {
-        found.push(split_key(item)?)?;
+        match split_key(item) {
+            Some(key) => found.push(key)?,
+            None => return Err(WRONG),
+        }
     }
     Ok(found)
 }
 
-fn split_key(item: &Value) -> Result<Key, Fault>
-    ensures { MatchResult result (λ key. key_in (view item.now) ≡ Some key)
-        (λ fault. GivesNothing fault (key_in (view item.now))) }
+fn split_key(item: &Value) -> Option<Key>
+    ensures { result ≡ key_in (view item.now) }
 {
-    match item.as_str() {
-        Some(text) => match Key::new(text.as_bytes()) {
-            Ok(key) => Ok(key),
-            Err(_) => Err(WRONG),
-        },
-        None => Err(WRONG),
-    }
+    Key::new(item.as_str()?.as_bytes()).ok()
 }
 
 // The keys as splits, where they are one less than the shards and ascend.
