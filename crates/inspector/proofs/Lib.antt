@@ -15,3 +15,4 @@ pub mod FoundLaws
 pub mod AckLaws
 pub mod Sorting
 pub mod TallyLaws
+pub mod Steps
