@@ -99,11 +99,19 @@ granted_late b ended t r (none, late) =
 
 -- ---- the reads
 
-pub fresh_stands : (b : Before) (latest : ℕ) (m : Commit) (held : List Lock) → still_stand b m.reads.epoch m.reads.keys held ≡ true
+fresh_stands : (b : Before) (latest : ℕ) (m : Commit) (held : List Lock) → still_stand b m.reads.epoch m.reads.keys held ≡ true
     → plan_commit_fresh b latest m held ≡ timed (latest + 1) (plan_commit_now b latest m)
 unfolding plan_commit_fresh
 fresh_stands b latest m held e =
     ap (λ a. cond a (timed (latest + 1) (plan_commit_now b latest m)) (Ok (plan_abort b m.txn m.parts))) e
+
+pub fresh_late : (b : Before) (latest : ℕ) (m : Commit) (held : List Lock) → still_stand b m.reads.epoch m.reads.keys held ≡ true
+    → 2 ^ 62 ≤ latest + 1 → plan_commit_fresh b latest m held ≡ Err TimeSpent
+fresh_late b latest m held e late = fresh_stands b latest m held e ∙ timed_late (latest + 1) (plan_commit_now b latest m) late
+
+pub fresh_early : (b : Before) (latest : ℕ) (m : Commit) (held : List Lock) → still_stand b m.reads.epoch m.reads.keys held ≡ true
+    → latest + 1 < 2 ^ 62 → plan_commit_fresh b latest m held ≡ plan_commit_now b latest m
+fresh_early b latest m held e less = fresh_stands b latest m held e ∙ timed_early (latest + 1) (plan_commit_now b latest m) less
 
 pub fresh_gone : (b : Before) (latest : ℕ) (m : Commit) (held : List Lock) → still_stand b m.reads.epoch m.reads.keys held ≡ false
     → plan_commit_fresh b latest m held ≡ Ok (plan_abort b m.txn m.parts)

@@ -1,10 +1,10 @@
 //! Commits.
-ghost use Rattle.std.specs.Prelude.{◌≡◌, true, false, ◌+◌, ◌<◌, ◌≤◌, ◌^◌, IfOk, IfErr, MatchResult, [], Some, None, Ok, Err};
+ghost use Rattle.std.specs.Prelude.{◌≡◌, true, false, ◌<◌, ◌≤◌, ◌^◌, IfOk, IfErr, MatchResult, [], Some, None, Ok, Err};
 ghost use Rattle.units.specs.Locks.{exclusive};
 ghost use Rattle.protocol.specs.Rows.{held_in};
 ghost use Rattle.protocol.specs.Outputs.{decision};
-ghost use Rattle.protocol.specs.Plan.{in_way, timed};
-ghost use Rattle.protocol.specs.Cells.{commit_stamp, plan_commit_fresh, plan_commit_now};
+ghost use Rattle.protocol.specs.Plan.{in_way};
+ghost use Rattle.protocol.specs.Cells.{commit_stamp, plan_commit_fresh};
 ghost use Rattle.memory.specs.Carry.{Asks, IsFit, may_ask, may_drop, may_end};
 ghost use Rattle.memory.specs.Kept.{start_of, IsPlanned};
 ghost use Rattle.memory.specs.Standings.{standing_in, opens_writes, EndsNobody, MakesPlan};
@@ -48,7 +48,8 @@ pub fn on_commit(
     }
 }
 
-// Where the reads do not stand any more, it is aborted.
+// Where the reads do not stand any more, it is aborted. Else it may come only while there is a timestamp above the reading: where
+// exclusive locks of what is written are granted it goes on, or waits for them.
 fn commit_fresh(state: &State, alloc: Global, now: &Reading, commit: &Commit) -> Result<Step, Fault>
     requires ends { may_end state.now.memory.rows commit.now.txn ≡ true }
     requires drops { may_drop state.now.memory.rows commit.now.txn ≡ true }
@@ -57,26 +58,9 @@ fn commit_fresh(state: &State, alloc: Global, now: &Reading, commit: &Commit) ->
         (held_in state.now.memory.rows commit.now.txn)) result }
     ensures fit { IfOk result (IsFit state.now) }
 {
-    if reads_stand(state, commit.txn, &commit.reads) {
-        return commit_in_time(state, alloc, now, commit);
+    if !reads_stand(state, commit.txn, &commit.reads) {
+        return state.aborts(alloc, commit.txn, commit.parts);
     }
-    state.aborts(alloc, commit.txn, commit.parts)
-}
-
-// A commit may come only while there is a timestamp above the reading. Where exclusive locks of what is written are granted it goes
-// on; else it waits.
-fn commit_in_time(
-    state: &State,
-    alloc: Global,
-    now: &Reading,
-    commit: &Commit,
-) -> Result<Step, Fault>
-    requires ends { may_end state.now.memory.rows commit.now.txn ≡ true }
-    ensures planned { IsPlanned state.now
-        (timed (now.now.latest + 1)
-        (plan_commit_now (start_of state.now) now.now.latest commit.now)) result }
-    ensures fit { IfOk result (IsFit state.now) }
-{
     let Ok(_) = Stamp::above(now.latest()) else {
         return Err(Fault::TimeSpent);
     };

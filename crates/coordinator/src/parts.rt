@@ -7,7 +7,6 @@ use memory::State;
 use units::{Parts, ShardNo};
 
 // The shard takes part, and is not this one.
-#[tactic(auto, using(crate::proofs::Others::other_part))]
 pub(crate) fn is_of_part(state: &State, parts: Parts, shard: ShardNo) -> bool
     ensures { result ≡ has (other_parts state.now.setup.shard parts) shard }
 {

@@ -4,11 +4,10 @@ ghost use Rattle.std.specs.Prelude.{◌≡◌, ◌+◌, ◌<◌, ◌≤◌, ◌^
 ghost use Rattle.units.specs.Lists.{greatest};
 ghost use Rattle.units.specs.Masks.{shards_from};
 ghost use Rattle.protocol.specs.Rows.{with_vote};
-ghost use Rattle.protocol.specs.Cells.{all_voted, commit_stamp, other_parts, plan_tell};
+ghost use Rattle.protocol.specs.Cells.{all_voted, other_parts, plan_tell};
 ghost use Rattle.rows.specs.CodeRows.{is_collecting, phase_of};
 ghost use Rattle.rows.specs.RowTable.{has_phase};
 ghost use Rattle.rows.specs.declared.row.Row.{Row};
-ghost use Rattle.rows.specs.States.{voted_of};
 ghost use Rattle.memory.specs.Carry.{IsFit, may_drop};
 ghost use Rattle.memory.specs.Kept.{start_of, IsPlanned};
 ghost use Rattle.coordinator.specs.Granted.{more_votes};
@@ -116,31 +115,11 @@ fn count(
         result }
     ensures fit { IfOk result (IsFit state.now) }
 {
-    if have_all_voted(state, collecting, last) {
-        return decide_last(state, alloc, collecting, txn, last);
+    if !have_all_voted(state, collecting, last) {
+        return keep_vote(state, alloc, txn, last);
     }
-    keep_vote(state, alloc, txn, last)
-}
-
-// The last vote decides.
-fn decide_last(
-    state: &State,
-    alloc: Global,
-    collecting: &RowCollecting,
-    txn: TxnId,
-    last: &Voted,
-) -> Result<Step, Fault>
-    requires all { all_voted (other_parts state.now.setup.shard collecting.now.request.parts)
-        (with_vote last.now.shard last.now.at collecting.now.votes) ≡ true }
-    requires collects { has_phase is_collecting state.now.memory.rows txn ≡ true }
-    ensures planned { IsPlanned state.now
-        (vote_counted (start_of state.now) last.now.shard txn (Some last.now.at) collecting.now)
-        result }
-    ensures fit { IfOk result (IsFit state.now) }
-{
-    let at = match decision_time(state, collecting, last) {
-        Ok(at) => at,
-        Err(_) => return Err(Fault::TimeSpent),
+    let Ok(at) = decision_time(state, collecting, last) else {
+        return Err(Fault::TimeSpent);
     };
     decide_counted(state, alloc, txn, at, collecting)
 }
@@ -252,33 +231,17 @@ fn greatest_vote(votes: &[Voted]) -> Stamp
 }
 
 // The timestamp of the decision, once this vote is counted too.
+#[tactic(auto, using(crate::proofs::Counting::stamp_late, crate::proofs::Counting::stamp_again, crate::proofs::Counting::stamp_with))]
 fn decision_time(state: &State, collecting: &RowCollecting, last: &Voted) -> Result<Stamp, Fault>
     ensures { MatchResult result
         (λ at. (at ≡ stamp_with_vote state.now collecting.now last.now) × (at < 2 ^ 62))
         (λ fault. (fault ≡ Fault.TimeSpent)
         × (2 ^ 62 ≤ stamp_with_vote state.now collecting.now last.now)) }
 {
-    time_by(
-        state,
-        collecting.request().latest,
-        collecting.votes().as_slice(),
-        last,
-    )
-}
-
-// The timestamp of a decision by some votes and one more.
-#[tactic(auto, using(crate::proofs::Counting::stamp_late, crate::proofs::Counting::stamp_again, crate::proofs::Counting::stamp_with))]
-fn time_by(state: &State, latest: Stamp, votes: &[Voted], last: &Voted) -> Result<Stamp, Fault>
-    ensures { MatchResult result
-        (λ at. (at ≡ commit_stamp state.now.memory.last latest
-        (with_vote last.now.shard last.now.at (map voted_of votes.now))) × (at < 2 ^ 62))
-        (λ fault. (fault ≡ Fault.TimeSpent)
-        × (2 ^ 62 ≤ commit_stamp state.now.memory.last latest
-        (with_vote last.now.shard last.now.at (map voted_of votes.now)))) }
-{
-    let Ok(least) = commit_time(state, latest) else {
+    let Ok(least) = commit_time(state, collecting.request().latest) else {
         return Err(Fault::TimeSpent);
     };
+    let votes = collecting.votes().as_slice();
     let voted = least.later(greatest_vote(votes));
     if has_voted(votes, last.shard.number()) {
         Ok(voted)
