@@ -33,19 +33,12 @@ impl State {
             (λ s. s.memory ≡ record { last = floor; rows = []; ended = [] }) }
         ensures memory { IfErr result (λ fault. fault ≡ Fault.Memory) }
     {
-        let times = SafeTime::new(alloc, floor)?;
         let base = Record::Base {
             epoch,
             floor,
             horizon,
         };
-        match begun_ledger(alloc, setup.shard, base) {
-            Ok(ledger) => State::without_rows(alloc, setup, ledger, times),
-            Err(fault) => {
-                drop(times);
-                Err(fault)
-            }
-        }
+        State::begun(alloc, setup, base, floor)
     }
 
     /// What a shard keeps once its first opening is logged. It is refused for want of memory alone.
@@ -56,36 +49,33 @@ impl State {
         ensures empty { IfOk result (λ s. s.memory ≡ record { last = 0; rows = []; ended = [] }) }
         ensures memory { IfErr result (λ fault. fault ≡ Fault.Memory) }
     {
-        let times = SafeTime::new(alloc, Stamp::zero())?;
         let first = Record::Opened {
             epoch: Epoch::first(),
         };
-        match begun_ledger(alloc, setup.shard, first) {
-            Ok(ledger) => State::without_rows(alloc, setup, ledger, times),
-            Err(fault) => {
-                drop(times);
-                Err(fault)
-            }
-        }
+        State::begun(alloc, setup, first, Stamp::zero())
     }
 
-    // A state that has no rows yet. It is refused for want of memory alone.
-    fn without_rows(
-        alloc: Global,
-        setup: Setup,
-        ledger: Ledger,
-        times: SafeTime,
-    ) -> Result<State, Fault>
-        requires shard { ledger.shard ≡ setup.shard }
-        requires opened { 0 < ledger.facts.epoch }
-        requires times { times.holds ≡ [] }
+    // A state that has no rows yet, of a log that holds its first record alone. It is refused for want of memory alone.
+    fn begun(alloc: Global, setup: Setup, first: Record, last: Stamp) -> Result<State, Fault>
+        requires begins { IsTrue (follows_next setup.shard (stage_of []) (facts_of []) first) }
+        requires installs { CanInstall (facts_of []) first }
+        requires opened { 0 < (learn (facts_of []) first).epoch }
         ensures setup { IfOk result (λ s. s.setup ≡ setup) }
-        ensures facts { IfOk result (λ s. s.facts ≡ ledger.facts) }
-        ensures stage { IfOk result (λ s. s.stage ≡ ledger.stage) }
+        ensures facts { IfOk result (λ s. s.facts ≡ learn (facts_of []) first) }
+        ensures stage { IfOk result (λ s. s.stage ≡ stage_after (stage_of []) first) }
         ensures empty { IfOk result
-            (λ s. s.memory ≡ record { last = times.last; rows = []; ended = [] }) }
+            (λ s. s.memory ≡ record { last = last; rows = []; ended = [] }) }
         ensures memory { IfErr result (λ fault. fault ≡ Fault.Memory) }
     {
+        let Ok(ledger) = begun_ledger(alloc, setup.shard, first) else {
+            drop(setup);
+            return Err(Fault::Memory);
+        };
+        let Ok(times) = SafeTime::new(alloc, last) else {
+            drop(setup);
+            drop(ledger);
+            return Err(Fault::Memory);
+        };
         match Rows::new(alloc) {
             Ok(rows) => Ok(State {
                 setup,
@@ -95,6 +85,7 @@ impl State {
                 times,
             }),
             Err(fault) => {
+                drop(setup);
                 drop(ledger);
                 drop(times);
                 Err(fault)

@@ -18,16 +18,6 @@ use record::Record;
 use std::alloc::Global;
 use units::{Fault, Ids, Key, Parts, ShardNo, Stamp, TxnId};
 
-/// The shards of a transaction other than one.
-pub fn other_parts(alloc: Global, shard: ShardNo, parts: Parts) -> Result<Vec<ShardNo>, Fault>
-    ensures others { IfOk result (λ others. others.items ≡ other_parts shard parts) }
-    ensures memory { IfErr result (λ fault. fault ≡ Fault.Memory) }
-{
-    let mut others = parts.shards(alloc)?;
-    others.retain(|other| *other != shard);
-    Ok(others)
-}
-
 /// The reads of a transaction still stand: there are none, or their epoch is the present one and each of their keys is held.
 pub fn reads_stand(state: &State, txn: TxnId, reads: &Reads) -> bool
     ensures { result ≡
@@ -236,13 +226,17 @@ impl State {
             self.now.memory.rows wounded.now ++ option_to_list reply) }
         ensures memory { IfErr result (λ fault. fault ≡ Fault.Memory) }
     {
-        match self.votes_of(alloc, wounded) {
-            Ok(out) => with_reply(out, reply),
+        let mut out = match self.votes_of(alloc, wounded) {
+            Ok(out) => out,
             Err(fault) => {
                 drop(reply);
-                Err(fault)
+                return Err(fault);
             }
+        };
+        if let Some(reply) = reply {
+            out.push(reply)?;
         }
+        Ok(Outbox::from_vec(out))
     }
 
     // The refused votes of those that are ended while they wait with a prepare.
@@ -301,27 +295,6 @@ impl State {
     }
 }
 
-// Some messages, and then the reply.
-fn with_reply(mut out: Vec<Envelope>, reply: Option<Envelope>) -> Result<Outbox, Fault>
-    ensures all { IfOk result (λ all. all ≡ out.items ++ option_to_list reply) }
-    ensures memory { IfErr result (λ fault. fault ≡ Fault.Memory) }
-{
-    let Some(reply) = reply else {
-        return Ok(Outbox::from_vec(out));
-    };
-    match out.reserve(1) {
-        Ok(()) => {
-            out.push_reserved(reply);
-            Ok(Outbox::from_vec(out))
-        }
-        Err(_) => {
-            drop(out);
-            drop(reply);
-            Err(Fault::Memory)
-        }
-    }
-}
-
 // A list of one message.
 fn one(alloc: Global, envelope: Envelope) -> Result<Vec<Envelope>, Fault>
     ensures one { IfOk result (λ out. out.items ≡ envelope ∷ []) }
@@ -354,9 +327,11 @@ fn tell_others(
     if !parts.has_others(told.from) {
         return Ok(());
     }
-    let others = other_parts(alloc, told.from, parts)?;
-    for other in others.as_slice() {
-        out.push(outcome_to(told, *other))?;
+    let shards = parts.shards(alloc)?;
+    for shard in shards.as_slice() {
+        if *shard != told.from {
+            out.push(outcome_to(told, *shard))?;
+        }
     }
     Ok(())
 }

@@ -72,28 +72,20 @@ impl PastCommit {
     }
 }
 
-// How a transaction stands that has a row.
+// How a transaction stands that has a row: one that reads, by what it waits with.
 pub(crate) fn by_row(row: &Row) -> Standing<'_>
     ensures { (held : List Lock) → standing_of held result ≡ HasRow held (phase_of row.now) }
 {
     match row {
-        Row::Reading(reading) => by_wait(reading.wait()),
+        Row::Reading(reading) => match reading.wait() {
+            None => Standing::Idle,
+            Some(Wait::Read(key)) => Standing::WaitsRead(key),
+            Some(Wait::Prepare(request)) => Standing::WaitsPrepare(request),
+            Some(Wait::Commit(request)) => Standing::WaitsCommit(request),
+        },
         Row::Collecting(collecting) => Standing::Collecting(collecting),
         Row::Prepared(prepared) => Standing::Prepared(prepared),
         Row::Decided(decided) => Standing::Decided(decided),
-    }
-}
-
-// How a transaction stands that reads, by what it waits with.
-fn by_wait(wait: Option<&Wait>) -> Standing<'_>
-    ensures { (held : List Lock) → standing_of held result ≡
-        HasRow held (phase_of_wait (option_copied wait.entry)) }
-{
-    match wait {
-        None => Standing::Idle,
-        Some(Wait::Read(key)) => Standing::WaitsRead(key),
-        Some(Wait::Prepare(request)) => Standing::WaitsPrepare(request),
-        Some(Wait::Commit(request)) => Standing::WaitsCommit(request),
     }
 }
 

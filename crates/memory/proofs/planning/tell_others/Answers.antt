@@ -1,30 +1,55 @@
-use Rattle.std.proofs.Common.{◌≡◌, ◌+◌, ◌<◌, ◌++◌, ◌∷◌, ◌∙◌, [], ℕ, List, ap, sym, map, take, length, get_or, append_assoc, arith}
-use Rattle.std.proofs.lemmas.List.{map_more, take_all}
+use Rattle.std.proofs.Common.{◌≡◌, ◌+◌, ◌<◌, ◌++◌, ◌∷◌, ◌∙◌, [], ℕ, List, Bool, true, false, not, cond, nat_eq, ap, refl, sym, map, drop, length, get_or, append_assoc, arith}
+use Rattle.std.proofs.lemmas.List.{append-nil, at_drop_all, at_drop_more}
 use Rattle.message.specs.declared.message.Envelope.{Envelope}
+use Rattle.protocol.specs.Cells.{other_parts}
 use Rattle.protocol.specs.Outputs.{outcome_to}
 use Rattle.memory.proofs.planning.tell_others.Goals as goal
+use Rattle.memory.proofs.planning.tell_others.Goals.{then-ne+in_ok-push, else-ne}
 
--- one more is told
-told_more : (f : ℕ → Envelope) (old : List Envelope) (ns : List ℕ) (i n : ℕ) → i < length ns → n ≡ get_or ns i n
-    → (old ++ map f (take i ns)) ++ f n ∷ [] ≡ old ++ map f (take (i + 1) ns)
-told_more f old ns i n lt here =
-    append_assoc old (map f (take i ns)) (f n ∷ [])
-    ∙ ap (λ (m : ℕ). old ++ (map f (take i ns) ++ f m ∷ [])) here
-    ∙ ap (λ (es : List Envelope). old ++ es) (sym (map_more f ns i n lt))
+-- the next shard is told where it is another one
+by_other : (f : ℕ → Envelope) (n : ℕ) (rest : List ℕ) (out : List Envelope) (b other : Bool) → other ≡ b
+    → cond b (out ++ f n ∷ []) out ++ map f rest ≡ out ++ map f (cond other (n ∷ rest) rest)
+by_other f n rest out b other e = turned b ∙ ap (λ (a : Bool). out ++ map f (cond a (n ∷ rest) rest)) (sym e)
+  where
+    turned : (a : Bool) → cond a (out ++ f n ∷ []) out ++ map f rest ≡ out ++ map f (cond a (n ∷ rest) rest)
+    turned true = append_assoc out (f n ∷ []) (map f rest)
+    turned false = refl
 
-pub loop-other-preserved : goal.loop-other-preserved
-loop-other-preserved c =
+told_more : (f : ℕ → Envelope) (from : ℕ) (ns : List ℕ) (i n : ℕ) (out : List Envelope) (b : Bool) → i < length ns → n ≡ get_or ns i n
+    → not (nat_eq n from) ≡ b
+    → cond b (out ++ f n ∷ []) out ++ map f (other_parts from (drop (i + 1) ns)) ≡ out ++ map f (other_parts from (drop i ns))
+told_more f from ns i n out b lt here e =
+    by_other f n (other_parts from (drop (i + 1) ns)) out b (not (nat_eq n from)) e
+    ∙ ap (λ (m : ℕ). out ++ map f (other_parts from (m ∷ drop (i + 1) ns))) here
+    ∙ sym (at_drop_more (λ (ms : List ℕ). out ++ map f (other_parts from ms)) ns i n lt)
+
+pub loop-shard-preserved : goal.loop-shard-preserved
+loop-shard-preserved c =
     let told = c.args.told.now in
-    c.in_ok-push.ensures.items
-    ∙ ap (λ (es : List Envelope). es ++ c.outcome_to.result ∷ []) c.loop-other.invariant
-    ∙ ap (λ (e : Envelope). (c.args.out.now.items
-    ++ map (outcome_to told.from told.txn told.outcome) (take c.loop-other.other-index c.as_slice-other-items.result.now)) ++ e ∷ [])
-    c.outcome_to.ensures
-    ∙ told_more (outcome_to told.from told.txn told.outcome) c.args.out.now.items _ _ _ c.loop-other-test.true c.other-item.is
+    let f : ℕ → Envelope = outcome_to told.from told.txn told.outcome in
+    let ns = c.as_slice-shard-items.result.now in
+    let i = c.loop-shard.shard-index in
+    let out = c.loop-shard.out.items in
+    let rest = map f (other_parts told.from (drop (i + 1) ns)) in
+    elim c.if-ne.branch [
+      | then-ne+in_ok-push w ↦
+          ap (λ (es : List Envelope). es ++ rest)
+          (ap (λ v. v.items) w.out-is ∙ w.in_ok-push.ensures.items ∙ ap (λ (e : Envelope). out ++ e ∷ []) w.outcome_to.ensures)
+          ∙ told_more f told.from ns i c.shard-item.result out true c.loop-shard-test.true c.shard-item.is (sym c.ne.ensures ∙ w.if-ne.true)
+          ∙ c.loop-shard.invariant
+      | else-ne w ↦
+          ap (λ (es : List Envelope). es ++ rest) (ap (λ v. v.items) w.out-is)
+          ∙ told_more f told.from ns i c.shard-item.result out false c.loop-shard-test.true c.shard-item.is (sym c.ne.ensures ∙ w.if-ne.false)
+          ∙ c.loop-shard.invariant
+    ]
 
 pub returns-clause-told : goal.returns-clause-told
 returns-clause-told c =
     let told = c.args.told.now in
-    c.loop-other.invariant
-    ∙ ap (λ (ns : List ℕ). c.args.out.now.items ++ map (outcome_to told.from told.txn told.outcome) ns)
-    (take_all c.loop-other.other-index c.as_slice-other-items.result.now (omega arith) ∙ c.as_slice-other-items.ensures.value ∙ c.in_ok-others.ensures.others)
+    let f : ℕ → Envelope = outcome_to told.from told.txn told.outcome in
+    let ns = c.as_slice-shard-items.result.now in
+    let out = c.loop-shard.out.items in
+    sym (append-nil out)
+    ∙ sym (at_drop_all (λ (ms : List ℕ). out ++ map f (other_parts told.from ms)) ns c.loop-shard.shard-index (omega arith))
+    ∙ c.loop-shard.invariant
+    ∙ ap (λ (ms : List ℕ). c.args.out.now.items ++ map f (other_parts told.from ms)) (c.as_slice-shard-items.ensures.value ∙ c.in_ok-shards.ensures.same)
