@@ -3,7 +3,7 @@ use Rattle.std.proofs.Common.{◌≡◌, ◌⊎◌, inl, inr, ℕ, zero, suc, �
 use Rattle.std.proofs.Common.{None, Some}
 use Rattle.std.proofs.Common.{refl, ap, sym, ◌∙◌, subst, append_assoc, append-nil, arith}
 use Rattle.std.specs.List.{list_all}
-use Rattle.units.specs.Ids.{Id}
+use Rattle.units.specs.Ids.{Id, same_id}
 use Rattle.units.specs.Keys.{Bytes}
 use Rattle.units.specs.declared.fault.Fault.{Fault}
 use Rattle.units.specs.declared.fault.Fault.TheVariants.{BadRequest, Memory}
@@ -18,6 +18,7 @@ use Rattle.session.specs.Shown.{IsDenied, farewells, finished_as, give_up_to, is
 use Rattle.client.specs.declared.ended.Ended.{Ended}
 use Rattle.client.specs.declared.ended.Ended.TheVariants as ended
 use Rattle.client.specs.Ends.{times, is_give_up, is_other, ended_of, IsAskedOnce, IsAwaited, IsClosed, IsGivenUp, IsPressed, IsTold, WasHeard, WasNotHeard}
+use Rattle.client.specs.Traffic.{Traffic}
 use Rattle.client.proofs.Steps.{all_both, longer}
 
 -- ---- over and over
@@ -33,6 +34,36 @@ pub again : {A : Type 0} (old mid new xs : List A) → ((n : ℕ) × (mid ≡ ol
     → (n : ℕ) × (new ≡ old ++ times n xs)
 again old mid new xs one two =
     (two.0 + one.0, longer old mid new (times one.0 xs) (times two.0 xs) one.1 two.1 ∙ ap (λ l. old ++ l) (times_on one.0 two.0 xs))
+
+-- What was put out and heard of a session that is closing while it waits for its end: the messages of its closing over and over, and ends of
+-- other transactions.
+pub record Awaits (splits : List Bytes) (c : Client) (old new : Traffic) : Type 0 where
+  pub sent : (n : ℕ) × (new.sent ≡ old.sent ++ times n (closing_messages splits c))
+  pub heard : (heard : List End) × (new.heard ≡ old.heard ++ heard) × WasNotHeard c.txn heard
+
+-- and then ends of others were heard
+pub awaits_on : (splits : List Bytes) (c : Client) (old mid new : Traffic) (heard : List End) → Awaits splits c old mid → new.sent ≡ mid.sent
+    → new.heard ≡ mid.heard ++ heard → WasNotHeard c.txn heard → Awaits splits c old new
+awaits_on splits c old mid new heard one same hears none = record {
+  sent = (one.sent.0, same ∙ one.sent.1);
+  heard = (
+    one.heard.0 ++ heard,
+    longer old.heard mid.heard new.heard one.heard.0 heard one.heard.1 hears,
+    all_both (is_other c.txn) one.heard.0 heard one.heard.2 none,
+  );
+}
+
+-- and then it was asked for once more
+pub asks_on : (splits : List Bytes) (c : Client) (old mid new : Traffic) → Awaits splits c old mid
+    → ((n : ℕ) × (new.sent ≡ mid.sent ++ times n (closing_messages splits c))) → new.heard ≡ mid.heard → Awaits splits c old new
+asks_on splits c old mid new one sent same = record {
+  sent = again old.sent mid.sent new.sent (closing_messages splits c) one.sent sent;
+  heard = (one.heard.0, same ∙ one.heard.1, one.heard.2);
+}
+
+-- whether an end is of the transaction, by two ids that were compared
+pub compared : (txn of mine its : Id) (b v : Bool) → mine ≡ txn → its ≡ of → b ≡ same_id mine its → b ≡ v → same_id txn of ≡ v
+compared txn of mine its b v own other same is = sym (same ∙ (λ i. same_id (own i) (other i))) ∙ is
 
 -- ---- what the steps of the definition say
 

@@ -1,6 +1,6 @@
 -- The steps of a session that reads, one behind the other.
 use Rattle.std.proofs.Common.{◌≡◌, ℕ, Bool, true, false, true≢false, ◌⊎◌, Result, Ok, Err, cond, not, ◌&&◌, nat_le, List, [], ◌∷◌, ◌++◌, length, refl}
-use Rattle.std.proofs.Common.{ap, sym, ◌∙◌, subst, append_assoc}
+use Rattle.std.proofs.Common.{ap, sym, ◌∙◌, subst, append_assoc, append-nil}
 use Rattle.std.specs.List.{list_all}
 use Rattle.std.specs.Prelude.{MatchResult}
 use Rattle.units.specs.Ids.{Id, same_id}
@@ -9,6 +9,7 @@ use Rattle.units.specs.declared.fault.Fault.{Fault}
 use Rattle.units.specs.declared.fault.Fault.TheVariants.{BadRequest, Memory, Stranger}
 use Rattle.units.specs.declared.fault.Reason.{Reason}
 use Rattle.units.specs.declared.fault.Reason.TheVariants.{Many, Again, Awaited, Doomed}
+use Rattle.message.specs.Ends.{End}
 use Rattle.message.specs.declared.message.Answer.{Answer}
 use Rattle.message.specs.declared.message.Answer.TheVariants.{Holds, Refused}
 use Rattle.message.specs.declared.message.Envelope.{Envelope}
@@ -16,9 +17,10 @@ use Rattle.message.specs.declared.message.Message.{Message}
 use Rattle.message.specs.declared.message.Address.TheVariants.{Shard}
 use Rattle.session.specs.Sessions.{Client, Moved, Denies, Goes, unless, asked_keys, was_answered, is_doomed, reads, hears, take_answer, epochs_agree}
 use Rattle.session.specs.Sessions.{doomed_by, without_key}
-use Rattle.session.specs.Shown.{heard_as, is_made}
+use Rattle.session.specs.Shown.{Session, heard_as, is_made}
 use Rattle.session.specs.declared.answered.Heard.{Heard}
-use Rattle.client.specs.Readings.{Step, Asks, Hears, AreSteps, HasRead, AreReads, is_read}
+use Rattle.client.specs.Readings.{Step, Asks, Hears, AreSteps, HasRead, AreReads, IsReading, is_read}
+use Rattle.client.specs.Traffic.{Traffic}
 
 -- the session after a step, where it is made
 client_after : Moved → Client → Client
@@ -104,15 +106,67 @@ pub reads_of : (txn other : Id) (old new : List Envelope) → other ≡ txn
     → ((ys : List Envelope) × (new ≡ old ++ ys) × AreReads other ys) → (ys : List Envelope) × (new ≡ old ++ ys) × AreReads txn ys
 reads_of txn other old new same sent = (sent.0, sent.1, subst (λ (t : Id). AreReads t sent.0) same sent.2)
 
--- a session behind an answer, taken or not
-pub answer_read : (splits : List Bytes) (c d : Client) (t : Id) (n : ℕ) (k : Bytes) (epoch : ℕ) (a : Answer) (r : Result Heard Fault)
-    → MatchResult r (λ heard. (same_id c.txn t ≡ true) × (d ≡ hears n k epoch a c) × (heard ≡ heard_as c n k epoch a))
-    (λ fault. (d ≡ c) × (((fault ≡ Stranger) × (same_id c.txn t ≡ false)) ⊎ ((fault ≡ Memory) × (same_id c.txn t ≡ true))))
-    → (d.txn ≡ c.txn) × HasRead splits c d
-answer_read splits c d t n k epoch a (Ok heard) is =
-    (ap (λ (x : Client). x.txn) is.1 ∙ heard_txn n k epoch a c, hears_one splits n k epoch a c d is.1)
-answer_read splits c d t n k epoch a (Err fault) is = (ap (λ (x : Client). x.txn) is.0, unread splits c d is.0)
-
 -- what was read, and then more, of a session of the same splits
 pub reads_more : (splits ss : List Bytes) (c m d : Client) → ss ≡ splits → HasRead splits c m → HasRead ss m d → HasRead splits c d
 reads_more splits ss c m d same one more = reads_on splits c m d one (subst (λ (s : List Bytes). HasRead s m d) same more)
+
+-- ---- a wire and a session that reads
+
+-- keys were asked for, and nothing else was done
+pub asks_only : (w : Traffic) (s t : Session) → t.splits ≡ s.splits → t.client.txn ≡ s.client.txn → HasRead s.splits s.client t.client → IsReading w w s t
+asks_only w s t splits txn read = record {
+  sent = ([], sym (append-nil w.sent), refl);
+  heard = ([], sym (append-nil w.heard));
+  splits = splits;
+  txn = txn;
+  read = read;
+}
+
+-- an answer was heard, taken or not, and nothing else was done
+pub hears_only : (w : Traffic) (s t : Session) (of : Id) (n : ℕ) (k : Bytes) (epoch : ℕ) (a : Answer) (r : Result Heard Fault) → t.splits ≡ s.splits
+    → MatchResult r
+    (λ heard. (same_id s.client.txn of ≡ true) × (t.client ≡ hears n k epoch a s.client) × (heard ≡ heard_as s.client n k epoch a))
+    (λ fault. (t.client ≡ s.client)
+    × (((fault ≡ Stranger) × (same_id s.client.txn of ≡ false)) ⊎ ((fault ≡ Memory) × (same_id s.client.txn of ≡ true))))
+    → IsReading w w s t
+hears_only w s t of n k epoch a (Ok heard) same is =
+    asks_only w s t same (ap (λ (x : Client). x.txn) is.1 ∙ heard_txn n k epoch a s.client)
+    (hears_one s.splits n k epoch a s.client t.client is.1)
+hears_only w s t of n k epoch a (Err fault) same is =
+    asks_only w s t same (ap (λ (x : Client). x.txn) is.0) (unread s.splits s.client t.client is.0)
+
+-- nothing was done
+pub reads_none : (w : Traffic) (s : Session) → IsReading w w s s
+reads_none w s = asks_only w s s refl refl ([], refl)
+
+-- what is awaited was sent
+pub sends_only : (a b : Traffic) (s : Session) → ((sent : List Envelope) × (b.sent ≡ a.sent ++ sent) × AreReads s.client.txn sent) → b.heard ≡ a.heard
+    → IsReading a b s s
+sends_only a b s sent same = record {
+  sent = sent;
+  heard = ([], same ∙ sym (append-nil a.heard));
+  splits = refl;
+  txn = refl;
+  read = ([], refl);
+}
+
+-- and then more
+pub reading_on : (a b c : Traffic) (r s t : Session) → IsReading a b r s → IsReading b c s t → IsReading a c r t
+reading_on a b c r s t one two = record {
+  sent = reads_sent r.client.txn a.sent b.sent c.sent one.sent (reads_of r.client.txn s.client.txn b.sent c.sent one.txn two.sent);
+  heard = (one.heard.0 ++ two.heard.0, longer a.heard b.heard c.heard one.heard.0 two.heard.0 one.heard.1 two.heard.1);
+  splits = two.splits ∙ one.splits;
+  txn = two.txn ∙ one.txn;
+  read = reads_more r.splits s.splits r.client s.client t.client one.splits one.read two.read;
+}
+
+-- behind what was heard
+pub heard_on : (a b c : Traffic) (s t : Session) (heard : List End) → b.sent ≡ a.sent → b.heard ≡ a.heard ++ heard → IsReading b c s t
+    → IsReading a c s t
+heard_on a b c s t heard same hears more = record {
+  sent = (more.sent.0, more.sent.1 ∙ ap (λ (l : List Envelope). l ++ more.sent.0) same, more.sent.2);
+  heard = (heard ++ more.heard.0, longer a.heard b.heard c.heard heard more.heard.0 hears more.heard.1);
+  splits = more.splits;
+  txn = more.txn;
+  read = more.read;
+}

@@ -1,15 +1,18 @@
 -- How a session reads at its client.
-use Rattle.std.specs.Prelude.{◌≡◌, ℕ, Bool, true, false, List, [], ◌∷◌, Option, Some, None, option_map}
+use Rattle.std.specs.Prelude.{◌≡◌, ℕ, Bool, true, false, List, [], ◌∷◌, ◌++◌, Option, Some, None, option_map}
 use Rattle.std.specs.List.{list_all}
 use Rattle.units.specs.Ids.{Id, same_id}
 use Rattle.units.specs.Keys.{Bytes, same_key}
 use Rattle.units.specs.Lists.{first}
 use Rattle.units.specs.declared.writes.Write.{Write}
+use Rattle.message.specs.Ends.{End}
 use Rattle.message.specs.declared.message.Answer.{Answer}
 use Rattle.message.specs.declared.message.Envelope.{Envelope}
 use Rattle.message.specs.declared.message.Message.{Message}
 use Rattle.session.specs.Sessions.{Client, Goes, reads, hears}
+use Rattle.session.specs.Shown.{Session}
 use Rattle.session.specs.declared.answered.Answered.{Answered}
+use Rattle.client.specs.Traffic.{Traffic}
 
 -- a step of a session that reads: a key is asked for, or an answer is heard
 pub data Step : Type 0 where
@@ -35,6 +38,14 @@ is_read txn e = elim e.message [ Message.Read r ↦ same_id txn r.txn | _ ↦ fa
 -- what was put out asks for keys, and does nothing else
 abbrev pub AreReads : Id → List Envelope → Type 0
 AreReads txn sent = list_all (is_read txn) sent ≡ true
+
+-- A wire and a session before and behind some reading: what was put out asks for keys, and the session has read.
+pub record IsReading (old new : Traffic) (before behind : Session) : Type 0 where
+  pub sent : (sent : List Envelope) × (new.sent ≡ old.sent ++ sent) × AreReads before.client.txn sent
+  pub heard : (heard : List End) × (new.heard ≡ old.heard ++ heard)
+  pub splits : behind.splits ≡ before.splits
+  pub txn : behind.client.txn ≡ before.client.txn
+  pub read : HasRead before.splits before.client behind.client
 
 -- what was written to a key, where it was
 abbrev pub written : List Write → Bytes → Option (Option Bytes)

@@ -34,17 +34,13 @@ impl<'s, R: Wait + time::Clock> Wire<'_, 's, R> {
     {
         match ran {
             Ok(()) => self.close(tx),
-            Err(Halt::Again | Halt::Abandon) => {
+            Err(halt) => {
                 self.give_up(tx)?;
-                Ok(Ended::Aborted)
-            }
-            Err(Halt::Refused(fault)) => {
-                self.give_up(tx)?;
-                Err(fault)
-            }
-            Err(Halt::Unserved { shard: _, fault }) => {
-                self.give_up(tx)?;
-                Err(fault)
+                match halt {
+                    Halt::Again | Halt::Abandon => Ok(Ended::Aborted),
+                    Halt::Refused(fault) => Err(fault),
+                    Halt::Unserved { shard: _, fault } => Err(fault),
+                }
             }
         }
     }
@@ -63,13 +59,12 @@ impl<'s, R: Wait + time::Clock> Wire<'_, 's, R> {
                 self.send_all(outbox);
                 Ok(self.end(tx))
             }
-            Err((Fault::BadRequest(Reason::Doomed), tx)) => {
-                self.give_up(tx)?;
-                Ok(Ended::Aborted)
-            }
             Err((fault, tx)) => {
                 self.give_up(tx)?;
-                Err(fault)
+                match fault {
+                    Fault::BadRequest(Reason::Doomed) => Ok(Ended::Aborted),
+                    _ => Err(fault),
+                }
             }
         }
     }

@@ -4,17 +4,17 @@ ghost use Rattle.units.specs.Keys.{same_key};
 ghost use Rattle.units.specs.Lists.{first};
 ghost use Rattle.message.specs.Ends.{End};
 ghost use Rattle.message.specs.declared.message.Envelope.{Envelope};
-ghost use Rattle.client.specs.Readings.{AreReads, HasRead, SeenStays, is_read, seen};
+ghost use Rattle.client.specs.Readings.{AreReads, HasRead, IsReading, SeenStays, is_read, seen};
 ghost use Rattle.client.specs.Refusals.{IsReadHalt, IsStepFault, unserved};
 
 use crate::hearing::Hearing;
 use crate::{Halt, Wire};
 use letters::Refused;
-use message::{Address, Envelope, Message, Read, ReadAnswer};
+use message::{Address, Envelope, Message, Read};
 use session::{Answered, Heard, Open, Tx};
 use std::alloc::Global;
 use std::sync::Wait;
-use std::time;
+use std::{slice, time};
 use units::{Fault, Key, Reason, ShardNo, Value, Write, copy_value};
 
 impl<'s, R: Wait + time::Clock> Wire<'_, 's, R> {
@@ -30,8 +30,7 @@ impl<'s, R: Wait + time::Clock> Wire<'_, 's, R> {
         ensures refused { IfErr result IsReadHalt }
         ensures value { IfOk result (λ value. seen tx.new.client key.now ≡ Some value) }
     {
-        ask(tx, key)?;
-        self.await_answers(tx)?;
+        self.fetch(tx, slice::from_ref(key))?;
         Ok(value_of(tx, key)?)
     }
 
@@ -74,12 +73,7 @@ impl<'s, R: Wait + time::Clock> Wire<'_, 's, R> {
 
     // Sends what is asked for, and waits for all answers. Behind the word to stop nothing is sent.
     fn await_answers(&mut self, tx: &mut Tx<'s, Open>) -> Result<(), Halt>
-        ensures sent { (sent : List Envelope) × (self.new.sent ≡ self.old.sent ++ sent)
-            × AreReads tx.old.client.txn sent }
-        ensures heard { (heard : List End) × (self.new.heard ≡ self.old.heard ++ heard) }
-        ensures splits { tx.new.splits ≡ tx.old.splits }
-        ensures txn { tx.new.client.txn ≡ tx.old.client.txn }
-        ensures read { HasRead tx.old.splits tx.old.client tx.new.client }
+        ensures reads { IsReading self.old self.new tx.old tx.new }
         ensures refused { IfErr result IsReadHalt }
     {
         if tx.awaited().is_empty() {
@@ -100,20 +94,12 @@ impl<'s, R: Wait + time::Clock> Wire<'_, 's, R> {
 
     // Hears one message, or that a letter was refused, or nothing for a while.
     fn await_one(&mut self, tx: &mut Tx<'s, Open>) -> Result<(), Halt>
-        ensures sent { (sent : List Envelope) × (self.new.sent ≡ self.old.sent ++ sent)
-            × AreReads tx.old.client.txn sent }
-        ensures heard { (heard : List End) × (self.new.heard ≡ self.old.heard ++ heard) }
-        ensures splits { tx.new.splits ≡ tx.old.splits }
-        ensures txn { tx.new.client.txn ≡ tx.old.client.txn }
-        ensures read { HasRead tx.old.splits tx.old.client tx.new.client }
+        ensures reads { IsReading self.old self.new tx.old tx.new }
         ensures refused { IfErr result IsReadHalt }
     {
         match self.hear() {
             Hearing::Heard(message) => {
-                let taken = match &message {
-                    Message::ReadAnswer(answer) => self.take(tx, answer),
-                    _ => Ok(()),
-                };
+                let taken = self.take(tx, &message);
                 drop(message);
                 taken
             }
@@ -127,17 +113,15 @@ impl<'s, R: Wait + time::Clock> Wire<'_, 's, R> {
         }
     }
 
-    // Takes an answer, which may be to an earlier transaction. A shard passes over what is read there while an earlier read waits, so what
-    // it has not answered is sent again, where nothing else has come.
-    fn take(&mut self, tx: &mut Tx<'s, Open>, answer: &ReadAnswer) -> Result<(), Halt>
-        ensures sent { (sent : List Envelope) × (self.new.sent ≡ self.old.sent ++ sent)
-            × AreReads tx.old.client.txn sent }
-        ensures heard { (heard : List End) × (self.new.heard ≡ self.old.heard ++ heard) }
-        ensures splits { tx.new.splits ≡ tx.old.splits }
-        ensures txn { tx.new.client.txn ≡ tx.old.client.txn }
-        ensures read { HasRead tx.old.splits tx.old.client tx.new.client }
+    // Takes a message where it is an answer, which may be to an earlier transaction. A shard passes over what is read there while an earlier
+    // read waits, so what it has not answered is sent again, where nothing else has come.
+    fn take(&mut self, tx: &mut Tx<'s, Open>, message: &Message) -> Result<(), Halt>
+        ensures reads { IsReading self.old self.new tx.old tx.new }
         ensures refused { IfErr result IsReadHalt }
     {
+        let Message::ReadAnswer(answer) = message else {
+            return Ok(());
+        };
         match tx.answered(answer) {
             Ok(Heard::Value(value)) => drop(value),
             Ok(Heard::Again) | Err(Fault::Stranger) => {}

@@ -1,10 +1,5 @@
-use Rattle.std.proofs.Common.{◌≡◌}
-use Rattle.client.specs.Readings.{HasRead}
+use Rattle.client.specs.Readings.{IsReading}
 use Rattle.client.proofs.wire.Wire.fetch.Given as goal
 
 abbrev pub invariant-loop-key : goal.invariant-loop-key
-invariant-loop-key g l = record {
-  splits : l.tx.splits ≡ l.fn.tx.splits;
-  txn : l.tx.client.txn ≡ l.fn.tx.client.txn;
-  read : HasRead l.fn.tx.splits l.fn.tx.client l.tx.client;
-}
+invariant-loop-key g l = IsReading l.fn.self l.fn.self l.fn.tx l.tx
