@@ -12,7 +12,7 @@ use units::Fault;
 
 /// The files behind a runtime: texts are read as they are, links are followed, and logs are opened to be read alone. `create` makes a
 /// file, and nothing else does. Notes are told on standard error, where that is watched.
-#[derive(Clone, Copy)]
+#[derive(Drop)]
 pub struct HostFiles<'r, R> {
     pub rt: &'r R,
     /// Standard error is a terminal.

@@ -1,5 +1,5 @@
 //! The logs of the shards of a drive.
-ghost use Rattle.std.specs.Prelude.{◌≡◌, ◌⊎◌, ◌+◌, ◌<◌, [], IfOk, IfErr, OnOk, Ok, All, length, IsTrue, false};
+ghost use Rattle.std.specs.Prelude.{◌≡◌, ◌⊎◌, ◌+◌, ◌<◌, ◌≤◌, [], IfOk, IfErr, OnOk, Ok, All, length, IsTrue, false};
 ghost use Rattle.disk.specs.File.{surface};
 ghost use Rattle.disk.specs.declared.plan.FailurePlan.TheVariants.{Never};
 ghost use Rattle.filedisk.specs.State.{file_is_changed};
@@ -13,7 +13,7 @@ use crate::beginning::begin;
 use crate::manifest::{MOST_MANIFEST, is_manifest_of};
 use crate::names::{Kind, Name, StoreFolder};
 use crate::owners::first_fits;
-use crate::shards::setup_of;
+use crate::shards::numbered;
 use filedisk::FileDisk;
 use gatelog::GateLog;
 use simdisk::SimDisk;
@@ -70,10 +70,8 @@ fn logs_of<R: Files<File = File> + RandomSource>(
     if !is_known(folder, alloc, splits)? {
         begin(folder, alloc, splits, drawn(rt)?)?;
     }
-    name_all(folder, alloc, splits)?;
-    let logs = open_all(folder, alloc, splits)?;
-    folder.sync()?;
-    Ok(logs)
+    name_all(folder, splits)?;
+    open_all(folder, alloc, splits)
 }
 
 // Whether there is a manifest, which is then that of a store with these splits.
@@ -88,10 +86,11 @@ fn is_known<R: Files<File = File>>(
         return Ok(false);
     }
     let text = folder.read(Name::Manifest, MOST_MANIFEST)?;
-    if is_manifest_of(alloc, &text, splits)? {
-        Ok(true)
-    } else {
-        Err(Fault::BadRequest(Reason::Settings))
+    let is_known = is_manifest_of(alloc, &text, splits);
+    drop(text);
+    match is_known {
+        Ok(false) => Err(Fault::BadRequest(Reason::Settings)),
+        known => known,
     }
 }
 
@@ -106,37 +105,39 @@ fn drawn<R: RandomSource>(rt: &R) -> Result<u64, Fault>
     }
 }
 
-// Gives each draft whose log is missing the name of the log. Before any is named each log is there, or its draft is.
+// Gives each draft whose log is missing the name of the log. Before any is named each log is there, or its draft is. Behind it all names
+// are on the device.
 fn name_all<R: Files<File = File>>(
     folder: &mut StoreFolder<'_, R>,
-    alloc: Global,
     splits: &Splits,
 ) -> Result<(), Fault>
-    ensures { IfErr result IsFolderFault }
+    ensures synced { OnOk result (IsTrue (names_are_synced folder.new)) }
+    ensures refused { IfErr result IsFolderFault }
 {
-    let missing = missing_logs(folder, alloc, splits)?;
-    for shard in &missing {
-        folder.sync()?;
-        folder.name(Name::LogDraft(*shard), Name::Log(*shard))?;
+    let missing = missing_logs(folder, splits)?;
+    for shard in 0..16 {
+        if missing[shard] {
+            folder.sync()?;
+            folder.name(Name::LogDraft(shard), Name::Log(shard))?;
+        }
     }
-    Ok(())
+    folder.sync()
 }
 
-// The shards whose logs are missing, each with a draft.
+// Which of the shards' logs are missing. Each that is has a draft.
 fn missing_logs<R: Files<File = File>>(
     folder: &StoreFolder<'_, R>,
-    alloc: Global,
     splits: &Splits,
-) -> Result<Vec<usize>, Fault>
+) -> Result<[bool; 16], Fault>
     ensures { IfErr result IsFolderFault }
 {
-    let mut missing = Vec::new(alloc);
+    let mut missing = [false; 16];
     for shard in 0..splits.as_slice().len() + 1 {
         if let Kind::Nothing = folder.kind(Name::Log(shard))? {
             let Kind::Plain = folder.kind(Name::LogDraft(shard))? else {
                 return Err(Fault::Device);
             };
-            missing.push(shard)?;
+            missing[shard] = true;
         }
     }
     Ok(missing)
@@ -168,14 +169,12 @@ fn opened<R: Files<File = File>>(
     splits: &Splits,
     shard: usize,
 ) -> Result<FileDisk, Fault>
+    requires { shard ≤ 15 }
     ensures unchanged { IfOk result (λ log. file_is_changed log ≡ false) }
     ensures refused { IfErr result IsFolderFault }
 {
     let mut log = folder.open(Name::Log(shard))?;
-    let setup = setup_of(alloc, splits, shard)?;
-    let fits = first_fits(alloc, &mut log, &setup);
-    drop(setup);
-    match fits {
+    match first_fits(alloc, &mut log, splits, numbered(shard)) {
         Ok(()) => Ok(log),
         Err(fault) => {
             drop(log);

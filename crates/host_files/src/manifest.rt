@@ -1,5 +1,5 @@
 //! What a folder says of its store.
-ghost use Rattle.std.specs.Prelude.{◌≡◌, ◌<◌, IfErr};
+ghost use Rattle.std.specs.Prelude.{◌≡◌, IfErr};
 ghost use Rattle.units.specs.declared.fault.Fault.TheVariants.{Memory};
 
 use std::alloc::Global;
@@ -64,21 +64,8 @@ fn push_byte(text: &mut String, byte: u8) -> Result<(), Fault>
         text.push(char::from(byte))?;
         return Ok(());
     }
-    text.push_str("\\u00")?;
-    text.push(digit_of(byte / 16))?;
-    text.push(digit_of(byte % 16))?;
+    write!(text, "\\u{byte:04x}")?;
     Ok(())
-}
-
-// The hexadecimal digit of a number below 16.
-fn digit_of(number: u8) -> char
-    requires { number < 16 }
-{
-    char::from(if number < 10 {
-        b'0' + number
-    } else {
-        b'a' + (number - 10)
-    })
 }
 
 // The line of a name: 16 hexadecimal digits.

@@ -115,10 +115,13 @@ impl<'a, R: Files<File = File>> StoreFolder<'a, R> {
         FileDisk::open(self.rt, &path)
     }
 
-    /// Takes a name away: of a link not what it leads to.
-    pub fn remove(&mut self, name: Name) -> Result<(), Fault>
+    /// Takes a name away, under which something of this kind stands: of a link not what it leads to.
+    pub fn clear(&mut self, name: Name, kind: Kind) -> Result<(), Fault>
         ensures { IfErr result (λ fault. (fault ≡ Memory) ⊎ (fault ≡ Device)) }
     {
+        if let Kind::Nothing = kind {
+            return Ok(());
+        }
         self.synced = false;
         let path = self.path_of(name)?;
         or_device(fs::remove_file(self.rt, &path))

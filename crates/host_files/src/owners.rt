@@ -11,7 +11,7 @@ use gatelog::{Entry, FIRST_GATE, HEADER, area_named};
 use record::Record;
 use spelling::decode;
 use std::alloc::Global;
-use units::{Fault, Key, Keys, Parts, Reason, Setup, Writes};
+use units::{Fault, Keys, Parts, Reason, ShardNo, Splits, Writes};
 
 // How many bytes of a log are read for its first record that tells whose it is.
 const MOST_FRONT: u64 = 1 << 16;
@@ -19,31 +19,31 @@ const MOST_FRONT: u64 = 1 << 16;
 /// Why a record does not belong to the log of a shard: it names a key of another shard (`Stranger`), a shard that is not there
 /// (`settings`), or it stands in the log of another shard (`Damaged`). Openings, ceilings, horizons, aborts, outcomes and the
 /// base of a renewed log name none.
-pub fn misfit(setup: &Setup, item: &Record, offset: u64) -> Option<Fault>
+pub fn misfit(splits: &Splits, shard: ShardNo, item: &Record, offset: u64) -> Option<Fault>
     ensures { IfSome result IsFolderFault }
 {
     match item {
         Record::Prepare(prepared) => {
-            if prepared.coordinator.number() >= setup.shard.number() {
+            if prepared.coordinator.number() >= shard.number() {
                 return Some(Fault::Damaged { offset });
             }
-            stranger(setup, &prepared.reads, &prepared.writes)
+            stranger(splits, shard, &prepared.reads, &prepared.writes)
         }
         Record::Commit(committed) => {
-            if let Some(fault) = misplaced(setup, committed.parts, offset) {
+            if let Some(fault) = misplaced(splits, shard, committed.parts, offset) {
                 return Some(fault);
             }
-            stranger(setup, &committed.reads, &committed.writes)
+            stranger(splits, shard, &committed.reads, &committed.writes)
         }
-        Record::Settled { parts, .. } => misplaced(setup, *parts, offset),
+        Record::Settled { parts, .. } => misplaced(splits, shard, *parts, offset),
         Record::Closed { coordinator, .. } => {
-            if coordinator.number() >= setup.shard.number() {
+            if coordinator.number() >= shard.number() {
                 return Some(Fault::Damaged { offset });
             }
             None
         }
         Record::Version(version) => {
-            if setup.owns(&version.key) {
+            if splits.shard_of(&version.key) == shard {
                 None
             } else {
                 Some(Fault::Stranger)
@@ -58,44 +58,41 @@ pub fn misfit(setup: &Setup, item: &Record, offset: u64) -> Option<Fault>
 }
 
 // Why a decision of these parts does not belong to the log of a shard.
-fn misplaced(setup: &Setup, parts: Parts, offset: u64) -> Option<Fault>
+fn misplaced(splits: &Splits, shard: ShardNo, parts: Parts, offset: u64) -> Option<Fault>
     ensures { IfSome result IsFolderFault }
 {
-    if parts.least() != setup.shard {
+    if parts.least() != shard {
         return Some(Fault::Damaged { offset });
     }
-    if u32::from(parts.mask()) >> (setup.splits.as_slice().len() + 1) != 0 {
+    if u32::from(parts.mask()) >> (splits.as_slice().len() + 1) != 0 {
         return Some(Fault::BadRequest(Reason::Settings));
     }
     None
 }
 
 // A key of another shard.
-fn stranger(setup: &Setup, reads: &Keys, writes: &Writes) -> Option<Fault>
+fn stranger(splits: &Splits, shard: ShardNo, reads: &Keys, writes: &Writes) -> Option<Fault>
     ensures { IfSome result (λ fault. fault ≡ Fault.Stranger) }
 {
-    if owns_keys(setup, reads.as_slice()) && setup.owns_writes(writes) {
-        None
-    } else {
-        Some(Fault::Stranger)
-    }
-}
-
-fn owns_keys(setup: &Setup, keys: &[Key]) -> bool {
-    for key in keys {
-        if !setup.owns(key) {
-            return false;
+    for key in reads.as_slice() {
+        if splits.shard_of(key) != shard {
+            return Some(Fault::Stranger);
         }
     }
-    true
+    for write in writes.as_slice() {
+        if splits.shard_of(&write.key) != shard {
+            return Some(Fault::Stranger);
+        }
+    }
+    None
 }
 
 /// The first entry of a log that does not belong to its shard counts.
-pub fn all_fit(setup: &Setup, entries: &[Entry]) -> Result<(), Fault>
+pub fn all_fit(splits: &Splits, shard: ShardNo, entries: &[Entry]) -> Result<(), Fault>
     ensures { IfErr result IsFolderFault }
 {
     for entry in entries {
-        if let Some(fault) = misfit(setup, entry.item(), entry.offset()) {
+        if let Some(fault) = misfit(splits, shard, entry.item(), entry.offset()) {
             return Err(fault);
         }
     }
@@ -104,7 +101,12 @@ pub fn all_fit(setup: &Setup, entries: &[Entry]) -> Result<(), Fault>
 
 /// Whether the log in a file is that of its shard, by the first record in it that tells that, which is looked for among its
 /// first 64 KiB. Where there is none, or what is read is no log, the opening says so.
-pub fn first_fits(alloc: Global, disk: &mut FileDisk, setup: &Setup) -> Result<(), Fault>
+pub fn first_fits(
+    alloc: Global,
+    disk: &mut FileDisk,
+    splits: &Splits,
+    shard: ShardNo,
+) -> Result<(), Fault>
     ensures refused { IfErr result IsFolderFault }
     ensures kept { OnOk result (file_is_changed disk.new ≡ file_is_changed disk.old) }
 {
@@ -116,7 +118,7 @@ pub fn first_fits(alloc: Global, disk: &mut FileDisk, setup: &Setup) -> Result<(
         return Ok(());
     };
     let part = part_of(alloc, disk, area, len.saturating_sub(area).min(MOST_FRONT))?;
-    let fits = frames_fit(alloc, &part, area, setup);
+    let fits = frames_fit(alloc, &part, area, splits, shard);
     drop(part);
     fits
 }
@@ -144,7 +146,13 @@ fn area_of(front: &[u8], len: u64) -> Option<u64>
 }
 
 // The first record among the frames of a log that tells whose it is counts.
-fn frames_fit(alloc: Global, bytes: &[u8], area: u64, setup: &Setup) -> Result<(), Fault>
+fn frames_fit(
+    alloc: Global,
+    bytes: &[u8],
+    area: u64,
+    splits: &Splits,
+    shard: ShardNo,
+) -> Result<(), Fault>
     ensures { IfErr result IsFolderFault }
 {
     let mut at = 0;
@@ -152,7 +160,7 @@ fn frames_fit(alloc: Global, bytes: &[u8], area: u64, setup: &Setup) -> Result<(
         let Some(body) = body_of(&bytes[at + 1..]) else {
             return Ok(());
         };
-        if !is_silent(alloc, body, area.saturating_add(at as u64), setup)? {
+        if !is_silent(alloc, body, area.saturating_add(at as u64), splits, shard)? {
             return Ok(());
         }
         at += 5 + body.len();
@@ -172,13 +180,19 @@ fn body_of(bytes: &[u8]) -> Option<&[u8]>
 }
 
 // Whether the bytes of a record are one that does not tell whose log it is in. One that tells another shard's is refused.
-fn is_silent(alloc: Global, body: &[u8], offset: u64, setup: &Setup) -> Result<bool, Fault>
+fn is_silent(
+    alloc: Global,
+    body: &[u8],
+    offset: u64,
+    splits: &Splits,
+    shard: ShardNo,
+) -> Result<bool, Fault>
     ensures { IfErr result IsFolderFault }
 {
     let Some(item) = decode(alloc, body)? else {
         return Ok(false);
     };
-    let misfit = misfit(setup, &item, offset);
+    let misfit = misfit(splits, shard, &item, offset);
     let tells = tells_its_shard(&item);
     drop(item);
     match misfit {
