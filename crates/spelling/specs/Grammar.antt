@@ -87,4 +87,30 @@ spelling (records.Version install) = 9 ∷ version_spelling install
 spelling (records.Settled txn at parts) = 10 ∷ settled_spelling txn at parts
 spelling (records.Closed txn coordinator outcome) = 11 ∷ closed_spelling txn coordinator outcome
 
--- ---- limits
+-- the byte for the kind alone
+abbrev pub kind : Record → ℕ
+kind (records.Opened epoch) = 1
+kind (records.Ceiling at) = 2
+kind (records.Prepare p) = 3
+kind (records.Commit c) = 4
+kind (records.Abort txn) = 5
+kind (records.Outcome txn outcome) = 6
+kind (records.Horizon at) = 7
+kind (records.Base epoch floor horizon) = 8
+kind (records.Version install) = 9
+kind (records.Settled txn at parts) = 10
+kind (records.Closed txn coordinator outcome) = 11
+
+-- and the fields
+abbrev pub fields_spelling : Record → List ℕ
+fields_spelling (records.Opened epoch) = to_be_bytes w64 epoch
+fields_spelling (records.Ceiling at) = to_be_bytes w64 at
+fields_spelling (records.Prepare p) = prepare_spelling p
+fields_spelling (records.Commit c) = commit_spelling c
+fields_spelling (records.Abort txn) = id_spelling txn
+fields_spelling (records.Outcome txn outcome) = id_spelling txn ++ outcome_spelling outcome
+fields_spelling (records.Horizon at) = to_be_bytes w64 at
+fields_spelling (records.Base epoch floor horizon) = base_spelling epoch floor horizon
+fields_spelling (records.Version install) = version_spelling install
+fields_spelling (records.Settled txn at parts) = settled_spelling txn at parts
+fields_spelling (records.Closed txn coordinator outcome) = closed_spelling txn coordinator outcome

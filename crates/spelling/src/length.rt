@@ -1,27 +1,19 @@
 // How long the spelling of a record is.
-ghost use Rattle.std.specs.Prelude.{◌≡◌, ◌≤◌, ◌^◌, length, flat_map};
-ghost use Rattle.spelling.specs.Grammar.{key_spelling, keys_spelling, value_spelling, write_spelling, writes_spelling, spelling};
+ghost use Rattle.std.specs.Prelude.{◌≡◌, ◌≤◌, ◌^◌, length};
+ghost use Rattle.spelling.specs.Grammar.{keys_spelling, value_spelling, writes_spelling, spelling};
 
 use record::Record;
-use units::{Key, Keys, Value, Write, Writes};
-
-fn key_list_len(keys: &[Key]) -> u64
-    requires { length keys.now ≤ 128 }
-    ensures value { result ≡ length (flat_map key_spelling keys.now) }
-    ensures limit { result ≤ 8320 }
-{
-    let mut total = 0;
-    for key in keys {
-        total += 1 + key.as_bytes().len() as u64;
-    }
-    total
-}
+use units::{Keys, Value, Writes};
 
 fn keys_len(keys: &Keys) -> u64
     ensures value { result ≡ length (keys_spelling keys.now) }
     ensures limit { result ≤ 8322 }
 {
-    2 + key_list_len(keys.as_slice())
+    let mut total = 2;
+    for key in keys.as_slice() {
+        total += 1 + key.as_bytes().len() as u64;
+    }
+    total
 }
 
 fn value_len(value: &Option<Value>) -> u64
@@ -34,23 +26,15 @@ fn value_len(value: &Option<Value>) -> u64
     }
 }
 
-fn write_list_len(writes: &[Write]) -> u64
-    requires { length writes.now ≤ 128 }
-    ensures value { result ≡ length (flat_map write_spelling writes.now) }
-    ensures limit { result ≤ 532992 }
-{
-    let mut total = 0;
-    for write in writes {
-        total += 1 + write.key.as_bytes().len() as u64 + value_len(&write.value);
-    }
-    total
-}
-
 fn writes_len(writes: &Writes) -> u64
     ensures value { result ≡ length (writes_spelling writes.now) }
     ensures limit { result ≤ 532994 }
 {
-    2 + write_list_len(writes.as_slice())
+    let mut total = 2;
+    for write in writes.as_slice() {
+        total += 1 + write.key.as_bytes().len() as u64 + value_len(&write.value);
+    }
+    total
 }
 
 /// How many bytes the spelling of a record has. It takes no memory.

@@ -6,7 +6,7 @@ ghost use Rattle.spelling.specs.Grammar.{writes_spelling, outcome_spelling, part
 ghost use Rattle.spelling.specs.Limits.{IsId, IsKey, IsKeys, IsParts, IsWrite, IsWrites, IsPrepare};
 ghost use Rattle.spelling.specs.Grammar.{base_spelling, value_spelling, version_spelling};
 ghost use Rattle.spelling.specs.Limits.{IsCommit, IsOutcome, IsRecord, NoneBeginsAnother};
-ghost use Rattle.spelling.specs.Grammar.{settled_spelling, closed_spelling};
+ghost use Rattle.spelling.specs.Grammar.{settled_spelling, closed_spelling, kind, fields_spelling};
 ghost use Rattle.spelling.specs.Limits.{IsBase, IsValue, IsVersion, IsSettled, IsClosed};
 
 use byteorder::{BigEndian, ByteOrder};
@@ -227,32 +227,69 @@ fn put_closed(out: &mut Vec<u8>, txn: TxnId, coordinator: ShardNo, outcome: Opti
     put_outcome(out, outcome)
 }
 
-fn put_record(out: &mut Vec<u8>, record: &Record) -> bool
-    ensures ok { IsTrue result → out.new.items ≡ out.old.items ++ spelling «record».now }
+// The byte for its kind.
+fn kind_of(record: &Record) -> u8
+    ensures { result ≡ kind «record».now }
+{
+    match record {
+        Record::Opened { epoch: _ } => 1,
+        Record::Ceiling { at: _ } => 2,
+        Record::Prepare(_) => 3,
+        Record::Commit(_) => 4,
+        Record::Abort { txn: _ } => 5,
+        Record::Outcome { txn: _, outcome: _ } => 6,
+        Record::Horizon { at: _ } => 7,
+        Record::Base {
+            epoch: _,
+            floor: _,
+            horizon: _,
+        } => 8,
+        Record::Version(_) => 9,
+        Record::Settled {
+            txn: _,
+            at: _,
+            parts: _,
+        } => 10,
+        Record::Closed {
+            txn: _,
+            coordinator: _,
+            outcome: _,
+        } => 11,
+    }
+}
+
+fn put_fields(out: &mut Vec<u8>, record: &Record) -> bool
+    ensures ok { IsTrue result → out.new.items ≡ out.old.items ++ fields_spelling «record».now }
     ensures fits { IsTrue result → IsRecord «record».now }
 {
     match record {
-        Record::Opened { epoch } => put_u8(out, 1) && put_u64(out, epoch.number()),
-        Record::Ceiling { at } => put_u8(out, 2) && put_u64(out, at.micros()),
-        Record::Prepare(p) => put_u8(out, 3) && put_prepare(out, p),
-        Record::Commit(c) => put_u8(out, 4) && put_commit(out, c),
-        Record::Abort { txn } => put_u8(out, 5) && put_id(out, *txn),
-        Record::Outcome { txn, outcome } => put_u8(out, 6) && put_ended(out, *txn, *outcome),
-        Record::Horizon { at } => put_u8(out, 7) && put_u64(out, at.micros()),
+        Record::Opened { epoch } => put_u64(out, epoch.number()),
+        Record::Ceiling { at } => put_u64(out, at.micros()),
+        Record::Prepare(p) => put_prepare(out, p),
+        Record::Commit(c) => put_commit(out, c),
+        Record::Abort { txn } => put_id(out, *txn),
+        Record::Outcome { txn, outcome } => put_ended(out, *txn, *outcome),
+        Record::Horizon { at } => put_u64(out, at.micros()),
         Record::Base {
             epoch,
             floor,
             horizon,
-        } => put_u8(out, 8) && put_base(out, *epoch, *floor, *horizon),
-        Record::Version(install) => put_u8(out, 9) && put_version(out, install),
-        Record::Settled { txn, at, parts } => put_u8(out, 10)
-            && put_settled(out, *txn, *at, *parts),
+        } => put_base(out, *epoch, *floor, *horizon),
+        Record::Version(install) => put_version(out, install),
+        Record::Settled { txn, at, parts } => put_settled(out, *txn, *at, *parts),
         Record::Closed {
             txn,
             coordinator,
             outcome,
-        } => put_u8(out, 11) && put_closed(out, *txn, *coordinator, *outcome),
+        } => put_closed(out, *txn, *coordinator, *outcome),
     }
+}
+
+fn put_record(out: &mut Vec<u8>, record: &Record) -> bool
+    ensures ok { IsTrue result → out.new.items ≡ out.old.items ++ spelling «record».now }
+    ensures fits { IsTrue result → IsRecord «record».now }
+{
+    put_u8(out, kind_of(record)) && put_fields(out, record)
 }
 
 /// The one spelling of a record.
