@@ -20,7 +20,12 @@ pub fn has_key(keys: &[Key], key: &Key) -> bool
 pub fn was_taken(taken: &[Answered], key: &Key) -> bool
     ensures { result ≡ list_any (λ a. same_key a.key key.now) taken.now }
 {
-    taken.iter().any(|answered| answered.key == *key)
+    for answered in taken {
+        if answered.key == *key {
+            return true;
+        }
+    }
+    false
 }
 
 /// The answers of a shard are all of this epoch.
@@ -39,7 +44,12 @@ pub fn epochs_agree(taken: &[Answered], shard: ShardNo, epoch: Epoch) -> bool
 pub fn is_written(writes: &[Write], key: &Key) -> bool
     ensures { result ≡ writes_key writes.now key.now }
 {
-    writes.iter().any(|write| write.key == *key)
+    for write in writes {
+        if write.key == *key {
+            return true;
+        }
+    }
+    false
 }
 
 /// Takes a key out of a list.
