@@ -13,7 +13,7 @@ use Rattle.protocol.specs.Rows.{Idle, WaitsRead, WaitsPrepare}
 use Rattle.protocol.specs.Plan.{time_limit, Before, Planned, opens, in_way, is_crowded, replies, idles, ends, puts, roomed}
 use Rattle.protocol.specs.Cells.{still_stand, answers, refuses, to_read, plan_go_on, plan_read_row, plan_read_now}
 use Rattle.protocol.specs.Cells.{plan_prepare_fresh, plan_prepare_now, plan_promise}
-use Rattle.participant.specs.Asks.{read_asks, promised_by}
+use Rattle.participant.specs.Asks.{granted_read, read_asks, waits_read, promised_by}
 
 -- ---- reads
 
@@ -43,6 +43,13 @@ read_crowded b t k e = ap (λ a. roomed a (Ok (read_asks b t k))) e
 pub read_roomy : (b : Before) (t : Id) (k : Bytes) → is_crowded b t ≡ false → plan_read_now b t k ≡ Ok (read_asks b t k)
 unfolding plan_read_now
 read_roomy b t k e = ap (λ a. roomed a (Ok (read_asks b t k))) e
+
+pub read_granted : (b : Before) (t : Id) (k : Bytes) → is_crowded b t ≡ false → opens b t (to_read k) ≡ true
+    → plan_read_now b t k ≡ Ok (granted_read b (in_way b t (to_read k)) t k)
+read_granted b t k roomy free = read_roomy b t k roomy ∙ ap (λ a. Ok (cond a (granted_read b (in_way b t (to_read k)) t k) (waits_read b t k))) free
+
+pub read_shut : (b : Before) (t : Id) (k : Bytes) → is_crowded b t ≡ false → opens b t (to_read k) ≡ false → plan_read_now b t k ≡ Ok (waits_read b t k)
+read_shut b t k roomy shut = read_roomy b t k roomy ∙ ap (λ a. Ok (cond a (granted_read b (in_way b t (to_read k)) t k) (waits_read b t k))) shut
 
 -- ---- promises
 

@@ -13,12 +13,13 @@ use Rattle.protocol.specs.Cells.{to_read, answers}
 abbrev pub granted_read : Before → List Id → Id → Bytes → Plan
 granted_read b ended t k = puts b ended t (to_read k) Idle None b.memory.last (answers b t k ∷ [])
 
+-- a wait for a shared lock
+abbrev pub waits_read : Before → Id → Bytes → Plan
+waits_read b t k = puts b (in_way b t (to_read k)) t [] (WaitsRead k) None b.memory.last []
+
 -- a shared lock and the answer, or a wait
 abbrev pub read_asks : Before → Id → Bytes → Plan
-read_asks b t k =
-    cond (opens b t (to_read k))
-    (granted_read b (in_way b t (to_read k)) t k)
-    (puts b (in_way b t (to_read k)) t [] (WaitsRead k) None b.memory.last [])
+read_asks b t k = cond (opens b t (to_read k)) (granted_read b (in_way b t (to_read k)) t k) (waits_read b t k)
 
 -- the promise at a timestamp, and the vote
 abbrev pub promised_by : Before → List Id → Id → ℕ → ℕ → List Bytes → List Write → Plan

@@ -4,10 +4,9 @@ ghost use Rattle.message.specs.declared.message.Answer.TheVariants.{Refused};
 ghost use Rattle.protocol.specs.Rows.{WaitsRead, held_in};
 ghost use Rattle.protocol.specs.Outputs.{answer_to};
 ghost use Rattle.protocol.specs.Cells.{plan_read_row, plan_read_now, plan_go_on, answers, to_read};
-ghost use Rattle.memory.specs.Carry.{Asks, IsFit, may_ask, may_end};
+ghost use Rattle.memory.specs.Carry.{Asks, IsFit, may_end};
 ghost use Rattle.memory.specs.Kept.{start_of, IsPlanned};
-ghost use Rattle.participant.specs.Asks.{read_asks};
-ghost use Rattle.memory.specs.Standings.{standing_in, MakesPlan, MakesReply};
+ghost use Rattle.memory.specs.Standings.{standing_in, MakesReply};
 ghost use Rattle.participant.specs.ByMessage.{PlansRead, MakesGrantedRead};
 
 use memory::{Change, Request, Standing, State, Step, answer_to};
@@ -75,16 +74,6 @@ fn read_now(state: &State, alloc: Global, txn: TxnId, key: &Key) -> Result<Step,
     if state.is_crowded(txn) {
         return Err(Fault::RowsFull);
     }
-    ask_for_key(state, alloc, txn, key)
-}
-
-// A shared lock and the answer, or a wait.
-fn ask_for_key(state: &State, alloc: Global, txn: TxnId, key: &Key) -> Result<Step, Fault>
-    requires { may_ask state.now.memory.rows txn ≡ true }
-    ensures plan { MakesPlan state.now (read_asks (start_of state.now) txn key.now) result }
-    ensures fit { IfOk result (IsFit state.now) }
-    ensures memory { IfErr result (λ fault. fault ≡ Fault.Memory) }
-{
     let Ok(needs) = shared(alloc, key) else {
         return Err(Fault::Memory);
     };
@@ -92,15 +81,14 @@ fn ask_for_key(state: &State, alloc: Global, txn: TxnId, key: &Key) -> Result<St
         return Err(Fault::Memory);
     };
     if state.opens(txn, &needs) {
-        grant(state, alloc, wounded, needs, txn, key)
-    } else {
-        let request = Request {
-            wounded,
-            needs,
-            change: Change::Waits(txn, Wait::Read(*key)),
-        };
-        state.puts(alloc, request, None, state.last(), None)
+        return grant(state, alloc, wounded, needs, txn, key);
     }
+    let request = Request {
+        wounded,
+        needs,
+        change: Change::Waits(txn, Wait::Read(*key)),
+    };
+    state.puts(alloc, request, None, state.last(), None)
 }
 
 /// The read that a transaction waits with, once its lock is granted.
