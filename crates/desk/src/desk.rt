@@ -1,6 +1,5 @@
 //! The core of a shard, and the publisher of its board.
 ghost use Rattle.std.specs.Prelude.{◌≡◌, ◌<◌, ◌+◌, ◌++◌, true, length, IfOk, IfErr, IsTrue, OnOk};
-ghost use Rattle.std.specs.Option.{option_copied};
 ghost use Rattle.board.specs.Board.{first_entries, horizon_on, is_board};
 ghost use Rattle.disk.specs.File.{surface};
 ghost use Rattle.desk.specs.Faults.{refuses_input, refuses_advance, refuses_horizon, refuses_turnover};
@@ -8,8 +7,6 @@ ghost use Rattle.desk.specs.InStep.{InStep, IsInStep, IsNewBoard, AreOnBoard, Is
 ghost use Rattle.desk.specs.InStep.{HasKept, IsCount, horizon_for as horizon_kept};
 ghost use Rattle.desk.specs.Opening.{HasNoDesk, IsBegun};
 ghost use Rattle.desk.specs.Renewed.{HasTurnedOver, HasRenewed, unmeasured};
-ghost use Rattle.book.specs.Books.{IsBookOf};
-ghost use Rattle.shard.specs.Booked.{stand_of};
 ghost use Rattle.shard.specs.Core.{seen, book_of};
 ghost use Rattle.shard.specs.Look.{safe_at};
 ghost use Rattle.shard.specs.Opened.{HasOpened};
@@ -17,7 +14,6 @@ ghost use Rattle.shard.specs.Settled.{IsDurablySettled};
 
 use crate::measure::Measure;
 use board::{Publisher, Told, Viewer, check_viewers, copy_install, start};
-use book::Book;
 use disk::Disk;
 use message::{Input, Outbox};
 use protocol::{own_refusals, step_keeps_showable, writes_ascend};
@@ -234,16 +230,6 @@ impl<D: Disk + Drop, R: Wait + Drop> Desk<D, R> {
             &mut self.told,
             self.alloc,
         )
-    }
-
-    /// The book of the core, where it keeps one: from the state that the opening left, the step over its pages leads to what the
-    /// core knows and keeps, and puts out what stands in them.
-    pub fn book(&self) -> Option<&Book>
-        ensures same { option_copied result ≡ (seen_desk self.now).book }
-        ensures replays { ∥ IsBookOf (seen_desk self.now).core.setup (seen_desk self.now).book
-            (stand_of (seen_desk self.now).core) ∥₁ }
-    {
-        self.core.book()
     }
 
     /// The core, to be read.
