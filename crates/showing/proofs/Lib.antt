@@ -1,4 +1,5 @@
 mod Accepting
+mod Behind
 mod Counted
 mod Doubting
 mod Ends

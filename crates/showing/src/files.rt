@@ -1,15 +1,15 @@
 //! Texts of logs.
-ghost use Rattle.std.specs.Prelude.{IfOk, IfErr, List, map, string_bytes};
+ghost use Rattle.std.specs.Prelude.{◌≡◌, ◌++◌, ◌∷◌, [], IfOk, IfErr, List, OnOk, map, string_bytes};
 ghost use Rattle.frames.specs.Placed.{Placed};
 ghost use Rattle.showing.specs.Dumps.{IsADump, IsNotShown};
 ghost use Rattle.showing.specs.HistoryTexts.{IsAHistory, IsAValue, IsNotTold};
-ghost use Rattle.showing.specs.StatsTexts.{AreStats};
+ghost use Rattle.showing.specs.StatsTexts.{AreStats, ToldLog, log_text};
 
 use crate::history_lines::{history_text, value_line};
 use crate::lines::dump_text;
 use crate::reading::read_dump;
 use crate::shard_log::{read_history, read_value};
-use crate::stats::read_stats;
+use crate::stats::{Numbers, read_stats};
 use crate::stats_lines::{push_log, push_sums};
 use disk::Disk;
 use std::alloc::Global;
@@ -35,14 +35,31 @@ pub fn stats_files<F: Files>(alloc: Global, files: &F, logs: &[&str]) -> Result<
     let mut text = String::new(alloc);
     let mut told = Vec::new(alloc);
     for log in logs {
-        let stats = read_stats(alloc, files.open(alloc, log)?)?;
-        push_log(&mut text, alloc, log, &stats)?;
-        told.push(stats.numbers)?;
+        tell_log(&mut text, &mut told, alloc, files, log)?;
     }
     if told.len() > 1 {
-        push_sums(&mut text, alloc, &told)?;
+        push_sums(&mut text, &told)?;
     }
     Ok(text)
+}
+
+// What the log in one file holds stands behind the text, and its numbers behind those of the others.
+fn tell_log<F: Files>(
+    text: &mut String,
+    told: &mut Vec<Numbers>,
+    alloc: Global,
+    files: &F,
+    log: &str,
+) -> Result<(), Fault>
+    ensures told { OnOk result ((one : ToldLog) × (one.name ≡ log.now)
+        × (told.new.items ≡ told.old.items ++ one.numbers ∷ [])
+        × (string_bytes text.new ≡ string_bytes text.old ++ log_text one)) }
+    ensures refused { IfErr result IsNotShown }
+{
+    let stats = read_stats(alloc, files.open(alloc, log)?)?;
+    push_log(text, log, &stats)?;
+    told.push(stats.numbers)?;
+    Ok(())
 }
 
 /// What the log of a shard says of a key, as text.

@@ -39,8 +39,7 @@ fn push_line(text: &mut String, alloc: Global, told: &Told) -> Result<(), Fault>
     let txn = txn_word(alloc, told.txn)?;
     let value = value_text(alloc, &told.value)?;
     let mark = mark_of(told.standing);
-    let line = format!(in alloc; "{at} {txn} {value}{mark}\n")?;
-    text.push_str(&line)?;
+    write!(text, "{at} {txn} {value}{mark}\n")?;
     Ok(())
 }
 

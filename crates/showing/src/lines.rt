@@ -16,8 +16,11 @@ pub fn dump_text(alloc: Global, entries: &[Entry], end: End) -> Result<String, F
     ensures memory { IfErr result (λ fault. fault ≡ Fault.Memory) }
 {
     let told = told(alloc, entries)?;
-    let lines = lines_of(alloc, &told)?;
-    Ok(format!(in alloc; "{lines}{end}\n")?)
+    let lines = lines_of(alloc, &told);
+    drop(told);
+    let mut text = lines?;
+    write!(text, "{end}\n")?;
+    Ok(text)
 }
 
 // The offset of each entry, and its record as text.
@@ -50,8 +53,7 @@ fn lines_of(alloc: Global, told: &[(u64, String)]) -> Result<String, Fault>
 {
     let mut text = String::new(alloc);
     for (offset, words) in told {
-        let line = format!(in alloc; "{offset} {words}\n")?;
-        text.push_str(&line)?;
+        write!(text, "{offset} {words}\n")?;
     }
     Ok(text)
 }

@@ -78,8 +78,8 @@ fn count(alloc: Global, bytes: u64, entries: &[Entry]) -> Result<Stats, Fault>
         ⊎ (IsTrue (is_no_log fault) × (stats_by bytes entries.now ≡ Err fault))) }
 {
     let facts = learn_followed(alloc, shard_told(entries), entries)?;
-    let in_doubt = in_doubt(alloc, entries, &facts)?;
     let keys = count_keys(alloc, facts.installs())?;
+    let in_doubt = in_doubt(alloc, entries, &facts)?;
     let numbers = Numbers {
         bytes,
         records: entries.len() as u64,

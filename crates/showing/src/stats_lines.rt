@@ -4,7 +4,6 @@ ghost use Rattle.showing.specs.StatsTexts.{doubt_line, log_text, number_line, nu
 
 use crate::figure::Figure;
 use crate::stats::{InDoubt, Numbers, Stats};
-use std::alloc::Global;
 use units::Fault;
 
 // The numbers of which there are sums.
@@ -50,7 +49,7 @@ const FIGURES: [Figure; 18] = [
 ];
 
 /// What is told of a log: its name, a line for each number, and one for each transaction in doubt.
-pub fn push_log(text: &mut String, alloc: Global, name: &str, stats: &Stats) -> Result<(), Fault>
+pub fn push_log(text: &mut String, name: &str, stats: &Stats) -> Result<(), Fault>
     ensures text { OnOk result (string_bytes text.new ≡ string_bytes text.old ++ log_text
         (record {
           name = name.now;
@@ -59,83 +58,70 @@ pub fn push_log(text: &mut String, alloc: Global, name: &str, stats: &Stats) -> 
         })) }
     ensures memory { IfErr result (λ fault. fault ≡ Fault.Memory) }
 {
-    let head = format!(in alloc; "log {name}\n")?;
-    text.push_str(&head)?;
-    push_numbers(text, alloc, &FIGURES, &stats.numbers)?;
-    push_doubts(text, alloc, &stats.in_doubt)
+    write!(text, "log {name}\n")?;
+    push_numbers(text, &FIGURES, &stats.numbers)?;
+    push_doubts(text, &stats.in_doubt)
 }
 
 /// How many logs there are, and the sums of their numbers.
-pub fn push_sums(text: &mut String, alloc: Global, logs: &[Numbers]) -> Result<(), Fault>
+pub fn push_sums(text: &mut String, logs: &[Numbers]) -> Result<(), Fault>
     ensures text { OnOk result
         (string_bytes text.new ≡ string_bytes text.old ++ sums_text logs.now) }
     ensures memory { IfErr result (λ fault. fault ≡ Fault.Memory) }
 {
     let count = logs.len();
-    let head = format!(in alloc; "all {count}\n")?;
-    text.push_str(&head)?;
-    push_each_sum(text, alloc, &SUMMED, logs)
+    write!(text, "all {count}\n")?;
+    push_each_sum(text, &SUMMED, logs)
 }
 
 // A line for each of some numbers of a log.
-fn push_numbers(
-    text: &mut String,
-    alloc: Global,
-    figures: &[Figure],
-    numbers: &Numbers,
-) -> Result<(), Fault>
+fn push_numbers(text: &mut String, figures: &[Figure], numbers: &Numbers) -> Result<(), Fault>
     ensures lines { OnOk result (string_bytes text.new ≡ string_bytes text.old
         ++ flat_map (λ f. number_line f (number_of f numbers.now)) figures.now) }
     ensures memory { IfErr result (λ fault. fault ≡ Fault.Memory) }
 {
     for figure in figures {
-        push_line(text, alloc, *figure, u128::from(figure.of(numbers)))?;
+        push_line(text, *figure, u128::from(figure.of(numbers)))?;
     }
     Ok(())
 }
 
 // A line for each of some sums over logs.
-fn push_each_sum(
-    text: &mut String,
-    alloc: Global,
-    figures: &[Figure],
-    logs: &[Numbers],
-) -> Result<(), Fault>
+fn push_each_sum(text: &mut String, figures: &[Figure], logs: &[Numbers]) -> Result<(), Fault>
     ensures lines { OnOk result (string_bytes text.new ≡ string_bytes text.old
         ++ flat_map (λ f. number_line f (sum_of f logs.now)) figures.now) }
     ensures memory { IfErr result (λ fault. fault ≡ Fault.Memory) }
 {
     for figure in figures {
-        push_line(text, alloc, *figure, figure.sum(logs))?;
+        push_line(text, *figure, figure.sum(logs))?;
     }
     Ok(())
 }
 
 // A number on a line.
-fn push_line(text: &mut String, alloc: Global, figure: Figure, number: u128) -> Result<(), Fault>
+fn push_line(text: &mut String, figure: Figure, number: u128) -> Result<(), Fault>
     ensures line { OnOk result
         (string_bytes text.new ≡ string_bytes text.old ++ number_line figure number) }
     ensures memory { IfErr result (λ fault. fault ≡ Fault.Memory) }
 {
     let word = figure.word();
-    let line = format!(in alloc; "{word} {number}\n")?;
-    text.push_str(&line)?;
+    write!(text, "{word} {number}\n")?;
     Ok(())
 }
 
 // A line for each transaction in doubt.
-fn push_doubts(text: &mut String, alloc: Global, doubts: &[InDoubt]) -> Result<(), Fault>
+fn push_doubts(text: &mut String, doubts: &[InDoubt]) -> Result<(), Fault>
     ensures lines { OnOk result
         (string_bytes text.new ≡ string_bytes text.old ++ flat_map doubt_line doubts.now) }
     ensures memory { IfErr result (λ fault. fault ≡ Fault.Memory) }
 {
     for doubt in doubts {
-        push_doubt(text, alloc, doubt)?;
+        push_doubt(text, doubt)?;
     }
     Ok(())
 }
 
-fn push_doubt(text: &mut String, alloc: Global, doubt: &InDoubt) -> Result<(), Fault>
+fn push_doubt(text: &mut String, doubt: &InDoubt) -> Result<(), Fault>
     ensures line { OnOk result
         (string_bytes text.new ≡ string_bytes text.old ++ doubt_line doubt.now) }
     ensures memory { IfErr result (λ fault. fault ≡ Fault.Memory) }
@@ -143,8 +129,7 @@ fn push_doubt(text: &mut String, alloc: Global, doubt: &InDoubt) -> Result<(), F
     let word = standing_word(doubt.is_decided);
     let txn = doubt.txn;
     let at = doubt.at;
-    let line = format!(in alloc; "{word} {txn} {at}\n")?;
-    text.push_str(&line)?;
+    write!(text, "{word} {txn} {at}\n")?;
     Ok(())
 }
 

@@ -1,4 +1,4 @@
-use Rattle.std.proofs.Common.{◌≡◌, ◌∙◌, ◌++◌, [], List, ℕ, ap, arith, get_or, length, map, refl, rules, string_bytes, vec_len}
+use Rattle.std.proofs.Common.{◌≡◌, ◌∙◌, ◌++◌, [], List, ℕ, ap, arith, length, map, rules, string_bytes, vec_len}
 use Rattle.std.proofs.lemmas.List.{take_all}
 use denote.Bor.{Bor}
 use Rattle.showing.specs.StatsTexts.{sums_text}
@@ -10,14 +10,10 @@ pub loop-log-preserved : goal.loop-log-preserved
 loop-log-preserved g c =
     let so_far = c.loop-log.invariant in
     let none : Bor (List ℕ) = record { ref_ptr = (0, 0); now = [] } in
-    tell_more (λ (log : Bor (List ℕ)). log.now) c.args.logs.now c.loop-log.log-index none so_far.0
-    (record {
-      name = (get_or c.args.logs.now c.loop-log.log-index none).now;
-      numbers = c.in_ok-stats.stats.numbers;
-      in_doubt = c.in_ok-stats.stats.in_doubt.items;
-    })
-    c.loop-log.told.items c.push.new.self.items (string_bytes c.loop-log.text) (string_bytes c.push_log.new.text) c.loop-log-test.true so_far.1
-    so_far.2 so_far.3 refl c.in_ok-push.ensures.items c.in_ok-push_log.ensures.text
+    let one = c.in_ok-tell_log.ensures.told in
+    tell_more (λ (log : Bor (List ℕ)). log.now) c.args.logs.now c.loop-log.log-index none so_far.0 one.0
+    c.loop-log.told.items c.tell_log.new.told.items (string_bytes c.loop-log.text) (string_bytes c.tell_log.new.text) c.loop-log-test.true so_far.1
+    so_far.2 so_far.3 one.1 one.2 one.3
 
 pub returns-clause-text : goal.returns-clause-text
 returns-clause-text g c =
