@@ -1,6 +1,6 @@
 -- What the parser found is the words of the line.
-use Rattle.std.proofs.Common.{◌≡◌, ◌∙◌, refl, sym, ap, List, Option, Some, None, codes, ◌⊎◌, inl}
-use Rattle.std.specs.Prelude.{Box, option_map, Result, Ok, Err, MatchResult, if◌then◌else◌}
+use Rattle.std.proofs.Common.{◌≡◌, ◌∙◌, refl, sym, ap, subst, List, Option, Some, None, codes}
+use Rattle.std.specs.Prelude.{Box, Result, option_map, if◌then◌else◌}
 use Rattle.std.specs.Box.{box_value}
 use Rattle.std.specs.Str.{bytes_eq}
 use Rattle.clap.proofs.WalkLemmas.{first_value-rows}
@@ -11,12 +11,11 @@ use Rattle.clap.specs.declared.parser.matches.ArgMatches.TheViews.{out-ArgMatche
 use Rattle.clap.specs.declared.parser.matches.Found.{Found}
 use Rattle.clap.specs.declared.parser.matches.SubCommand.{SubCommand}
 use Rattle.units.specs.declared.fault.Fault.{Fault}
-use Rattle.units.specs.declared.fault.Fault.TheVariants.{BadRequest, Memory}
-use Rattle.units.specs.declared.fault.Reason.TheVariants.{Command as command_reason}
+use Rattle.command_line.specs.Commands.{Asked, command_of_line}
 use Rattle.command_line.specs.Lines.{CommandLine, Word, once, format, play, inspect, drive, dump, history, get, put, stats, migrate, compact}
 use Rattle.command_line.specs.Parser.{entry_of}
-use Rattle.command_line.specs.Views.{line_view}
-use Rattle.command_line.specs.declared.parsing.Line.{Line}
+use Rattle.command_line.specs.Views.{Answers}
+use Rattle.command_line.specs.declared.commands.Command.{Command}
 
 -- the name beside the rows is the name
 names_same : {Z : Type 0} (o : Option (Box SubCommand Z))
@@ -173,9 +172,9 @@ module _ (line : CommandLine) (inner : Found) where
       let found : Some (stats logs) ≡ Some line = words (codes "logs") logs _ rs (from_rows line inner (codes "stats") is rows) in
       cc
 
--- a line that was read is the line
-pub line_read : (r : Result Line Fault) (line : CommandLine) (expected : Option CommandLine) → expected ≡ Some line
-    → MatchResult r (λ l. line_view l ≡ line) (λ f. f ≡ Memory)
-    → MatchResult r (λ l. expected ≡ Some (line_view l)) (λ f. (f ≡ Memory) ⊎ ((f ≡ BadRequest command_reason) × (expected ≡ None)))
-line_read (Ok l) line expected e same = e ∙ ap (λ (k : CommandLine). Some k) (sym same)
-line_read (Err f) line expected e memory = inl memory
+-- a line that is another one is answered as that one
+pub answered_as : {answer : Result Asked Fault} (line other : CommandLine) → other ≡ line → command_of_line other ≡ answer → command_of_line line ≡ answer
+answered_as line other same is = sym (ap command_of_line same) ∙ is
+
+pub refused_as : (answer : Result Command Fault) (line other : CommandLine) → other ≡ line → Answers (Some other) answer → Answers (Some line) answer
+refused_as answer line other same so = subst (λ l. Answers (Some l) answer) same so

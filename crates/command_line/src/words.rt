@@ -1,18 +1,21 @@
 //! Commands, with their words read.
-ghost use Rattle.std.specs.Prelude.{◌≡◌, ◌⊎◌, Ok, Err, MatchResult, map, option_map, true};
+ghost use Rattle.std.specs.Prelude.{◌≡◌, ◌⊎◌, List, Some, Ok, Err, IfOk, MatchResult, codes, map, option_map, true};
+ghost use Rattle.clap.specs.Words.{all_of, first_value, found_of, rows_of, subcommand_rows_of};
 ghost use Rattle.units.specs.declared.fault.Fault.TheVariants.{Memory};
-ghost use Rattle.command_line.specs.Lines.{are_covered, are_plain, asks_help, line_of};
+ghost use Rattle.command_line.specs.Lines.{CommandLine, Word, are_covered, are_plain, asks_help, line_of};
 ghost use Rattle.command_line.specs.declared.commands.Command.TheVariants.{Help};
-ghost use Rattle.command_line.specs.Commands.{at_of, command_of, command_or_refusal, get_of_words, history_of_words, key_of, once_of_words};
-ghost use Rattle.command_line.specs.Commands.{put_of_words, value_of};
-ghost use Rattle.command_line.specs.Views.{asked_for};
+ghost use Rattle.command_line.specs.Commands.{at_of, command_of, key_of, value_of};
+ghost use Rattle.command_line.specs.Parser.{entry_of};
+ghost use Rattle.command_line.specs.Views.{Answers, asked_for};
 
 use crate::Command;
-use crate::parsing::{Line, read_line};
+use crate::parsing::shards;
 use crate::usage::asks_help;
-use std::alloc::Global;
+use clap::ArgMatches;
+use clap::error::ErrorKind;
+use std::alloc::{AllocError, Global};
 use texts::{reading, stamp};
-use units::{Fault, Key, Stamp, Value};
+use units::{Fault, Key, Reason, Stamp, Value};
 
 /// The command that the words ask for: help, where they do, and else the first bad word counts. A
 /// key, a value or a timestamp out of its limits is refused by its name, and all else that is no
@@ -29,59 +32,131 @@ pub fn command<'a>(alloc: Global, words: &'a [&'a str]) -> Result<Command<'a>, F
     read_command(alloc, words)
 }
 
+// Of words that do not ask for help. `clap` tells which is which.
 fn read_command<'a>(alloc: Global, words: &'a [&'a str]) -> Result<Command<'a>, Fault>
-    ensures { are_plain (map (λ w. w.now) words.entry.now) ≡ true → MatchResult result
-        (λ c. command_or_refusal (line_of (map (λ w. w.now) words.entry.now)) ≡ Ok (asked_for c))
-        (λ f. (f ≡ Memory)
-        ⊎ (command_or_refusal (line_of (map (λ w. w.now) words.entry.now)) ≡ Err f)) }
+    ensures { are_plain (map (λ w. w.now) words.entry.now) ≡ true
+        → Answers (line_of (map (λ w. w.now) words.entry.now)) result }
 {
-    match read_line(alloc, words)? {
-        Line::Once {
-            key,
-            value,
-            first_earliest,
-            first_latest,
-            second_earliest,
-            second_latest,
-        } => read_once(
-            alloc,
-            key,
-            value,
-            (first_earliest, first_latest),
-            (second_earliest, second_latest),
-        ),
-        Line::Format { file } => Ok(Command::Format { file }),
-        Line::Play { file } => Ok(Command::Play { file }),
-        Line::Inspect { lines, logs } => Ok(Command::Inspect { lines, logs }),
-        Line::Drive { file } => Ok(Command::Drive { file }),
-        Line::Dump { file } => Ok(Command::Dump { file }),
-        Line::History { dir, key } => read_history(dir, key),
-        Line::Get { dir, key, at } => read_get(dir, key, at),
-        Line::Put { dir, key, value } => read_put(alloc, dir, key, value),
-        Line::Stats { logs } => Ok(Command::Stats { logs }),
-        Line::Migrate { old, new } => Ok(Command::Migrate { old, new }),
-        Line::Compact { old, new } => Ok(Command::Compact { old, new }),
+    match shards(alloc)?.try_get_matches_from(words) {
+        Ok(matches) => found_command(alloc, &matches),
+        Err(error) => match error.kind() {
+            ErrorKind::OutOfMemory => Err(Fault::Memory),
+            _ => Err(Fault::BadRequest(Reason::Command)),
+        },
+    }
+}
+
+// The command that the parser found.
+fn found_command<'a>(alloc: Global, matches: &ArgMatches<'a>) -> Result<Command<'a>, Fault>
+    ensures { (line : CommandLine) → subcommand_rows_of matches.now ≡ Some (entry_of line)
+        → Answers (Some line) result }
+{
+    match matches.subcommand() {
+        Some((name, given)) => named_command(alloc, name, given),
+        None => Err(Fault::BadRequest(Reason::Command)),
+    }
+}
+
+// The command of this name, by its words.
+fn named_command<'a>(
+    alloc: Global,
+    name: &str,
+    given: &ArgMatches<'a>,
+) -> Result<Command<'a>, Fault>
+    ensures { (line : CommandLine) → (entry_of line).0 ≡ name.now
+        → rows_of (found_of given.now) ≡ (entry_of line).1 → Answers (Some line) result }
+{
+    match name {
+        "once" => read_once(alloc, given),
+        "format" => Ok(Command::Format {
+            file: word(given, "file"),
+        }),
+        "play" => Ok(Command::Play {
+            file: word(given, "file"),
+        }),
+        "inspect" => read_inspect(alloc, given),
+        "drive" => Ok(Command::Drive {
+            file: word(given, "file"),
+        }),
+        "dump" => Ok(Command::Dump {
+            file: word(given, "file"),
+        }),
+        "history" => read_history(given),
+        "get" => read_get(given),
+        "put" => read_put(alloc, given),
+        "stats" => read_stats(alloc, given),
+        "migrate" => {
+            let old = word(given, "old");
+            let new = word(given, "new");
+            Ok(Command::Migrate { old, new })
+        }
+        "compact" => {
+            let old = word(given, "old");
+            let new = word(given, "new");
+            Ok(Command::Compact { old, new })
+        }
+        _ => Err(Fault::BadRequest(Reason::Command)),
+    }
+}
+
+// The words of `inspect`.
+fn read_inspect<'a>(alloc: Global, given: &ArgMatches<'a>) -> Result<Command<'a>, Fault>
+    ensures { (line : CommandLine) → (entry_of line).0 ≡ codes "inspect"
+        → rows_of (found_of given.now) ≡ (entry_of line).1 → Answers (Some line) result }
+{
+    let lines = word(given, "lines");
+    let logs = words_of(alloc, given, "logs")?;
+    Ok(Command::Inspect { lines, logs })
+}
+
+// The words of `stats`.
+fn read_stats<'a>(alloc: Global, given: &ArgMatches<'a>) -> Result<Command<'a>, Fault>
+    ensures { (line : CommandLine) → (entry_of line).0 ≡ codes "stats"
+        → rows_of (found_of given.now) ≡ (entry_of line).1 → Answers (Some line) result }
+{
+    let logs = words_of(alloc, given, "logs")?;
+    Ok(Command::Stats { logs })
+}
+
+// The word that the argument was given, and the empty word where it was given none.
+fn word<'a>(matches: &ArgMatches<'a>, id: &str) -> &'a str
+    ensures { (text : Word) → first_value (found_of matches.now) id.now ≡ Some text
+        → result.now ≡ text }
+{
+    match matches.get_str(id) {
+        Some(text) => text,
+        None => "",
+    }
+}
+
+// The words that the argument was given, none where it was given none.
+fn words_of<'a>(
+    alloc: Global,
+    matches: &ArgMatches<'a>,
+    id: &str,
+) -> Result<Vec<&'a str>, AllocError>
+    ensures { (texts : List Word) → all_of id.now (rows_of (found_of matches.now)) ≡ Some texts
+        → IfOk result (λ words. map (λ w. w.now) words.items ≡ texts) }
+{
+    match matches.get_strs(id) {
+        Some(texts) => texts.to_vec(alloc),
+        None => Ok(Vec::new(alloc)),
     }
 }
 
 // The words of `once`, each reading as two words.
-fn read_once<'a>(
-    alloc: Global,
-    key: &str,
-    value: &str,
-    first: (&str, &str),
-    second: (&str, &str),
-) -> Result<Command<'a>, Fault>
-    ensures { MatchResult result
-        (λ c. once_of_words key.now value.now first.entry.0.now first.entry.1.now
-        second.entry.0.now second.entry.1.now ≡ Ok (asked_for c))
-        (λ f. (f ≡ Memory) ⊎ (once_of_words key.now value.now first.entry.0.now first.entry.1.now
-        second.entry.0.now second.entry.1.now ≡ Err f)) }
+fn read_once<'a>(alloc: Global, given: &ArgMatches<'a>) -> Result<Command<'a>, Fault>
+    ensures { (line : CommandLine) → (entry_of line).0 ≡ codes "once"
+        → rows_of (found_of given.now) ≡ (entry_of line).1 → Answers (Some line) result }
 {
+    let key = word(given, "key");
+    let value = word(given, "value");
+    let (e1, l1) = (word(given, "e1"), word(given, "l1"));
+    let (e2, l2) = (word(given, "e2"), word(given, "l2"));
     let key = read_key(key)?;
     let value = read_value(alloc, value)?;
-    let first = reading(first.0, first.1)?;
-    let second = reading(second.0, second.1)?;
+    let first = reading(e1, l1)?;
+    let second = reading(e2, l2)?;
     Ok(Command::Once {
         key,
         value,
@@ -91,33 +166,36 @@ fn read_once<'a>(
 }
 
 // The words of `history`.
-fn read_history<'a>(dir: &'a str, key: &str) -> Result<Command<'a>, Fault>
-    ensures { MatchResult result
-        (λ c. history_of_words dir.entry.now key.now ≡ Ok (asked_for c))
-        (λ f. history_of_words dir.entry.now key.now ≡ Err f) }
+fn read_history<'a>(given: &ArgMatches<'a>) -> Result<Command<'a>, Fault>
+    ensures { (line : CommandLine) → (entry_of line).0 ≡ codes "history"
+        → rows_of (found_of given.now) ≡ (entry_of line).1 → Answers (Some line) result }
 {
-    let key = read_key(key)?;
+    let dir = word(given, "dir");
+    let key = read_key(word(given, "key"))?;
     Ok(Command::History { dir, key })
 }
 
 // The words of `get`.
-fn read_get<'a>(dir: &'a str, key: &str, at: Option<&str>) -> Result<Command<'a>, Fault>
-    ensures { MatchResult result
-        (λ c. get_of_words dir.entry.now key.now (option_map (λ w. w.now) at.entry)
-        ≡ Ok (asked_for c))
-        (λ f. get_of_words dir.entry.now key.now (option_map (λ w. w.now) at.entry) ≡ Err f) }
+fn read_get<'a>(given: &ArgMatches<'a>) -> Result<Command<'a>, Fault>
+    ensures { (line : CommandLine) → (entry_of line).0 ≡ codes "get"
+        → rows_of (found_of given.now) ≡ (entry_of line).1 → Answers (Some line) result }
 {
+    let dir = word(given, "dir");
+    let key = word(given, "key");
+    let at = given.get_str("at");
     let key = read_key(key)?;
     let at = read_at(at)?;
     Ok(Command::Get { dir, key, at })
 }
 
 // The words of `put`.
-fn read_put<'a>(alloc: Global, dir: &'a str, key: &str, value: &str) -> Result<Command<'a>, Fault>
-    ensures { MatchResult result
-        (λ c. put_of_words dir.entry.now key.now value.now ≡ Ok (asked_for c))
-        (λ f. (f ≡ Memory) ⊎ (put_of_words dir.entry.now key.now value.now ≡ Err f)) }
+fn read_put<'a>(alloc: Global, given: &ArgMatches<'a>) -> Result<Command<'a>, Fault>
+    ensures { (line : CommandLine) → (entry_of line).0 ≡ codes "put"
+        → rows_of (found_of given.now) ≡ (entry_of line).1 → Answers (Some line) result }
 {
+    let dir = word(given, "dir");
+    let key = word(given, "key");
+    let value = word(given, "value");
     let key = read_key(key)?;
     let value = read_value(alloc, value)?;
     Ok(Command::Put { dir, key, value })

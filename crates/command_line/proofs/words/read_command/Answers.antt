@@ -2,38 +2,32 @@
 use Rattle.std.proofs.Common.{◌≡◌, ◌∙◌, refl, sym, ap, subst, List, [], map, inl, inr}
 use Rattle.clap.specs.Words.{App, fault_of, is_simple_and_free, is_simple, subcommand_of}
 use Rattle.clap.specs.Kinds.{HasKind}
-use Rattle.clap.specs.declared.error.kind.ErrorKind.TheVariants.{OutOfMemory}
+use Rattle.command_line.specs.Commands.{command_or_refusal}
 use Rattle.command_line.specs.Lines.{Word}
 use Rattle.command_line.specs.Parser.{shards_app}
+use Rattle.command_line.specs.Views.{Answers}
 use Rattle.command_line.proofs.ProgramLemmas.{line_found, line_refused}
-use Rattle.command_line.proofs.FoundLemmas.{line_read}
-use Rattle.command_line.proofs.parsing.read_line.Goals as goal
+use Rattle.command_line.proofs.words.read_command.Goals as goal
 
-pub returns-in-Ok-clause-exact : goal.returns-in-Ok-clause-exact
-returns-in-Ok-clause-exact c plain =
+pub returns-in-Ok : goal.returns-in-Ok
+returns-in-Ok c plain =
     let words : List Word = map (λ w. w.now) c.args.words.now in
     let app_is = c.in_ok-shards.ensures in
     let quiet : fault_of shards_app words ≡ [] =
     ap (λ (a : App). fault_of a words) (sym app_is) ∙ c.in-Ok.ensures.kinds (ap is_simple_and_free app_is) in
     let found = line_found words plain quiet in
     let rows = (c.in-Ok.ensures.matches (ap is_simple app_is)).1 ∙ ap (λ (a : App). subcommand_of a words) app_is ∙ found.2 in
-    line_read c.found_line.result found.0 _ found.1 (c.found_line.ensures.found found.0 rows)
+    subst (λ line. Answers line c.found_command.result) (sym found.1) (c.found_command.ensures found.0 rows)
 
-pub returns-clause-exact : goal.returns-clause-exact
-returns-clause-exact c plain =
+pub returns : goal.returns
+returns c plain =
     let words : List Word = map (λ w. w.now) c.args.words.now in
     let app_is = c.in_ok-shards.ensures in
-    inr (
-      refl,
-      line_refused words plain (λ quiet.
-          let kinds : HasKind [] c.in-Err.error =
-          subst (λ k. HasKind k c.in-Err.error) (ap (λ (a : App). fault_of a words) app_is ∙ quiet)
-          (c.in-Err.ensures.kinds (ap is_simple_and_free app_is)) in
-          elim kinds [
-            | inl memory ↦
-                let is : c.kind.result ≡ OutOfMemory = c.kind.ensures ∙ memory in
-                let same = rw is at c.eq.ensures in
-                cc
-            | inr none ↦ none
-          ]),
-    )
+    inr (ap command_or_refusal (line_refused words plain (λ quiet.
+    let kinds : HasKind [] c.in-Err.error =
+    subst (λ k. HasKind k c.in-Err.error) (ap (λ (a : App). fault_of a words) app_is ∙ quiet)
+    (c.in-Err.ensures.kinds (ap is_simple_and_free app_is)) in
+    elim kinds [
+      | inl memory ↦ absurd (c.in_default.not-OutOfMemory (c.kind.ensures ∙ memory))
+      | inr none ↦ none
+    ])))

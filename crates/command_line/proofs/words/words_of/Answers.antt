@@ -3,7 +3,7 @@ use Rattle.std.proofs.lemmas.Result.{IfOk-weaker}
 use Rattle.clap.specs.Words.{found_of}
 use Rattle.clap.proofs.WalkLemmas.{raw_values-rows}
 use Rattle.command_line.specs.Lines.{Word}
-use Rattle.command_line.proofs.parsing.words.Goals as goal
+use Rattle.command_line.proofs.words.words_of.Goals as goal
 
 same_words : (found texts : List Word) → Some found ≡ Some texts → found ≡ texts
 same_words found texts e = cc

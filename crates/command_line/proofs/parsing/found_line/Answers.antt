@@ -1,8 +1,0 @@
-use Rattle.clap.specs.Words.{found_of}
-use Rattle.command_line.proofs.FoundLemmas.{named_as, rows_are}
-use Rattle.command_line.proofs.parsing.found_line.Goals as goal
-
-pub returns-in-Some-clause-found : goal.returns-in-Some-clause-found
-returns-in-Some-clause-found c line e =
-    c.named_line.ensures.found line (named_as c.args.matches.now line c.in-Some.name.now e c.in-Some.ensures.name)
-    (rows_are c.args.matches.now line (found_of c.in-Some.given.now) e c.in-Some.ensures.rows)
