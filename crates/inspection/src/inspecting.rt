@@ -21,9 +21,14 @@ pub fn inspect_files<F: Files>(
     ensures { IfErr result IsNotJudged }
 {
     let text = read_text(alloc, files, lines_file, Reason::Syntax(1))?;
-    let told = lines(alloc, &text)?;
+    let told = lines(alloc, &text);
+    drop(text);
+    let told = told?;
     let disks = open_all(alloc, files, logs)?;
-    let verdict = inspect_disks(alloc, disks, &told)?;
-    note_refusals(alloc, files, logs);
-    Ok(verdict)
+    let verdict = inspect_disks(alloc, disks, &told);
+    drop(told);
+    if verdict.is_ok() {
+        note_refusals(alloc, files, logs);
+    }
+    verdict
 }

@@ -32,8 +32,15 @@ pub fn judge<D: Disk + Drop>(
         → OneIsRefused (λ disk. (surface (D.file disk)).seen) disks.items fault)))) }
 {
     let (logs, disks) = logs_of(alloc, disks)?;
-    let found = inspect(alloc, &logs, lines)?;
-    Ok((found, disks))
+    let found = inspect(alloc, &logs, lines);
+    drop(logs);
+    match found {
+        Ok(found) => Ok((found, disks)),
+        Err(fault) => {
+            drop(disks);
+            Err(fault)
+        }
+    }
 }
 
 // The logs that the disks hold, and the disks.
@@ -76,8 +83,16 @@ fn log_of<D: Disk + Drop>(alloc: Global, disk: D) -> Result<(Vec<Record>, D), Fa
 {
     match GateLog::open(alloc, disk) {
         Ok((gate_log, entries)) => {
-            let records = items_of(alloc, &entries)?;
-            Ok((records, gate_log.into_disk()))
+            let disk = gate_log.into_disk();
+            let records = items_of(alloc, &entries);
+            drop(entries);
+            match records {
+                Ok(records) => Ok((records, disk)),
+                Err(fault) => {
+                    drop(disk);
+                    Err(fault)
+                }
+            }
         }
         Err((fault, disk)) => {
             drop(disk);

@@ -101,7 +101,9 @@ pub fn read_log<D: Disk>(
 {
     let (log, entries) = GateLog::open(alloc, disk)?;
     let disk = log.into_disk();
-    match records_of(alloc, &entries, shard) {
+    let records = records_of(alloc, &entries, shard);
+    drop(entries);
+    match records {
         Ok(records) => Ok((records, disk)),
         Err(fault) => Err((fault, disk)),
     }

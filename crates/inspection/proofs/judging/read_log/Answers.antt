@@ -3,8 +3,8 @@ use Rattle.disk.specs.File.{surface}
 use Rattle.inspection.proofs.Reading.{only_damage, refused_records}
 use Rattle.inspection.proofs.judging.read_log.Goals as goal
 
-pub returns-clause-refused : goal.returns-clause-refused
-returns-clause-refused g c = elim c.in-Err.ensures [
+pub returns-in-Err-clause-refused : goal.returns-in-Err-clause-refused
+returns-in-Err-clause-refused g c = elim c.in-Err.ensures [
   | inl memory ↦ inl memory
   | inr refused ↦ inr (inr (
     only_damage _ _ _ _ refused,
