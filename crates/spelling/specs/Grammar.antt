@@ -1,5 +1,5 @@
 -- The one spelling of each record. Numbers are big-endian.
-use Rattle.std.specs.Prelude.{ℕ, List, [], ◌∷◌, ◌++◌, length, Option, Some, None, flat_map}
+use Rattle.std.specs.Prelude.{ℕ, List, [], ◌∷◌, ◌++◌, drop, get_or, length, Option, Some, None, flat_map}
 use Rattle.std.specs.Int.{w16, w64, to_be_bytes}
 use Rattle.units.specs.Ids.{Id}
 use Rattle.units.specs.Keys.{Bytes}
@@ -87,30 +87,10 @@ spelling (records.Version install) = 9 ∷ version_spelling install
 spelling (records.Settled txn at parts) = 10 ∷ settled_spelling txn at parts
 spelling (records.Closed txn coordinator outcome) = 11 ∷ closed_spelling txn coordinator outcome
 
--- the byte for the kind alone
+-- its first byte tells the kind
 abbrev pub kind : Record → ℕ
-kind (records.Opened epoch) = 1
-kind (records.Ceiling at) = 2
-kind (records.Prepare p) = 3
-kind (records.Commit c) = 4
-kind (records.Abort txn) = 5
-kind (records.Outcome txn outcome) = 6
-kind (records.Horizon at) = 7
-kind (records.Base epoch floor horizon) = 8
-kind (records.Version install) = 9
-kind (records.Settled txn at parts) = 10
-kind (records.Closed txn coordinator outcome) = 11
+kind r = get_or (spelling r) 0 0
 
--- and the fields
+-- and the others its fields
 abbrev pub fields_spelling : Record → List ℕ
-fields_spelling (records.Opened epoch) = to_be_bytes w64 epoch
-fields_spelling (records.Ceiling at) = to_be_bytes w64 at
-fields_spelling (records.Prepare p) = prepare_spelling p
-fields_spelling (records.Commit c) = commit_spelling c
-fields_spelling (records.Abort txn) = id_spelling txn
-fields_spelling (records.Outcome txn outcome) = id_spelling txn ++ outcome_spelling outcome
-fields_spelling (records.Horizon at) = to_be_bytes w64 at
-fields_spelling (records.Base epoch floor horizon) = base_spelling epoch floor horizon
-fields_spelling (records.Version install) = version_spelling install
-fields_spelling (records.Settled txn at parts) = settled_spelling txn at parts
-fields_spelling (records.Closed txn coordinator outcome) = closed_spelling txn coordinator outcome
+fields_spelling r = drop 1 (spelling r)
