@@ -113,7 +113,13 @@ impl Writes {
     {
         let mut writes = Vec::with_capacity(alloc, self.writes.len())?;
         for write in &self.writes {
-            writes.push_reserved(write.copy()?);
+            match write.copy() {
+                Ok(copy) => writes.push_reserved(copy),
+                Err(fault) => {
+                    drop(writes);
+                    return Err(fault);
+                }
+            }
         }
         Ok(Writes { writes })
     }
@@ -122,7 +128,12 @@ impl Writes {
     pub fn writes_key(&self, key: &Key) -> bool
         ensures { result ≡ writes_key self.now key.now }
     {
-        is_written(self.writes.as_slice(), key)
+        for write in &self.writes {
+            if write.key == *key {
+                return true;
+            }
+        }
+        false
     }
 
     /// The writes in order.
@@ -143,13 +154,6 @@ impl Writes {
         let Writes { writes } = self;
         writes
     }
-}
-
-// The key is written by one of them.
-fn is_written(writes: &[Write], key: &Key) -> bool
-    ensures { result ≡ writes_key writes.now key.now }
-{
-    writes.iter().any(|write| write.key == *key)
 }
 
 // Each key is before the next one.

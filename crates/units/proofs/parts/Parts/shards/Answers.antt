@@ -1,4 +1,5 @@
-use Rattle.std.proofs.Common.{◌++◌, [], ◌∷◌, ◌-◌, ◌+◌, ◌/◌, ap, ◌∙◌}
+use Rattle.std.proofs.Common.{◌≡◌, ◌++◌, [], ◌∷◌, ◌-◌, ◌+◌, ◌/◌, ℕ, List, ap, sym, ◌∙◌, arith}
+use Rattle.std.proofs.lemmas.List.{append-nil}
 use Rattle.units.specs.Masks.{shards_from}
 use Rattle.units.proofs.Marked.{bit_set, bit_clear}
 use Rattle.units.proofs.parts.Parts.shards.Goals.{then-rest-eq1+in_ok-push, else-rest-eq1}
@@ -19,3 +20,13 @@ loop-number-preserved c =
           ∙ bit_clear n rest v c.loop-number-test.true w.if-rest-eq1.false
           ∙ c.loop-number.invariant
     ]
+
+pub loop-number-init : goal.loop-number-init
+loop-number-init c = ap (λ (l : List ℕ). l ++ shards_from 16 0 c.self.inside.mask) c.new-shards.ensures.items ∙ c.self.view_is
+
+pub returns-clause-same : goal.returns-clause-same
+returns-clause-same c =
+    let n = c.loop-number.number in
+    let items = c.loop-number.shards.items in
+    let none : 16 - n ≡ 0 = omega (arith, c.loop-number-test.false) in
+    sym (ap (λ k. items ++ shards_from k n c.loop-number.rest) none ∙ append-nil items) ∙ c.loop-number.invariant
