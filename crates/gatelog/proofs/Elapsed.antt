@@ -2,7 +2,8 @@
 use Rattle.std.proofs.Common.{◌≡◌, ◌⊎◌, inl, inr, ℕ, ◌≤◌, List, sym, subst, arith}
 use Rattle.disk.specs.File.{File, surface}
 use Rattle.disk.specs.Image.{MayLeave}
-use Rattle.disk.specs.Moments.{Elapses}
+use Rattle.disk.specs.Moments.{Elapses, LeavesOnly}
+use Rattle.disk.proofs.Runs.{one_call}
 
 pub elapses_on : {D : Type 0} (file : D → File) (clock : D → ℕ) (since : D → ℕ → List ℕ → Type 0) (failures : D → ℕ) (old mid new : D) →
     Elapses file clock since failures old mid → Elapses file clock since failures mid new → file new ≡ file mid → Elapses file clock since failures old new
@@ -32,3 +33,11 @@ elapses_none file clock since failures disk = record {
   stays = λ moment image le was. was;
   failures_stay = omega arith;
 }
+
+-- a crash leaves of calls that leave a file as it is what it might leave
+pub leaves_same : {D : Type 0} (file : D → File) (clock : D → ℕ) (since : D → ℕ → List ℕ → Type 0) (failures : D → ℕ) (old new : D) →
+    Elapses file clock since failures old new → ((image : List ℕ) → since old (clock old) image → MayLeave (surface (file old)) image)
+    → file new ≡ file old → LeavesOnly clock since old new (MayLeave (surface (file old)))
+leaves_same file clock since failures old new time only_now same =
+    one_call file clock since failures old new (MayLeave (surface (file old))) time only_now (λ image may. may)
+    (λ image may. subst (λ f. MayLeave (surface f) image) same may)
