@@ -1,5 +1,5 @@
 -- What is read ahead of a scan, by one piece more.
-use Rattle.std.proofs.Common.{◌≡◌, ℕ, ◌+◌, ◌≤◌, List, ◌++◌, length, take, drop, sym, ap, ◌∙◌, append_assoc, arith}
+use Rattle.std.proofs.Common.{◌≡◌, ℕ, ◌+◌, ◌-◌, ◌≤◌, List, ◌++◌, length, take, drop, sym, ap, ◌∙◌, append_assoc, arith}
 use Rattle.std.proofs.lemmas.List.{length-append, length-take-le, length-drop, drop-drop, take-append-drop, drop-append-le}
 use Rattle.frames.specs.Ahead.{Ahead, IsAhead, read_to}
 
@@ -24,6 +24,14 @@ one_piece image at bytes left count left' piece ahead le less is =
           ∙ ahead.bytes;
       size = omega (arith, size, less, ahead.size);
     }
+
+-- where a reader stands once a piece was read behind what it has not passed
+pub read_on : (passed read count : ℕ) (window piece now : List ℕ) → passed ≤ length window → length window ≤ read + passed →
+    now ≡ drop passed window ++ piece → length piece ≡ count →
+    (length now ≡ length (drop passed window) + count) × (read + count + 0 - length now ≡ read + passed - length window)
+read_on passed read count window piece now within before is size =
+    let taken : length now ≡ length (drop passed window) + count = omega (arith, ap length is, length-append (drop passed window) piece, size) in
+    (taken, omega (arith, taken, length-drop passed window, within, before))
 
 -- what is left is read on the whole
 pub ahead_there : (image : List ℕ) (a : Ahead) → IsAhead image a → length (drop (read_to a) image) ≡ a.left
