@@ -42,9 +42,6 @@ module _ (items : List Record) where
   closed-size : length {A = ℕ} (replicate (9 * slot_count) 0) ≡ 9216
   closed-size = length-replicate {A = ℕ} (9 * slot_count) 0
 
-  area-some : 0 < length (area_bytes items)
-  area-some = omega (arith, length-append (flat_map whole_frame items) (0 ∷ []))
-
   behind-size : length (behind_header items) ≡ 9216 + length (area_bytes items)
   behind-size = length-append (replicate (9 * slot_count) 0) (area_bytes items) ∙ ap (λ n. n + length (area_bytes items)) closed-size
 
