@@ -49,10 +49,6 @@ without_token tokens t = without_member (λ k. k.txn) tokens t
 abbrev pub put_row : List Row → Id → List Lock → Phase → List Row
 put_row rows t held phase = with_row rows (record { txn = t; held = held; phase = phase })
 
--- a transaction that holds nothing and is idle
-abbrev pub idle_row : Id → Row
-idle_row t = record { txn = t; held = []; phase = Idle }
-
 -- the locks that a row wants, none where there is no row
 abbrev pub needs_by : Option Row → List Lock
 needs_by None = []
