@@ -9,12 +9,6 @@ use units::{Key, Keys, Line, Parts, Stamp, Value, Writes};
 #[derive(Drop)]
 pub struct Text<'t, T>(pub &'t T);
 
-impl fmt::Display for Text<'_, Key> {
-    fn fmt<W: fmt::Write>(&self, f: &mut fmt::Formatter<W>) -> fmt::Result {
-        write_bytes(f, "", self.0.as_bytes())
-    }
-}
-
 // A mark, and behind it each byte as one character.
 fn write_bytes<W: fmt::Write>(f: &mut fmt::Formatter<W>, mark: &str, bytes: &[u8]) -> fmt::Result {
     f.write_str(mark)?;
@@ -58,15 +52,14 @@ fn write_none<W: fmt::Write>(f: &mut fmt::Formatter<W>, mark: &str) -> fmt::Resu
     f.write_str(if mark.is_empty() { "-" } else { "" })
 }
 
-impl fmt::Display for Text<'_, Writes> {
-    fn fmt<W: fmt::Write>(&self, f: &mut fmt::Formatter<W>) -> fmt::Result {
-        let mut mark = "";
-        for write in self.0.as_slice() {
-            write_one(f, mark, &write.key, &write.value)?;
-            mark = ",";
-        }
-        write_none(f, mark)
+// The writes, parted by commas.
+fn write_writes<W: fmt::Write>(f: &mut fmt::Formatter<W>, writes: &Writes) -> fmt::Result {
+    let mut mark = "";
+    for write in writes.as_slice() {
+        write_one(f, mark, &write.key, &write.value)?;
+        mark = ",";
     }
+    write_none(f, mark)
 }
 
 // A mark, and behind it a key with its value, or its erasure.
@@ -80,27 +73,25 @@ fn write_one<W: fmt::Write>(
     write_value(f, value, "!")
 }
 
-impl fmt::Display for Text<'_, Parts> {
-    fn fmt<W: fmt::Write>(&self, f: &mut fmt::Formatter<W>) -> fmt::Result {
-        let mask = self.0.mask();
-        let mut mark = "";
-        for number in 0..16u16 {
-            if (mask >> number) & 1 == 1 {
-                write!(f, "{mark}{number}")?;
-                mark = ",";
-            }
+// The numbers of the shards, parted by commas.
+fn write_parts<W: fmt::Write>(f: &mut fmt::Formatter<W>, parts: &Parts) -> fmt::Result {
+    let mut rest = parts.mask();
+    let mut mark = "";
+    for number in 0..16u16 {
+        if rest % 2 == 1 {
+            write!(f, "{mark}{number}")?;
+            mark = ",";
         }
-        Ok(())
+        rest /= 2;
     }
+    Ok(())
 }
 
-/// How a transaction ended: at a timestamp, or aborted.
-impl fmt::Display for Text<'_, Option<Stamp>> {
-    fn fmt<W: fmt::Write>(&self, f: &mut fmt::Formatter<W>) -> fmt::Result {
-        match self.0 {
-            Some(at) => write!(f, "committed {at}"),
-            None => f.write_str("aborted"),
-        }
+// How a transaction ended: at a timestamp, or aborted.
+fn write_outcome<W: fmt::Write>(f: &mut fmt::Formatter<W>, outcome: &Option<Stamp>) -> fmt::Result {
+    match outcome {
+        Some(at) => write!(f, "committed {at}"),
+        None => f.write_str("aborted"),
     }
 }
 
@@ -128,11 +119,11 @@ fn write_word<W: fmt::Write>(f: &mut fmt::Formatter<W>, word: &Word<'_>) -> fmt:
         Word::Stamp(at) => fmt::Display::fmt(at, f),
         Word::Key(key) => write_bytes(f, "", key.as_bytes()),
         Word::Keys(keys) => fmt::Display::fmt(&Text(*keys), f),
-        Word::Writes(writes) => fmt::Display::fmt(&Text(*writes), f),
+        Word::Writes(writes) => write_writes(f, writes),
         Word::Version(version) => write_one(f, "", &version.key, &version.value),
-        Word::Parts(parts) => fmt::Display::fmt(&Text(*parts), f),
+        Word::Parts(parts) => write_parts(f, parts),
         Word::Value(value) => write_value(f, value, "none"),
-        Word::Outcome(outcome) => fmt::Display::fmt(&Text(outcome), f),
+        Word::Outcome(outcome) => write_outcome(f, outcome),
     }
 }
 
