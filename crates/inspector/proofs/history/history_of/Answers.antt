@@ -1,4 +1,4 @@
-use Rattle.std.proofs.Common.{◌≡◌, ◌∙◌, ◌+◌, ◌++◌, ℕ, List, add-one, ap, drop, flat_map, map, rules, sym}
+use Rattle.std.proofs.Common.{◌∙◌, ◌+◌, ◌++◌, ℕ, List, add-one, ap, drop, flat_map, map, rules, sym}
 use Rattle.std.proofs.lemmas.List.{at_drop_all}
 use Rattle.units.specs.Lists.{numbered}
 use Rattle.record.specs.History.{Txn, history}

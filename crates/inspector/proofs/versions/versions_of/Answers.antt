@@ -1,4 +1,4 @@
-use Rattle.std.proofs.Common.{◌≡◌, ◌∙◌, ◌+◌, ◌++◌, List, add-one, ap, drop, sym}
+use Rattle.std.proofs.Common.{◌∙◌, ◌+◌, ◌++◌, List, add-one, ap, drop, sym}
 use Rattle.std.proofs.lemmas.List.{at_drop_all}
 use Rattle.units.specs.declared.writes.Write.{Write}
 use Rattle.record.specs.History.{Txn}
