@@ -82,14 +82,6 @@ impl<D: Disk + Drop, R: Wait + Drop> Node<D, R> {
         self.held.lock(rt).advance(now, to)
     }
 
-    /// Asks the core for the horizon that keeps so many microseconds behind a reading, under the lock. The board is told by the next
-    /// advance. A service that wants the past for a while calls it now and then; an idle node does not.
-    pub fn keep_for<W: Wait>(&self, rt: &W, now: &Reading, micros: u64) -> Result<(), Fault>
-        ensures { IfErr result (λ fault. IsTrue (refuses_horizon fault)) }
-    {
-        self.held.lock(rt).keep_for(now, micros)
-    }
-
     /// Turns the log of the core over, under the lock.
     pub fn turn_over<W: Wait>(&self, rt: &W) -> Result<(), Fault>
         ensures { IfErr result (λ fault. IsTrue (refuses_turnover fault)) }
@@ -97,7 +89,8 @@ impl<D: Disk + Drop, R: Wait + Drop> Node<D, R> {
         self.held.lock(rt).turn_over()
     }
 
-    /// `keep_for`, and a turnover of the log where it has grown, by so many bytes at least, under the lock (`Desk::renew`).
+    /// Asks the core for the horizon that keeps so many microseconds behind a reading, and turns the log over where it has grown, by so many
+    /// bytes at least, under the lock (`Desk::renew`).
     pub fn renew<W: Wait>(
         &self,
         rt: &W,

@@ -63,7 +63,9 @@ impl<D: Disk + Drop, R: Wait + Drop> Serves for Node<D, R> {
 }
 
 impl<D: Disk + Drop, R: Wait + Drop> Node<D, R> {
-    /// `keep_for` at a reading that is taken under the lock. Where the clock has none, it is refused as `TimeSpent`.
+    /// Asks the core for the horizon that keeps so many microseconds behind a reading, which is taken under the lock. The board is told by the
+    /// next advance. A service that wants the past for a while calls it now and then; an idle node does not. Where the clock has no reading,
+    /// it is refused as `TimeSpent`.
     pub fn keep_by<W: Wait, C: Clock>(
         &self,
         rt: &W,
