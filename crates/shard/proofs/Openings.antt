@@ -1,5 +1,5 @@
 -- The next opening behind what a log leaves.
-use Rattle.std.proofs.Common.{◌≡◌, ◌∙◌, ℕ, ◌+◌, true, IsFalse, List, [], ◌∷◌, Option, Some, Ok, inl, inr, refl, sym, ap, subst, arith}
+use Rattle.std.proofs.Common.{◌≡◌, ◌∙◌, ℕ, ◌+◌, ◌<◌, true, IsFalse, IsTrue, List, [], ◌∷◌, Option, Some, Ok, Err, ⊎_elim, inl, inr, refl, sym, ap, subst, arith}
 use Rattle.std.proofs.Math.Logic.{∥∥₁_elim, ∥∥₁_map}
 use Rattle.shard.proofs.Plans.{by_id-prop}
 use Rattle.std.proofs.lemmas.Bool.Decides.{nat_tests}
@@ -10,7 +10,7 @@ use Rattle.facts.specs.Rules.{follows_facts}
 use Rattle.protocol.specs.Plan as protocol
 use Rattle.protocol.specs.Rows.{Memory, Row, rebuilt}
 use Rattle.protocol.specs.Plan.{carried, ended_by, after_change}
-use Rattle.protocol.specs.Step.{facts_after}
+use Rattle.protocol.specs.Step.{Does, facts_after}
 use Rattle.protocol.specs.Sound.{FreshIsSound, IsSound, OpeningKeepsSound}
 use Rattle.protocol.proofs.RowChanges.{by_id-claims}
 use Rattle.memory.specs.Carry.{IsFit, MayFollow, MayInstall}
@@ -28,7 +28,8 @@ use Rattle.units.specs.declared.fault.Fault.TheVariants.{TimeSpent}
 use Rattle.disk.specs.declared.plan.FailurePlan.{FailurePlan}
 use Rattle.message.specs.declared.message.Envelope.{Envelope}
 use Rattle.shard.specs.Logs.{KeepsRecords, and_logged, facts_logged, records_in}
-use Rattle.shard.specs.On.{CoreView, HasWritten}
+use Rattle.gatelog.specs.Frames.{IsFull}
+use Rattle.shard.specs.On.{CoreView, HasStepped, HasWritten, IsCause}
 use Rattle.shard.specs.Opened.{HasAppended, HasLawfulEpoch, HasNotAppended}
 use Rattle.shard.proofs.Showable.{opening-showable}
 
@@ -112,6 +113,27 @@ appended_by keeps obeys file clock since failures plan old new item logged out i
       planned = λ obey never. (it.planned obey never).0;
       armed = λ call obey keep armed. (it.armed call ran obey keep armed).0;
     }
+
+-- it is not, where the step is refused
+pub not_appended_by : {D : Type 0} (keeps obeys : Type 0) (file : D → File) (clock : D → ℕ) (since : D → ℕ → List ℕ → Type 0) (failures : D → ℕ)
+    (plan : D → FailurePlan) (old new : CoreView D) (item : Record) (logged : Option Record) (memory : Memory) (out : List Envelope) (full : Type 0)
+    (fault : Fault) (back : D) → back ≡ new.disk → logged ≡ Some item → IsFalse old.stopped → HasLawfulEpoch item → (IsFull old.gate item → full)
+    → HasStepped keeps obeys file clock since failures plan old new (Does logged memory out) (Err fault)
+    → HasNotAppended keeps obeys file clock since failures plan old.disk old.gate item full fault back
+not_appended_by keeps obeys file clock since failures plan old new item logged memory out full fault back same is ran lawful fills stepped =
+    let it = subst (λ l. HasStepped keeps obeys file clock since failures plan old new (Does l memory out) (Err fault)) is stepped in
+    let why = subst (λ b. IsCause b (Does (Some item) memory out) fault (IsFull old.gate item) ((failures old.disk < failures new.disk)
+    × IsTrue new.stopped)) ran it.cause in
+    subst (HasNotAppended keeps obeys file clock since failures plan old.disk old.gate item full fault) (sym same) (record {
+      cause = ⊎_elim (λ wants. inl wants)
+          (λ else. ⊎_elim (λ spent. inr (inr (spent.0, fills spent.1))) (λ device. inr (inl (device.0, device.1.0))) else) why;
+      any_moment = it.written.any_moment ran;
+      begins = it.written.begins ran;
+      unchanged = ⊎_elim (λ device. inl device) (λ kept. inr kept.2) it.written.kept.2;
+      epoch = λ device. lawful;
+      planned = λ obey never. (it.written.planned obey never).1;
+      armed = λ call obey keep armed. (it.written.armed call ran obey keep armed).1;
+    })
 
 -- a log for whose opening no epoch is left is given back as it was
 pub not_appended_at_once : {D : Type 0} (keeps obeys : Type 0) (file : D → File) (clock : D → ℕ) (since : D → ℕ → List ℕ → Type 0) (failures : D → ℕ)

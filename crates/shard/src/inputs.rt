@@ -1,10 +1,7 @@
 //! The plan of each input.
-ghost use Rattle.std.specs.Prelude.{◌≡◌, [], true, Some, Ok, IfOk};
-ghost use Rattle.std.specs.Option.{option_copied};
-ghost use Rattle.protocol.specs.Rows.{held_in, WaitsRead, find_row, needs_of};
-ghost use Rattle.protocol.specs.Cells.{plan_advance, plan_forget, plan_resume, plan_resume_id, plan_resume_row, plan_go_on, to_read};
+ghost use Rattle.std.specs.Prelude.{◌≡◌, [], true, Some, IfOk};
+ghost use Rattle.protocol.specs.Cells.{plan_advance, plan_forget, plan_resume, plan_resume_id};
 ghost use Rattle.protocol.specs.Step.{is_for, plan_input, plan_message};
-ghost use Rattle.rows.specs.CodeRows.{phase_of, phase_of_wait};
 ghost use Rattle.rows.specs.RowTable.{needs_in};
 ghost use Rattle.memory.specs.Carry.{Asks, IsFit};
 ghost use Rattle.memory.specs.Kept.{start_of, IsPlanned};
@@ -13,16 +10,16 @@ ghost use Rattle.memory.specs.Standings.{standing_in, PlansGiveUp};
 use crate::addressing::is_for;
 use ceiling::needed;
 use coordinator::{give_up, on_ask, on_commit, on_vote, resume_commit, settle};
-use memory::{State, Step};
+use memory::{Standing, State, Step};
 use message::{GiveUp, Input, Message};
 use participant::{
     on_give_up, on_nudge, on_outcome, on_prepare, on_read, resume_prepare, resume_read,
 };
 use record::Record;
-use rows::{Row, Wait};
+use rows::Row;
 use std::alloc::Global;
 use truetime::Reading;
-use units::{Fault, Key, Stamp, TxnId};
+use units::{Fault, Stamp, TxnId};
 
 /// What an input comes to. Nothing is changed by it.
 #[tactic(auto, unfolding(protocol::specs::Step::plan_input))]
@@ -102,77 +99,28 @@ fn plan_resume(state: &State, alloc: Global, now: &Reading) -> Result<Step, Faul
     }
 }
 
-// What a transaction waits with goes on.
+// What a transaction waits with goes on: a prepare takes this reading, a commit the one at its arrival.
+#[tactic(auto, unfolding(protocol::specs::Cells::plan_go_on))]
 fn resume_of(state: &State, alloc: Global, now: &Reading, txn: TxnId) -> Result<Step, Fault>
     requires { Asks state.now.memory.rows txn [] (needs_in state.now.memory.rows txn) true }
     ensures planned { IsPlanned state.now
         (plan_resume_id (start_of state.now) now.now.earliest (Some txn)) result }
     ensures fit { IfOk result (IsFit state.now) }
 {
-    match state.row(txn) {
-        Some(row) => resume_row(state, alloc, now, txn, row),
-        None => Ok(state.idles(alloc)),
+    match state.standing(txn) {
+        Standing::WaitsRead(key) => resume_read(state, alloc, txn, key),
+        Standing::WaitsPrepare(request) => resume_prepare(state, alloc, now, txn, request),
+        Standing::WaitsCommit(request) => resume_commit(state, alloc, txn, request),
+        Standing::Unknown
+        | Standing::Ended
+        | Standing::Idle
+        | Standing::Collecting(_)
+        | Standing::Prepared(_)
+        | Standing::Decided(_)
+        | Standing::Aborted
+        | Standing::Settled(_)
+        | Standing::Closed { .. } => Ok(state.idles(alloc)),
     }
-}
-
-// The row of a transaction goes on.
-#[tactic(auto, unfolding(protocol::specs::Cells::plan_go_on))]
-fn resume_row(
-    state: &State,
-    alloc: Global,
-    now: &Reading,
-    txn: TxnId,
-    row: &Row,
-) -> Result<Step, Fault>
-    requires { Asks state.now.memory.rows txn [] (needs_of (phase_of row.now)) true }
-    ensures planned { IsPlanned state.now
-        (plan_go_on (start_of state.now) now.now.earliest txn (phase_of row.now)) result }
-    ensures fit { IfOk result (IsFit state.now) }
-{
-    match row {
-        Row::Reading(reading) => resume_wait(state, alloc, now, txn, reading.wait()),
-        Row::Collecting(_) | Row::Prepared(_) | Row::Decided(_) => Ok(state.idles(alloc)),
-    }
-}
-
-// What a row waits with goes on: a prepare takes this reading, a commit the one at its arrival.
-#[tactic(auto, unfolding(protocol::specs::Cells::plan_go_on))]
-fn resume_wait(
-    state: &State,
-    alloc: Global,
-    now: &Reading,
-    txn: TxnId,
-    wait: Option<&Wait>,
-) -> Result<Step, Fault>
-    requires { Asks state.now.memory.rows txn []
-        (needs_of (phase_of_wait (option_copied wait))) true }
-    ensures planned { IsPlanned state.now
-        (plan_go_on (start_of state.now) now.now.earliest txn
-        (phase_of_wait (option_copied wait.entry))) result }
-    ensures fit { IfOk result (IsFit state.now) }
-{
-    match wait {
-        Some(Wait::Read(key)) => resume_key(state, alloc, now, txn, key),
-        Some(Wait::Prepare(request)) => resume_prepare(state, alloc, now, txn, request),
-        Some(Wait::Commit(request)) => resume_commit(state, alloc, txn, request),
-        None => Ok(state.idles(alloc)),
-    }
-}
-
-// A read that a row waits with goes on: no reading of time is needed for it.
-fn resume_key(
-    state: &State,
-    alloc: Global,
-    now: &Reading,
-    txn: TxnId,
-    key: &Key,
-) -> Result<Step, Fault>
-    requires { Asks state.now.memory.rows txn [] (to_read key.now) true }
-    ensures planned { IsPlanned state.now
-        (plan_go_on (start_of state.now) now.now.earliest txn (WaitsRead key.now)) result }
-    ensures fit { IfOk result (IsFit state.now) }
-{
-    resume_read(state, alloc, txn, key)
 }
 
 // Reads are served up to a time that has come. A ceiling is logged before, where the log's greatest timestamp is below it.

@@ -73,9 +73,10 @@ pub fn append_record<D: Disk>(
         drop(item);
         return Err(Fault::Stopped);
     }
-    let staged = gate_log.stage(alloc, item)?;
-    let logged = gate_log.append(staged)?;
-    Ok(logged)
+    match gate_log.stage(alloc, item) {
+        Ok(staged) => gate_log.append(staged),
+        Err(fault) => Err(fault),
+    }
 }
 
 /// Takes all the memory that an append of a record needs, where there is one. Nothing is written.

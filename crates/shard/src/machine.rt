@@ -1,7 +1,7 @@
 //! The log of a shard, and what stands in memory by it.
 ghost use Rattle.std.specs.Prelude.{◌≡◌, ◌⊎◌, ◌<◌, ◌+◌, ◌^◌, [], ◌∷◌, Some, Ok, Err, IsTrue, IsFalse, IfOk, IfErr, OnOk, ◌≤◌};
 ghost use Rattle.disk.specs.File.{surface};
-ghost use Rattle.gatelog.specs.Frames.{IsFull, IsNearLimit};
+ghost use Rattle.gatelog.specs.Frames.{IsFull};
 ghost use Rattle.gatelog.specs.Shown.{disk_of, gate_at, next_slot, is_stopped};
 ghost use Rattle.memory.specs.Kept.{start_of};
 ghost use Rattle.memory.specs.Plans.{plan_of};
@@ -73,14 +73,6 @@ impl<D: Disk> Machine<D> {
             return Err(Fault::Stopped);
         }
         plan_input(&self.state, alloc, now, input)
-    }
-
-    // The log ends so near its limit that the record of a step may be too long for it.
-    pub(crate) fn is_near_limit(&self) -> bool
-        ensures near { IsTrue result → IsNearLimit (seen_machine self.now).gate }
-        ensures far { IsFalse result → (seen_machine self.now).gate + 2 ^ 20 + 6 ≤ 2 ^ 40 }
-    {
-        self.gate_log.is_near_limit()
     }
 
     // The log has room for the record of a step, where it has one.

@@ -156,9 +156,9 @@ impl<D: Disk> Core<D> {
     {
         match &self.book {
             Some(book)
-                if fault == Fault::Memory && book.is_full() && !self.machine.is_near_limit() => {
-                Fault::BookFull
-            }
+                if fault == Fault::Memory
+                    && book.is_full()
+                    && !self.machine.gate_log.is_near_limit() => { Fault::BookFull }
             _ => fault,
         }
     }

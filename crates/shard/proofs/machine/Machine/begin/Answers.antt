@@ -1,11 +1,11 @@
-use Rattle.std.proofs.Common.{rules, subst, ◌≡◌, ◌∙◌, [], Some, Ok, sym, ap, arith}
+use Rattle.std.proofs.Common.{◌∙◌, [], Some, Ok, ⊎_elim, ap, arith, inl, inr, subst, sym}
+use Rattle.std.proofs.lemmas.Bool.{false≢true}
 use Rattle.record.specs.Facts.{Facts}
 use Rattle.record.specs.declared.record.Record.{Record}
 use Rattle.shard.specs.Logs.{and_logged, facts_logged}
-use Rattle.disk.specs.File.{surface}
 use Rattle.gatelog.specs.Shown.{disk_of, gate_at}
-use Rattle.shard.specs.Armed.{FailsIn}
-use Rattle.shard.specs.Logs.{records_in}
+use Rattle.gatelog.specs.Frames.{IsFull}
+use Rattle.shard.specs.Opened.{HasNotAppended}
 use Rattle.shard.proofs.Agrees.{agrees_kept, known-logged}
 use Rattle.renewal.specs.Keeps.{IsLasting}
 use Rattle.shard.proofs.Openings.{first-lasting, first-learnt, first-sound}
@@ -27,21 +27,24 @@ invariant_of-result g c = record {
 
 pub returns-in-Err-append_record-clause-refused : goal.returns-in-Err-append_record-clause-refused
 returns-in-Err-append_record-clause-refused g c =
-    let before = records_in (surface (g.D.Disk.file (disk_of c.args.gate_log))).seen in
-    let gate = gate_at c.args.gate_log in
-    let fault = c.in-Err-append_record.fault in
+    let old = disk_of c.args.gate_log in
     let left = disk_of c.append_record.new.gate_log in
-    let first : Record.Opened c.first.result ≡ Record.Opened 1 = ap (λ n. Record.Opened n) c.first.ensures in
-    let back : c.into_disk-in-Err-append_record.result ≡ left = (search rules) in
-    record {
-      cause = (search rules);
-      any_moment = (search rules);
-      begins = (search rules);
-      unchanged = (search rules);
-      epoch = λ device. omega arith;
-      planned = (search rules);
-      armed = λ call obey keep is.
-          subst (λ d. FailsIn call gate before (Some (Record.Opened 1)) (g.D.Disk.file d) fault) (sym back)
-          (subst (λ r. FailsIn call gate before (Some r) (g.D.Disk.file left) fault) first
-          ((c.in-Err-append_record.ensures.armed call c.requires.running obey keep is).1));
-    }
+    let gate = gate_at c.args.gate_log in
+    let running = c.requires.running in
+    let told = c.in-Err-append_record.ensures in
+    let Refused : Record → g.row.D.Denot → Type 0 =
+    λ r d. HasNotAppended g.D.Disk.keeps_model g.D.Disk.obeys g.D.Disk.file g.D.Disk.clock g.D.Disk.since g.D.Disk.failures g.D.Disk.plan
+    old gate r (IsFull gate r) c.in-Err-append_record.fault d in
+    subst (Refused (Record.Opened 1)) (sym c.into_disk-in-Err-append_record.ensures)
+    (subst (λ n. Refused (Record.Opened n) left) c.first.ensures
+    (record {
+      cause = ⊎_elim (λ stopped. absurd (false≢true (sym running ∙ stopped.1)))
+          (λ else. ⊎_elim (λ memory. inl memory.0)
+          (λ other. ⊎_elim (λ full. inr (inr (full.0, full.2))) (λ device. inr (inl (device.0, device.2))) other) else) told.cause;
+      any_moment = λ keeps. c.append_record.ensures.any_moment running keeps;
+      begins = λ keeps. c.append_record.ensures.begins running keeps;
+      unchanged = ⊎_elim (λ device. inl device) (λ kept. inr kept.2) told.kept;
+      epoch = λ device. omega (arith, c.first.ensures);
+      planned = λ obeys never. (told.planned obeys never).1;
+      armed = λ call obeys keeps is. (told.armed call running obeys keeps is).1;
+    }))

@@ -1,15 +1,12 @@
-use Rattle.std.proofs.Common.{rules, inl, sym, subst, ◌≡◌, ◌∙◌, ◌+◌, [], Some, ap, arith}
+use Rattle.std.proofs.Common.{◌≡◌, ◌∙◌, ◌+◌, [], Some, ap, arith, inl, inr}
 use Rattle.protocol.specs.Plan as protocol
 use Rattle.protocol.specs.Step.{facts_after}
 use Rattle.memory.specs.Plans.{plan_of}
 use Rattle.record.specs.declared.record.Record.{Record}
-use Rattle.disk.specs.File.{surface}
 use Rattle.gatelog.specs.Shown.{disk_of, gate_at}
-use Rattle.shard.specs.Armed.{FailsIn}
 use Rattle.shard.specs.Core.{seen_machine}
-use Rattle.shard.specs.Logs.{records_in}
 use Rattle.shard.proofs.Agrees.{agrees_kept, known-logged}
-use Rattle.shard.proofs.Openings.{appended_by, not_appended_at_once, opened_memory, opening_due}
+use Rattle.shard.proofs.Openings.{appended_by, not_appended_at_once, not_appended_by, opened_memory, opening_due}
 use Rattle.shard.proofs.machine.Machine.take_up.Goals as goal
 
 pub invariant_of-machine : goal.invariant_of-machine
@@ -46,26 +43,12 @@ returns-clause-memory g c =
 pub returns-in-Err-carry_out-clause-refused : goal.returns-in-Err-carry_out-clause-refused
 returns-in-Err-carry_out-clause-refused g c =
     let k = c.args.state in
-    let before = records_in (surface (g.D.Disk.file (disk_of c.args.gate_log))).seen in
-    let gate = gate_at c.args.gate_log in
-    let fault = c.in-Err-carry_out.fault in
-    let left = (seen_machine c.carry_out.new.self).disk in
     let epoch : c.in-Ok.epoch ≡ k.facts.epoch + 1 = c.in-Ok.ensures.0 ∙ ap (λ n. n + 1) c.epoch.ensures in
     let logged : c.serves-step.result.logged ≡ Some (Record.Opened (k.facts.epoch + 1)) =
     ap (λ (p : protocol.Plan). p.logged) c.serves-step.ensures.plan ∙ ap (λ n. Some (Record.Opened n)) epoch in
-    let back : c.stop-in-Err-carry_out.result ≡ left = (search rules) in
-    record {
-      cause = (search rules);
-      any_moment = (search rules);
-      begins = (search rules);
-      unchanged = (search rules);
-      epoch = λ device. omega (arith, c.in-Ok.ensures.1, c.epoch.ensures);
-      planned = (search rules);
-      armed = λ call obey keep is.
-          subst (λ d. FailsIn call gate before (Some (Record.Opened (k.facts.epoch + 1))) (g.D.Disk.file d) fault) (sym back)
-          (subst (λ l. FailsIn call gate before l (g.D.Disk.file left) fault) logged
-          ((c.in-Err-carry_out.ensures.stepped.written.armed call c.requires.running obey keep is).1));
-    }
+    not_appended_by g.D.Disk.keeps_model g.D.Disk.obeys g.D.Disk.file g.D.Disk.clock g.D.Disk.since g.D.Disk.failures g.D.Disk.plan
+    _ (seen_machine c.carry_out.new.self) (Record.Opened (k.facts.epoch + 1)) _ _ _ _ c.in-Err-carry_out.fault _ c.stop-in-Err-carry_out.ensures
+    logged c.requires.running (omega (arith, c.in-Ok.ensures.1, c.epoch.ensures)) (λ full. inr full) c.in-Err-carry_out.ensures.stepped
 
 pub returns-clause-appended : goal.returns-clause-appended
 returns-clause-appended g c =
