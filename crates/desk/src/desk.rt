@@ -135,7 +135,10 @@ impl<D: Disk + Drop, R: Wait + Drop> Desk<D, R> {
             Ok(told) => told,
             Err(fault) => return Err((fault, disk)),
         };
-        let core = Core::open(alloc, disk, told)?;
+        let core = match Core::open(alloc, disk, told) {
+            Ok(core) => core,
+            Err(refused) => return Err(refused),
+        };
         match Desk::new(rt, alloc, core, n) {
             Ok(made) => Ok(made),
             Err((fault, core)) => Err((fault, core.stop())),

@@ -43,5 +43,18 @@ returns-clause-horizon g c =
     ap horizon_on (sym grown) ∙ one_horizon installs c.args.safe c.args.handed.now c.args.horizon es i d c.requires.step c.requires.left is
 
 -- refused, the board is told nothing
+pub returns-in_err-install-2-clause-step : goal.returns-in_err-install-2-clause-step
+returns-in_err-install-2-clause-step g c =
+    subst (λ (s : Publishing). InStep c.args.installs.now c.args.safe c.args.handed.now c.args.horizon (s.published ++ s.pending))
+    (sym c.in_err-install-2.ensures.1) c.requires.step
+
+pub returns-in_err-install-2-clause-published : goal.returns-in_err-install-2-clause-published
+returns-in_err-install-2-clause-published g c =
+    (ap (λ (s : Publishing). s.published) c.in_err-install-2.ensures.1, ap (λ (s : Publishing). s.board) c.in_err-install-2.ensures.1)
+
+pub returns-clause-published : goal.returns-clause-published
+returns-clause-published g c =
+    (ap (λ (s : Publishing). s.published) c.in_ok-install-2.ensures, ap (λ (s : Publishing). s.board) c.in_ok-install-2.ensures)
+
 pub returns-in_err-install-2-clause-horizon : goal.returns-in_err-install-2-clause-horizon
 returns-in_err-install-2-clause-horizon g c = ap (λ (s : Publishing). horizon_on (s.published ++ s.pending)) c.in_err-install-2.ensures.1
