@@ -67,13 +67,6 @@ impl Book {
         self.pages.push_reserved(page);
     }
 
-    /// For how many pages there is room in all.
-    pub fn capacity(&self) -> Capacity
-        ensures { result ≡ self.now.capacity }
-    {
-        self.capacity
-    }
-
     /// The records that the opening found.
     pub fn found(&self) -> &[Record]
         ensures { result.now ≡ self.now.found }
