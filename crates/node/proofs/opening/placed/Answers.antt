@@ -1,7 +1,7 @@
-use Rattle.std.proofs.Common.{◌≤◌, ◌∷◌, [], ◌++◌, length, refl, sym, subst, arith}
+use Rattle.std.proofs.Common.{◌≡◌, ◌≤◌, ◌∷◌, [], ◌++◌, length, None, Some, refl, sym, subst, arith}
 use Rattle.std.proofs.lemmas.Slice.Zip.{AllZip-long, all_zipped_more}
 use Rattle.std.specs.List.{AllZip}
-use Rattle.node.proofs.Lists.{is_before_end, passed}
+use Rattle.node.proofs.Lists.{all_passed, is_before_end, passed}
 use Rattle.node.proofs.opening.placed.Goals as goal
 
 pub push_reserved-requires : goal.push_reserved-requires
@@ -18,3 +18,10 @@ loop-given-preserved g c = (
   subst (AllZip _ (c.loop-given.yielded ++ c.in-Some.given ∷ [])) (sym c.push_reserved.ensures.items)
       (all_zipped_more _ c.loop-given.yielded c.loop-given.places.items c.in-Some.given _ c.loop-given.invariant.2 (refl, refl)),
 )
+
+pub returns : goal.returns
+returns g c =
+    let rest = c.loop-given.given-iterator.rest in
+    let none : length rest.items ≡ 0 = omega (arith, rest.ok.0, c.in-None.ensures.steps.0) in
+    subst (λ disks. AllZip (λ given place. (place.todo ≡ Some given) × (place.opened ≡ None)) disks c.loop-given.places.items)
+    (all_passed c.loop-given.yielded rest.items _ c.loop-given.invariant.0 none) c.loop-given.invariant.2
