@@ -494,9 +494,9 @@ fn run_beside<
         thread::scope_env(),
         rt,
         |scope| -> Result<Report, Fault>
-            requires workers { IsSync R.row × IsSync N.row × IsSend P.row × IsSend C.row
-                × IsSync G.row × IsSync W.row × (length staff.inboxes.items ≡ course.workers) }
-            requires staff { IsStaffOf shared.now staff }
+            requires { IsSync R.row × IsSync N.row × IsSend P.row × IsSend C.row × IsSync G.row
+                × IsSync W.row × (length staff.inboxes.items ≡ course.workers)
+                × IsStaffOf shared.now staff }
             ensures { IsCounted (course.workers * course.transactions) result }
         {
             if start_in(scope, rt, served, gate) {

@@ -146,13 +146,12 @@ fn drive_over<
 {
     let clock = clock_of(rt, settings);
     match drive_wide(rt, alloc, settings, logs, clock, gate, watch) {
-        Ok(
-            engine::Driven {
+        Ok(driven) => {
+            let engine::Driven {
                 summary,
                 lines,
                 disks,
-            },
-        ) => {
+            } = driven;
             drop(lines);
             drop(disks);
             Ok(Driven {

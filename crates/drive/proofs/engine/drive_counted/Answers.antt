@@ -1,20 +1,9 @@
-use denote.Param.Send.{sendable}
-use Rattle.std.proofs.Common.{rules, inr, ℕ, ◌≡◌, ◌≤◌, ◌*◌, refl, subst, ◌∙◌}
+use Rattle.std.proofs.Common.{inr, ℕ, ◌≡◌, ◌≤◌, ◌*◌, refl, subst, ◌∙◌}
 use Rattle.std.specs.Prelude.{IfSome}
-use Rattle.node.proofs.node.Node.TheSendSync as crossing
 use Rattle.workers.specs.Reports.{IsTally}
 use Rattle.workers.specs.Summaries.{tried}
 use Rattle.fleet.proofs.Outcomes.{on_err, on_ok}
 use Rattle.drive.proofs.engine.drive_counted.Goals as goal
-
-pub drive_nodes-requires : goal.drive_nodes-requires
-drive_nodes-requires g c κs = (
-  search sendable depth 20,
-  (
-    search (sendable, crossing.the_sync) depth 20,
-    (search sendable depth 20, (search sendable depth 20, (search sendable depth 20, search rules))),
-  ),
-)
 
 pub returns-clause-disks : goal.returns-clause-disks
 returns-clause-disks g c = on_ok _ _ c.drive_nodes.result (λ driven is. is ∙ c.in_ok-opened.ensures.nodes) c.drive_nodes.ensures.disks
