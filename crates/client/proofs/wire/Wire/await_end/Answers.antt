@@ -1,5 +1,4 @@
 use Rattle.std.proofs.Common.{true, false, [], ◌∷◌, ◌++◌, not, ◌&&◌, ap, refl, ◌∙◌}
-use Rattle.client.specs.Ends.{end_heard}
 use Rattle.client.proofs.Closings.{asks_on, awaits_on, compared}
 use Rattle.client.proofs.Steps.{longer}
 use Rattle.client.proofs.wire.Wire.await_end.Goals as goal
