@@ -141,14 +141,11 @@ impl Row for Beside {
         let (earliest, latest, at) = (stamp(self.earliest), stamp(self.latest), stamp(self.at));
         let right = match Reading::new(earliest, latest) {
             Ok(now) => {
-                self.read
-                    && now.earliest() == earliest
-                    && now.latest() == latest
-                    && now.after(at) == self.after
-                    && now.before(at) == self.before
-                    && has_passed(at, &now) == Some(self.passed)
+                let kept = (now.earliest() == earliest) & (now.latest() == latest);
+                let beside = (now.after(at) == self.after) & (now.before(at) == self.before);
+                kept & beside & self.read & (has_passed(at, &now) == Some(self.passed))
             }
-            Err(fault) => !self.read && fault == Fault::BadRequest(Reason::Stamp),
+            Err(fault) => !self.read & (fault == Fault::BadRequest(Reason::Stamp)),
         };
         wrong.unless(right, self.name);
     }
@@ -219,7 +216,7 @@ impl Row for Ahead {
 }
 
 fn stands(times: &SafeTime, last: u64, safe: u64) -> bool {
-    times.last().micros() == last && times.safe().micros() == safe
+    (times.last().micros() == last) & (times.safe().micros() == safe)
 }
 
 /// The safe time stays below a promise until that is settled.
@@ -236,7 +233,7 @@ pub fn is_held_below(alloc: Global) -> bool {
     times.lift(at);
     let lifted = stands(&times, 250, 250);
     drop(times);
-    held && raised && lifted
+    held & raised & lifted
 }
 
 /// Each lift takes one hold of two, and a third takes none.
@@ -256,7 +253,7 @@ pub fn are_lifted(alloc: Global) -> bool {
     times.raise(stamp(110));
     let still = stands(&times, 111, 111);
     drop(times);
-    two && one && none && still
+    two & one & none & still
 }
 
 pub fn tell_readings(wrong: &mut WrongRows, rt: &HostRuntime) {

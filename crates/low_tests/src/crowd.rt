@@ -138,13 +138,13 @@ impl Row for Crowd {
     fn tell(&self, wrong: &mut WrongRows, rt: &HostRuntime) {
         let alloc = rt.alloc();
         let (mut table, mut tokens) = (Table::new(alloc), Vec::new(alloc));
-        let told = all_come(&mut table, alloc, &mut tokens, self, false)
-            && all_come(&mut table, alloc, &mut tokens, self, true)
-            && table.ready().is_none()
-            && all_go_on(&mut table, alloc, &mut tokens, self);
+        let hold = all_come(&mut table, alloc, &mut tokens, self, false);
+        let wait = all_come(&mut table, alloc, &mut tokens, self, true);
+        let none = table.ready().is_none();
+        let went = all_go_on(&mut table, alloc, &mut tokens, self);
         release_all(&mut table, tokens);
-        let empty = !table.has(id(0)) && table.ready().is_none();
+        let empty = !table.has(id(0)) & table.ready().is_none();
         drop(table);
-        wrong.unless(told && empty, self.name);
+        wrong.unless(hold & wait & none & went & empty, self.name);
     }
 }

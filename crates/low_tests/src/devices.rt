@@ -66,10 +66,10 @@ impl Row for Failing {
                 Call::Write => plan.write(),
                 Call::Other => plan.call(),
             };
-            fails = fails && failed == *wanted;
+            fails &= failed == *wanted;
         }
-        let ended = matches!(plan, FailurePlan::Never) && !plan.write();
-        wrong.unless(armed && fails && ended, self.what);
+        let ended = matches!(plan, FailurePlan::Never) & !plan.write();
+        wrong.unless(armed & fails & ended, self.what);
     }
 }
 
@@ -100,174 +100,172 @@ impl Stepped for SimDisk {
     }
 }
 
-/// What is done with a synced file of six letters, `abcdef`: changes, and what comes then.
+/// A file of six letters, `abcdef`, that is synced, and changes of it; and what comes then, each told by its name.
 pub struct Life {
-    what: &'static str,
     changes: &'static [Step],
-    then: &'static [Step],
+    ends: &'static [(&'static str, &'static [Step])],
 }
 
-// `XY` over the second and third letter, `gh` and `ij` behind all.
-const WRITES: &[Step] = &[
-    Step::Write(1, b"XY"),
-    Step::Write(6, b"gh"),
-    Step::Write(8, b"ij"),
-];
-
-// `Z` behind the first two letters alone.
-const A_CUT: &[Step] = &[Step::Cut(2), Step::Write(2, b"Z")];
-
-static LIVES: [Life; 15] = [
+static LIVES: [Life; 3] = [
+    // `XY` over the second and third letter, `gh` and `ij` behind all.
     Life {
-        what: "no write",
-        changes: WRITES,
-        then: &[Step::Crash(&[]), Step::Holds(b"abcdef")],
-    },
-    Life {
-        what: "the first write",
-        changes: WRITES,
-        then: &[Step::Crash(&[Fate::New]), Step::Holds(b"aXYdef")],
-    },
-    Life {
-        what: "the second write",
-        changes: WRITES,
-        then: &[
-            Step::Crash(&[Fate::Old, Fate::New]),
-            Step::Holds(b"abcdefgh"),
-        ],
-    },
-    Life {
-        what: "a filled write",
-        changes: WRITES,
-        then: &[Step::Crash(&[Fate::Filled(0x2a)]), Step::Holds(b"a**def")],
-    },
-    Life {
-        what: "a filled write between two",
-        changes: WRITES,
-        then: &[
-            Step::Crash(&[Fate::New, Fate::Filled(0x2a), Fate::New]),
-            Step::Holds(b"aXYdef**ij"),
-        ],
-    },
-    Life {
-        what: "the third write",
-        changes: WRITES,
-        then: &[
-            Step::Crash(&[Fate::Old, Fate::Old, Fate::New]),
-            Step::Holds(b"abcdef\0\0ij"),
-        ],
-    },
-    Life {
-        what: "no cut, no write",
-        changes: A_CUT,
-        then: &[Step::Crash(&[Fate::Old, Fate::Old]), Step::Holds(b"abcdef")],
-    },
-    Life {
-        what: "a cut alone",
-        changes: A_CUT,
-        then: &[Step::Crash(&[Fate::New, Fate::Old]), Step::Holds(b"ab")],
-    },
-    Life {
-        what: "a write alone",
-        changes: A_CUT,
-        then: &[Step::Crash(&[Fate::Old, Fate::New]), Step::Holds(b"abZdef")],
-    },
-    Life {
-        what: "a filled cut and a write",
-        changes: A_CUT,
-        then: &[
-            Step::Crash(&[Fate::Filled(1), Fate::New]),
-            Step::Holds(b"abZ"),
-        ],
-    },
-    Life {
-        what: "what is synced stays",
-        changes: &[],
-        then: &[
-            Step::Write(4, b"EFG"),
+        changes: &[
+            Step::Write(0, b"abcdef"),
             Step::Sync,
-            Step::Crash(&[]),
-            Step::Holds(b"abcdEFG"),
-            Step::Write(7, b"h"),
-            Step::Crash(&[]),
-            Step::Holds(b"abcdEFG"),
-        ],
-    },
-    Life {
-        what: "a failed write may come out of a crash",
-        changes: &[],
-        then: &[
-            Step::FailNext(0),
-            Step::Fails(&Step::Write(1, b"XY")),
-            Step::Holds(b"abcdef"),
-            Step::Crash(&[Fate::New]),
-            Step::Holds(b"aXYdef"),
-        ],
-    },
-    Life {
-        what: "the next call but one fails, once",
-        changes: &[],
-        then: &[
-            Step::FailNext(1),
-            Step::Write(6, b"g"),
-            Step::Fails(&Step::Cut(3)),
-            Step::Holds(b"abcdefg"),
-            Step::Cut(3),
-            Step::Sync,
-            Step::Holds(b"abc"),
-        ],
-    },
-    Life {
-        what: "an armed call is counted from the next write",
-        changes: &[],
-        then: &[
-            Step::Arm(Some(1)),
-            Step::Sync,
-            Step::Sync,
-            Step::Write(0, b"A"),
-            Step::Fails(&Step::Sync),
-            Step::Sync,
-            Step::Arm(Some(0)),
-            Step::Sync,
-            Step::Fails(&Step::Write(0, b"B")),
-            Step::Arm(Some(0)),
-            Step::Arm(None),
-            Step::Write(1, b"C"),
-            Step::FailNext(0),
-            Step::Arm(None),
-            Step::Holds(b"ACcdef"),
-        ],
-    },
-    Life {
-        what: "eight calls on what was reserved",
-        changes: &[],
-        then: &[
-            Step::Reserve(8),
+            Step::Write(1, b"XY"),
             Step::Write(6, b"gh"),
+            Step::Write(8, b"ij"),
+        ],
+        ends: &[
+            ("no write", &[Step::Crash(&[]), Step::Holds(b"abcdef")]),
+            (
+                "the first write",
+                &[Step::Crash(&[Fate::New]), Step::Holds(b"aXYdef")],
+            ),
+            (
+                "the second write",
+                &[
+                    Step::Crash(&[Fate::Old, Fate::New]),
+                    Step::Holds(b"abcdefgh"),
+                ],
+            ),
+            (
+                "a filled write",
+                &[Step::Crash(&[Fate::Filled(0x2a)]), Step::Holds(b"a**def")],
+            ),
+            (
+                "a filled write between two",
+                &[
+                    Step::Crash(&[Fate::New, Fate::Filled(0x2a), Fate::New]),
+                    Step::Holds(b"aXYdef**ij"),
+                ],
+            ),
+            (
+                "the third write",
+                &[
+                    Step::Crash(&[Fate::Old, Fate::Old, Fate::New]),
+                    Step::Holds(b"abcdef\0\0ij"),
+                ],
+            ),
+        ],
+    },
+    // `Z` behind the first two letters alone.
+    Life {
+        changes: &[
+            Step::Write(0, b"abcdef"),
             Step::Sync,
-            Step::Cut(7),
-            Step::Write(7, b"HI"),
-            Step::Sync,
-            Step::Write(9, b"jk"),
-            Step::Write(0, b"AB"),
-            Step::Sync,
-            Step::Holds(b"ABcdefgHIjk"),
+            Step::Cut(2),
+            Step::Write(2, b"Z"),
+        ],
+        ends: &[
+            (
+                "no cut, no write",
+                &[Step::Crash(&[Fate::Old, Fate::Old]), Step::Holds(b"abcdef")],
+            ),
+            (
+                "a cut alone",
+                &[Step::Crash(&[Fate::New, Fate::Old]), Step::Holds(b"ab")],
+            ),
+            (
+                "a write alone",
+                &[Step::Crash(&[Fate::Old, Fate::New]), Step::Holds(b"abZdef")],
+            ),
+            (
+                "a filled cut and a write",
+                &[
+                    Step::Crash(&[Fate::Filled(1), Fate::New]),
+                    Step::Holds(b"abZ"),
+                ],
+            ),
+        ],
+    },
+    // Nothing.
+    Life {
+        changes: &[Step::Write(0, b"abcdef"), Step::Sync],
+        ends: &[
+            (
+                "what is synced stays",
+                &[
+                    Step::Write(4, b"EFG"),
+                    Step::Sync,
+                    Step::Crash(&[]),
+                    Step::Holds(b"abcdEFG"),
+                    Step::Write(7, b"h"),
+                    Step::Crash(&[]),
+                    Step::Holds(b"abcdEFG"),
+                ],
+            ),
+            (
+                "a failed write may come out of a crash",
+                &[
+                    Step::FailNext(0),
+                    Step::Fails(&Step::Write(1, b"XY")),
+                    Step::Holds(b"abcdef"),
+                    Step::Crash(&[Fate::New]),
+                    Step::Holds(b"aXYdef"),
+                ],
+            ),
+            (
+                "the next call but one fails, once",
+                &[
+                    Step::FailNext(1),
+                    Step::Write(6, b"g"),
+                    Step::Fails(&Step::Cut(3)),
+                    Step::Holds(b"abcdefg"),
+                    Step::Cut(3),
+                    Step::Sync,
+                    Step::Holds(b"abc"),
+                ],
+            ),
+            (
+                "an armed call is counted from the next write",
+                &[
+                    Step::Arm(Some(1)),
+                    Step::Sync,
+                    Step::Sync,
+                    Step::Write(0, b"A"),
+                    Step::Fails(&Step::Sync),
+                    Step::Sync,
+                    Step::Arm(Some(0)),
+                    Step::Sync,
+                    Step::Fails(&Step::Write(0, b"B")),
+                    Step::Arm(Some(0)),
+                    Step::Arm(None),
+                    Step::Write(1, b"C"),
+                    Step::FailNext(0),
+                    Step::Arm(None),
+                    Step::Holds(b"ACcdef"),
+                ],
+            ),
+            (
+                "eight calls on what was reserved",
+                &[
+                    Step::Reserve(8),
+                    Step::Write(6, b"gh"),
+                    Step::Sync,
+                    Step::Cut(7),
+                    Step::Write(7, b"HI"),
+                    Step::Sync,
+                    Step::Write(9, b"jk"),
+                    Step::Write(0, b"AB"),
+                    Step::Sync,
+                    Step::Holds(b"ABcdefgHIjk"),
+                ],
+            ),
         ],
     },
 ];
-
-// A synced file of six letters.
-static SIX_LETTERS: [Step; 2] = [Step::Write(0, b"abcdef"), Step::Sync];
 
 impl Row for Life {
     fn tell(&self, wrong: &mut WrongRows, rt: &HostRuntime) {
         let alloc = rt.alloc();
-        let mut disk = sent(SimDisk::new(alloc));
-        let lived = go_well(alloc, &mut disk, &SIX_LETTERS)
-            && go_well(alloc, &mut disk, self.changes)
-            && go_well(alloc, &mut disk, self.then);
-        drop(disk);
-        wrong.unless(lived, self.what);
+        for (what, then) in self.ends {
+            let mut disk = sent(SimDisk::new(alloc));
+            let changed = go_well(alloc, &mut disk, self.changes);
+            let lived = go_well(alloc, &mut disk, *then);
+            drop(disk);
+            wrong.unless(changed & lived, *what);
+        }
     }
 }
 

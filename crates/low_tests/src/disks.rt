@@ -2,11 +2,11 @@
 use crate::checks::{Row, go_over};
 use crate::devices::sent;
 use crate::file_logs::{is_no_log, is_opened_again};
-use crate::folder::Folder;
-use crate::steps::{Step, Stepped, call_any, go_well, read_back};
+use crate::files::is_file;
+use crate::steps::{Step, Stepped, call_any, go_well};
 use disk::Disk;
 use filedisk::FileDisk;
-use made::WrongRows;
+use made::{Folder, WrongRows};
 use std::alloc::Global;
 use std::{env, fs};
 use units::Fault;
@@ -305,12 +305,12 @@ fn is_answered_so(rt: &HostRuntime, path: &str, row: &Asked) -> bool {
     answered
 }
 
-/// Whether the file, when it is opened, has these bytes.
-pub fn keeps(rt: &HostRuntime, path: &str, bytes: &[u8]) -> bool {
+/// Whether the file, when it is opened, is the one that is told without its slots.
+pub fn keeps(rt: &HostRuntime, path: &str, told: &[u8]) -> bool {
     let Ok(mut disk) = FileDisk::open(rt, path) else {
         return false;
     };
-    let kept = read_back(rt.alloc(), &mut disk, bytes).is_ok();
+    let kept = is_file(rt.alloc(), &mut disk, told);
     drop(disk);
     kept
 }
@@ -324,24 +324,31 @@ fn is_left(rt: &HostRuntime, path: &str, left: &Left) -> bool {
     }
 }
 
+// In that folder the call is answered so, and the file is left so.
 fn is_so(rt: &HostRuntime, folder: &Folder, row: &Asked) -> bool {
-    let path = match row.path {
-        Some(path) => path,
-        None => folder.log.as_str(),
+    let (Ok(dir), Ok(log)) = (
+        folder.path(rt.alloc(), "."),
+        folder.path(rt.alloc(), "shard-0.log"),
+    ) else {
+        return false;
     };
-    env::set_current_dir(rt, folder.path.as_str()).is_ok()
+    let path = row.path.unwrap_or(log.as_str());
+    let so = env::set_current_dir(rt, dir.as_str()).is_ok()
         && fs::create_dir(rt, "logs").is_ok()
         && is_answered_so(rt, path, row)
-        && is_left(rt, path, &row.left)
+        && is_left(rt, path, &row.left);
+    drop(dir);
+    drop(log);
+    so
 }
 
 impl Row for Asked {
     fn tell(&self, wrong: &mut WrongRows, rt: &HostRuntime) {
-        let Some(folder) = Folder::new(rt) else {
+        let Ok(folder) = Folder::new(rt) else {
             return wrong.unless(false, self.what);
         };
         let so = is_so(rt, &folder, self);
-        wrong.unless(folder.remove(rt) && so, self.what);
+        wrong.unless(folder.remove(rt) & so, self.what);
     }
 }
 

@@ -124,12 +124,12 @@ fn gives(settings: &Settings, wanted: &Wanted) -> bool {
         None => wanted.dir.is_none(),
     };
     folder
-        && are(settings.splits.as_slice(), wanted.splits)
-        && settings.stride.micros() == wanted.stride
-        && settings.epsilon == wanted.epsilon
-        && settings.workers == wanted.workers
-        && settings.transactions == wanted.transactions
-        && settings.keys == wanted.keys
+        & are(settings.splits.as_slice(), wanted.splits)
+        & (settings.stride.micros() == wanted.stride)
+        & (settings.epsilon == wanted.epsilon)
+        & (settings.workers == wanted.workers)
+        & (settings.transactions == wanted.transactions)
+        & (settings.keys == wanted.keys)
 }
 
 // A document that is taken, a line for each key.
@@ -225,6 +225,8 @@ static CHANGED: [Changed; 7] = [
     },
 ];
 
+const REFUSED: Option<Fault> = Some(Fault::BadRequest(Reason::Settings));
+
 // How the document is refused that has a text in place of one line. A line that memory is wanting for is left out.
 fn refusal(alloc: Global, at: usize, text: &str) -> Option<Fault> {
     let mut whole = String::new(alloc);
@@ -251,22 +253,25 @@ fn go_over_texts(
     }
 }
 
+// Whether the document is taken, and gives what it should.
+fn is_taken(alloc: Global, row: &Taken) -> bool {
+    match Settings::read(alloc, row.text) {
+        Ok(settings) => {
+            let gives = gives(&settings, &row.wanted);
+            drop(settings);
+            gives
+        }
+        Err(_) => false,
+    }
+}
+
 /// Goes over all rows.
 pub fn go_over(wrong: &mut WrongRows, alloc: Global) {
     for row in &TAKEN {
-        let taken = match Settings::read(alloc, row.text) {
-            Ok(settings) => {
-                let gives = gives(&settings, &row.wanted);
-                drop(settings);
-                gives
-            }
-            Err(_) => false,
-        };
-        wrong.unless(taken, row.what);
+        wrong.unless(is_taken(alloc, row), row.what);
     }
-    let refused = Some(Fault::BadRequest(Reason::Settings));
     for row in &CHANGED {
         go_over_texts(wrong, alloc, row.line, row.taken, None);
-        go_over_texts(wrong, alloc, row.line, row.refused, refused);
+        go_over_texts(wrong, alloc, row.line, row.refused, REFUSED);
     }
 }

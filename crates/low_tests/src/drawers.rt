@@ -82,20 +82,24 @@ static ROWS: [Row; 4] = [
     },
 ];
 
+// Whether so many drawers may be, and draw each number once.
+fn are_drawn<R: Threads + Sync>(rt: &R, alloc: Global, row: &Row) -> bool {
+    match Tickets::new(alloc, row.drawers) {
+        Ok((tickets, drawers)) => {
+            let mut all = draw_all(rt, alloc, &tickets, drawers);
+            drop(tickets);
+            let ordered = row.drawers == 1 || all.sort().is_ok();
+            let drawn = ordered & (row.draws == Some(all.len())) & count_up(all.as_slice());
+            drop(all);
+            drawn
+        }
+        Err(fault) => row.draws.is_none() & (fault == Fault::BadRequest(Reason::Many)),
+    }
+}
+
 /// Goes over all rows.
 pub fn go_over<R: Threads + Sync>(wrong: &mut WrongRows, rt: &R, alloc: Global) {
     for row in &ROWS {
-        let right = match Tickets::new(alloc, row.drawers) {
-            Ok((tickets, drawers)) => {
-                let mut all = draw_all(rt, alloc, &tickets, drawers);
-                let ordered = row.drawers == 1 || all.sort().is_ok();
-                let right = ordered && row.draws == Some(all.len()) && count_up(all.as_slice());
-                drop(all);
-                drop(tickets);
-                right
-            }
-            Err(fault) => row.draws.is_none() && fault == Fault::BadRequest(Reason::Many),
-        };
-        wrong.unless(right, row.name);
+        wrong.unless(are_drawn(rt, alloc, row), row.name);
     }
 }

@@ -218,7 +218,7 @@ impl Row for Drive {
         }
         let has_line = is_text(progress.line(alloc, self.micros), self.line);
         let has_table = is_text(progress.table(alloc), self.table);
-        wrong.unless(has_table && has_line && is_narrow(self.table), self.name);
+        wrong.unless(has_table & has_line & is_narrow(self.table), self.name);
     }
 }
 

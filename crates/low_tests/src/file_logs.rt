@@ -1,10 +1,10 @@
 //! Logs in files.
 use crate::disks::keeps;
-use crate::files::{Place, open, put_lines, refusal};
+use crate::files::{Place, open, put_lines};
 use crate::spellings::OPENED;
 use filedisk::FileDisk;
 use gatelog::GateLog;
-use made::{FIRST_GATE, with_slots};
+use made::FIRST_GATE;
 use units::Fault;
 
 // The header; Opened 1; Opened 2; a closed gate. The slots are left out.
@@ -48,19 +48,7 @@ fn goes_on(rt: &HostRuntime, path: &str, places: &[Place], more: &str) -> bool {
 /// Whether the file is refused, as one that is no log.
 pub fn is_no_log(rt: &HostRuntime, path: &str) -> bool {
     match FileDisk::open(rt, path) {
-        Ok(disk) => refusal(rt.alloc(), disk, &[]) == Some(Fault::NotALog),
-        Err(_) => false,
-    }
-}
-
-// The file has the bytes of both openings.
-fn is_kept(rt: &HostRuntime, path: &str) -> bool {
-    match with_slots(rt.alloc(), TWO_OPENINGS) {
-        Ok(bytes) => {
-            let kept = keeps(rt, path, &bytes);
-            drop(bytes);
-            kept
-        }
+        Ok(disk) => open(rt.alloc(), disk, &[]).err() == Some(Fault::NotALog),
         Err(_) => false,
     }
 }
@@ -70,5 +58,5 @@ pub fn is_opened_again(rt: &HostRuntime, path: &str) -> bool {
     begins(rt, path)
         && goes_on(rt, path, &[(FIRST_GATE, OPENED)], "opened 2")
         && goes_on(rt, path, OPENINGS, "")
-        && is_kept(rt, path)
+        && keeps(rt, path, TWO_OPENINGS)
 }

@@ -46,17 +46,6 @@ pub fn open<D: Disk + Drop>(alloc: Global, disk: D, places: &[Place]) -> Result<
     }
 }
 
-/// How the log on a disk is refused, which else has these entries.
-pub fn refusal<D: Disk + Drop>(alloc: Global, disk: D, places: &[Place]) -> Option<Fault> {
-    match open(alloc, disk, places) {
-        Ok(log) => {
-            drop(log);
-            None
-        }
-        Err(fault) => Some(fault),
-    }
-}
-
 /// Logs a record, while that call of the append is to fail, where one is.
 pub fn put<D: Disk>(
     alloc: Global,
@@ -64,19 +53,11 @@ pub fn put<D: Disk>(
     item: Record,
     call: Option<u64>,
 ) -> Result<(), Fault> {
-    match log.stage(alloc, item) {
-        Ok(staged) => {
-            log.arm(call);
-            match log.append(staged) {
-                Ok(logged) => {
-                    drop(logged.spend());
-                    Ok(())
-                }
-                Err(fault) => Err(fault),
-            }
-        }
-        Err(fault) => Err(fault),
-    }
+    let staged = log.stage(alloc, item)?;
+    log.arm(call);
+    let logged = log.append(staged)?;
+    drop(logged.spend());
+    Ok(())
 }
 
 /// Whether all of these records were logged.
@@ -317,8 +298,8 @@ impl Row for Case {
             None => true,
         };
         let logged = put_lines(alloc, &mut again, self.more) && ends;
-        let refused = refusal(alloc, again.into_disk(), self.places_with_more);
-        wrong.unless(filled && left && logged && refused.is_none(), self.what);
+        let kept = open(alloc, again.into_disk(), self.places_with_more).is_ok();
+        wrong.unless(filled & left & logged & kept, self.what);
     }
 }
 
@@ -345,7 +326,7 @@ const EMPTY: File = File {
 
 const DAMAGED: Option<Fault> = Some(Fault::Damaged { offset: FIRST_GATE });
 
-static REFUSED: [File; 12] = [
+static FILES: [File; 17] = [
     File {
         what: "past the end",
         told: b"SPNLOG02\xa5\0\0\0\x09",
@@ -418,43 +399,7 @@ static REFUSED: [File; 12] = [
         what: "an empty log",
         ..EMPTY
     },
-];
-
-/// A disk with a file that is told without its slots, and which is cut to so many bytes, where it is; nothing where memory is wanting.
-pub fn disk_of(alloc: Global, told: &[u8], len: Option<u64>) -> Option<SimDisk> {
-    let Ok(bytes) = with_slots(alloc, told) else {
-        return None;
-    };
-    let mut disk = SimDisk::new(alloc);
-    let written = disk.write_at(0, &bytes).is_ok();
-    drop(bytes);
-    let cut = match len {
-        Some(len) => len <= disk.len() && disk.cut(len).is_ok(),
-        None => true,
-    };
-    if written && cut {
-        Some(disk)
-    } else {
-        drop(disk);
-        None
-    }
-}
-
-impl Row for File {
-    fn tell(&self, wrong: &mut WrongRows, rt: &HostRuntime) {
-        let alloc = rt.alloc();
-        let Some(mut disk) = disk_of(alloc, self.told, self.len) else {
-            return wrong.unless(false, self.what);
-        };
-        let written = self.slots.is_empty()
-            || (disk.len() >= 8 && disk.write_at(8, self.slots).is_ok());
-        let same = refusal(alloc, disk, self.places) == self.fault;
-        wrong.unless(written && same, self.what);
-    }
-}
-
-// Files of one commit. In hexadecimal digits the commit's gate is at 2416, its outcome's at 2440, the closed one at 245f.
-static AREAS: [File; 5] = [
+    // Files of one commit. In hexadecimal digits the commit's gate is at 2416, its outcome's at 2440, the closed one at 245f.
     File {
         what: "no slot is open",
         told: &ONE_COMMIT,
@@ -495,14 +440,43 @@ static AREAS: [File; 5] = [
     },
 ];
 
+/// A disk with a file that is told without its slots, and which is cut to so many bytes, where it is; nothing where memory is wanting.
+pub fn disk_of(alloc: Global, told: &[u8], len: Option<u64>) -> Option<SimDisk> {
+    let Ok(bytes) = with_slots(alloc, told) else {
+        return None;
+    };
+    let mut disk = SimDisk::new(alloc);
+    let written = disk.write_at(0, &bytes).is_ok();
+    drop(bytes);
+    let cut = match len {
+        Some(len) => len <= disk.len() && disk.cut(len).is_ok(),
+        None => true,
+    };
+    if written && cut {
+        Some(disk)
+    } else {
+        drop(disk);
+        None
+    }
+}
+
+impl Row for File {
+    fn tell(&self, wrong: &mut WrongRows, rt: &HostRuntime) {
+        let alloc = rt.alloc();
+        let Some(mut disk) = disk_of(alloc, self.told, self.len) else {
+            return wrong.unless(false, self.what);
+        };
+        let written = self.slots.is_empty()
+            || (disk.len() >= 8 && disk.write_at(8, self.slots).is_ok());
+        let same = open(alloc, disk, self.places).err() == self.fault;
+        wrong.unless(written & same, self.what);
+    }
+}
+
 pub fn tell_cases(wrong: &mut WrongRows, rt: &HostRuntime) {
     go_over(wrong, rt, "the log in its file", &CASES);
 }
 
-pub fn tell_refused(wrong: &mut WrongRows, rt: &HostRuntime) {
-    go_over(wrong, rt, "files that are no logs", &REFUSED);
-}
-
-pub fn tell_areas(wrong: &mut WrongRows, rt: &HostRuntime) {
-    go_over(wrong, rt, "areas of logs", &AREAS);
+pub fn tell_files(wrong: &mut WrongRows, rt: &HostRuntime) {
+    go_over(wrong, rt, "files that are logs, or none", &FILES);
 }

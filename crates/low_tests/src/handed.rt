@@ -117,27 +117,19 @@ fn can_install(ledger: &Ledger, item: &Record) -> bool
     }
 }
 
-// Learns a record, where it may come next.
-fn comes(alloc: Global, ledger: &mut Ledger, line: &str) -> bool {
-    let Ok(()) = ledger.reserve() else {
-        return false;
-    };
-    let Some(item) = record_of(alloc, line) else {
-        return false;
-    };
-    let fits = ledger.may_come(&item) && can_install(ledger, &item);
-    if fits {
-        ledger.learn(item);
-    } else {
-        drop(item);
-    }
-    fits
-}
-
-/// Whether the ledger learns all of these records.
+/// Whether the ledger learns all of these records: each may come next.
 pub fn all_come(alloc: Global, ledger: &mut Ledger, lines: &str) -> bool {
     for line in lines.lines() {
-        if !comes(alloc, ledger, line) {
+        let Ok(()) = ledger.reserve() else {
+            return false;
+        };
+        let Some(item) = record_of(alloc, line) else {
+            return false;
+        };
+        if ledger.may_come(&item) && can_install(ledger, &item) {
+            ledger.learn(item);
+        } else {
+            drop(item);
             return false;
         }
     }

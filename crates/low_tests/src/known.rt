@@ -78,7 +78,7 @@ pub struct Case {
     determined: Option<Determined>,
 }
 
-static CASES: [Case; 18] = [
+static CASES: [Case; 21] = [
     Case {
         what: "a decision",
         shard: 0,
@@ -332,10 +332,7 @@ static CASES: [Case; 18] = [
         refused: "outcome 1.1 committed 6",
         determined: None,
     },
-];
-
-/// What renewed logs determine.
-static RENEWED: [Case; 3] = [
+    // What renewed logs determine.
     Case {
         what: "behind a base",
         shard: 0,
@@ -435,10 +432,11 @@ fn is_known(facts: &Facts, row: &Known) -> bool {
     let aborted = matches!(status, Some(Status::Aborted));
     let settled = matches!(status, Some(Status::Settled { .. }));
     let wanted = (row.prepared, row.decided, row.outcome);
-    by_status == wanted
-        && by_facts == wanted
-        && (aborted, settled) == (row.aborted, row.settled)
-        && facts.aborted(txn) == row.aborted
+    (by_status == wanted)
+        & (by_facts == wanted)
+        & (aborted == row.aborted)
+        & (settled == row.settled)
+        & (facts.aborted(txn) == row.aborted)
 }
 
 fn are_installs(installs: &[Install], rows: &[(u64, u8)]) -> bool {
@@ -476,12 +474,8 @@ impl Row for Case {
         };
         let same = facts.shard() == shard;
         drop(facts);
-        wrong.unless(come && determined && same, self.what);
+        wrong.unless(come & determined & same, self.what);
     }
-}
-
-pub fn tell_renewed(wrong: &mut WrongRows, rt: &HostRuntime) {
-    go_over(wrong, rt, "what renewed logs determine", &RENEWED);
 }
 
 pub fn tell_cases(wrong: &mut WrongRows, rt: &HostRuntime) {

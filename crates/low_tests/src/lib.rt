@@ -27,13 +27,7 @@ mod file_logs;
 #[cfg(test)]
 mod files;
 #[cfg(test)]
-mod folder;
-#[cfg(test)]
-mod forgotten;
-#[cfg(test)]
 mod handed;
-#[cfg(test)]
-mod heads;
 #[cfg(test)]
 mod horizons;
 #[cfg(test)]

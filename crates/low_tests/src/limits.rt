@@ -142,11 +142,11 @@ fn all_are(alloc: Global, made: &Made, numbers: &[u64], answer: (bool, Option<Fa
 fn are_ordered(alloc: Global) -> bool {
     let old = txn_of("1.10");
     let young = txn_of("2.9");
-    old == txn_of("1.10")
-        && old != young
-        && old < young
-        && young > old
-        && is_printed(alloc, &old, "1.10")
+    (old == txn_of("1.10"))
+        & (old != young)
+        & (old < young)
+        & (young > old)
+        & is_printed(alloc, &old, "1.10")
 }
 
 // The shards of `a`, `ab` and `b`, where these keys may split so.
@@ -177,13 +177,13 @@ fn go_by_bytes(alloc: Global) -> bool {
     let a = key_of("a");
     let ab = key_of("ab");
     let b = key_of("b");
-    a < ab
-        && ab < b
-        && b > ab
-        && shards(alloc, ab, b) == Some([0, 1, 2])
-        && shards(alloc, b, ab).is_none()
-        && are_listed(alloc, "a,b", "a,b")
-        && are_listed(alloc, "b,a", "-")
+    (a < ab)
+        & (ab < b)
+        & (b > ab)
+        & (shards(alloc, ab, b) == Some([0, 1, 2]))
+        & shards(alloc, b, ab).is_none()
+        & are_listed(alloc, "a,b", "a,b")
+        & are_listed(alloc, "b,a", "-")
 }
 
 // The number of a fault stands first in its text.

@@ -6,7 +6,7 @@ use units::Fault;
 
 // A frame has 5 bytes and its record: an opening takes 14, a base 30, a version of one letter 20, what is settled 32, what is closed
 // by an abort 24, an abort 22, a decision of one letter 42, a promise of one letter 41.
-static TAKEN: [Reopened; 11] = [
+static RENEWED: [Reopened; 48] = [
     Reopened {
         what: "one settled commit",
         shard: 0,
@@ -147,10 +147,7 @@ static TAKEN: [Reopened; 11] = [
             ..NOTHING
         })),
     },
-];
-
-/// Bases and versions that are out of place.
-static MISPLACED: [Reopened; 14] = [
+    // Bases and versions that are out of place.
     Reopened {
         what: "a base behind an opening",
         shard: 0,
@@ -269,10 +266,7 @@ static MISPLACED: [Reopened; 14] = [
         promises: 0,
         left: Err(Fault::Stranger),
     },
-];
-
-/// What ended, and what may not stand beside it.
-static ENDED: [Reopened; 23] = [
+    // What ended, and what may not stand beside it.
     Reopened {
         what: "settled twice",
         shard: 0,
@@ -478,14 +472,6 @@ static ENDED: [Reopened; 23] = [
     },
 ];
 
-pub fn tell_taken(wrong: &mut WrongRows, rt: &HostRuntime) {
-    go_over(wrong, rt, "renewed logs", &TAKEN);
-}
-
-pub fn tell_misplaced(wrong: &mut WrongRows, rt: &HostRuntime) {
-    go_over(wrong, rt, "bases and versions", &MISPLACED);
-}
-
-pub fn tell_ended(wrong: &mut WrongRows, rt: &HostRuntime) {
-    go_over(wrong, rt, "what ended", &ENDED);
+pub fn tell_renewed(wrong: &mut WrongRows, rt: &HostRuntime) {
+    go_over(wrong, rt, "renewed logs", &RENEWED);
 }

@@ -303,21 +303,17 @@ fn asks(alloc: Global, splits: &Splits, tickets: &Tickets, drawer: &mut Drawer, 
 }
 
 // The first transactions of a source are 7.0 and 7.1.
-fn draw_ids(alloc: Global, splits: &Splits, tickets: &Tickets, mut drawer: Drawer) -> bool
-    requires { drawer.source ≡ tickets.now }
-{
-    let first = asks(alloc, splits, tickets, &mut drawer, "shard 0 read 7.0 a");
-    let second = asks(alloc, splits, tickets, &mut drawer, "shard 0 read 7.1 a");
-    drop(drawer);
-    first && second
-}
-
 fn are_drawn(alloc: Global, splits: &Splits) -> bool {
     let Ok((tickets, mut drawers)) = Tickets::new(alloc, 1) else {
         return false;
     };
     let drawn = match drawers.pop() {
-        Some(drawer) => draw_ids(alloc, splits, &tickets, drawer),
+        Some(mut drawer) => {
+            let first = asks(alloc, splits, &tickets, &mut drawer, "shard 0 read 7.0 a");
+            let second = asks(alloc, splits, &tickets, &mut drawer, "shard 0 read 7.1 a");
+            drop(drawer);
+            first & second
+        }
         None => false,
     };
     drop(drawers);

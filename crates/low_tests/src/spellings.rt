@@ -8,9 +8,9 @@ use std::alloc::Global;
 
 /// A record, and its bytes.
 pub struct Vector {
-    pub what: &'static str,
-    pub line: &'static str,
-    pub bytes: &'static [u8],
+    what: &'static str,
+    line: &'static str,
+    bytes: &'static [u8],
 }
 
 /// An opening of epoch 1.
@@ -41,7 +41,7 @@ const READS: &[u8] = &[
     0x61, 1, 0x62, 0, 0,
 ];
 
-static VECTORS: [Vector; 7] = [
+static VECTORS: [Vector; 15] = [
     Vector {
         what: "an opening",
         line: "opened 1",
@@ -76,6 +76,59 @@ static VECTORS: [Vector; 7] = [
         what: "a horizon",
         line: "horizon 200",
         bytes: &[7, 0, 0, 0, 0, 0, 0, 0, 0xc8],
+    },
+    // Of a renewed log's head.
+    Vector {
+        what: "a base",
+        line: "base 1 111 0",
+        bytes: &[
+            8, 0, 0, 0, 0, 0, 0, 0, 1, 0, 0, 0, 0, 0, 0, 0, 0x6f, 0, 0, 0, 0, 0, 0, 0, 0,
+        ],
+    },
+    Vector {
+        what: "a base with a horizon",
+        line: "base 3 500 200",
+        bytes: &[
+            8, 0, 0, 0, 0, 0, 0, 0, 3, 0, 0, 0, 0, 0, 0, 1, 0xf4, 0, 0, 0, 0, 0, 0, 0, 0xc8,
+        ],
+    },
+    Vector {
+        what: "a version",
+        line: "version 111 a=1",
+        bytes: &[9, 1, 0x61, 0, 0, 0, 0, 0, 0, 0, 0x6f, 1, 0, 1, 0x31],
+    },
+    Vector {
+        what: "an erasure",
+        line: "version 111 a!",
+        bytes: &[9, 1, 0x61, 0, 0, 0, 0, 0, 0, 0, 0x6f, 0],
+    },
+    Vector {
+        what: "a settled decision",
+        line: "settled 1.1 111 0",
+        bytes: &[
+            0x0a, 0, 0, 0, 0, 0, 0, 0, 1, 0, 0, 0, 0, 0, 0, 0, 1, 0, 0, 0, 0, 0, 0, 0, 0x6f, 0, 1,
+        ],
+    },
+    Vector {
+        what: "a settled decision of two shards",
+        line: "settled 1.2 200 0,1",
+        bytes: &[
+            0x0a, 0, 0, 0, 0, 0, 0, 0, 1, 0, 0, 0, 0, 0, 0, 0, 2, 0, 0, 0, 0, 0, 0, 0, 0xc8, 0, 3,
+        ],
+    },
+    Vector {
+        what: "a closed promise",
+        line: "closed 1.2 0 committed 200",
+        bytes: &[
+            0x0b, 0, 0, 0, 0, 0, 0, 0, 1, 0, 0, 0, 0, 0, 0, 0, 2, 0, 1, 0, 0, 0, 0, 0, 0, 0, 0xc8,
+        ],
+    },
+    Vector {
+        what: "a closed promise that was aborted",
+        line: "closed 1.2 15 aborted",
+        bytes: &[
+            0x0b, 0, 0, 0, 0, 0, 0, 0, 1, 0, 0, 0, 0, 0, 0, 0, 2, 0x0f, 0,
+        ],
     },
 ];
 
@@ -115,12 +168,12 @@ impl Row for Vector {
 
 /// Bytes that are a record, or not.
 pub struct Read {
-    pub what: &'static str,
-    pub bytes: &'static [u8],
-    pub is_record: bool,
+    what: &'static str,
+    bytes: &'static [u8],
+    is_record: bool,
 }
 
-static READ: [Read; 21] = [
+static READ: [Read; 55] = [
     Read {
         what: "no byte",
         bytes: &[],
@@ -241,6 +294,217 @@ static READ: [Read; 21] = [
         bytes: &[
             4, 0, 0, 0, 0, 0, 0, 0, 1, 0, 0, 0, 0, 0, 0, 0, 1, 0, 0, 0, 0, 0, 0, 0, 0x6f, 0, 1, 0,
             2, 1, 0x63, 1, 0x62, 0, 0,
+        ],
+        is_record: false,
+    },
+    // Of a renewed log's head.
+    Read {
+        what: "a base of its kind alone",
+        bytes: &[8],
+        is_record: false,
+    },
+    Read {
+        what: "a base with a byte too few",
+        bytes: &[
+            8, 0, 0, 0, 0, 0, 0, 0, 1, 0, 0, 0, 0, 0, 0, 0, 0x6f, 0, 0, 0, 0, 0, 0, 0,
+        ],
+        is_record: false,
+    },
+    Read {
+        what: "a base with a byte left over",
+        bytes: &[
+            8, 0, 0, 0, 0, 0, 0, 0, 1, 0, 0, 0, 0, 0, 0, 0, 0x6f, 0, 0, 0, 0, 0, 0, 0, 0, 0,
+        ],
+        is_record: false,
+    },
+    Read {
+        what: "a base of epoch 0",
+        bytes: &[
+            8, 0, 0, 0, 0, 0, 0, 0, 0, 0, 0, 0, 0, 0, 0, 0, 0x6f, 0, 0, 0, 0, 0, 0, 0, 0,
+        ],
+        is_record: false,
+    },
+    Read {
+        what: "a base of epoch 2^62",
+        bytes: &[
+            8, 0x40, 0, 0, 0, 0, 0, 0, 0, 0, 0, 0, 0, 0, 0, 0, 0x6f, 0, 0, 0, 0, 0, 0, 0, 0,
+        ],
+        is_record: false,
+    },
+    Read {
+        what: "a base with a greatest timestamp 2^62",
+        bytes: &[
+            8, 0, 0, 0, 0, 0, 0, 0, 1, 0x40, 0, 0, 0, 0, 0, 0, 0, 0, 0, 0, 0, 0, 0, 0, 0,
+        ],
+        is_record: false,
+    },
+    Read {
+        what: "a base with a horizon 2^62",
+        bytes: &[
+            8, 0, 0, 0, 0, 0, 0, 0, 1, 0, 0, 0, 0, 0, 0, 0, 0x6f, 0x40, 0, 0, 0, 0, 0, 0, 0,
+        ],
+        is_record: false,
+    },
+    Read {
+        what: "a base of the last timestamps",
+        bytes: &[
+            8, 0x3f, 0xff, 0xff, 0xff, 0xff, 0xff, 0xff, 0xff, 0x3f, 0xff, 0xff, 0xff, 0xff, 0xff,
+            0xff, 0xff, 0x3f, 0xff, 0xff, 0xff, 0xff, 0xff, 0xff, 0xff,
+        ],
+        is_record: true,
+    },
+    Read {
+        what: "a base with a horizon above its greatest timestamp",
+        bytes: &[
+            8, 0, 0, 0, 0, 0, 0, 0, 1, 0, 0, 0, 0, 0, 0, 0, 1, 0, 0, 0, 0, 0, 0, 0, 2,
+        ],
+        is_record: true,
+    },
+    Read {
+        what: "a version of its kind alone",
+        bytes: &[9],
+        is_record: false,
+    },
+    Read {
+        what: "a version with a byte too few",
+        bytes: &[9, 1, 0x61, 0, 0, 0, 0, 0, 0, 0, 0x6f, 1, 0, 1],
+        is_record: false,
+    },
+    Read {
+        what: "a version with a byte left over",
+        bytes: &[9, 1, 0x61, 0, 0, 0, 0, 0, 0, 0, 0x6f, 1, 0, 1, 0x31, 0],
+        is_record: false,
+    },
+    Read {
+        what: "an erasure with a byte left over",
+        bytes: &[9, 1, 0x61, 0, 0, 0, 0, 0, 0, 0, 0x6f, 0, 0],
+        is_record: false,
+    },
+    Read {
+        what: "an erasure with a byte too few",
+        bytes: &[9, 1, 0x61, 0, 0, 0, 0, 0, 0, 0, 0x6f],
+        is_record: false,
+    },
+    Read {
+        what: "a version with option byte 2",
+        bytes: &[9, 1, 0x61, 0, 0, 0, 0, 0, 0, 0, 0x6f, 2, 0, 1, 0x31],
+        is_record: false,
+    },
+    Read {
+        what: "an erasure with option byte 2",
+        bytes: &[9, 1, 0x61, 0, 0, 0, 0, 0, 0, 0, 0x6f, 2],
+        is_record: false,
+    },
+    Read {
+        what: "a version of a key without a byte",
+        bytes: &[9, 0, 0, 0, 0, 0, 0, 0, 0, 0x6f, 0],
+        is_record: false,
+    },
+    Read {
+        what: "a version at 2^62",
+        bytes: &[9, 1, 0x61, 0x40, 0, 0, 0, 0, 0, 0, 0, 0],
+        is_record: false,
+    },
+    Read {
+        what: "a version with a value that is cut short",
+        bytes: &[9, 1, 0x61, 0, 0, 0, 0, 0, 0, 0, 0x6f, 1, 0, 2, 0x31],
+        is_record: false,
+    },
+    Read {
+        what: "a version with an empty value",
+        bytes: &[9, 1, 0x61, 0, 0, 0, 0, 0, 0, 0, 0x6f, 1, 0, 0],
+        is_record: true,
+    },
+    Read {
+        what: "a settled decision of its kind alone",
+        bytes: &[0x0a],
+        is_record: false,
+    },
+    Read {
+        what: "a settled decision with a byte too few",
+        bytes: &[
+            0x0a, 0, 0, 0, 0, 0, 0, 0, 1, 0, 0, 0, 0, 0, 0, 0, 1, 0, 0, 0, 0, 0, 0, 0, 0x6f, 0,
+        ],
+        is_record: false,
+    },
+    Read {
+        what: "a settled decision with a byte left over",
+        bytes: &[
+            0x0a, 0, 0, 0, 0, 0, 0, 0, 1, 0, 0, 0, 0, 0, 0, 0, 1, 0, 0, 0, 0, 0, 0, 0, 0x6f, 0, 1,
+            0,
+        ],
+        is_record: false,
+    },
+    Read {
+        what: "a settled decision of no shard",
+        bytes: &[
+            0x0a, 0, 0, 0, 0, 0, 0, 0, 1, 0, 0, 0, 0, 0, 0, 0, 1, 0, 0, 0, 0, 0, 0, 0, 0x6f, 0, 0,
+        ],
+        is_record: false,
+    },
+    Read {
+        what: "a settled decision at 2^62",
+        bytes: &[
+            0x0a, 0, 0, 0, 0, 0, 0, 0, 1, 0, 0, 0, 0, 0, 0, 0, 1, 0x40, 0, 0, 0, 0, 0, 0, 0, 0, 1,
+        ],
+        is_record: false,
+    },
+    Read {
+        what: "a closed promise of its kind alone",
+        bytes: &[0x0b],
+        is_record: false,
+    },
+    Read {
+        what: "a closed promise with a byte too few",
+        bytes: &[
+            0x0b, 0, 0, 0, 0, 0, 0, 0, 1, 0, 0, 0, 0, 0, 0, 0, 2, 0, 1, 0, 0, 0, 0, 0, 0, 0,
+        ],
+        is_record: false,
+    },
+    Read {
+        what: "a closed promise with a byte left over",
+        bytes: &[
+            0x0b, 0, 0, 0, 0, 0, 0, 0, 1, 0, 0, 0, 0, 0, 0, 0, 2, 0, 1, 0, 0, 0, 0, 0, 0, 0, 0xc8,
+            0,
+        ],
+        is_record: false,
+    },
+    Read {
+        what: "an aborted promise with a byte left over",
+        bytes: &[
+            0x0b, 0, 0, 0, 0, 0, 0, 0, 1, 0, 0, 0, 0, 0, 0, 0, 2, 0, 0, 0,
+        ],
+        is_record: false,
+    },
+    Read {
+        what: "an aborted promise with a byte too few",
+        bytes: &[0x0b, 0, 0, 0, 0, 0, 0, 0, 1, 0, 0, 0, 0, 0, 0, 0, 2, 0],
+        is_record: false,
+    },
+    Read {
+        what: "a closed promise with option byte 2",
+        bytes: &[
+            0x0b, 0, 0, 0, 0, 0, 0, 0, 1, 0, 0, 0, 0, 0, 0, 0, 2, 0, 2, 0, 0, 0, 0, 0, 0, 0, 0xc8,
+        ],
+        is_record: false,
+    },
+    Read {
+        what: "an aborted promise with option byte 2",
+        bytes: &[0x0b, 0, 0, 0, 0, 0, 0, 0, 1, 0, 0, 0, 0, 0, 0, 0, 2, 0, 2],
+        is_record: false,
+    },
+    Read {
+        what: "a closed promise of coordinator 16",
+        bytes: &[
+            0x0b, 0, 0, 0, 0, 0, 0, 0, 1, 0, 0, 0, 0, 0, 0, 0, 2, 0x10, 1, 0, 0, 0, 0, 0, 0, 0,
+            0xc8,
+        ],
+        is_record: false,
+    },
+    Read {
+        what: "a closed promise at 2^62",
+        bytes: &[
+            0x0b, 0, 0, 0, 0, 0, 0, 0, 1, 0, 0, 0, 0, 0, 0, 0, 2, 0, 1, 0x40, 0, 0, 0, 0, 0, 0, 0,
         ],
         is_record: false,
     },

@@ -1,10 +1,9 @@
 //! The tests, each of some areas. A body that names several tables costs much to prove, so most tables have a function of their own.
 use crate::checks::{end, go_over};
 use crate::{
-    clocks, crowd, devices, disks, documents, drawers, drive_lines, figures, files, forgotten,
-    handed, heads, horizons, known, ledgers, left, limits, looks, messages, migrated, plain,
-    records, refusals, renewed, screens, seated, sessions, spellings, tables, terminals, turned,
-    verdicts, versioned,
+    clocks, crowd, devices, disks, documents, drawers, drive_lines, figures, files, handed,
+    horizons, known, ledgers, left, limits, looks, messages, migrated, plain, records, refusals,
+    renewed, screens, seated, sessions, spellings, tables, terminals, turned, verdicts, versioned,
 };
 use made::WrongRows;
 
@@ -17,8 +16,7 @@ fn small_types_and_texts(rt: HostRuntime) {
     records::go_over(wrong.of("records"), alloc);
     messages::go_over(wrong.of("messages"), alloc);
     documents::go_over(wrong.of("settings"), alloc);
-    verdicts::tell_cases(wrong.of("verdicts"), alloc);
-    verdicts::tell_renewed(wrong.of("verdicts of renewed logs"), alloc);
+    verdicts::go_over(wrong.of("verdicts"), alloc);
     clocks::tell_readings(&mut wrong, &rt);
     clocks::tell_ceilings(&mut wrong, &rt);
     wrong.of("safe times").unless(
@@ -63,8 +61,7 @@ fn disks_and_logs(rt: HostRuntime) {
     spellings::tell_vectors(&mut wrong, &rt);
     spellings::tell_read(&mut wrong, &rt);
     files::tell_cases(&mut wrong, &rt);
-    files::tell_refused(&mut wrong, &rt);
-    files::tell_areas(&mut wrong, &rt);
+    files::tell_files(&mut wrong, &rt);
     end(&rt, wrong);
 }
 
@@ -79,9 +76,10 @@ fn turned_and_migrated_logs(rt: HostRuntime) {
 }
 
 #[test]
-fn forgotten_versions(rt: HostRuntime) {
+fn versions(rt: HostRuntime) {
     let mut wrong = WrongRows::none(rt.alloc());
-    forgotten::tell_forgotten(&mut wrong, &rt);
+    versioned::tell_looked(&mut wrong, &rt);
+    go_over(&mut wrong, &rt, "drawn versions", &versioned::DRAWN);
     go_over(
         &mut wrong,
         &rt,
@@ -92,31 +90,12 @@ fn forgotten_versions(rt: HostRuntime) {
 }
 
 #[test]
-fn renewed_logs(rt: HostRuntime) {
-    let mut wrong = WrongRows::none(rt.alloc());
-    heads::tell_vectors(&mut wrong, &rt);
-    heads::tell_read(&mut wrong, &rt);
-    known::tell_renewed(&mut wrong, &rt);
-    handed::tell_handed(&mut wrong, &rt);
-    end(&rt, wrong);
-}
-
-#[test]
-fn renewed_logs_that_are_opened(rt: HostRuntime) {
-    let mut wrong = WrongRows::none(rt.alloc());
-    renewed::tell_taken(&mut wrong, &rt);
-    renewed::tell_misplaced(&mut wrong, &rt);
-    renewed::tell_ended(&mut wrong, &rt);
-    end(&rt, wrong);
-}
-
-#[test]
 fn what_is_kept_of_logs(rt: HostRuntime) {
     let mut wrong = WrongRows::none(rt.alloc());
     known::tell_cases(&mut wrong, &rt);
+    handed::tell_handed(&mut wrong, &rt);
     left::tell_reopened(&mut wrong, &rt);
-    versioned::tell_looked(&mut wrong, &rt);
-    go_over(&mut wrong, &rt, "drawn versions", &versioned::DRAWN);
+    renewed::tell_renewed(&mut wrong, &rt);
     let installed = ledgers::is_installed(rt.alloc());
     wrong
         .of("ledgers")

@@ -31,13 +31,13 @@ pub fn record_of(alloc: Global, line: &str) -> Option<Record> {
     }
 }
 
-// The pieces of a text between separators, and empty ones behind them.
+// The pieces of a text between separators, and empty ones behind them. One of `-` is empty.
 fn pieces(text: &str, separator: char) -> [&str; 6] {
     let mut pieces = [""; 6];
     let mut count = 0;
     for piece in text.split(separator) {
         if count < 6 {
-            pieces[count] = piece;
+            pieces[count] = piece.strip_prefix('-').unwrap_or(piece);
             count += 1;
         }
     }
@@ -46,65 +46,64 @@ fn pieces(text: &str, separator: char) -> [&str; 6] {
 
 // The record of a line, as far as its words can be read.
 fn read(alloc: Global, line: &str) -> Record {
-    let words = pieces(line, ' ');
-    let txn = txn_of(words[1]);
-    match words[0] {
+    let [kind, first, second, third, fourth, fifth] = pieces(line, ' ');
+    match kind {
         "opened" => Record::Opened {
-            epoch: epoch_of(words[1]),
+            epoch: epoch_of(first),
         },
         "ceiling" => Record::Ceiling {
-            at: stamp_of(words[1]),
+            at: stamp_of(first),
         },
         "horizon" => Record::Horizon {
-            at: stamp_of(words[1]),
+            at: stamp_of(first),
         },
         "prepare" => Record::Prepare(Prepared {
-            txn,
-            coordinator: coordinator_of(words[2]),
-            at: stamp_of(words[3]),
-            reads: keys_of(alloc, words[4]),
-            writes: writes_of(alloc, words[5]),
+            txn: txn_of(first),
+            coordinator: coordinator_of(second),
+            at: stamp_of(third),
+            reads: keys_of(alloc, fourth),
+            writes: writes_of(alloc, fifth),
         }),
         "commit" => Record::Commit(Committed {
-            txn,
-            at: stamp_of(words[2]),
-            parts: parts_of(words[3]),
-            reads: keys_of(alloc, words[4]),
-            writes: writes_of(alloc, words[5]),
+            txn: txn_of(first),
+            at: stamp_of(second),
+            parts: parts_of(third),
+            reads: keys_of(alloc, fourth),
+            writes: writes_of(alloc, fifth),
         }),
-        "outcome" => Record::Outcome {
-            txn,
-            outcome: outcome_of(words[2], words[3]),
-        },
-        _ => of_head(alloc, &words),
+        _ => short(alloc, kind, [first, second, third, fourth]),
     }
 }
 
-// A record that a renewed log alone has, and else an abort.
-fn of_head(alloc: Global, words: &[&str; 6]) -> Record {
-    let txn = txn_of(words[1]);
-    match words[0] {
+// A record of an end, or one that a renewed log alone has.
+fn short(alloc: Global, kind: &str, words: [&str; 4]) -> Record {
+    let [first, second, third, fourth] = words;
+    match kind {
+        "outcome" => Record::Outcome {
+            txn: txn_of(first),
+            outcome: outcome_of(second, third),
+        },
         "base" => Record::Base {
-            epoch: epoch_of(words[1]),
-            floor: stamp_of(words[2]),
-            horizon: stamp_of(words[3]),
+            epoch: epoch_of(first),
+            floor: stamp_of(second),
+            horizon: stamp_of(third),
         },
         "version" => {
-            let Write { key, value } = write_of(alloc, words[2]);
-            let at = stamp_of(words[1]);
+            let Write { key, value } = write_of(alloc, second);
+            let at = stamp_of(first);
             Record::Version(Install { key, at, value })
         }
         "settled" => Record::Settled {
-            txn,
-            at: stamp_of(words[2]),
-            parts: parts_of(words[3]),
+            txn: txn_of(first),
+            at: stamp_of(second),
+            parts: parts_of(third),
         },
         "closed" => Record::Closed {
-            txn,
-            coordinator: coordinator_of(words[2]),
-            outcome: outcome_of(words[3], words[4]),
+            txn: txn_of(first),
+            coordinator: coordinator_of(second),
+            outcome: outcome_of(third, fourth),
         },
-        _ => Record::Abort { txn },
+        _ => Record::Abort { txn: txn_of(first) },
     }
 }
 
@@ -163,7 +162,7 @@ pub fn parts_of(word: &str) -> Parts {
 pub fn keys_of(alloc: Global, word: &str) -> Keys {
     let mut keys = Vec::new(alloc);
     for part in &pieces(word, ',') {
-        if !part.is_empty() && *part != "-" {
+        if !part.is_empty() {
             let _ = keys.push(key_of(*part));
         }
     }
@@ -174,7 +173,7 @@ pub fn keys_of(alloc: Global, word: &str) -> Keys {
 pub fn writes_of(alloc: Global, word: &str) -> Writes {
     let mut writes = Vec::new(alloc);
     for part in &pieces(word, ',') {
-        if !part.is_empty() && *part != "-" {
+        if !part.is_empty() {
             let _ = writes.push(write_of(alloc, *part));
         }
     }

@@ -236,10 +236,11 @@ pub fn ends(rt: &HostRuntime) -> bool {
     let Ok(mut log) = open(alloc, disk, &[]) else {
         return false;
     };
-    let spent = log.slot() == 1024 && turn(alloc, &mut log, AREA, None) == Err(Fault::TimeSpent);
-    let goes_on = !log.is_stopped() && put_lines(alloc, &mut log, "opened 1");
+    let last = log.slot() == 1024;
+    let spent = turn(alloc, &mut log, AREA, None) == Err(Fault::TimeSpent);
+    let goes_on = !log.is_stopped() & put_lines(alloc, &mut log, "opened 1");
     drop(log);
-    whole && spent && goes_on
+    whole & last & spent & goes_on
 }
 
 pub fn tell_turned(wrong: &mut WrongRows, rt: &HostRuntime) {

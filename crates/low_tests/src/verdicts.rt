@@ -57,7 +57,7 @@ const ONE_RENEWED: &[&str] = &[
     "base 1 200 0\nversion 200 z=2\nclosed 1.2 0 committed 200\nopened 2\n",
 ];
 
-static CASES: [Case; 27] = [
+static CASES: [Case; 44] = [
     Case {
         name: "a whole report",
         logs: ONE_SHARD,
@@ -232,10 +232,7 @@ static CASES: [Case; 27] = [
         lines: "read 1.2 a =1\nread 1.3 a =1\n",
         verdict: "no read 1",
     },
-];
-
-// Of these nothing is read. The places of lines are those of all lines.
-static OF_RENEWED: [Case; 17] = [
+    // Of these nothing is read. The places of lines are those of all lines.
     Case {
         name: "a renewed log",
         logs: RENEWED,
@@ -388,16 +385,9 @@ fn has_its_verdict(alloc: Global, case: &Case) -> bool {
     read && given
 }
 
-fn go_over(wrong: &mut WrongRows, alloc: Global, cases: &[Case]) {
-    for case in cases {
+/// Goes over all rows.
+pub fn go_over(wrong: &mut WrongRows, alloc: Global) {
+    for case in &CASES {
         wrong.unless(has_its_verdict(alloc, case), case.name);
     }
-}
-
-pub fn tell_cases(wrong: &mut WrongRows, alloc: Global) {
-    go_over(wrong, alloc, &CASES);
-}
-
-pub fn tell_renewed(wrong: &mut WrongRows, alloc: Global) {
-    go_over(wrong, alloc, &OF_RENEWED);
 }

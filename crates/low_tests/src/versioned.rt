@@ -11,7 +11,7 @@ use units::{Key, Stamp, Value, Write, Writes};
 use versions::Versions;
 
 /// A version of a key, by its letter: the timestamp, and a value of one letter or an erasure.
-pub type Version = (u8, u32, Option<u8>);
+type Version = (u8, u32, Option<u8>);
 
 // A version in a plain list of all, ascending by key and timestamp.
 #[derive(Clone, Copy)]
@@ -44,7 +44,7 @@ pub fn install(alloc: Global, versions: &mut Versions, new: &Plain) -> Option<bo
 }
 
 // Installs each that its key takes.
-pub fn install_rows(alloc: Global, versions: &mut Versions, rows: &[Version]) -> bool {
+fn install_rows(alloc: Global, versions: &mut Versions, rows: &[Version]) -> bool {
     for (letter, at, value) in rows {
         let new = Plain {
             key: key(*letter),
@@ -89,7 +89,7 @@ fn install_two(alloc: Global, versions: &mut Versions) -> bool
 
 /// The letter of a key, a timestamp or none for the latest, and the value that is found; and where that is looked at, how many
 /// versions stand up to there, and how many of all are compared at most.
-pub type Lookup = (u8, Option<u64>, Option<u8>, Option<(usize, u32)>);
+type Lookup = (u8, Option<u64>, Option<u8>, Option<(usize, u32)>);
 
 /// Versions, the horizons below which they are forgotten one after another, versions that come behind that, and what is found.
 #[derive(Clone, Copy)]
@@ -104,7 +104,7 @@ pub struct Looked {
 }
 
 /// No version.
-pub const EMPTY: Looked = Looked {
+const EMPTY: Looked = Looked {
     what: "",
     versions: &[],
     written: false,
@@ -113,7 +113,34 @@ pub const EMPTY: Looked = Looked {
     lookups: &[],
 };
 
-static LOOKED: [Looked; 5] = [
+// One key, written twice.
+const TWO: &[Version] = &[(b'z', 200, Some(b'1')), (b'z', 300, Some(b'2'))];
+
+// One key, erased between two writes.
+const ERASED: &[Version] = &[
+    (b'a', 111, Some(b'1')),
+    (b'a', 200, None),
+    (b'a', 300, Some(b'2')),
+];
+
+// Three keys, of which one is written late.
+const SIX: &[Version] = &[
+    (b'a', 10, Some(b'1')),
+    (b'b', 5, Some(b'4')),
+    (b'a', 20, Some(b'2')),
+    (b'b', 25, Some(b'5')),
+    (b'a', 30, Some(b'3')),
+    (b'c', 40, Some(b'6')),
+];
+
+// What comes later.
+const LATER: &[Version] = &[
+    (b'a', 31, Some(b'7')),
+    (b'b', 26, None),
+    (b'd', 50, Some(b'8')),
+];
+
+static LOOKED: [Looked; 18] = [
     Looked {
         what: "a value from its timestamp on",
         versions: &[(b'a', 111, Some(b'1')), (b'z', 200, Some(b'2'))],
@@ -171,6 +198,177 @@ static LOOKED: [Looked; 5] = [
             (b'a', Some(200), Some(b'1'), None),
             (b'z', None, None, None),
             (b'z', Some(200), None, Some((2, 2))),
+        ],
+        ..EMPTY
+    },
+    // Those below a horizon are forgotten.
+    Looked {
+        what: "the older of two goes",
+        versions: TWO,
+        horizons: &[300],
+        lookups: &[
+            (b'z', Some(299), None, None),
+            (b'z', Some(300), Some(b'2'), None),
+            (b'z', None, Some(b'2'), Some((1, 1))),
+        ],
+        ..EMPTY
+    },
+    Looked {
+        what: "the newest below a horizon stays",
+        versions: TWO,
+        horizons: &[250],
+        lookups: &[
+            (b'z', Some(199), None, None),
+            (b'z', Some(200), Some(b'1'), None),
+            (b'z', Some(250), Some(b'1'), None),
+            (b'z', Some(299), Some(b'1'), None),
+            (b'z', Some(300), Some(b'2'), None),
+            (b'z', None, Some(b'2'), Some((2, 2))),
+        ],
+        ..EMPTY
+    },
+    Looked {
+        what: "that at the horizon stays",
+        versions: TWO,
+        horizons: &[200],
+        lookups: &[
+            (b'z', Some(200), Some(b'1'), None),
+            (b'z', Some(299), Some(b'1'), None),
+            (b'z', None, Some(b'2'), Some((2, 2))),
+        ],
+        ..EMPTY
+    },
+    Looked {
+        what: "a horizon below all",
+        versions: TWO,
+        horizons: &[199],
+        lookups: &[
+            (b'z', Some(199), None, None),
+            (b'z', Some(200), Some(b'1'), None),
+            (b'z', None, Some(b'2'), Some((2, 2))),
+        ],
+        ..EMPTY
+    },
+    Looked {
+        what: "a horizon above all",
+        versions: SIX,
+        horizons: &[4611686018427387903],
+        lookups: &[
+            (b'a', Some(4611686018427387903), Some(b'3'), None),
+            (b'b', None, Some(b'5'), None),
+            (b'c', None, Some(b'6'), Some((3, 2))),
+            (b'a', Some(29), None, None),
+            (b'a', Some(30), Some(b'3'), None),
+        ],
+        ..EMPTY
+    },
+    Looked {
+        what: "an erasure that is the newest stays",
+        versions: ERASED,
+        horizons: &[250],
+        lookups: &[
+            (b'a', Some(199), None, None),
+            (b'a', Some(200), None, None),
+            (b'a', Some(250), None, None),
+            (b'a', Some(299), None, None),
+            (b'a', Some(300), Some(b'2'), None),
+            (b'a', None, Some(b'2'), Some((2, 2))),
+        ],
+        ..EMPTY
+    },
+    Looked {
+        what: "an erasure before it goes",
+        versions: ERASED,
+        horizons: &[300],
+        lookups: &[
+            (b'a', Some(250), None, None),
+            (b'a', Some(300), Some(b'2'), None),
+            (b'a', None, Some(b'2'), Some((1, 1))),
+        ],
+        ..EMPTY
+    },
+    Looked {
+        what: "each key by itself",
+        versions: SIX,
+        horizons: &[20],
+        lookups: &[
+            (b'a', Some(10), None, None),
+            (b'a', Some(20), Some(b'2'), None),
+            (b'a', Some(29), Some(b'2'), None),
+            (b'a', Some(30), Some(b'3'), None),
+            (b'b', Some(5), Some(b'4'), None),
+            (b'b', Some(20), Some(b'4'), None),
+            (b'b', Some(25), Some(b'5'), None),
+            (b'c', Some(39), None, None),
+            (b'c', Some(40), Some(b'6'), None),
+            (b'c', None, Some(b'6'), Some((5, 3))),
+        ],
+        ..EMPTY
+    },
+    Looked {
+        what: "twice",
+        versions: SIX,
+        horizons: &[20, 30],
+        lookups: &[
+            (b'a', Some(29), None, None),
+            (b'a', Some(30), Some(b'3'), None),
+            (b'b', Some(25), Some(b'5'), None),
+            (b'b', Some(24), None, None),
+            (b'c', Some(40), Some(b'6'), Some((3, 2))),
+            (b'c', Some(39), None, Some((2, 2))),
+        ],
+        ..EMPTY
+    },
+    Looked {
+        what: "a lower horizon later",
+        versions: SIX,
+        horizons: &[30, 10],
+        lookups: &[
+            (b'a', Some(30), Some(b'3'), None),
+            (b'b', Some(30), Some(b'5'), None),
+            (b'a', Some(20), None, None),
+            (b'c', None, Some(b'6'), Some((3, 2))),
+        ],
+        ..EMPTY
+    },
+    Looked {
+        what: "the beginning of time",
+        versions: SIX,
+        horizons: &[0],
+        lookups: &[
+            (b'a', Some(10), Some(b'1'), None),
+            (b'a', Some(20), Some(b'2'), None),
+            (b'b', Some(5), Some(b'4'), None),
+            (b'c', None, Some(b'6'), Some((6, 3))),
+        ],
+        ..EMPTY
+    },
+    Looked {
+        what: "no version",
+        horizons: &[100],
+        lookups: &[
+            (b'a', Some(100), None, Some((0, 0))),
+            (b'a', None, None, None),
+        ],
+        ..EMPTY
+    },
+    Looked {
+        what: "installs behind it",
+        versions: SIX,
+        horizons: &[20],
+        behind: LATER,
+        lookups: &[
+            (b'a', Some(20), Some(b'2'), None),
+            (b'a', Some(30), Some(b'3'), None),
+            (b'a', Some(31), Some(b'7'), None),
+            (b'b', Some(20), Some(b'4'), None),
+            (b'b', Some(25), Some(b'5'), None),
+            (b'b', Some(26), None, None),
+            (b'b', None, None, None),
+            (b'c', Some(40), Some(b'6'), None),
+            (b'd', Some(49), None, None),
+            (b'd', Some(50), Some(b'8'), None),
+            (b'd', None, Some(b'8'), Some((8, 4))),
         ],
         ..EMPTY
     },
@@ -321,10 +519,10 @@ pub fn agree_at(versions: &Versions, all: &[Plain], sought: &Plain) -> bool {
     let (found, probes) = versions.find(key, at, &mut Count::none());
     // The number's binary digits, or one less.
     let digits = usize::BITS - all.len().leading_zeros();
-    found == listed.count
-        && byte(versions.at(key, at)) == listed.value
-        && byte(versions.latest(key)) == listed.latest
-        && digits.wrapping_sub(probes) <= 1
+    (found == listed.count)
+        & (byte(versions.at(key, at)) == listed.value)
+        & (byte(versions.latest(key)) == listed.latest)
+        & (digits.wrapping_sub(probes) <= 1)
 }
 
 /// So many drawn versions of keys behind one of these numbers of letters. At each so many-th turn the new one is looked for, and
