@@ -1,15 +1,17 @@
 -- For what a command is refused, by what drives and what puts, and what it tells.
-use Rattle.std.proofs.Common.{◌≡◌, ◌⊎◌, ℕ, List, inl, inr, Result, Ok, Err, refl, subst, sym}
+use Rattle.std.proofs.Common.{◌≡◌, ◌⊎◌, ℕ, List, None, inl, inr, Result, Ok, Err, refl, subst, sym}
 use Rattle.std.specs.Prelude.{IfErr, IfOk, MatchResult}
 use Rattle.units.specs.declared.fault.Fault.{Fault}
 use Rattle.units.specs.declared.fault.Fault.TheVariants.{Memory}
+use Rattle.output.specs.Failures.{FailsFor}
 use Rattle.output.specs.declared.failure.Failure.{Failure}
 use Rattle.output.specs.declared.failure.Failure.TheVariants.{Refused, Unwritten}
 use Rattle.command_line.specs.Commands.{Asked, help, once_asked, format_asked, play_asked, inspect_asked, drive_asked, dump_asked, history_asked}
 use Rattle.command_line.specs.Commands.{get_asked, put_asked, stats_asked, migrate_asked, compact_asked}
 use Rattle.system.specs.declared.asked.Driven.{Driven}
 use Rattle.system.specs.declared.asked.NoVerdict.{NoVerdict}
-use Rattle.commands.specs.Faults.{FailsAs, IsNotDriven, IsRefusedBy, MayRefuse, MayRefuseTo}
+use Rattle.commands.specs.Faults.{FailsAs, IsNotDriven, IsNotPut, IsRefusedBy, IsUnputBy, MayRefuse, MayRefuseTo}
+use Rattle.commands.specs.declared.engine.Put.{Put}
 use Rattle.client.specs.declared.ended.Ended.{Ended}
 use Rattle.units.specs.declared.line.Verdict.{Verdict}
 use Rattle.commands.specs.Drives.{Driving}
@@ -21,6 +23,27 @@ pub refused_by : {S : Type 0} (call : S → Result Driven NoVerdict → Type 0) 
     → IfErr r (λ none. IsNotDriven (IsRefusedBy call) none.fault)
 refused_by call settings (Ok driven) is = tt
 refused_by call settings (Err none) is = inr (inr (settings, none, is, refl))
+
+-- and what comes of it
+pub driven_by : {S : Type 0} (call : S → Result Driven NoVerdict → Type 0) (settings : S) (r : Result Driven NoVerdict) → call settings r
+    → IfOk r (λ driven. (s : S) × call s (Ok driven))
+driven_by call settings (Ok driven) is = (settings, is)
+driven_by call settings (Err none) is = tt
+
+-- what a call that puts a write is refused for
+pub unput_by : (call : Put → Result Ended Fault → Type 0) (write : Put) (r : Result Ended Fault) → call write r → IfErr r (IsNotPut (IsUnputBy call))
+unput_by call write (Ok ended) is = tt
+unput_by call write (Err fault) is = inr (write, is)
+
+-- where an answer is refused for less
+pub refused_more : {T : Type 0} {less more : Fault → Type 0} (r : Result T Fault) → ((fault : Fault) → less fault → more fault) → IfErr r less → IfErr r more
+refused_more (Ok t) widens is = tt
+refused_more (Err fault) widens is = widens fault is
+
+-- what holds of an answer twice
+pub both_hold : {T : Type 0} (P Q : T → Type 0) (r : Result T Fault) → IfOk r P → IfOk r Q → IfOk r (λ t. P t × Q t)
+both_hold P Q (Ok t) p q = (p, q)
+both_hold P Q (Err fault) p q = tt
 
 module _ (drives puts : Fault → Type 0) where
   -- for less a command may be refused too
@@ -80,6 +103,16 @@ module _ (drives puts : Fault → Type 0) where
   pub none_of : (asked : Result Asked Fault) (fault why : Fault) → asked ≡ Err why → MayRefuseTo drives puts asked fault
   none_of asked fault why is = subst (λ (r : Result Asked Fault). MayRefuseTo drives puts r fault) (sym is) tt
 
+-- what holds of a text that was printed, by what holds of it
+pub of_printed : {T : Type 0} (Holds : T → Type 0) (Goal : ℕ → Type 0) (Printed : T → ℕ → Type 0) (failed same : Type 0) (told : Result T Fault)
+    (printed : Result ℕ Failure) → ((t : T) → Holds t → (status : ℕ) → Printed t status → Goal status) → IfOk told Holds
+    → IfOk told (λ t. MatchResult printed (Printed t) (λ failure. (failure ≡ Unwritten) × failed))
+    → IfErr told (λ fault. (printed ≡ Err (Refused fault)) × same) → IfOk printed Goal
+of_printed Holds Goal Printed failed same (Ok t) (Ok status) so holds ended passed = so t holds status ended
+of_printed Holds Goal Printed failed same (Ok t) (Err failure) so holds ended passed = tt
+of_printed Holds Goal Printed failed same (Err fault) printed so holds ended passed =
+    subst (λ (r : Result ℕ Failure). IfOk r Goal) (sym passed.0) tt
+
 -- a refusal that was passed on in place of a text is that of whoever was to tell it
 pub passed_on : {T : Type 0} (refuses : Fault → Type 0) (Printed : T → ℕ → Type 0) (failed same : Type 0) (told : Result T Fault) (printed : Result ℕ Failure)
     → IfErr told refuses → IfOk told (λ t. MatchResult printed (Printed t) (λ failure. (failure ≡ Unwritten) × failed))
@@ -88,6 +121,31 @@ passed_on refuses Printed failed same (Ok t) (Ok status) why ended passed = tt
 passed_on refuses Printed failed same (Ok t) (Err failure) why ended passed = inl ended.0
 passed_on refuses Printed failed same (Err fault) printed why ended passed =
     subst (λ (r : Result ℕ Failure). IfErr r (FailsAs refuses)) (sym passed.0) (inr (fault, refl, why))
+
+-- what was to be printed fails for a write, or is refused; then nothing was written that failed
+module _ {T : Type 0} (Printed : T → ℕ → Type 0) (failed same : Type 0) where
+  pub fails_so : (told : Result T Fault) (printed : Result ℕ Failure)
+      → IfOk told (λ t. MatchResult printed (Printed t) (λ failure. (failure ≡ Unwritten) × failed))
+      → IfErr told (λ fault. (printed ≡ Err (Refused fault)) × same) → IfErr printed (λ failure. FailsFor failed failure None)
+  fails_so (Ok t) (Ok status) ended passed = tt
+  fails_so (Ok t) (Err failure) ended passed = inl ended
+  fails_so (Err fault) printed ended passed =
+      subst (λ (r : Result ℕ Failure). IfErr r (λ failure. FailsFor failed failure None)) (sym passed.0)
+      (inr (inr (record { fault = fault; told = refl; due = tt })))
+
+  pub unwritten_so : (told : Result T Fault) (printed : Result ℕ Failure)
+      → IfOk told (λ t. MatchResult printed (Printed t) (λ failure. (failure ≡ Unwritten) × failed))
+      → IfErr told (λ fault. (printed ≡ Err (Refused fault)) × same) → printed ≡ Err Unwritten → failed
+  unwritten_so (Ok t) (Ok status) ended passed is = absurd (cc)
+  unwritten_so (Ok t) (Err failure) ended passed is = ended.1
+  unwritten_so (Err fault) printed ended passed is = let refused = passed.0 in absurd (cc)
+
+  pub counted_so : (Goal : Type 0) → (same → Goal) → (told : Result T Fault) (printed : Result ℕ Failure)
+      → IfOk told (λ t. MatchResult printed (Printed t) (λ failure. (failure ≡ Unwritten) × failed))
+      → IfErr told (λ fault. (printed ≡ Err (Refused fault)) × same) → (fault : Fault) → printed ≡ Err (Refused fault) → Goal
+  counted_so Goal so (Ok t) (Ok status) ended passed fault is = absurd (cc)
+  counted_so Goal so (Ok t) (Err failure) ended passed fault is = let unwritten = ended.0 in absurd (cc)
+  counted_so Goal so (Err why) printed ended passed fault is = so passed.1
 
 -- who says why there is no verdict fails for that, or for a write
 pub fails_by : {T : Type 0} (drives : Fault → Type 0) (x : Result T Failure) (none : NoVerdict) → IsNotDriven drives none.fault

@@ -85,6 +85,8 @@ fn driven_by<F: Files, D: Fn(Global, &Settings) -> Result<Driven, NoVerdict>, P>
         (λ none. IsNotDriven (IsRefusedBy (D.post system.now.drive.run alloc)) none.fault) }
 {
     let text = read_text(alloc, &system.files, file, Reason::Settings)?;
-    let settings = Settings::read(alloc, &text)?;
+    let settings = Settings::read(alloc, &text);
+    drop(text);
+    let settings = settings?;
     (system.drive.run)(alloc, &settings)
 }

@@ -15,7 +15,15 @@ pub fn play<F: Files>(alloc: Global, file: &str, files: &F) -> Result<(String, u
     ensures refused { IfErr result IsNotPlayed }
 {
     let text = read_text(alloc, files, file, Reason::Syntax(1))?;
-    let (config, events) = schedule(alloc, &text)?;
-    let played = judged(alloc, &config, &events)?;
-    Ok((report(alloc, &played)?, status_of(played.verdict)))
+    let told = schedule(alloc, &text);
+    drop(text);
+    let (config, events) = told?;
+    let played = judged(alloc, &config, &events);
+    drop(config);
+    drop(events);
+    let played = played?;
+    let status = status_of(played.verdict);
+    let text = report(alloc, &played);
+    drop(played);
+    Ok((text?, status))
 }
