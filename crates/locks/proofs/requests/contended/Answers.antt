@@ -17,5 +17,6 @@ loop-need-preserved c =
       | else-not-seems_alone w ↦
           let same : c.if-not-seems_alone.locks.items ≡ c.loop-need.locks.items = cc in
           left p c.args.needs.now c.loop-need.need-index x c.if-not-seems_alone.locks.items _ c.loop-need-test.true c.need-item.is
-          (ap not (sym c.seems_alone.ensures ∙ w.if-not-seems_alone.false)) (ap (λ l. l ++ filter p (drop c.loop-need.need-index c.args.needs.now)) same ∙ c.loop-need.invariant)
+          (ap not (sym c.seems_alone.ensures ∙ w.if-not-seems_alone.false))
+          (ap (λ l. l ++ filter p (drop c.loop-need.need-index c.args.needs.now)) same ∙ c.loop-need.invariant)
     ]
