@@ -1,6 +1,18 @@
-use Rattle.std.proofs.Common.{rules, drop}
+use Rattle.std.proofs.Common.{◌∙◌, rules, drop, ap, sym}
+use Rattle.board.specs.Board.{is_board}
 use Rattle.board.proofs.Accepts.{prepared_twice, refused, finished}
+use Rattle.board.proofs.Steps.{all_ahead}
 use Rattle.board.proofs.press.show.Goals as goal
+
+pub prepare-writer-requires-clause-lawful : goal.prepare-writer-requires-clause-lawful
+prepare-writer-requires-clause-lawful g c =
+    let x = c.args.writer in
+    ap is_board (sym (all_ahead x.desk.shown.value (drop x.behind x.log.items) c.requires.longer)) ∙ c.requires.lawful
+
+pub prepare-writer-requires-2-clause-lawful : goal.prepare-writer-requires-2-clause-lawful
+prepare-writer-requires-2-clause-lawful g c =
+    let x = c.args.writer in
+    ap is_board (c.prepare-writer.ensures.ahead ∙ sym (all_ahead x.desk.shown.value (drop x.behind x.log.items) c.requires.longer)) ∙ c.requires.lawful
 
 pub returns-then-not-one : goal.returns-then-not-one
 returns-then-not-one g c =
