@@ -7,7 +7,7 @@ use Rattle.units.specs.declared.lock.Lock.{Lock}
 use Rattle.units.specs.declared.writes.Write.{Write}
 use Rattle.message.specs.declared.message.Envelope.{Envelope}
 use Rattle.protocol.specs.Rows.{Phase, Row, Standing, HasRow, IsUnknown, WasEnded, WasAborted, WasSettled, WasClosed, find_row, held_in}
-use Rattle.protocol.specs.Rows.{Idle, WaitsRead, WaitsPrepare, WaitsCommit, Collecting, IsPrepared, IsDecided}
+use Rattle.protocol.specs.Rows.{Idle, WaitsRead, WaitsPrepare, WaitsCommit, IsPrepared, IsDecided}
 use Rattle.protocol.specs.Cells.{plan_give_up}
 use Rattle.protocol.specs.Plan as protocol
 use Rattle.rows.specs.CodeRows.{is_collecting, may_close}

@@ -1,5 +1,5 @@
 use Rattle.std.proofs.Common.{◌≡◌, ◌<◌, ◌∙◌, true, sym, subst}
-use Rattle.record.specs.Facts.{Facts, learn}
+use Rattle.record.specs.Facts.{Facts}
 use Rattle.facts.specs.Stages.{follows_head}
 use Rattle.safetime.specs.Safe.{Times}
 use Rattle.memory.specs.Kept.{Kept}
