@@ -1,4 +1,4 @@
-use Rattle.std.proofs.Common.{◌≡◌, ◌+◌, ◌∙◌, inl, nat_lt, length, ap, subst, sym, IsFalse, Result, Ok, Err, OnOk, IfErr, Some}
+use Rattle.std.proofs.Common.{◌+◌, ◌∙◌, inl, nat_lt, length, ap, subst, sym, IsFalse, Result, Ok, Err, OnOk, IfErr, Some}
 use Rattle.std.proofs.lemmas.Result.{on_ok_weaker}
 use Rattle.units.specs.declared.fault.Fault.{Fault}
 use Rattle.disk.specs.Image.{MayLeave}
