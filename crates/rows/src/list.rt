@@ -69,21 +69,43 @@ impl RowList {
     pub fn nth_prepared(&self, n: usize) -> Option<(TxnId, Stamp)>
         ensures { result ≡ slice_get (gather stamp_if_prepared self.now) n }
     {
-        nth_prepared(&self.rows, n)
+        let mut left = n;
+        for row in &self.rows {
+            if let Some(found) = row.prepared() {
+                if left == 0 {
+                    return Some(found);
+                }
+                left -= 1;
+            }
+        }
+        None
     }
 
     /// The n-th decided transaction, with its timestamp.
     pub fn nth_decided(&self, n: usize) -> Option<(TxnId, Stamp)>
         ensures { result ≡ slice_get (gather stamp_if_decided self.now) n }
     {
-        nth_decided(&self.rows, n)
+        let mut left = n;
+        for row in &self.rows {
+            if let Some(found) = row.decided() {
+                if left == 0 {
+                    return Some(found);
+                }
+                left -= 1;
+            }
+        }
+        None
     }
 
     /// A decided transaction of the least timestamp, with it.
     pub fn earliest_decided(&self) -> Option<(TxnId, Stamp)>
         ensures { IsEarliest (gather stamp_if_decided self.now) result }
     {
-        earliest_decided(&self.rows)
+        let mut earliest = None;
+        for row in &self.rows {
+            earliest = earlier(earliest, row.decided());
+        }
+        earliest
     }
 
     /// Spends the token of each row.
@@ -152,49 +174,6 @@ fn first_from(rows: &[Row], txn: TxnId) -> usize
         (λ r. older (txn_of r) txn ≡ false) rows.now result }
 {
     rows.partition_point(|row| row.txn() < txn)
-}
-
-// The n-th prepared transaction.
-fn nth_prepared(rows: &[Row], n: usize) -> Option<(TxnId, Stamp)>
-    ensures { result ≡ slice_get (gather stamp_if_prepared rows.now) n }
-{
-    let mut left = n;
-    for row in rows {
-        if let Some(found) = row.prepared() {
-            if left == 0 {
-                return Some(found);
-            }
-            left -= 1;
-        }
-    }
-    None
-}
-
-// The n-th decided transaction.
-fn nth_decided(rows: &[Row], n: usize) -> Option<(TxnId, Stamp)>
-    ensures { result ≡ slice_get (gather stamp_if_decided rows.now) n }
-{
-    let mut left = n;
-    for row in rows {
-        if let Some(found) = row.decided() {
-            if left == 0 {
-                return Some(found);
-            }
-            left -= 1;
-        }
-    }
-    None
-}
-
-// A decided transaction of the least timestamp.
-fn earliest_decided(rows: &[Row]) -> Option<(TxnId, Stamp)>
-    ensures { IsEarliest (gather stamp_if_decided rows.now) result }
-{
-    let mut earliest = None;
-    for row in rows {
-        earliest = earlier(earliest, row.decided());
-    }
-    earliest
 }
 
 // The one with the lower timestamp, where both are there.

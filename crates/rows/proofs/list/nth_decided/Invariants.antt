@@ -1,7 +1,0 @@
-use Rattle.std.proofs.Common.{◌≡◌, drop, slice_get}
-use Rattle.units.specs.Lists.{gather}
-use Rattle.rows.specs.CodeRows.{stamp_if_decided}
-use Rattle.rows.proofs.list.nth_decided.Given as goal
-
-abbrev pub invariant-loop-row : goal.invariant-loop-row
-invariant-loop-row l = slice_get (gather stamp_if_decided (drop l.row-index l.rows)) l.left ≡ slice_get (gather stamp_if_decided l.rows) l.n
