@@ -1,9 +1,8 @@
 -- For what a command is refused, by what drives and what puts, and what it tells.
-use Rattle.std.proofs.Common.{◌≡◌, ◌⊎◌, ℕ, List, None, inl, inr, Result, Ok, Err, refl, subst, sym}
+use Rattle.std.proofs.Common.{◌≡◌, ◌⊎◌, ℕ, List, inl, inr, Result, Ok, Err, refl, subst, sym}
 use Rattle.std.specs.Prelude.{IfErr, IfOk, MatchResult}
 use Rattle.units.specs.declared.fault.Fault.{Fault}
 use Rattle.units.specs.declared.fault.Fault.TheVariants.{Memory}
-use Rattle.output.specs.Failures.{FailsFor}
 use Rattle.output.specs.declared.failure.Failure.{Failure}
 use Rattle.output.specs.declared.failure.Failure.TheVariants.{Refused, Unwritten}
 use Rattle.command_line.specs.Commands.{Asked, help, once_asked, format_asked, play_asked, inspect_asked, drive_asked, dump_asked, history_asked}
@@ -121,31 +120,6 @@ passed_on refuses Printed failed same (Ok t) (Ok status) why ended passed = tt
 passed_on refuses Printed failed same (Ok t) (Err failure) why ended passed = inl ended.0
 passed_on refuses Printed failed same (Err fault) printed why ended passed =
     subst (λ (r : Result ℕ Failure). IfErr r (FailsAs refuses)) (sym passed.0) (inr (fault, refl, why))
-
--- what was to be printed fails for a write, or is refused; then nothing was written that failed
-module _ {T : Type 0} (Printed : T → ℕ → Type 0) (failed same : Type 0) where
-  pub fails_so : (told : Result T Fault) (printed : Result ℕ Failure)
-      → IfOk told (λ t. MatchResult printed (Printed t) (λ failure. (failure ≡ Unwritten) × failed))
-      → IfErr told (λ fault. (printed ≡ Err (Refused fault)) × same) → IfErr printed (λ failure. FailsFor failed failure None)
-  fails_so (Ok t) (Ok status) ended passed = tt
-  fails_so (Ok t) (Err failure) ended passed = inl ended
-  fails_so (Err fault) printed ended passed =
-      subst (λ (r : Result ℕ Failure). IfErr r (λ failure. FailsFor failed failure None)) (sym passed.0)
-      (inr (inr (record { fault = fault; told = refl; due = tt })))
-
-  pub unwritten_so : (told : Result T Fault) (printed : Result ℕ Failure)
-      → IfOk told (λ t. MatchResult printed (Printed t) (λ failure. (failure ≡ Unwritten) × failed))
-      → IfErr told (λ fault. (printed ≡ Err (Refused fault)) × same) → printed ≡ Err Unwritten → failed
-  unwritten_so (Ok t) (Ok status) ended passed is = absurd (cc)
-  unwritten_so (Ok t) (Err failure) ended passed is = ended.1
-  unwritten_so (Err fault) printed ended passed is = let refused = passed.0 in absurd (cc)
-
-  pub counted_so : (Goal : Type 0) → (same → Goal) → (told : Result T Fault) (printed : Result ℕ Failure)
-      → IfOk told (λ t. MatchResult printed (Printed t) (λ failure. (failure ≡ Unwritten) × failed))
-      → IfErr told (λ fault. (printed ≡ Err (Refused fault)) × same) → (fault : Fault) → printed ≡ Err (Refused fault) → Goal
-  counted_so Goal so (Ok t) (Ok status) ended passed fault is = absurd (cc)
-  counted_so Goal so (Ok t) (Err failure) ended passed fault is = let unwritten = ended.0 in absurd (cc)
-  counted_so Goal so (Err why) printed ended passed fault is = so passed.1
 
 -- who says why there is no verdict fails for that, or for a write
 pub fails_by : {T : Type 0} (drives : Fault → Type 0) (x : Result T Failure) (none : NoVerdict) → IsNotDriven drives none.fault

@@ -2,8 +2,7 @@
 use crate::checks::{Row, go_over};
 use crate::devices::sent;
 use crate::file_logs::{is_no_log, is_opened_again};
-use crate::files::is_file;
-use crate::steps::{Step, Stepped, call_any, go_well};
+use crate::steps::{Step, Stepped, call_any, go_well, read_back};
 use disk::Disk;
 use filedisk::FileDisk;
 use made::{Folder, WrongRows};
@@ -305,12 +304,12 @@ fn is_answered_so(rt: &HostRuntime, path: &str, row: &Asked) -> bool {
     answered
 }
 
-/// Whether the file, when it is opened, is the one that is told without its slots.
-pub fn keeps(rt: &HostRuntime, path: &str, told: &[u8]) -> bool {
+/// Whether the file, when it is opened, has these bytes.
+pub fn keeps(rt: &HostRuntime, path: &str, bytes: &[u8]) -> bool {
     let Ok(mut disk) = FileDisk::open(rt, path) else {
         return false;
     };
-    let kept = is_file(rt.alloc(), &mut disk, told);
+    let kept = read_back(rt.alloc(), &mut disk, bytes).is_ok();
     drop(disk);
     kept
 }

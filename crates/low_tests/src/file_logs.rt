@@ -4,7 +4,7 @@ use crate::files::{Place, open, put_lines};
 use crate::spellings::OPENED;
 use filedisk::FileDisk;
 use gatelog::GateLog;
-use made::FIRST_GATE;
+use made::{FIRST_GATE, with_slots};
 use units::Fault;
 
 // The header; Opened 1; Opened 2; a closed gate. The slots are left out.
@@ -53,10 +53,22 @@ pub fn is_no_log(rt: &HostRuntime, path: &str) -> bool {
     }
 }
 
+// The file has the bytes of both openings.
+fn is_kept(rt: &HostRuntime, path: &str) -> bool {
+    match with_slots(rt.alloc(), TWO_OPENINGS) {
+        Ok(bytes) => {
+            let kept = keeps(rt, path, &bytes);
+            drop(bytes);
+            kept
+        }
+        Err(_) => false,
+    }
+}
+
 /// Whether the file, once it was formatted, is opened as a log, and opened again with what was put behind.
 pub fn is_opened_again(rt: &HostRuntime, path: &str) -> bool {
     begins(rt, path)
         && goes_on(rt, path, &[(FIRST_GATE, OPENED)], "opened 2")
         && goes_on(rt, path, OPENINGS, "")
-        && keeps(rt, path, TWO_OPENINGS)
+        && is_kept(rt, path)
 }

@@ -385,9 +385,14 @@ fn has_its_verdict(alloc: Global, case: &Case) -> bool {
     read && given
 }
 
+// A body that names a table costs much to prove, so the table is handed on.
+fn cases() -> &'static [Case] {
+    &CASES
+}
+
 /// Goes over all rows.
 pub fn go_over(wrong: &mut WrongRows, alloc: Global) {
-    for case in &CASES {
+    for case in cases() {
         wrong.unless(has_its_verdict(alloc, case), case.name);
     }
 }

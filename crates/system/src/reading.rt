@@ -43,14 +43,8 @@ pub fn format_file<F: Files>(alloc: Global, files: &F, path: &str) -> Result<(),
 {
     let file = files.create(alloc, path)?;
     match GateLog::format(file) {
-        Ok(log) => {
-            drop(log.into_disk());
-            Ok(())
-        }
-        Err((fault, file)) => {
-            drop(file);
-            Err(fault)
-        }
+        Ok(_) => Ok(()),
+        Err((fault, _)) => Err(fault),
     }
 }
 
@@ -60,26 +54,11 @@ pub fn migrate_file<F: Files>(alloc: Global, files: &F, old: &str, new: &str) ->
     ensures { IfErr result IsNotMigrated }
 {
     let mut first = files.open(alloc, old)?;
-    let made = migrate_log(alloc, files, &mut first, new);
-    drop(first);
-    made
-}
-
-// The same of a file that is open.
-fn migrate_log<F: Files>(alloc: Global, files: &F, old: &mut F::Log, new: &str) -> Result<(), Fault>
-    ensures { IfErr result IsNotMigrated }
-{
-    is_old(alloc, old)?;
-    let file = files.create(alloc, new)?;
-    match migrate(alloc, old, file) {
-        Ok(log) => {
-            drop(log.into_disk());
-            Ok(())
-        }
-        Err((fault, file)) => {
-            drop(file);
-            Err(fault)
-        }
+    is_old(alloc, &mut first)?;
+    let second = files.create(alloc, new)?;
+    match migrate(alloc, &mut first, second) {
+        Ok(_) => Ok(()),
+        Err((fault, _)) => Err(fault),
     }
 }
 

@@ -43,11 +43,13 @@ pub invariant_of-self : goal.invariant_of-self
 invariant_of-self g c =
     let inside = c.staged.inside in
     let old = c.args.self.now in
+    let next = next-is inside.gate c.len.result inside.item inside.bytes.items c.args.staged c.staged.invariant.0
+    (omega (arith, c.len.ensures)) c.staged.view_is in
     record {
       small = omega (arith, bytes-size inside.gate inside.item, ap length c.staged.invariant.0, c.len.ensures, c.staged.invariant.2);
       synced = λ running keeps. (c.in-Ok.ensures.done keeps).0;
       whole = λ running keeps. subst (λ (n : ℕ). IsTrue (ends_at (surface (g.D.Disk.file c.write_frame.new.disk)).seen n))
-          (sym (next-is inside.gate c.len.result inside.item inside.bytes.items c.args.staged c.staged.invariant.0 (omega (arith, c.len.ensures)) c.staged.view_is))
+          (sym next)
           (c.in-Ok.ensures.done keeps).1;
       next = λ running keeps. c.in-Ok.ensures.next old.slot keeps (old.next c.if-self.false keeps);
     }
