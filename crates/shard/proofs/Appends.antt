@@ -1,5 +1,5 @@
 -- An append, as its records see it.
-use Rattle.std.proofs.Common.{◌≡◌, inl, inr, ℕ, List, [], ◌∷◌, ◌++◌, map, Some, Result, Ok, Err, refl, ap, ◌∙◌}
+use Rattle.std.proofs.Common.{◌≡◌, inl, inr, ℕ, List, [], ◌∷◌, ◌++◌, map, Some, Result, Ok, Err, refl, ap, ◌∙◌, arith}
 use Rattle.units.specs.declared.fault.Fault.{Fault}
 use Rattle.disk.specs.File.{File, surface}
 use Rattle.record.specs.declared.record.Record.{Record}
@@ -69,3 +69,13 @@ begins_on file clock since old mid new same first second =
     and_then clock since old mid new (MayLeave (surface (file old))) (λ image. begins_in image ≡ begins_in (surface (file mid)).seen)
     (BeginsAsBefore (surface (file old))) first second (λ image left. inl left)
     (λ image is. inr (is ∙ ap (λ (f : File). begins_in (surface f).seen) same))
+
+-- nothing is done to the disk
+pub no-time : {D : Type 0} (file : D → File) (clock : D → ℕ) (since : D → ℕ → List ℕ → Type 0)
+    → ((d : D) (image : List ℕ) → since d (clock d) image → MayLeave (surface (file d)) image) → (d : D)
+    → LeavesOnly clock since d d (MayLeave (surface (file d)))
+no-time file clock since only_now d = record {
+  later = omega arith;
+  each = λ image left. only_now d image left;
+  before = λ moment image le left. inl left;
+}

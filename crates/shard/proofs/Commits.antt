@@ -1,5 +1,5 @@
 -- A step that is staged, and then committed: what that does is done to the core as it was before.
-use Rattle.std.proofs.Common.{◌≡◌, ◌∙◌, ◌⊎◌, inl, inr, ℕ, ◌<◌, ◌≤◌, Bool, true, false, IsTrue, List, Option, Some, None, Result, Ok, Err}
+use Rattle.std.proofs.Common.{◌≡◌, ◌≢◌, ◌∙◌, ◌⊎◌, inl, inr, ℕ, ◌<◌, ◌≤◌, Bool, true, false, IsTrue, List, Option, Some, None, Result, Ok, Err}
 use Rattle.std.proofs.Common.{[], IfErr, OnOk, OnErr, refl, sym, ap, subst, arith}
 use Rattle.std.proofs.lemmas.Bool.{false≢true}
 use Rattle.units.specs.Ids.{Id}
@@ -27,7 +27,7 @@ use Rattle.memory.proofs.Carried.{undone}
 use Rattle.shard.specs.Armed.{FailsIn, GoesPast}
 use Rattle.shard.specs.Due.{IsDue}
 use Rattle.shard.specs.Logs.{records_in, and_logged, KeepsRecords, HoldsOldOrWith, BeginsAsBefore}
-use Rattle.shard.specs.On.{CoreView, IsCause, IsLogFull, HasWritten, HasStepped}
+use Rattle.shard.specs.On.{CoreView, IsCause, IsLogFull, IsTried, HasWritten, HasStepped}
 use Rattle.shard.specs.Staged.{IsStaged, does, seen_unstaged, step_staged, without_entrant}
 use Rattle.shard.specs.declared.staging.StagedStep.{StagedStep}
 use Rattle.shard.proofs.Showable.{as-showable}
@@ -110,6 +110,19 @@ module _ {D : Type 0} (keeps obeys : Type 0) (file : D → File) (clock : D → 
       abbrev grown : CoreView D
       grown = record old { disk = d }
 
+      tried-over : {T : Type 0} (new : CoreView D) (logged : Option Record) (result : Result T Fault)
+          → IfErr result (λ fault. ((fault ≡ Device) × IsTried old.gate logged)
+          ⊎ ((fault ≢ Device) × LeavesOnly clock since d new.disk (MayLeave (surface (file d)))))
+          → IfErr result (λ fault. ((fault ≡ Device) × IsTried old.gate logged)
+          ⊎ ((fault ≢ Device) × LeavesOnly clock since old.disk new.disk (MayLeave (surface (file old.disk)))))
+      tried-over new logged (Ok done) h = tt
+      tried-over new logged (Err fault) (inl device) = inl device
+      tried-over new logged (Err fault) (inr it) = inr (
+        it.0,
+        and_then clock since old.disk d new.disk (MayLeave (surface (file old.disk))) (MayLeave (surface (file d))) (MayLeave (surface (file old.disk)))
+            time it.1 (λ image left. left) (λ image left. subst (λ (f : File). MayLeave (surface f) image) same left),
+      )
+
       written-over : {T : Type 0} (new : CoreView D) (logged : Option Record) (result : Result T Fault)
           → HasWritten keeps obeys file clock since failures plan grown new logged result
           → HasWritten keeps obeys file clock since failures plan old new logged result
@@ -133,6 +146,7 @@ module _ {D : Type 0} (keeps obeys : Type 0) (file : D → File) (clock : D → 
         place = h.place;
         kept = subst (λ (f : File). IfErr result (λ fault. (new.facts ≡ old.facts) × (new.memory ≡ old.memory)
             × ((fault ≡ Device) ⊎ ((new.stopped ≡ old.stopped) × (new.gate ≡ old.gate) × (file new.disk ≡ f))))) same h.kept;
+        tried = tried-over new logged result h.tried;
         planned = λ obey never. h.planned obey (planned ∙ never);
         armed = λ call run obey keep is.
             subst (λ (f : File). OnOk result (GoesPast call logged)

@@ -31,6 +31,7 @@ use Rattle.shard.specs.Logs.{KeepsRecords, and_logged, facts_logged, records_in}
 use Rattle.gatelog.specs.Frames.{IsFull}
 use Rattle.shard.specs.On.{CoreView, HasStepped, HasWritten, IsCause}
 use Rattle.shard.specs.Opened.{HasAppended, HasLawfulEpoch, HasNotAppended}
+use Rattle.shard.proofs.Appends.{no-time}
 use Rattle.shard.proofs.Showable.{opening-showable}
 
 -- one opening is learnt as an opening finds it
@@ -130,6 +131,7 @@ not_appended_by keeps obeys file clock since failures plan old new item logged m
       any_moment = it.written.any_moment ran;
       begins = it.written.begins ran;
       unchanged = ⊎_elim (λ device. inl device) (λ kept. inr kept.2) it.written.kept.2;
+      tried = it.written.tried;
       epoch = λ device. lawful;
       planned = λ obey never. (it.written.planned obey never).1;
       armed = λ call obey keep armed. (it.written.armed call ran obey keep armed).1;
@@ -155,6 +157,7 @@ not_appended_at_once keeps obeys file clock since failures plan only_now disk ba
         before = λ moment image le left. inl left;
       };
       unchanged = inr refl;
+      tried = inr ((λ device. cc), no-time file clock since only_now disk);
       epoch = λ device. absurd (cc);
       planned = λ obey never device. cc;
       armed = λ call obey keep is device. absurd (cc);

@@ -3,7 +3,7 @@ use Rattle.std.proofs.Common.{◌∙◌, ◌≡◌, inl, inr, ℕ, ◌+◌, ◌^
 use Rattle.std.proofs.Common.{sym, subst, arith}
 use Rattle.std.proofs.lemmas.Bool.{false≢true}
 use Rattle.units.specs.declared.fault.Fault.{Fault}
-use Rattle.units.specs.declared.fault.Fault.TheVariants.{Device, Memory as WantsMemory}
+use Rattle.units.specs.declared.fault.Fault.TheVariants.{Device, Memory as WantsMemory, Stopped}
 use Rattle.units.specs.declared.setup.Setup.{Setup}
 use Rattle.disk.specs.declared.plan.FailurePlan.{FailurePlan}
 use Rattle.disk.specs.declared.plan.FailurePlan.TheVariants.{Never, AfterWrite}
@@ -21,7 +21,8 @@ use Rattle.protocol.specs.Refusals.{Owns, is_own}
 use Rattle.memory.specs.Kept.{IsRefusal}
 use Rattle.shard.specs.Logs.{records_in, and_logged, KeepsRecords, HoldsOldOrWith, BeginsAsBefore}
 use Rattle.shard.specs.Armed.{FailsIn}
-use Rattle.shard.specs.On.{CoreView, IsCause, IsDone, IsLogFull, HasWritten, HasStepped}
+use Rattle.shard.specs.On.{CoreView, IsCause, IsDone, IsLogFull, HasWritten, HasStepped, record_of}
+use Rattle.shard.proofs.Appends.{no-time}
 
 abbrev no_answer : Fault → Result (List Envelope) Fault
 no_answer fault = Err fault
@@ -51,6 +52,36 @@ outbox_of old new logged after outbox (Err fault) h = tt
 
 module _ {D : Type 0} (keeps obeys : Type 0) (file : D → File) (clock : D → ℕ) (since : D → ℕ → List ℕ → Type 0) (failures : D → ℕ) (plan : D → FailurePlan)
     (only_now : (d : D) (image : List ℕ) → since d (clock d) image → MayLeave (surface (file d)) image) where
+  -- a stopped core does nothing
+  pub stopped_refuses : (core : CoreView D) → IsTrue core.stopped → (st : Stepped)
+      → HasStepped keeps obeys file clock since failures plan core core st (no_answer Stopped)
+  stopped_refuses core stopped st = record {
+    written = record {
+      setup = refl;
+      slot = refl;
+      failures_stay = omega arith;
+      any_moment = λ run. absurd (no run);
+      begins = λ run. absurd (no run);
+      durable = tt;
+      read = tt;
+      gate = tt;
+      place = tt;
+      kept = (refl, refl, inr (refl, refl, refl));
+      tried = inr (other, no-time file clock since only_now core.disk);
+      planned = λ obey never. (never, other);
+      armed = λ call run. absurd (no run);
+    };
+    done = tt;
+    cause = subst (λ b. IsCause b st Stopped (IsLogFull core.gate (record_of st)) ((failures core.disk < failures core.disk) × IsTrue core.stopped))
+        (sym stopped) refl;
+  }
+    where
+      no : IsFalse core.stopped → ⊥
+      no run = false≢true (sym run ∙ stopped)
+
+      other : Stopped ≡ Device → ⊥
+      other e = cc
+
   module _ (core : CoreView D) (running : IsFalse core.stopped) (stands : keeps → KeepsRecords (surface (file core.disk))
       (records_in (surface (file core.disk)).seen)) where
     -- the core with this told and known of it
@@ -65,6 +96,9 @@ module _ {D : Type 0} (keeps obeys : Type 0) (file : D → File) (clock : D → 
       each = λ image left. inl (stands keep image (only_now core.disk image left));
       before = λ moment image le left. inl left;
     }
+
+    untried : LeavesOnly clock since core.disk core.disk (MayLeave (surface (file core.disk)))
+    untried = no-time file clock since only_now core.disk
 
     begins-untouched : LeavesOnly clock since core.disk core.disk (BeginsAsBefore (surface (file core.disk)))
     begins-untouched = record {
@@ -87,6 +121,7 @@ module _ {D : Type 0} (keeps obeys : Type 0) (file : D → File) (clock : D → 
         gate = tt;
         place = tt;
         kept = (is_facts, is_memory, inr (refl, refl, refl));
+        tried = inr (other, untried);
         planned = λ obey never. (never, other);
         armed = λ call run obey keep is. (tt, fails_not call core.gate (records_in (surface (file core.disk)).seen) logged (file core.disk) fault other);
       }
@@ -133,6 +168,7 @@ module _ {D : Type 0} (keeps obeys : Type 0) (file : D → File) (clock : D → 
           gate = (refl, omega arith);
           place = tt;
           kept = tt;
+          tried = tt;
           planned = λ obey never. (never, tt);
           armed = λ call run obey keep is. (tt, tt);
         };
@@ -181,6 +217,7 @@ module _ {D : Type 0} (keeps obeys : Type 0) (file : D → File) (clock : D → 
             gate = gate;
             place = place;
             kept = tt;
+            tried = tt;
             planned = λ obey armed. (never obey armed, tt);
             armed = λ call run obey keep is. (past call run obey keep is, tt);
           };

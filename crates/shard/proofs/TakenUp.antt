@@ -11,6 +11,7 @@ use Rattle.disk.specs.declared.plan.FailurePlan.{FailurePlan}
 use Rattle.disk.specs.File.{File, surface}
 use Rattle.disk.specs.Image.{MayLeave, after_sync}
 use Rattle.disk.specs.Moments.{LeavesOnly}
+use Rattle.disk.proofs.Crashes.{seen_may}
 use Rattle.disk.proofs.Runs.{and_then, weaker}
 use Rattle.record.specs.Accepted.{Taken, Accepted, DamagedAt, StrangerAt, followed, taken}
 use Rattle.record.specs.FactLaws.{AcceptedFollows, LearnAgrees, LearntAgrees, learnt}
@@ -33,7 +34,7 @@ use Rattle.recovery.specs.Recovered.{fault_in, items}
 use Rattle.shard.specs.Armed.{FailsIn, HasPlace}
 use Rattle.shard.specs.Logs.{records_in, and_logged, facts_logged, items_of, KeepsRecords, HoldsOldOrWith, BeginsAsBefore}
 use Rattle.shard.specs.On.{CoreView}
-use Rattle.shard.specs.Opened.{HasAppended, HasNotAppended, HasNotOpened, HasOpened, HasLawfulEpoch, IsSpent, IsTaken, IsToldReason, is_reason}
+use Rattle.shard.specs.Opened.{HasAppended, HasNotAppended, HasNotOpened, HasOpened, HasLawfulEpoch, HasRoom, IsSpent, IsTaken, IsToldReason, is_reason}
 use Rattle.shard.specs.Opened.{LeavesOpening, end_in}
 use Rattle.shard.specs.Opened.{fault_of, next_opening, opening_of}
 use Rattle.shard.proofs.Agrees.{fold_is}
@@ -168,6 +169,7 @@ module _ {D : Type 0} (keeps obeys : Type 0) (file : D → File) (clock : D → 
     begins = λ keep. weaker clock since disk back (MayLeave (surface (file disk))) (BeginsAsBefore (surface (file disk))) (moment keep)
         (λ image left. inl left);
     unchanged = unchanged;
+    tried = inr moment;
     synced = synced;
     armed = λ call records obey keep is read. (
       λ device. absurd (no_device records keep read device (planned obey (ap waits is))),
@@ -281,6 +283,7 @@ module _ {D keeps obeys : Type 0} {file : D → File} {clock : D → ℕ} {since
         (Some r))) same (refused.any_moment keep));
     begins = λ keep. begun keep back (refused.begins keep);
     unchanged = ⊎_elim (λ device. inl device) (λ kept. inr (λ keep. ap (λ f. (surface f).seen) kept ∙ ap (λ s. s.seen) (found.clean keep))) refused.unchanged;
+    tried = ⊎_elim (λ failed. inl (failed.0, has_room failed.0 failed.1)) (λ it. inr (λ keep. only_before keep it.1)) refused.tried;
     synced = ⊎_elim (λ device. inr (inl device)) (λ kept. inr (inr (λ keep. ap surface kept ∙ found.clean keep))) refused.unchanged;
     armed = λ call records obey keep is read.
         let all : Ok (items entries) ≡ Ok records = sym (records_are keep) ∙ read in
@@ -300,6 +303,23 @@ module _ {D keeps obeys : Type 0} {file : D → File} {clock : D → ℕ} {since
         (λ late. inr (reason late))) refused.cause;
   }
     where
+      has_room : fault ≡ Device → HasPlace gate (Some item) → keeps → HasRoom told (surface (file disk))
+      has_room device place keep = (
+        items entries,
+        record {
+          read = records_are keep;
+          taken = accepted;
+          epoch = subst HasLawfulEpoch same (refused.epoch device);
+          place = subst (λ n. HasPlace n (Some (next_opening (items entries)))) (found.ends keep) (subst (λ r. HasPlace gate (Some r)) same place);
+        },
+      )
+
+      only_before : keeps → LeavesOnly clock since mid back (MayLeave (surface (file mid))) → LeavesOnly clock since disk back (MayLeave (surface (file disk)))
+      only_before keep it =
+          and_then clock since disk mid back (MayLeave (surface (file disk))) (MayLeave (surface (file mid))) (MayLeave (surface (file disk)))
+          (found.moment keep) it (λ image left. left)
+          (λ image left. subst (MayLeave (surface (file disk))) (sym (as_synced keep image left)) (seen_may (file disk)))
+
       no_room : full → keeps → IsSpent told (surface (file disk)) (items entries)
       no_room late keep = record {
         read = records_are keep;
@@ -321,6 +341,7 @@ module _ {D keeps obeys : Type 0} {file : D → File} {clock : D → ℕ} {since
     begins = λ keep. subst (λ d. LeavesOnly clock since disk d (BeginsAsBefore (surface (file disk)))) (sym same)
         (weaker clock since disk mid (MayLeave (surface (file disk))) (BeginsAsBefore (surface (file disk))) (found.moment keep) (λ image left. inl left));
     unchanged = inr (λ keep. ap (λ d. (surface (file d)).seen) same ∙ ap (λ s. s.seen) (found.clean keep));
+    tried = inr (λ keep. subst (λ d. LeavesOnly clock since disk d (MayLeave (surface (file disk)))) (sym same) (found.moment keep));
     synced = inr (inr (λ keep. ap (λ d. surface (file d)) same ∙ found.clean keep));
     armed = λ call records obey keep is read. (λ device. absurd (no_device device why), λ device. absurd (no_device device why));
     planned = λ obey never. ⊎_elim (λ memory. inl memory) (λ is. inr (reason is)) why;

@@ -30,6 +30,7 @@ use Rattle.shard.specs.Agrees.{AgreesWithLog}
 use Rattle.shard.specs.Logs.{items_of, records_in}
 use Rattle.shard.specs.On.{CoreView}
 use Rattle.shard.specs.Turned.{AreArmedTurn, HasNoTurnPlace, HasTurned, HasTurnPlace, IsOldOrTurned, IsTurnCause, IsTurnedIf, turned_to}
+use Rattle.shard.proofs.Appends.{no-time}
 use Rattle.shard.proofs.Agrees.{agrees_kept, agrees_still, agrees_unturned, turned-known}
 
 -- every image has the records that a read gives, where they begin
@@ -80,22 +81,13 @@ no-place slot gate area renewed fault stopped is running (inl gone) = absurd (fa
 no-place slot gate area renewed fault stopped is running (inr (inl full)) = inr (full.0, subst (HasNoTurnPlace slot gate) is full.2)
 no-place slot gate area renewed fault stopped is running (inr (inr want)) = inl want.0
 
--- nothing is done to the disk
-pub no-time : {D : Type 0} (file : D → File) (clock : D → ℕ) (since : D → ℕ → List ℕ → Type 0)
-    → ((d : D) (image : List ℕ) → since d (clock d) image → MayLeave (surface (file d)) image) → (d : D)
-    → LeavesOnly clock since d d (MayLeave (surface (file d)))
-no-time file clock since only_now d = record {
-  later = omega arith;
-  each = λ image left. only_now d image left;
-  before = λ moment image le left. inl left;
-}
-
 module _ {D : Type 0} (keeps obeys : Type 0) (file : D → File) (clock : D → ℕ) (since : D → ℕ → List ℕ → Type 0) (failures : D → ℕ)
     (plan : D → FailurePlan) where
   -- a stopped core does nothing
-  pub unmoved : {T : Type 0} (core : CoreView D) → IsTrue core.stopped → IsRegular core.facts
+  pub unmoved : {T : Type 0} → ((d : D) (image : List ℕ) → since d (clock d) image → MayLeave (surface (file d)) image) → (core : CoreView D)
+      → IsTrue core.stopped → IsRegular core.facts
       → HasTurned keeps obeys file clock since failures plan {T = T} core core (Err Stopped)
-  unmoved core stopped regular = record {
+  unmoved only_now core stopped regular = record {
     setup = refl;
     facts = refl;
     memory = refl;
@@ -110,10 +102,14 @@ module _ {D : Type 0} (keeps obeys : Type 0) (file : D → File) (clock : D → 
     place = tt;
     cause = inl (refl, stopped, refl);
     kept = inr (refl, refl, refl, refl);
+    tried = inr (stopped_no_device, no-time file clock since only_now core.disk);
     planned = λ obey never. (never, λ device. cc);
     armed = λ call run. absurd (no run);
   }
     where
+      stopped_no_device : Stopped ≢ Device
+      stopped_no_device e = cc
+
       no : IsFalse core.stopped → ⊥
       no run = false≢true (sym run ∙ stopped)
 
@@ -142,6 +138,7 @@ module _ {D : Type 0} (keeps obeys : Type 0) (file : D → File) (clock : D → 
       place = tt;
       cause = inr (running, ⊎_elim (λ want. inl want) (λ spent. inr (inl spent)) cause);
       kept = inr same;
+      tried = inr (no-device cause, time);
       planned = λ obey never. (plans ∙ never, no-device cause);
       armed = λ call run obey keep is. (tt, λ device. absurd (no-device cause device));
     }
@@ -233,6 +230,7 @@ module _ {D : Type 0} (keeps obeys : Type 0) (file : D → File) (clock : D → 
       place = IfOk-weaker result _ _ (λ x is. there) h.runs;
       cause = IfErr-weaker result _ _ (λ fault is. inr (running, inr (inr (is.0, (omega (arith, stay, is.1), is.2))))) h.cause;
       kept = IfErr-weaker result _ _ (λ fault is. inl is.0) h.cause;
+      tried = IfErr-weaker result _ _ (λ fault is. inl (is.0, there)) h.cause;
       planned = λ obey never. (
         h.never (plans ∙ never),
         no_err (fails_in_turnover (plan mid)) result (λ fault. fault ≢ Device) (h.planned obey) (ap fails_in_turnover (plans ∙ never)),

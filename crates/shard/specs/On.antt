@@ -6,6 +6,7 @@ use Rattle.units.specs.declared.setup.Setup.{Setup}
 use Rattle.disk.specs.declared.plan.FailurePlan.{FailurePlan}
 use Rattle.disk.specs.declared.plan.FailurePlan.TheVariants.{Never, AfterWrite}
 use Rattle.disk.specs.File.{File, surface}
+use Rattle.disk.specs.Image.{MayLeave}
 use Rattle.disk.specs.Moments.{LeavesOnly}
 use Rattle.record.specs.declared.record.Record.{Record}
 use Rattle.record.specs.Facts.{Facts}
@@ -48,6 +49,11 @@ abbrev pub IsLogFull : ℕ → Option Record → Type 0
 IsLogFull gate None = ⊥
 IsLogFull gate (Some r) = IsFull gate r
 
+-- there is a record, and the log has room for it
+abbrev pub IsTried : ℕ → Option Record → Type 0
+IsTried gate None = ⊥
+IsTried gate (Some r) = HasPlace gate (Some r)
+
 -- where the log ends behind the record, where there is one
 abbrev pub gate_behind : ℕ → Option Record → ℕ
 gate_behind gate None = gate
@@ -88,6 +94,10 @@ module _ {D : Type 0} (keeps obeys : Type 0) (file : D → File) (clock : D → 
     pub gate : OnOk result ((new.gate ≡ gate_behind old.gate logged) × (new.gate ≤ old.gate + 2 ^ 20 + 5))
     pub place : OnOk result (HasPlace old.gate logged)
     pub kept : IfErr result (StandsAsBefore file old new)
+    -- it is refused since the device failed in the append of a record; else a crash at any moment since the start leaves only what it might
+    -- have left before
+    pub tried : IfErr result (λ fault. ((fault ≡ Device) × IsTried old.gate logged)
+        ⊎ ((fault ≢ Device) × LeavesOnly clock since old.disk new.disk (MayLeave (surface (file old.disk)))))
     -- with no call armed the device does not fail
     pub planned : obeys → plan old.disk ≡ Never → (plan new.disk ≡ Never) × IfErr result (λ fault. fault ≢ Device)
     -- with a call armed, counted from 0: it fails where it is one of the append's, and leaves this

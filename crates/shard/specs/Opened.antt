@@ -64,6 +64,16 @@ pub record IsSpent (setup : Setup) (disk : Surface) (records : List Record) : Ty
 abbrev pub HasNoRoom : Setup → Surface → Type 0
 HasNoRoom setup disk = (records : List Record) × IsSpent setup disk records
 
+-- the records are taken, and the opening has room
+pub record HasRoomFor (setup : Setup) (disk : Surface) (records : List Record) : Type 0 where
+  pub read : records_in disk.seen ≡ Ok records
+  pub taken : taken setup records ≡ Accepted
+  pub epoch : epoch_of records + 1 < 2 ^ 62
+  pub place : HasPlace (end_in disk.seen records) (Some (next_opening records))
+
+abbrev pub HasRoom : Setup → Surface → Type 0
+HasRoom setup disk = (records : List Record) × HasRoomFor setup disk records
+
 -- why it is not taken up, where the device did not fail and memory was there
 abbrev pub IsReason : Setup → Surface → Fault → Type 0
 IsReason setup disk fault = (fault_of setup (log disk.seen) ≡ Some fault) ⊎ ((fault ≡ TimeSpent) × HasNoRoom setup disk)
@@ -101,6 +111,8 @@ module _ {D : Type 0} (keeps obeys : Type 0) (file : D → File) (clock : D → 
     pub any_moment : keeps → LeavesOnly clock since disk back (HoldsOldOrWith (records_in (surface (file disk)).seen) (Some item))
     pub begins : keeps → LeavesOnly clock since disk back (BeginsAsBefore (surface (file disk)))
     pub unchanged : (fault ≡ Device) ⊎ (file back ≡ file disk)
+    -- the device failed in the append; else a crash at any moment since the start leaves only what it might have left before
+    pub tried : ((fault ≡ Device) × HasPlace before (Some item)) ⊎ ((fault ≢ Device) × LeavesOnly clock since disk back (MayLeave (surface (file disk))))
     pub epoch : fault ≡ Device → HasLawfulEpoch item
     pub planned : obeys → plan disk ≡ Never → fault ≢ Device
     pub armed : (call : ℕ) → obeys → keeps → plan disk ≡ AfterWrite call
@@ -142,6 +154,9 @@ module _ {D : Type 0} (keeps obeys : Type 0) (file : D → File) (clock : D → 
     pub begins : keeps → LeavesOnly clock since disk back (BeginsAsBefore (surface (file disk)))
     -- but for a device that failed, the file reads as it did
     pub unchanged : (fault ≡ Device) ⊎ (keeps → (surface (file back)).seen ≡ (surface (file disk)).seen)
+    -- the device failed in the append of the opening; else a crash at any moment since the start leaves only what it might have left before
+    pub tried : ((fault ≡ Device) × (keeps → HasRoom told (surface (file disk))))
+        ⊎ (keeps → LeavesOnly clock since disk back (MayLeave (surface (file disk))))
     -- but for memory and a device that failed, the file is synced
     pub synced : (fault ≡ WantsMemory) ⊎ ((fault ≡ Device) ⊎ (keeps → surface (file back) ≡ after_sync (surface (file disk))))
     -- with a call armed, counted from 0 in the append of the opening: it fails there, and leaves this

@@ -7,7 +7,7 @@ use Rattle.disk.specs.declared.plan.FailurePlan.TheVariants.{Never, AfterWrite}
 use Rattle.disk.specs.declared.plan.Fate.{Fate}
 use Rattle.disk.specs.declared.plan.Fate.TheVariants.{Old}
 use Rattle.disk.specs.File.{File, surface, crash_leaves}
-use Rattle.disk.specs.Image.{Surface}
+use Rattle.disk.specs.Image.{Surface, MayLeave}
 use Rattle.disk.specs.Moments.{LeavesOnly}
 use Rattle.record.specs.declared.record.Record.{Record}
 use Rattle.gatelog.specs.ArmedTurn.{is_read_turn, is_left_turn}
@@ -80,6 +80,9 @@ module _ {D : Type 0} (keeps obeys : Type 0) (file : D → File) (clock : D → 
     -- but for a device that failed, the log is as it was
     pub kept : IfErr result (λ fault. (fault ≡ Device) ⊎ ((new.stopped ≡ old.stopped) × (new.gate ≡ old.gate)
         × (new.slot ≡ old.slot) × (file new.disk ≡ file old.disk)))
+    -- it is refused since the device failed in it; else a crash at any moment since the start leaves only what it might have left before
+    pub tried : IfErr result (λ fault. ((fault ≡ Device) × HasTurnPlace old.slot old.gate (turned old.facts))
+        ⊎ ((fault ≢ Device) × LeavesOnly clock since old.disk new.disk (MayLeave (surface (file old.disk)))))
     -- with no call armed the device does not fail
     pub planned : obeys → plan old.disk ≡ Never → (plan new.disk ≡ Never) × IfErr result (λ fault. fault ≢ Device)
     -- with a call armed, counted from 0: it fails where it is one of the turnover's five, and leaves this

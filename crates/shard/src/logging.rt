@@ -44,6 +44,11 @@ pub fn append_record<D: Disk>(
         ⊎ ((is_stopped gate_log.new ≡ is_stopped gate_log.old)
         × (gate_at gate_log.new ≡ gate_at gate_log.old)
         × (D.file (disk_of gate_log.new) ≡ D.file (disk_of gate_log.old)))) }
+    ensures tried { IfErr result (λ fault.
+        ((fault ≡ Fault.Device) × (next_gate (gate_at gate_log.old) item + 1 ≤ 2 ^ 40))
+        ⊎ ((fault ≢ Fault.Device)
+        × LeavesOnly D.clock D.since (disk_of gate_log.old) (disk_of gate_log.new)
+        (MayLeave (surface (D.file (disk_of gate_log.old)))))) }
     ensures any_moment { IsFalse (is_stopped gate_log.old) → D.keeps_model →
         LeavesOnly D.clock D.since (disk_of gate_log.old) (disk_of gate_log.new)
         (HoldsOldOrWith (records_in (surface (D.file (disk_of gate_log.old))).seen)

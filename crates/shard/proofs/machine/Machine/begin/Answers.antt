@@ -44,6 +44,7 @@ returns-in-Err-append_record-clause-refused g c =
       any_moment = λ keeps. c.append_record.ensures.any_moment running keeps;
       begins = λ keeps. c.append_record.ensures.begins running keeps;
       unchanged = ⊎_elim (λ device. inl device) (λ kept. inr kept.2) told.kept;
+      tried = told.tried;
       epoch = λ device. omega (arith, c.first.ensures);
       planned = λ obeys never. (told.planned obeys never).1;
       armed = λ call obeys keeps is. (told.armed call running obeys keeps is).1;

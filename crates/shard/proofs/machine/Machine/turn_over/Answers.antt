@@ -9,14 +9,15 @@ use Rattle.renewal.specs.Keeps.{IsRegular}
 use Rattle.shard.specs.Core.{seen_machine}
 use Rattle.shard.specs.On.{CoreView}
 use Rattle.shard.specs.Turned.{HasTurnPlace}
-use Rattle.shard.proofs.Turnings.{IsStood, agrees_over, gone, no-place, no-time, stood, turned_as, unmoved, unturned}
+use Rattle.shard.proofs.Appends.{no-time}
+use Rattle.shard.proofs.Turnings.{IsStood, agrees_over, gone, no-place, stood, turned_as, unmoved, unturned}
 use Rattle.shard.proofs.machine.Machine.turn_over.Goals as goal
 
 pub returns-then-is_stopped : goal.returns-then-is_stopped
 returns-then-is_stopped g c =
     let k = c.args.self.now.state in
-    unmoved g.D.Disk.keeps_model g.D.Disk.obeys g.D.Disk.file g.D.Disk.clock g.D.Disk.since g.D.Disk.failures g.D.Disk.plan (seen_machine c.args.self.now)
-    (sym c.if-is_stopped.ensures.value) (∥∥₁_elim c.args.self.now.lasting (regular-prop k.facts) (λ l. l.regular))
+    unmoved g.D.Disk.keeps_model g.D.Disk.obeys g.D.Disk.file g.D.Disk.clock g.D.Disk.since g.D.Disk.failures g.D.Disk.plan g.met.D.Disk.only_now
+    (seen_machine c.args.self.now) (sym c.if-is_stopped.ensures.value) (∥∥₁_elim c.args.self.now.lasting (regular-prop k.facts) (λ l. l.regular))
 
 pub returns-in-Err : goal.returns-in-Err
 returns-in-Err g c =
