@@ -26,9 +26,9 @@ use Rattle.renewal.specs.Keeps.{Alike, IsLasting}
 use Rattle.renewal.specs.Turned.{turned}
 use Rattle.renewal.proofs.One.{one-turnover}
 use Rattle.shard.specs.Logs.{BeginsAsBefore, HoldsOldOrWith, and_logged, records_in}
-use Rattle.shard.specs.On.{CoreView, HasStepped, IsCause, IsLogFull, StandsAsBefore, gate_behind, record_of}
-use Rattle.shard.specs.Opened.{HasNotOpened, HasOpened, IsReason, IsTaken, LeavesOpening, end_in, is_reason, next_opening, opening_of}
-use Rattle.shard.specs.Turned.{HasNoTurnPlace, HasTurned, IsOldOrTurned, IsTurnCause, turned_to}
+use Rattle.shard.specs.On.{CoreView, HasStepped, IsCause, IsLogFull, IsTried, StandsAsBefore, gate_behind, record_of}
+use Rattle.shard.specs.Opened.{HasNotOpened, HasOpened, HasRoom, IsReason, IsTaken, LeavesOpening, end_in, is_reason, next_opening, opening_of}
+use Rattle.shard.specs.Turned.{HasNoTurnPlace, HasTurned, HasTurnPlace, IsOldOrTurned, IsTurnCause, turned_to}
 use Rattle.world.specs.Areas.{MayLeaveArea}
 use Rattle.world.specs.World.{Area, ShardNow, Runs, Nothing, area_behind, crashed, failed_turn, finished, gate_of, new_area, read_area, read_log}
 use Rattle.world.specs.World.{step_of_turnover, where_room, with_records}
@@ -44,6 +44,9 @@ use Rattle.images.specs.Images.{HoldsSurely, IsOwn, IsOwnAnswer, Life, Up}
 use Rattle.images.proofs.Held.{HoldsLog, HoldsOr, IsRunning, LivesAs, LivesIn, ReadsAs, holds_or, same_holds, sure_log}
 use Rattle.images.proofs.Held.{sure_only, surely_holds, turn_failed_holds, turn_without_holds}
 use Rattle.images.proofs.Turnovers.{has_a_place, has_no_place}
+
+does_not_refuse : {logged : Option Record} {memory : Memory} {out : List Envelope} (why : Fault) → Does logged memory out ≡ Refuses why → ⊥
+does_not_refuse why e = cc
 
 not_wanted : (fault why : Fault) → fault ≡ why → why ≢ Device → fault ≢ Device
 not_wanted fault why is other device = other (sym is ∙ device)
@@ -193,6 +196,35 @@ module _ {D : Type 0} (keeps obeys : Type 0) (file : D → File) (clock : D → 
         MayLeave (surface (file new.disk)) image → HoldsOr (read_area s) (record_of st) image
     left_now st result k image may = left_since st result k image (counts new.disk (clock old.disk) image (k.written.any_moment h.runs kept).later may)
 
+    -- where the definitions refuse the step, since the call began a crash leaves only what it might have left before
+    pub only_before : (st : Stepped) (result : Result (List Envelope) Fault) → Steps old new st result → (why : Fault) → where_room old.gate st ≡ Refuses why →
+        (image : List ℕ) → since new.disk (clock old.disk) image → MayLeave (surface (file old.disk)) image
+    only_before (Refuses f) (Ok out) k why is image left = absurd (k.done.2)
+    only_before (Does logged memory out) (Ok done) k why is image left =
+        absurd (does_not_refuse why (sym (room_for old.gate logged memory out k.written.place) ∙ is))
+    only_before st (Err fault) k why is image left = by_tried st is k.written.tried
+      where
+        by_tried : (t : Stepped) → where_room old.gate t ≡ Refuses why → ((fault ≡ Device) × IsTried old.gate (record_of t))
+            ⊎ ((fault ≢ Device) × LeavesOnly clock since old.disk new.disk (MayLeave (surface (file old.disk)))) → MayLeave (surface (file old.disk)) image
+        by_tried t e (inr it) = it.1.each image left
+        by_tried (Refuses f) e (inl tried) = absurd tried.1
+        by_tried (Does None memory out) e (inl tried) = absurd tried.1
+        by_tried (Does (Some r) memory out) e (inl tried) =
+            absurd (does_not_refuse why (sym (room_for old.gate (Some r) memory out tried.1) ∙ e))
+
+    -- its device fails in the append of a record alone
+    pub fails_logging : (st : Stepped) → Steps old new st (Err Device) → (what : Stepped) → what ≡ where_room old.gate st →
+        (r : Record) × ((memory : Memory) × ((out : List Envelope) × (what ≡ Does (Some r) memory out)))
+    fails_logging st k what is = by_tried st is k.written.tried
+      where
+        by_tried : (t : Stepped) → what ≡ where_room old.gate t → ((Device ≡ Device) × IsTried old.gate (record_of t))
+            ⊎ ((Device ≢ Device) × LeavesOnly clock since old.disk new.disk (MayLeave (surface (file old.disk)))) →
+            (r : Record) × ((memory : Memory) × ((out : List Envelope) × (what ≡ Does (Some r) memory out)))
+        by_tried t e (inr other) = absurd (other.0 refl)
+        by_tried (Refuses f) e (inl tried) = absurd tried.1
+        by_tried (Does None memory out) e (inl tried) = absurd tried.1
+        by_tried (Does (Some r) memory out) e (inl tried) = (r, (memory, (out, e ∙ room_for old.gate (Some r) memory out tried.1)))
+
     -- and the core is stopped
     pub is_stopped : (r : Record) (memory : Memory) (out : List Envelope) → Steps old new (Does (Some r) memory out) (Err Device) → new.stopped ≡ true
     is_stopped r memory out k = by_cause (subst (λ b. IsCause b (Does (Some r) memory out) Device
@@ -308,6 +340,32 @@ module _ {D : Type 0} (keeps obeys : Type 0) (file : D → File) (clock : D → 
             no_place = subst (λ x. x) (λ j. HasNoTurnPlace (h.slot j) (h.gate j) (same_turned lasting (Err fault) k j))
         by_cause (inr (inr device)) = absurd (own.1 device.0)
 
+    -- where there is a place for it, the definitions do it
+    turn_does : IsLasting (facts_of (read_log s)) → (result : Result (List Envelope) Fault) → Turned old new result →
+        HasTurnPlace old.slot old.gate (turned old.facts) → step_of_turnover s m ≡ Does None m []
+    turn_does lasting result k place = has_a_place s m (subst (λ n. n < slot_count) h.slot place.0)
+        (subst (λ n. n + 1 ≤ 2 ^ 40) (same_end lasting result k) place.1)
+
+    -- where they refuse it, since the call began a crash leaves only what it might have left before
+    pub turn_only_before : IsLasting (facts_of (read_log s)) → (result : Result (List Envelope) Fault) → Turned old new result → (why : Fault) →
+        step_of_turnover s m ≡ Refuses why → (image : List ℕ) → since new.disk (clock old.disk) image → MayLeave (surface (file old.disk)) image
+    turn_only_before lasting (Ok out) k why is image left = absurd (does_not_refuse why (sym (turn_does lasting (Ok out) k k.place) ∙ is))
+    turn_only_before lasting (Err fault) k why is image left = by_tried k.tried
+      where
+        by_tried : ((fault ≡ Device) × HasTurnPlace old.slot old.gate (turned old.facts))
+            ⊎ ((fault ≢ Device) × LeavesOnly clock since old.disk new.disk (MayLeave (surface (file old.disk)))) → MayLeave (surface (file old.disk)) image
+        by_tried (inl tried) = absurd (does_not_refuse why (sym (turn_does lasting (Err fault) k tried.1) ∙ is))
+        by_tried (inr it) = it.1.each image left
+
+    -- its device fails in it where they do it
+    pub turn_fails_doing : IsLasting (facts_of (read_log s)) → Turned old new (Err Device) → step_of_turnover s m ≡ Does None m []
+    turn_fails_doing lasting k = by_tried k.tried
+      where
+        by_tried : ((Device ≡ Device) × HasTurnPlace old.slot old.gate (turned old.facts))
+            ⊎ ((Device ≢ Device) × LeavesOnly clock since old.disk new.disk (MayLeave (surface (file old.disk)))) → step_of_turnover s m ≡ Does None m []
+        by_tried (inl tried) = turn_does lasting (Err Device) k tried.1
+        by_tried (inr other) = absurd (other.0 refl)
+
     -- its device failed in it
     pub turn_stops : Turned old new (Err Device) → new.stopped ≡ true
     turn_stops k = by_cause (why_not Device k)
@@ -341,6 +399,44 @@ module _ {D : Type 0} (keeps obeys : Type 0) (file : D → File) (clock : D → 
     pub refuses_all : (st : Stepped) (result : Result (List Envelope) Fault) → Steps old new st result → (new.stopped ≡ true) × HoldsLog file s new.disk
     refuses_all st (Ok out) k = absurd (false≢true (sym k.done.0 ∙ stopped))
     refuses_all st (Err fault) k = same fault k.written.kept (because st fault k)
+
+    -- and since the call began a crash leaves only what it might have left before
+    pub refused_only_before : (st : Stepped) (result : Result (List Envelope) Fault) → Steps old new st result → (image : List ℕ) →
+        since new.disk (clock old.disk) image → MayLeave (surface (file old.disk)) image
+    refused_only_before st (Ok out) k image left = absurd (false≢true (sym k.done.0 ∙ stopped))
+    refused_only_before st (Err fault) k image left = by_tried k.written.tried
+      where
+        by_tried : ((fault ≡ Device) × IsTried old.gate (record_of st))
+            ⊎ ((fault ≢ Device) × LeavesOnly clock since old.disk new.disk (MayLeave (surface (file old.disk)))) → MayLeave (surface (file old.disk)) image
+        by_tried (inl tried) = absurd (not_wanted fault Stopped (because st fault k) stopped_no_device tried.0)
+        by_tried (inr it) = it.1.each image left
+
+    -- so its device fails in none
+    pub stopped_fails_not : (st : Stepped) → Steps old new st (Err Device) → ⊥
+    stopped_fails_not st k = stopped_no_device (sym (because st Device k))
+
+    pub stopped_turns_not : Turned old new (Err Device) → ⊥
+    stopped_turns_not k = by_cause k.cause
+      where
+        by_cause : ((Device ≡ Stopped) × IsTrue old.stopped × (new ≡ old))
+            ⊎ ((old.stopped ≡ false) × IsTurnCause Device (HasNoTurnPlace old.slot old.gate (turned old.facts))
+            ((failures old.disk < failures new.disk) × IsTrue new.stopped)) → ⊥
+        by_cause (inl is) = stopped_no_device (sym is.0)
+        by_cause (inr runs) = false≢true (sym runs.0 ∙ stopped)
+
+    pub turn_refused_only_before : (result : Result (List Envelope) Fault) → Turned old new result → (image : List ℕ) →
+        since new.disk (clock old.disk) image → MayLeave (surface (file old.disk)) image
+    turn_refused_only_before (Ok out) k image left = absurd (false≢true (sym k.done.0 ∙ stopped))
+    turn_refused_only_before (Err fault) k image left = by_tried k.tried k.cause
+      where
+        by_tried : ((fault ≡ Device) × HasTurnPlace old.slot old.gate (turned old.facts))
+            ⊎ ((fault ≢ Device) × LeavesOnly clock since old.disk new.disk (MayLeave (surface (file old.disk)))) →
+            ((fault ≡ Stopped) × IsTrue old.stopped × (new ≡ old))
+            ⊎ ((old.stopped ≡ false) × IsTurnCause fault (HasNoTurnPlace old.slot old.gate (turned old.facts))
+            ((failures old.disk < failures new.disk) × IsTrue new.stopped)) → MayLeave (surface (file old.disk)) image
+        by_tried (inr it) cause = it.1.each image left
+        by_tried (inl tried) (inl is) = absurd (not_wanted fault Stopped is.0 stopped_no_device tried.0)
+        by_tried (inl tried) (inr runs) = absurd (false≢true (sym runs.0 ∙ stopped))
 
     pub refuses_turn : (result : Result (List Envelope) Fault) → Turned old new result → (new.stopped ≡ true) × HoldsLog file s new.disk
     refuses_turn (Ok out) k = absurd (false≢true (sym k.done.0 ∙ stopped))
@@ -385,6 +481,35 @@ module _ {D : Type 0} (keeps obeys : Type 0) (file : D → File) (clock : D → 
         } in
         subst (Comes setup s Doing.Open (Up core))
         (sym (does s known.alike (k.epoch rs kept h.read.0) (subst (λ n. HasPlace n (Some q)) (ends rs) gate.1))) running
+
+    -- where it has room, the definitions do it
+    pub opens : (records : List Record) → records_in (surface (file disk)).seen ≡ Ok records → epoch_of records + 1 < 2 ^ 62 →
+        HasPlace (end_in (surface (file disk)).seen records) (Some (next_opening records)) → IsKnown setup s →
+        opens_as s ≡ Does (Some (opening_now s)) (rebuilt (facts_of (read_log s))) []
+    opens records read epoch place known =
+        let same_log : records ≡ (read_area s).records = ok_same records (read_area s).records (records_in (surface (file disk)).seen) read h.read.0 in
+        does s known.alike (subst (λ l. epoch_of l + 1 < 2 ^ 62) same_log epoch)
+        (subst (λ n. HasPlace n (Some (opening_now s))) (ends (read_area s).records)
+        (subst (λ l. HasPlace (end_in (surface (file disk)).seen l) (Some (next_opening l))) same_log place))
+
+    -- they don't refuse one that was done
+    pub opened_not_refused : (core : CoreView D) → HasOpened keeps obeys file clock since failures plan disk setup core → IsKnown setup s → (why : Fault) →
+        opens_as s ≡ Refuses why → ⊥
+    opened_not_refused core k known why is =
+        let rs : List Record = (read_area s).records in
+        does_not_refuse why (sym (opens rs h.read.0 (k.epoch rs kept h.read.0) (k.gate rs kept h.read.0).1 known) ∙ is)
+
+    -- where they refuse it, since the call began a crash leaves only what it might have left before
+    pub not_opened_only_before : (fault : Fault) (back : D) → HasNotOpened keeps obeys file clock since failures plan disk setup fault back → IsKnown setup s →
+        (why : Fault) → opens_as s ≡ Refuses why → (image : List ℕ) → since back (clock disk) image → MayLeave (surface (file disk)) image
+    not_opened_only_before fault back k known why is image left = by_tried k.tried
+      where
+        by_tried : ((fault ≡ Device) × (keeps → HasRoom setup (surface (file disk))))
+            ⊎ (keeps → LeavesOnly clock since disk back (MayLeave (surface (file disk)))) → MayLeave (surface (file disk)) image
+        by_tried (inl tried) =
+            let room = tried.1 kept in
+            absurd (does_not_refuse why (sym (opens room.0 room.1.read room.1.epoch room.1.place known) ∙ is))
+        by_tried (inr it) = (it kept).each image left
 
     -- it was refused for the reason that the definitions have
     pub not_opened : (fault : Fault) (back : D) → HasNotOpened keeps obeys file clock since failures plan disk setup fault back → IsOwn fault →

@@ -10,15 +10,18 @@ use Rattle.truetime.specs.Interval.{Interval}
 use Rattle.disk.specs.declared.plan.FailurePlan.{FailurePlan}
 use Rattle.disk.specs.File.{File, surface}
 use Rattle.disk.specs.Image.{MayLeave}
+use Rattle.disk.specs.Moments.{LeavesOnly}
 use Rattle.disk.proofs.Crashes.{seen_may}
 use Rattle.message.specs.declared.message.Envelope.{Envelope}
 use Rattle.message.specs.declared.message.Input.{Input}
-use Rattle.protocol.specs.Rows.{Memory}
+use Rattle.protocol.specs.Rows.{Memory, rebuilt}
 use Rattle.protocol.specs.Step.{Stepped, Does}
 use Rattle.record.specs.Accepted.{followed}
+use Rattle.record.specs.Facts.{facts_of}
 use Rattle.record.specs.declared.record.Record.{Record}
 use Rattle.shard.specs.Logs.{records_in}
 use Rattle.shard.specs.On.{record_of, step_of}
+use Rattle.shard.specs.Opened.{HasRoom}
 use Rattle.world.specs.Lawful.{is_up, lawful, may_act, may_do, may_happen}
 use Rattle.world.specs.Steady.{HasAreas, IsSteady}
 use Rattle.world.specs.World.{World, ShardNow, State, Runs, IsStopped, IsDown, Nothing, effect, failed_in, failed_turn, input_of, new_area, read_area}
@@ -31,17 +34,19 @@ use Rattle.world.proofs.EveryRun.{is_steady}
 use Rattle.world.proofs.Rooms.{done_wanted}
 use Rattle.world.proofs.Untouched.{run_settings}
 use Rattle.lives.specs.Inputs.{has_input}
-use Rattle.lives.proofs.Living.{asks_the_resting, not_up_opens}
+use Rattle.lives.specs.Carries.{turns_in}
+use Rattle.lives.proofs.Living.{asks_the_resting, not_up_opens, turns_as}
 use Rattle.law.proofs.Areas.{logs_no_turn}
 use Rattle.law.proofs.HasAreas.{always_has_areas}
 use Rattle.lives.specs.Held.{HoldsArea}
 use Rattle.images.specs.Images.{Calls, FailsOr, FailuresAreTold, HasFailed, IsToldFailure, LeavesNow, Life, Opens, OpensTo, Takes, TakesWhat, TurnsOver}
-use Rattle.images.specs.Images.{AnAppend, ATurnover, Failing, NoCall, Up, Down, disk_of, events_of, failing}
-use Rattle.images.proofs.Called.{IsKnown, left_now, not_opened_now, turned_now}
-use Rattle.images.proofs.Held.{HoldsLog, HoldsOr, LivesAs, LivesIn}
+use Rattle.images.specs.Images.{AnAppend, ATurnover, Failing, FailsEarly, StarvesIn, NoCall, Up, Down, disk_of, events_of, failing}
+use Rattle.images.proofs.Called.{IsKnown, fails_logging, left_now, not_opened_now, opening_now, opens, stopped_fails_not, stopped_turns_not, turn_fails_doing}
+use Rattle.images.proofs.Called.{turned_now}
+use Rattle.images.proofs.Held.{HoldsLog, HoldsOr, LivesAs, LivesIn, sure_only}
 use Rattle.images.proofs.Placed.{IsInput, given, input_whole, no_input, opening_is, rests_holds, some_shard}
 use Rattle.images.proofs.Told.{below, last_of, may_be_done, no_later, same_number}
-use Rattle.images.proofs.Turned.{HoldRun, holds}
+use Rattle.images.proofs.Turned.{HoldRun, holds, same_disk}
 use Rattle.images.proofs.Turnovers.{turn_of}
 
 module _ {D : Type 0} (keeps obeys : Type 0) (file : D → File) (clock : D → ℕ) (since : D → ℕ → List ℕ → Type 0) (failures : D → ℕ)
@@ -190,51 +195,116 @@ module _ {D : Type 0} (keeps obeys : Type 0) (file : D → File) (clock : D → 
         by_seen (inl old) = fails 3 refl refl old
         by_seen (inr other) = fails 4 refl refl other
 
-    module _ (sure : s.unsure ≡ Nothing) (logged : Option Record) (memory : Memory) (out : List Envelope) where
-      -- in a step
-      input_told : (doing : Doing) → IsInput doing → may_do (run config es) time n doing ≡ true → What doing ≡ Does logged memory out →
-          (logged ≢ None) ⊎ (turns doing ≡ true) →
+    module _ (sure : s.unsure ≡ Nothing) where
+      -- in a step, which logs a record
+      input_told : (doing : Doing) → IsInput doing → may_do (run config es) time n doing ≡ true →
           TakesWhat keeps obeys file clock since failures plan (input_of bag doing) (lives n) after (Err Device) →
           Calls keeps obeys file clock since failures plan setup bag doing (lives n) after (Err Device) → Told after
-      input_told doing i may does writes k called = by_logged logged refl writes
+      input_told doing i may k called = by_input (input_of bag doing) refl k
         where
-          by_input : (o : Option (Interval × Input)) → input_of bag doing ≡ o → (r : Record) → What doing ≡ Does (Some r) memory out →
-              TakesWhat keeps obeys file clock since failures plan o (lives n) after (Err Device) → (image : List ℕ) → LeavesNow file after image →
-              HoldsOr (read_area s) (Some r) image
-          by_input None is r logs takes image left = absurd takes
-          by_input (Some p) is r logs takes image left =
-              takes_leave doing p (lives n) after i is r memory out logs takes (h n s there) image left
+          Logs : Type 0
+          Logs = (r : Record) × ((memory : Memory) × ((out : List Envelope) × (What doing ≡ Does (Some r) memory out)))
 
-          by_logged : (o : Option Record) → logged ≡ o → (logged ≢ None) ⊎ (turns doing ≡ true) → Told after
-          by_logged None is (inl some) = absurd (some is)
-          by_logged None is (inr turn) = absurd (false≢true (sym (ap has_input (turn_of doing turn)) ∙ i.has))
-          by_logged (Some r) is writes =
-              let logs : What doing ≡ Does (Some r) memory out = does ∙ ap (λ l. Does l memory out) is in
-              append_told doing r memory out may sure logs called (λ image left. by_input (input_of bag doing) refl r logs k image left)
+          logs : (p : Interval × Input) → input_of bag doing ≡ Some p → (old new : Life D) →
+              Takes keeps obeys file clock since failures plan p.0 p.1 old new (Err Device) → LivesAs file setup s old → Logs
+          logs p is (Up old) (Up new) takes l = by_state s.state refl l
+            where
+              by_state : (st : State) → s.state ≡ st → LivesIn file setup s (Up old) st → Logs
+              by_state (Runs m) runs r = fails_logging keeps obeys file clock since failures plan counts kept setup s m old new r (step_of old p.0 p.1) takes
+                  (What doing) (input_whole keeps obeys file clock since failures plan counts kept (run config es).config bag n s known
+                  (areas.lasting n s there) follows doing p m old i.has is runs r)
+              by_state (IsStopped m) stops r =
+                  absurd (stopped_fails_not keeps obeys file clock since failures plan counts kept setup s old new r.0 r.1 (step_of old p.0 p.1) takes)
+              by_state IsDown down r = absurd r
+          logs p is (Up old) (Down back) takes l = absurd takes
+          logs p is (Down disk) (Up new) takes l = absurd takes
+          logs p is (Down disk) (Down back) takes l = absurd takes
+
+          by_input : (o : Option (Interval × Input)) → input_of bag doing ≡ o →
+              TakesWhat keeps obeys file clock since failures plan o (lives n) after (Err Device) → Told after
+          by_input None is takes = absurd takes
+          by_input (Some p) is takes =
+              let it : Logs = logs p is (lives n) after takes (h n s there) in
+              append_told doing it.0 it.1.0 it.1.1.0 may sure it.1.1.1 called
+              (λ image left. takes_leave doing p (lives n) after i is it.0 it.1.0 it.1.1.0 it.1.1.1 takes (h n s there) image left)
+
+      -- in a turnover
+      turnover_told : (old new : Life D) → TurnsOver keeps obeys file clock since failures plan old new (Err Device) → LivesAs file setup s old →
+          (memory : Memory) × ((out : List Envelope) × (What Doing.Turn ≡ Does None memory out))
+      turnover_told (Up old) (Up new) k l = by_state s.state refl l
+        where
+          by_state : (st : State) → s.state ≡ st → LivesIn file setup s (Up old) st →
+              (memory : Memory) × ((out : List Envelope) × (What Doing.Turn ≡ Does None memory out))
+          by_state (Runs m) runs r = (
+            m,
+            (
+              [],
+              turns_as setup bag s ∙ ap (turns_in s) runs
+                  ∙ turn_fails_doing keeps obeys file clock since failures plan counts kept setup s m old new r (areas.lasting n s there) k.0,
+            ),
+          )
+          by_state (IsStopped m) stops r =
+              absurd (stopped_turns_not keeps obeys file clock since failures plan counts kept setup s old new r.0 r.1 k.0)
+          by_state IsDown down r = absurd r
+      turnover_told (Up old) (Down back) k l = absurd k
+      turnover_told (Down disk) (Up new) k l = absurd k
+      turnover_told (Down disk) (Down back) k l = absurd k
+
+      -- in an opening: in its append, or before it
+      opening_told : may_do (run config es) time n Doing.Open ≡ true → Opens keeps obeys file clock since failures plan setup (lives n) after (Err Device) →
+          Told after ⊎ FailsEarly keeps obeys file clock since failures plan setup (lives n) after
+      opening_told may k = by_new after refl k.opened
+        where
+          rests : (is_up s.state ≡ false) × HoldsLog file s k.disk
+          rests = rests_holds keeps obeys file clock since failures plan counts kept setup s (lives n) k.disk k.rests s.state (h n s there)
+
+          same : disk_of (lives n) ≡ k.disk
+          same = same_disk keeps obeys file clock since failures plan counts kept (run config es) steady areas n s there (lives n) k.disk k.rests
+
+          by_new : (x : Life D) → after ≡ x → OpensTo keeps obeys file clock since failures plan k.disk setup x (Err Device) →
+              Told after ⊎ FailsEarly keeps obeys file clock since failures plan setup (lives n) after
+          by_new (Up core) is o = absurd o
+          by_new (Down back) is o = by_tried o.tried
+            where
+              by_tried : ((Device ≡ Device) × (keeps → HasRoom setup (surface (file k.disk))))
+                  ⊎ (keeps → LeavesOnly clock since k.disk back (MayLeave (surface (file k.disk)))) →
+                  Told after ⊎ FailsEarly keeps obeys file clock since failures plan setup (lives n) after
+              by_tried (inl tried) =
+                  let room = tried.1 kept in
+                  let does : What Doing.Open ≡ Does (Some (opening_now s)) (rebuilt (facts_of (read_log s))) [] =
+                  (not_up_opens setup bag s rests.0).0
+                  ∙ opens keeps obeys file clock since failures plan counts kept setup s k.disk rests.1 room.0 room.1.read room.1.epoch room.1.place known in
+                  inl (append_told Doing.Open (opening_now s) (rebuilt (facts_of (read_log s))) [] may sure does k
+                  (λ image left. opens_leave (lives n) after sure (opening_now s) (rebuilt (facts_of (read_log s))) [] does k (h n s there) image left))
+              by_tried (inr it) =
+                  let only : (image : List ℕ) → MayLeave (surface (file back)) image → MayLeave (surface (file k.disk)) image =
+                  λ image may. (it kept).each image (counts back (clock k.disk) image (it kept).later may) in
+                  let seen : HoldsArea (read_area s) (surface (file back)).seen = sure_only s (surface (file back)).seen sure
+                  (rests.1.left (surface (file back)).seen (only (surface (file back)).seen (seen_may (file back)))) in
+                  let was : HoldsArea (read_area s) (surface (file (disk_of (lives n)))).seen =
+                  subst (λ d. HoldsArea (read_area s) (surface (file d)).seen) (sym same) rests.1.read in
+                  inr (subst (λ x. Opens keeps obeys file clock since failures plan setup (lives n) x (Err Device) →
+                  FailsEarly keeps obeys file clock since failures plan setup (lives n) x) (sym is) (λ called. record {
+                    fault = Device;
+                    called = called;
+                    failed = inr refl;
+                    read = seen.0 ∙ sym was.0;
+                    begins = seen.1 ∙ sym was.1;
+                    within = λ image may. subst (λ d. MayLeave (surface (file d)) image) (sym same) (only image may);
+                  }) k)
 
       -- in any call
-      doing_told : (doing : Doing) → may_do (run config es) time n doing ≡ true → What doing ≡ Does logged memory out →
-          (logged ≢ None) ⊎ (turns doing ≡ true) →
-          Calls keeps obeys file clock since failures plan setup bag doing (lives n) after (Err Device) → Told after
-      doing_told Doing.Open may does writes k = by_logged logged refl writes
-        where
-          by_logged : (o : Option Record) → logged ≡ o → (logged ≢ None) ⊎ (false ≡ true) → Told after
-          by_logged None is (inl some) = absurd (some is)
-          by_logged None is (inr turn) = absurd (false≢true turn)
-          by_logged (Some r) is writes =
-              let logs : What Doing.Open ≡ Does (Some r) memory out = does ∙ ap (λ l. Does l memory out) is in
-              append_told Doing.Open r memory out may sure logs k (λ image left. opens_leave (lives n) after sure r memory out logs k (h n s there) image left)
-      doing_told Doing.Turn may does writes k = by_logged logged refl
-        where
-          by_logged : (o : Option Record) → logged ≡ o → Told after
-          by_logged None is = turn_told memory out (does ∙ ap (λ l. Does l memory out) is) k
-          by_logged (Some r) is = absurd (false≢true (sym (logs_no_turn setup bag s Doing.Turn r memory out (does ∙ ap (λ l. Does l memory out) is))))
-      doing_told (Doing.Take m now) may does writes k = input_told (Doing.Take m now) (given (Doing.Take m now) refl) may does writes k k
-      doing_told (Doing.Resume now) may does writes k = input_told (Doing.Resume now) (given (Doing.Resume now) refl) may does writes k k
-      doing_told (Doing.Settle t now) may does writes k = input_told (Doing.Settle t now) (given (Doing.Settle t now) refl) may does writes k k
-      doing_told (Doing.Advance at now) may does writes k = input_told (Doing.Advance at now) (given (Doing.Advance at now) refl) may does writes k k
-      doing_told (Doing.Forget at now) may does writes k = input_told (Doing.Forget at now) (given (Doing.Forget at now) refl) may does writes k k
-      doing_told (Doing.Nudge t now) may does writes k = input_told (Doing.Nudge t now) (given (Doing.Nudge t now) refl) may does writes k k
+      doing_told : (doing : Doing) → may_do (run config es) time n doing ≡ true →
+          Calls keeps obeys file clock since failures plan setup bag doing (lives n) after (Err Device) →
+          Told after ⊎ StarvesIn keeps obeys file clock since failures plan setup bag doing (lives n) after
+      doing_told Doing.Open may k = opening_told may k
+      doing_told Doing.Turn may k = let it = turnover_told (lives n) after k (h n s there) in inl (turn_told it.0 it.1.0 it.1.1 k)
+      doing_told (Doing.Take m now) may k = inl (input_told (Doing.Take m now) (given (Doing.Take m now) refl) may k k)
+      doing_told (Doing.Resume now) may k = inl (input_told (Doing.Resume now) (given (Doing.Resume now) refl) may k k)
+      doing_told (Doing.Settle t now) may k = inl (input_told (Doing.Settle t now) (given (Doing.Settle t now) refl) may k k)
+      doing_told (Doing.Advance at now) may k = inl (input_told (Doing.Advance at now) (given (Doing.Advance at now) refl) may k k)
+      doing_told (Doing.Forget at now) may k = inl (input_told (Doing.Forget at now) (given (Doing.Forget at now) refl) may k k)
+      doing_told (Doing.Nudge t now) may k = inl (input_told (Doing.Nudge t now) (given (Doing.Nudge t now) refl) may k k)
 
 module _ {D : Type 0} (keeps obeys : Type 0) (file : D → File) (clock : D → ℕ) (since : D → ℕ → List ℕ → Type 0) (failures : D → ℕ)
     (plan : D → FailurePlan)
@@ -242,21 +312,21 @@ module _ {D : Type 0} (keeps obeys : Type 0) (file : D → File) (clock : D → 
     (kept : keeps) where
   told_in : (config : Config) (es : List Event) → lawful config es ≡ true → (lives : ℕ → Life D) →
       HoldRun keeps obeys file clock since failures plan counts kept config es lives → (n : ℕ) (after : Life D) →
-      HasFailed keeps obeys file clock since failures plan config es lives n after →
+      (f : HasFailed keeps obeys file clock since failures plan config es lives n after) →
       IsToldFailure keeps obeys file clock since failures plan config es lives n after
+      ⊎ StarvesIn keeps obeys file clock since failures plan (setup_of config n) (run config es).bag f.under_way.doing (lives n) after
   told_in config es fair lives h n after f =
       let u = f.under_way in
       let config_is : (run config es).config ≡ config = run_settings config es in
       let may : may_happen (run config es) u.event ≡ true = last_of config es u.event u.may in
       let parts = and_parts (nat_le (run config es).time u.event.time) (may_act (run config es) u.event.time u.event.act) may in
-      doing_told keeps obeys file clock since failures plan counts kept config es fair lives h n u.shard u.there after u.event.time parts.0
-      f.sure u.logged u.memory u.out u.doing
-      (may_be_done (run config es) u.event.time n u.doing u.event.act u.of parts.1)
-      (subst (λ c. effect (setup_of c n) (run config es).bag u.shard u.doing ≡ Does u.logged u.memory u.out) (sym config_is) u.does)
-      f.writes
+      subst (λ c. IsToldFailure keeps obeys file clock since failures plan config es lives n after
+      ⊎ StarvesIn keeps obeys file clock since failures plan (setup_of c n) (run config es).bag u.doing (lives n) after) config_is
+      (doing_told keeps obeys file clock since failures plan counts kept config es fair lives h n u.shard u.there after u.event.time parts.0
+      f.sure u.doing (may_be_done (run config es) u.event.time n u.doing u.event.act u.of parts.1)
       (subst (λ r. Calls keeps obeys file clock since failures plan (setup_of (run config es).config n) (run config es).bag u.doing (lives n) after r) f.device
       (subst (λ c. Calls keeps obeys file clock since failures plan (setup_of c n) (run config es).bag u.doing (lives n) after u.result)
-      (sym config_is) u.called))
+      (sym config_is) u.called)))
 
   pub failures_are_told : FailuresAreTold keeps obeys file clock since failures plan
   failures_are_told keep config turns first lives fair fresh leads n after f =

@@ -1,4 +1,5 @@
 pub mod Acted
+pub mod AtOnce
 pub mod Called
 pub mod Failing
 pub mod Held

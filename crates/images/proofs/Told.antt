@@ -40,7 +40,7 @@ use Rattle.images.specs.Images.{Calls, CrashesAreTold, IsTold, IsUnderWay, Leave
 use Rattle.images.specs.Images.{Up, Down, disk_of, events_of}
 use Rattle.images.proofs.Held.{LivesAs, LivesIn, ReadsAs, life_holds, sure_area}
 use Rattle.images.proofs.Placed.{no_input, some_shard}
-use Rattle.images.proofs.Turned.{HoldRun, MayLeaveHere, calls_read, holds}
+use Rattle.images.proofs.Turned.{HoldRun, MayLeaveHere, holds, under_way_reads}
 
 pub same_number : (n : ℕ) → nat_eq n n ≡ true
 same_number n = grind (arith, nat_tests)
@@ -154,7 +154,7 @@ logs_behind setup bag s doing r memory out does =
     ap (λ b. cond b (new_area s) (with_records (read_area s) (r ∷ []))) (logs_no_turn setup bag s doing r memory out does)
 
 -- a crash in the fourth call of a doing may leave what the doing would have left
-done_left : (w : World) (s : ShardNow) (n : ℕ) (doing : Doing) (log : List Record) (area : Area) → MayHaveDone w s n doing log area →
+pub done_left : (w : World) (s : ShardNow) (n : ℕ) (doing : Doing) (log : List Record) (area : Area) → MayHaveDone w s n doing log area →
     area ≡ (crashed_in s 3 Fate.New doing (effect (setup_of w.config n) w.bag s doing)).area
 done_left w s n doing log area h = h.area_is ∙ by_logged h.logged h.does
   where
@@ -309,39 +309,35 @@ module _ {D : Type 0} (keeps obeys : Type 0) (file : D → File) (clock : D → 
   may_be_in (Doing.Forget at now) logged memory out does = crash_may (Doing.Forget at now) logged memory out does refl
   may_be_in (Doing.Nudge t now) logged memory out does = crash_may (Doing.Nudge t now) logged memory out does refl
 
+  -- in a call that is under way, and that the definitions do, a crash may come at the time of its event
+  pub may_come_in : (after : Life D) (u : IsUnderWay keeps obeys file clock since failures plan config es lives n after) (logged : Option Record)
+      (memory : Memory) (out : List Envelope) → effect (setup_of (run config es).config n) (run config es).bag s u.doing ≡ Does logged memory out →
+      ((run config es).time ≤ u.event.time) × (may_do (run config es) u.event.time n u.doing ≡ true) × (may_crash (run config es) n u.doing ≡ true)
+  may_come_in after u logged memory out does = (
+    later (run config es).time u.event.time parts.0,
+    may_be_done (run config es) u.event.time n u.doing u.event.act u.of parts.1,
+    may_be_in u.doing logged memory out does,
+  )
+    where
+      parts : (nat_le (run config es).time u.event.time ≡ true) × (may_act (run config es) u.event.time u.event.act ≡ true)
+      parts = and_parts (nat_le (run config es).time u.event.time) (may_act (run config es) u.event.time u.event.act) (last_of config es u.event u.may)
+
+      later : (a b : ℕ) → nat_le a b ≡ true → a ≤ b
+      later a b e = grind (arith, nat_tests)
+
   within_told : (after : Life D) (image : List ℕ) → IsUnderWay keeps obeys file clock since failures plan config es lives n after →
       since (disk_of after) (clock (disk_of (lives n))) image → (is_down s.state ≡ false) ⊎ (s.unsure ≡ Nothing) → Told image
   within_told after image u left can = by_fits reads.fits
     where
-      same : u.shard ≡ s
-      same = some_shard u.shard s (sym u.there ∙ there)
-
-      does : effect (setup_of (run config es).config n) (run config es).bag s u.doing ≡ Does u.logged u.memory u.out
-      does = subst (λ c. effect (setup_of c n) (run config es).bag s u.doing ≡ Does u.logged u.memory u.out) (sym config_is)
-          (subst (λ x. effect (setup_of config n) (run config es).bag x u.doing ≡ Does u.logged u.memory u.out) same u.does)
-
-      called : Calls keeps obeys file clock since failures plan (setup_of (run config es).config n) (run config es).bag u.doing (lives n) after u.result
-      called = subst (λ c. Calls keeps obeys file clock since failures plan (setup_of c n) (run config es).bag u.doing (lives n) after u.result)
-          (sym config_is) u.called
-
       reads : ReadsAs (MayLeaveHere (run config es) n u.doing s) image
-      reads = calls_read keeps obeys file clock since failures plan counts kept (run config es) (is_steady config es fair)
-          (always_has_areas config es fair) n s there u.doing (lives n) after u.result u.logged u.memory u.out does called here image left
-
-      may : may_happen (run config es) u.event ≡ true
-      may = last_of config es u.event u.may
-
-      parts : (nat_le (run config es).time u.event.time ≡ true) × (may_act (run config es) u.event.time u.event.act ≡ true)
-      parts = and_parts (nat_le (run config es).time u.event.time) (may_act (run config es) u.event.time u.event.act) may
+      reads = under_way_reads keeps obeys file clock since failures plan counts kept config es fair lives h n after u s image there left
 
       by_fits : MayLeaveHere (run config es) n u.doing s reads.log reads.area → Told image
       by_fits (inl fits) = now_told image (record { log = reads.log; area = reads.area; holds = reads.holds; fits = fits }) can
-      by_fits (inr may_have) = crashes_in image 3 u.event.time Fate.New u.doing (later (run config es).time u.event.time parts.0)
-          (may_be_done (run config es) u.event.time n u.doing u.event.act u.of parts.1) (may_be_in u.doing u.logged u.memory u.out does)
+      by_fits (inr may_have) =
+          let may = may_come_in after u may_have.logged may_have.memory may_have.out may_have.does in
+          crashes_in image 3 u.event.time Fate.New u.doing may.0 may.1 may.2
           (subst (λ a. HoldsArea a image) (done_left (run config es) s n u.doing reads.log reads.area may_have) reads.holds)
-        where
-          later : (a b : ℕ) → nat_le a b ≡ true → a ≤ b
-          later a b e = grind (arith, nat_tests)
 
 module _ {D : Type 0} (keeps obeys : Type 0) (file : D → File) (clock : D → ℕ) (since : D → ℕ → List ℕ → Type 0) (failures : D → ℕ)
     (plan : D → FailurePlan)

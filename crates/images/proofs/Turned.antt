@@ -13,7 +13,7 @@ use Rattle.disk.specs.Image.{MayLeave}
 use Rattle.message.specs.declared.message.Envelope.{Envelope}
 use Rattle.message.specs.declared.message.Input.{Input}
 use Rattle.protocol.specs.Rows.{Memory, rebuilt}
-use Rattle.protocol.specs.Step.{Does}
+use Rattle.protocol.specs.Step.{Stepped, Refuses, Does}
 use Rattle.record.specs.Accepted.{followed}
 use Rattle.record.specs.Facts.{facts_of}
 use Rattle.record.specs.declared.record.Record.{Record}
@@ -33,11 +33,11 @@ use Rattle.world.proofs.EveryRun.{is_steady}
 use Rattle.world.proofs.Places.{replicated}
 use Rattle.world.proofs.Rooms.{done_wanted}
 use Rattle.world.proofs.Untouched.{run_settings}
-use Rattle.lives.specs.Carries.{opens_as}
+use Rattle.lives.specs.Carries.{opens_as, turns_in}
 use Rattle.lives.specs.Held.{HoldsArea}
 use Rattle.lives.specs.Unopened.{unopened_shard}
 use Rattle.lives.proofs.Formatting.{fresh_is, none_taken, opens_first}
-use Rattle.lives.proofs.Living.{asks_the_resting, not_up_opens}
+use Rattle.lives.proofs.Living.{asks_the_resting, not_up_opens, turns_as}
 use Rattle.law.proofs.Instants.{lawful_front}
 use Rattle.law.proofs.WholeLaw.{externally_consistent, run_on}
 use Rattle.law.proofs.Areas.{logs_no_turn, read_may_leave}
@@ -46,7 +46,8 @@ use Rattle.images.specs.Images.{AreFresh, AreImages, AreLeft, AreLeftWithin, Cal
 use Rattle.images.specs.Images.{IsLeftAs, IsUnderWay, KnowsShard, Leads, LeavesNow, LeavesWithin, Life, Up, Down, OpensTo, RestsOn, Takes, TakesWhat}
 use Rattle.images.specs.Images.{Turn, Happens, Starves, Turns, TurnsOver, disk_of, events_of}
 use Rattle.images.proofs.Acted.{acts_hold, starves_hold}
-use Rattle.images.proofs.Called.{Comes, IsKnown, LeavesRead, left_since, not_opened_since, opened, opened_since, turned_since}
+use Rattle.images.proofs.Called.{Comes, IsKnown, LeavesRead, left_since, not_opened_only_before, not_opened_since, only_before, opened, opened_not_refused}
+use Rattle.images.proofs.Called.{opened_since, refused_only_before, turn_only_before, turn_refused_only_before, turned_since}
 use Rattle.images.proofs.Held.{HoldsLog, HoldsOr, LivesAs, LivesIn, ReadsAs, life_holds, surely_holds}
 use Rattle.images.proofs.Placed.{Hold, IsInput, given, input_whole, no_input, opening_is, rests_holds, some_shard}
 
@@ -172,6 +173,31 @@ left_logs P may [] (x ∷ images) logs areas fit = absurd fit
 left_logs P may (s ∷ ss) [] logs areas fit = absurd fit
 left_logs P may (s ∷ ss) (x ∷ images) [] areas fit = absurd fit
 left_logs P may (s ∷ ss) (x ∷ images) (l ∷ logs) [] fit = absurd fit
+
+module _ (config : Config) (es : List Event) (fair : lawful config es ≡ true) where
+  -- what is left of one shard, and keeps what it says
+  left_as : (n : ℕ) (image : List ℕ) (log : List Record) (area : Area) → HoldsArea area image → MayBeLeftAt config es n log area →
+      IsLeftAs config es n image log area
+  left_as n image log area holds left = record { holds = holds; left = left; keeps = areas_keep config es n log area fair left }
+
+  -- images that are read as what a crash between two events leaves
+  pub have_logs : (images : List (List ℕ)) → length images ≡ length (run config es).shards →
+      ((n : ℕ) (s : ShardNow) (image : List ℕ) → slice_get (run config es).shards n ≡ Some s → slice_get images n ≡ Some image →
+      ReadsAs (MayLeaveArea s) image) → HaveLogs config es images
+  have_logs images count reads =
+      let g = gathered MayLeaveEach (run config es).shards images count (λ n s image there is. reads n s image there is) in
+      let left : MayBeLeft config es g.logs =
+      inl (left_logs MayLeaveEach (λ i s log area k. area_log s log area k) (run config es).shards images g.logs g.areas g.fit) in
+      record {
+        logs = g.logs;
+        areas = g.areas;
+        read = g.read;
+        each = λ n image log area x y z.
+            let it = fit_at MayLeaveEach (run config es).shards images g.logs g.areas g.fit n image log area x y z in
+            left_as n image log area it.0 (it.1.0, it.1.1, inl it.1.2);
+        left = left;
+        consistent = externally_consistent config es g.logs fair left;
+      }
 
 module _ (w : World) (n : ℕ) (doing : Doing) where
   -- of the shard at which a call is under way
@@ -400,38 +426,135 @@ module _ {D : Type 0} (keeps obeys : Type 0) (file : D → File) (clock : D → 
     opens_reads (Up core) (Err fault) disk k down h image left = absurd k
     opens_reads (Down back) (Ok out) disk k down h image left = absurd k
 
-    same_disk : (old : Life D) (disk : D) → RestsOn old disk → disk_of old ≡ disk
+    pub same_disk : (old : Life D) (disk : D) → RestsOn old disk → disk_of old ≡ disk
     same_disk (Up core) disk rests = rests.1
     same_disk (Down d) disk rests = rests
 
-    pub calls_read : (doing : Doing) (old new : Life D) (result : Result (List Envelope) Fault) (logged : Option Record) (memory : Memory)
+    does_read : (doing : Doing) (old new : Life D) (result : Result (List Envelope) Fault) (logged : Option Record) (memory : Memory)
         (out : List Envelope) → effect (setup_of w.config n) w.bag s doing ≡ Does logged memory out →
         Calls keeps obeys file clock since failures plan (setup_of w.config n) w.bag doing old new result → LivesAs file (setup_of w.config n) s old →
         (image : List ℕ) → since (disk_of new) (clock (disk_of old)) image → ReadsAs (MayLeaveHere w n doing s) image
-    calls_read Doing.Open old new result logged memory out does k h image left =
+    does_read Doing.Open old new result logged memory out does k h image left =
         let rests = rests_holds keeps obeys file clock since failures plan counts kept (setup_of w.config n) s old k.disk k.rests s.state h in
         let since_then = subst (λ d. since (disk_of new) (clock d) image) (same_disk old k.disk k.rests) left in
         read_reads k.disk rests.1 rests.0 logged memory out does image
         (opens_reads new result k.disk k.opened rests.0 rests.1 image since_then)
-    calls_read Doing.Turn old new result logged memory out does k h image left = turns_read old new result logged memory out does k h image left
-    calls_read (Doing.Take m now) old new result logged memory out does k h image left =
+    does_read Doing.Turn old new result logged memory out does k h image left = turns_read old new result logged memory out does k h image left
+    does_read (Doing.Take m now) old new result logged memory out does k h image left =
         what_reads (Doing.Take m now) (input_of w.bag (Doing.Take m now)) old new result (given (Doing.Take m now) refl) refl
         logged memory out does k h image left
-    calls_read (Doing.Resume now) old new result logged memory out does k h image left =
+    does_read (Doing.Resume now) old new result logged memory out does k h image left =
         what_reads (Doing.Resume now) (input_of w.bag (Doing.Resume now)) old new result (given (Doing.Resume now) refl) refl
         logged memory out does k h image left
-    calls_read (Doing.Settle t now) old new result logged memory out does k h image left =
+    does_read (Doing.Settle t now) old new result logged memory out does k h image left =
         what_reads (Doing.Settle t now) (input_of w.bag (Doing.Settle t now)) old new result (given (Doing.Settle t now) refl) refl
         logged memory out does k h image left
-    calls_read (Doing.Advance at now) old new result logged memory out does k h image left =
+    does_read (Doing.Advance at now) old new result logged memory out does k h image left =
         what_reads (Doing.Advance at now) (input_of w.bag (Doing.Advance at now)) old new result (given (Doing.Advance at now) refl) refl
         logged memory out does k h image left
-    calls_read (Doing.Forget at now) old new result logged memory out does k h image left =
+    does_read (Doing.Forget at now) old new result logged memory out does k h image left =
         what_reads (Doing.Forget at now) (input_of w.bag (Doing.Forget at now)) old new result (given (Doing.Forget at now) refl) refl
         logged memory out does k h image left
-    calls_read (Doing.Nudge t now) old new result logged memory out does k h image left =
+    does_read (Doing.Nudge t now) old new result logged memory out does k h image left =
         what_reads (Doing.Nudge t now) (input_of w.bag (Doing.Nudge t now)) old new result (given (Doing.Nudge t now) refl) refl
         logged memory out does k h image left
+
+    -- ---- a call that the definitions refuse
+
+    reads_before : (old : Life D) → LivesAs file (setup_of w.config n) s old → (image : List ℕ) → MayLeave (surface (file (disk_of old))) image →
+        ReadsAs (MayLeaveArea s) image
+    reads_before old h image may = (life_holds file (setup_of w.config n) s old s.state h).left image may
+
+    takes_before : (doing : Doing) (p : Interval × Input) (old new : Life D) (result : Result (List Envelope) Fault) → IsInput doing →
+        input_of w.bag doing ≡ Some p → (why : Fault) → effect (setup_of w.config n) w.bag s doing ≡ Refuses why →
+        Takes keeps obeys file clock since failures plan p.0 p.1 old new result → LivesAs file (setup_of w.config n) s old →
+        (image : List ℕ) → since (disk_of new) (clock (disk_of old)) image → MayLeave (surface (file (disk_of old))) image
+    takes_before doing p (Up old) (Up new) result i is why refuses k h image left = by_state s.state refl h
+      where
+        by_state : (st : State) → s.state ≡ st → LivesIn file (setup_of w.config n) s (Up old) st → MayLeave (surface (file old.disk)) image
+        by_state (Runs m) runs l =
+            only_before keeps obeys file clock since failures plan counts kept (setup_of w.config n) s m old new l (step_of old p.0 p.1) result k why
+            (sym (input_whole keeps obeys file clock since failures plan counts kept w.config w.bag n s known (areas.lasting n s there) follows
+            doing p m old i.has is runs l) ∙ refuses) image left
+        by_state (IsStopped m) stops l =
+            refused_only_before keeps obeys file clock since failures plan counts kept (setup_of w.config n) s old new l.0 l.1 (step_of old p.0 p.1)
+            result k image left
+        by_state IsDown down l = absurd l
+    takes_before doing p (Up old) (Down back) result i is why refuses k h image left = absurd k
+    takes_before doing p (Down disk) (Up new) result i is why refuses k h image left = absurd k
+    takes_before doing p (Down disk) (Down back) result i is why refuses k h image left = absurd k
+
+    what_before : (doing : Doing) (o : Option (Interval × Input)) (old new : Life D) (result : Result (List Envelope) Fault) → IsInput doing →
+        input_of w.bag doing ≡ o → (why : Fault) → effect (setup_of w.config n) w.bag s doing ≡ Refuses why →
+        TakesWhat keeps obeys file clock since failures plan o old new result → LivesAs file (setup_of w.config n) s old →
+        (image : List ℕ) → since (disk_of new) (clock (disk_of old)) image → MayLeave (surface (file (disk_of old))) image
+    what_before doing None old new result i is why refuses k h image left = absurd k
+    what_before doing (Some p) old new result i is why refuses k h image left = takes_before doing p old new result i is why refuses k h image left
+
+    turns_before : (old new : Life D) (result : Result (List Envelope) Fault) (why : Fault) → effect (setup_of w.config n) w.bag s Doing.Turn ≡ Refuses why →
+        TurnsOver keeps obeys file clock since failures plan old new result → LivesAs file (setup_of w.config n) s old →
+        (image : List ℕ) → since (disk_of new) (clock (disk_of old)) image → MayLeave (surface (file (disk_of old))) image
+    turns_before (Up old) (Up new) result why refuses k h image left = by_state s.state refl h
+      where
+        by_state : (st : State) → s.state ≡ st → LivesIn file (setup_of w.config n) s (Up old) st → MayLeave (surface (file old.disk)) image
+        by_state (Runs m) runs l =
+            turn_only_before keeps obeys file clock since failures plan counts kept (setup_of w.config n) s m old new l (areas.lasting n s there) result k.0 why
+            (sym (turns_as (setup_of w.config n) w.bag s ∙ ap (turns_in s) runs) ∙ refuses) image left
+        by_state (IsStopped m) stops l =
+            turn_refused_only_before keeps obeys file clock since failures plan counts kept (setup_of w.config n) s old new l.0 l.1 result k.0 image left
+        by_state IsDown down l = absurd l
+    turns_before (Up old) (Down back) result why refuses k h image left = absurd k
+    turns_before (Down disk) (Up new) result why refuses k h image left = absurd k
+    turns_before (Down disk) (Down back) result why refuses k h image left = absurd k
+
+    opens_before : (new : Life D) (result : Result (List Envelope) Fault) (disk : D) →
+        OpensTo keeps obeys file clock since failures plan disk (setup_of w.config n) new result → HoldsLog file s disk → (why : Fault) →
+        opens_as s ≡ Refuses why → (image : List ℕ) → since (disk_of new) (clock disk) image → MayLeave (surface (file disk)) image
+    opens_before (Up core) (Ok out) disk k h why refuses image left =
+        absurd (opened_not_refused keeps obeys file clock since failures plan counts kept (setup_of w.config n) s disk h core k known why refuses)
+    opens_before (Down back) (Err fault) disk k h why refuses image left =
+        not_opened_only_before keeps obeys file clock since failures plan counts kept (setup_of w.config n) s disk h fault back k known why refuses image left
+    opens_before (Up core) (Err fault) disk k h why refuses image left = absurd k
+    opens_before (Down back) (Ok out) disk k h why refuses image left = absurd k
+
+    calls_before : (doing : Doing) (old new : Life D) (result : Result (List Envelope) Fault) (why : Fault) →
+        effect (setup_of w.config n) w.bag s doing ≡ Refuses why →
+        Calls keeps obeys file clock since failures plan (setup_of w.config n) w.bag doing old new result → LivesAs file (setup_of w.config n) s old →
+        (image : List ℕ) → since (disk_of new) (clock (disk_of old)) image → MayLeave (surface (file (disk_of old))) image
+    calls_before Doing.Open old new result why refuses k h image left =
+        let rests = rests_holds keeps obeys file clock since failures plan counts kept (setup_of w.config n) s old k.disk k.rests s.state h in
+        let same = same_disk old k.disk k.rests in
+        subst (λ d. MayLeave (surface (file d)) image) (sym same)
+        (opens_before new result k.disk k.opened rests.1 why (sym (not_up_opens (setup_of w.config n) w.bag s rests.0).0 ∙ refuses) image
+        (subst (λ d. since (disk_of new) (clock d) image) same left))
+    calls_before Doing.Turn old new result why refuses k h image left = turns_before old new result why refuses k h image left
+    calls_before (Doing.Take m now) old new result why refuses k h image left =
+        what_before (Doing.Take m now) (input_of w.bag (Doing.Take m now)) old new result (given (Doing.Take m now) refl) refl why refuses k h image left
+    calls_before (Doing.Resume now) old new result why refuses k h image left =
+        what_before (Doing.Resume now) (input_of w.bag (Doing.Resume now)) old new result (given (Doing.Resume now) refl) refl why refuses k h image left
+    calls_before (Doing.Settle t now) old new result why refuses k h image left =
+        what_before (Doing.Settle t now) (input_of w.bag (Doing.Settle t now)) old new result (given (Doing.Settle t now) refl) refl why refuses k h image left
+    calls_before (Doing.Advance at now) old new result why refuses k h image left =
+        what_before (Doing.Advance at now) (input_of w.bag (Doing.Advance at now)) old new result (given (Doing.Advance at now) refl) refl
+        why refuses k h image left
+    calls_before (Doing.Forget at now) old new result why refuses k h image left =
+        what_before (Doing.Forget at now) (input_of w.bag (Doing.Forget at now)) old new result (given (Doing.Forget at now) refl) refl
+        why refuses k h image left
+    calls_before (Doing.Nudge t now) old new result why refuses k h image left =
+        what_before (Doing.Nudge t now) (input_of w.bag (Doing.Nudge t now)) old new result (given (Doing.Nudge t now) refl) refl why refuses k h image left
+
+    -- ---- any call
+
+    calls_read : (doing : Doing) (old new : Life D) (result : Result (List Envelope) Fault) →
+        Calls keeps obeys file clock since failures plan (setup_of w.config n) w.bag doing old new result → LivesAs file (setup_of w.config n) s old →
+        (image : List ℕ) → since (disk_of new) (clock (disk_of old)) image → ReadsAs (MayLeaveHere w n doing s) image
+    calls_read doing old new result k h image left = by_effect (effect (setup_of w.config n) w.bag s doing) refl
+      where
+        by_effect : (st : Stepped) → effect (setup_of w.config n) w.bag s doing ≡ st → ReadsAs (MayLeaveHere w n doing s) image
+        by_effect (Does logged memory out) is = does_read doing old new result logged memory out is k h image left
+        by_effect (Refuses why) is =
+            let r = reads_before old h image (calls_before doing old new result why is k h image left) in
+            record { log = r.log; area = r.area; holds = r.holds; fits = inl r.fits }
 
   -- ---- all shards
 
@@ -439,32 +562,26 @@ module _ {D : Type 0} (keeps obeys : Type 0) (file : D → File) (clock : D → 
     config_is : (run config es).config ≡ config
     config_is = run_settings config es
 
-    now_reads : (n : ℕ) (s : ShardNow) (image : List ℕ) → slice_get (run config es).shards n ≡ Some s → LeavesNow file (lives n) image →
+    pub now_reads : (n : ℕ) (s : ShardNow) (image : List ℕ) → slice_get (run config es).shards n ≡ Some s → LeavesNow file (lives n) image →
         ReadsAs (MayLeaveArea s) image
     now_reads n s image there may =
         (life_holds file (setup_of (run config es).config n) s (lives n) s.state (h n s there)).left image may
 
-    -- what is left of one shard, and keeps what it says
-    left_as : (n : ℕ) (image : List ℕ) (log : List Record) (area : Area) → HoldsArea area image → MayBeLeftAt config es n log area →
-        IsLeftAs config es n image log area
-    left_as n image log area holds left = record { holds = holds; left = left; keeps = areas_keep config es n log area fair left }
-
     -- between two calls
     between : (images : List (List ℕ)) → AreImages (run config es) (λ n image. LeavesNow file (lives n) image) images → HaveLogs config es images
-    between images a =
-        let g = gathered MayLeaveEach (run config es).shards images a.count (λ n s image there is. now_reads n s image there (a.each n image is)) in
-        let left : MayBeLeft config es g.logs =
-        inl (left_logs MayLeaveEach (λ i s log area k. area_log s log area k) (run config es).shards images g.logs g.areas g.fit) in
-        record {
-          logs = g.logs;
-          areas = g.areas;
-          read = g.read;
-          each = λ n image log area x y z.
-              let it = fit_at MayLeaveEach (run config es).shards images g.logs g.areas g.fit n image log area x y z in
-              left_as n image log area it.0 (it.1.0, it.1.1, inl it.1.2);
-          left = left;
-          consistent = externally_consistent config es g.logs fair left;
-        }
+    between images a = have_logs config es fair images a.count (λ n s image there is. now_reads n s image there (a.each n image is))
+
+    -- what is left of a shard that is in a call
+    pub under_way_reads : (n : ℕ) (after : Life D) (u : IsUnderWay keeps obeys file clock since failures plan config es lives n after) (s : ShardNow)
+        (image : List ℕ) → slice_get (run config es).shards n ≡ Some s → since (disk_of after) (clock (disk_of (lives n))) image →
+        ReadsAs (MayLeaveHere (run config es) n u.doing s) image
+    under_way_reads n after u s image there left =
+        let called : Calls keeps obeys file clock since failures plan (setup_of (run config es).config n) (run config es).bag u.doing
+        (lives n) after u.result =
+        subst (λ c. Calls keeps obeys file clock since failures plan (setup_of c n) (run config es).bag u.doing (lives n) after u.result)
+        (sym config_is) u.called in
+        calls_read (run config es) (is_steady config es fair) (always_has_areas config es fair) n s there u.doing (lives n) after u.result
+        called (h n s there) image left
 
     -- within one
     module _ (images : List (List ℕ)) (a : AreLeftWithin keeps obeys file clock since failures plan config es lives images) where
@@ -478,18 +595,7 @@ module _ {D : Type 0} (keeps obeys : Type 0) (file : D → File) (clock : D → 
           LeavesWithin keeps obeys file clock since failures plan lives a.n a.after a.n image →
           ReadsAs (MayLeaveHere (run config es) a.n a.under_way.doing s) image
       here s image there (inr may) = absurd (may.0 refl)
-      here s image there (inl it) =
-          let same : u.shard ≡ s = some_shard u.shard s (sym u.there ∙ there) in
-          let does : effect (setup_of (run config es).config a.n) (run config es).bag s u.doing ≡ Does u.logged u.memory u.out =
-          subst (λ c. effect (setup_of c a.n) (run config es).bag s u.doing ≡ Does u.logged u.memory u.out) (sym config_is)
-          (subst (λ x. effect (setup_of config a.n) (run config es).bag x u.doing ≡ Does u.logged u.memory u.out) same u.does) in
-          let called : Calls keeps obeys file clock since failures plan (setup_of (run config es).config a.n) (run config es).bag u.doing
-          (lives a.n) a.after u.result =
-          subst (λ c. Calls keeps obeys file clock since failures plan (setup_of c a.n) (run config es).bag u.doing (lives a.n) a.after u.result)
-          (sym config_is) u.called in
-          calls_read (run config es) (is_steady config es fair) (always_has_areas config es fair) a.n s there u.doing (lives a.n) a.after u.result
-          u.logged u.memory u.out does called
-          (h a.n s there) image it.1
+      here s image there (inl it) = under_way_reads a.n a.after u s image there it.1
 
       elsewhere : (i : ℕ) (s : ShardNow) (image : List ℕ) → i ≢ a.n → slice_get (run config es).shards i ≡ Some s →
           LeavesWithin keeps obeys file clock since failures plan lives a.n a.after i image → ReadsAs (MayLeaveArea s) image
@@ -541,7 +647,7 @@ module _ {D : Type 0} (keeps obeys : Type 0) (file : D → File) (clock : D → 
             read = g.read;
             each = λ n image log area x y z.
                 let it = fit_at Then (run config es).shards images g.logs g.areas g.fit n image log area x y z in
-                left_as n image log area it.0 (left_at n it.1.0 log area it.1.1 it.1.2);
+                left_as config es fair n image log area it.0 (left_at n it.1.0 log area it.1.1 it.1.2);
             left = left;
             consistent = externally_consistent config es g.logs fair left;
           }

@@ -3,13 +3,14 @@
 -- the device that was. Whatever images a crash then leaves of these disks, between two calls or within one, each is read as an area that
 -- keeps what all records of its shard say that were logged since it was formatted; and these records are some that the law of the store
 -- speaks of.
-use Rattle.std.specs.Prelude.{ℕ, ◌≡◌, ◌≢◌, ◌⊎◌, false, cond, ◌&&◌, nat_le, nat_lt, IsTrue, IsFalse, List, [], ◌∷◌, ◌++◌, length, map, slice_get}
+use Rattle.std.specs.Prelude.{ℕ, ◌≡◌, ◌≢◌, ◌⊎◌, ◌≤◌, false, cond, ◌&&◌, nat_le, nat_lt, IsTrue, IsFalse, List, [], ◌∷◌, ◌++◌, length, map, slice_get}
 use Rattle.std.specs.Prelude.{Option, Some, None, Result, Ok, Err, IfOk}
 use Rattle.units.specs.declared.fault.Fault.{Fault}
 use Rattle.units.specs.declared.fault.Fault.TheVariants.{Memory, Device}
 use Rattle.units.specs.declared.setup.Setup.{Setup}
 use Rattle.truetime.specs.Interval.{Interval}
 use Rattle.disk.specs.declared.plan.FailurePlan.{FailurePlan}
+use Rattle.disk.specs.declared.plan.Fate.{Fate}
 use Rattle.disk.specs.File.{File, surface}
 use Rattle.disk.specs.Image.{MayLeave}
 use Rattle.gatelog.specs.Slots.{begins_in}
@@ -101,6 +102,15 @@ failing call doing (Refuses fault) = NoCall
 failing call doing (Does None memory out) = cond (turns doing && nat_lt call 5) ATurnover NoCall
 failing call doing (Does (Some r) memory out) = cond (nat_lt call 4) (AnAppend r) NoCall
 
+-- a crash within a call of a shard
+abbrev pub IsWithinCall : Event → Type 0
+IsWithinCall e = (n : ℕ) × (call : ℕ) × (fate : Fate) × (doing : Doing) × (e.act ≡ Act.CrashIn n call fate n doing)
+
+-- so each
+abbrev pub AreWithinCalls : List Event → Type 0
+AreWithinCalls [] = Unit {0}
+AreWithinCalls (e ∷ es) = IsWithinCall e × AreWithinCalls es
+
 -- one image of each shard's disk
 pub record AreImages (w : World) (leaves : ℕ → List ℕ → Type 0) (images : List (List ℕ)) : Type 0 where
   pub count : length images ≡ length w.shards
@@ -122,6 +132,14 @@ pub record HaveLogs (config : Config) (es : List Event) (images : List (List ℕ
       slice_get areas n ≡ Some area → IsLeftAs config es n image log area
   pub left : MayBeLeft config es logs
   pub consistent : IsExternallyConsistent config logs (run config es).lines
+
+-- Crashes within calls tell what was left: they may come next, no line of the run is another, and behind them each image has such logs
+pub record AreTold (config : Config) (es : List Event) (images : List (List ℕ)) : Type 0 where
+  pub crashes : List Event
+  pub within : AreWithinCalls crashes
+  pub may : IsTrue (lawful config (es ++ crashes))
+  pub lines : (run config (es ++ crashes)).lines ≡ (run config es).lines
+  pub logs : HaveLogs config (es ++ crashes) images
 
 -- A core that runs, knows what says the same as the records of a shard of the run, and keeps what that shard does: so what it puts out and
 -- how it is looked at is as the run has it
@@ -280,7 +298,7 @@ module _ {D : Type 0} (keeps obeys : Type 0) (file : D → File) (clock : D → 
 
   -- ---- crashes
 
-  -- A call is under way, of an event that may come next, whatever it will answer: one that the definitions do
+  -- A call is under way, of an event that may come next, whatever it will answer
   pub record IsUnderWay (config : Config) (es : List Event) (lives : ℕ → Life D) (n : ℕ) (after : Life D) : Type 0 where
     pub event : Event
     pub doing : Doing
@@ -288,10 +306,6 @@ module _ {D : Type 0} (keeps obeys : Type 0) (file : D → File) (clock : D → 
     pub of : doing_of (run config es) event.act ≡ Some (n, doing)
     pub shard : ShardNow
     pub there : slice_get (run config es).shards n ≡ Some shard
-    pub logged : Option Record
-    pub memory : Kept
-    pub out : List Envelope
-    pub does : effect (setup_of config n) (run config es).bag shard doing ≡ Does logged memory out
     pub result : Result (List Envelope) Fault
     pub called : Calls (setup_of config n) (run config es).bag doing (lives n) after result
 
@@ -346,7 +360,40 @@ module _ {D : Type 0} (keeps obeys : Type 0) (file : D → File) (clock : D → 
       (is_down s.state ≡ false) ⊎ (s.unsure ≡ Nothing) → (image : List ℕ) → LeavesImage config (events_of turns) lives n image →
       IsTold config (events_of turns) lives n image
 
-  -- ---- every failure of a device is told
+  -- ---- a crash of all shards at once
+
+  -- a call that is under way
+  pub record Call (config : Config) (es : List Event) (lives : ℕ → Life D) : Type 0 where
+    pub n : ℕ
+    pub after : Life D
+    pub under_way : IsUnderWay config es lives n after
+
+  -- some calls are at other shards than this one, and of no earlier events
+  abbrev pub AreBeside : (config : Config) (es : List Event) (lives : ℕ → Life D) → Call config es lives → List (Call config es lives) → Type 0
+  AreBeside config es lives c [] = Unit {0}
+  AreBeside config es lives c (d ∷ ds) =
+      (c.n ≢ d.n) × (c.under_way.event.time ≤ d.under_way.event.time) × AreBeside config es lives c ds
+
+  -- calls at a shard each, in the order of their events' times
+  abbrev pub AreInOrder : (config : Config) (es : List Event) (lives : ℕ → Life D) → List (Call config es lives) → Type 0
+  AreInOrder config es lives [] = Unit {0}
+  AreInOrder config es lives (c ∷ cs) = AreBeside config es lives c cs × AreInOrder config es lives cs
+
+  -- of the disk of a shard that is in one of them a crash leaves what it may leave at some moment since the call began; of each other what it
+  -- may leave now
+  abbrev pub LeavesInCalls : (config : Config) (es : List Event) (lives : ℕ → Life D) → List (Call config es lives) → ℕ → List ℕ → Type 0
+  LeavesInCalls config es lives [] n image = LeavesNow file (lives n) image
+  LeavesInCalls config es lives (c ∷ cs) n image =
+      ((c.n ≡ n) × since (disk_of c.after) (clock (disk_of (lives n))) image) ⊎ ((c.n ≢ n) × LeavesInCalls config es lives cs n image)
+
+  abbrev pub AllCrashAtOnce : Type 0
+  AllCrashAtOnce =
+      keeps → (config : Config) (turns : List Turn) (first lives : ℕ → Life D) → IsTrue (lawful config (events_of turns)) → AreFresh config first →
+      Leads (start config) turns first lives → (calls : List (Call config (events_of turns) lives)) → AreInOrder config (events_of turns) lives calls →
+      (images : List (List ℕ)) → AreImages (run config (events_of turns)) (LeavesInCalls config (events_of turns) lives calls) images →
+      AreTold config (events_of turns) images
+
+  -- ---- every failure of a device is told, or none of the run's events: that of an opening before its append
 
   -- an event tells how a call ended in which the device failed: it may come next, and what there is behind the call is beside the run
   pub record IsToldFailure (config : Config) (es : List Event) (lives : ℕ → Life D) (n : ℕ) (after : Life D) : Type 0 where
@@ -354,15 +401,15 @@ module _ {D : Type 0} (keeps obeys : Type 0) (file : D → File) (clock : D → 
     pub may : IsTrue (may_happen (run config es) event)
     pub tells : (new : ℕ → Life D) → AreElsewhere n lives new → new n ≡ after → Turns (run config es) event.act lives new
 
-  -- the device failed in a call that logs a record or turns a log over, of a shard of which nothing was unsure
+  -- the device failed in a call of a shard of which nothing was unsure
   pub record HasFailed (config : Config) (es : List Event) (lives : ℕ → Life D) (n : ℕ) (after : Life D) : Type 0 where
     pub under_way : IsUnderWay config es lives n after
     pub device : under_way.result ≡ Err Device
     pub sure : under_way.shard.unsure ≡ Nothing
-    pub writes : (under_way.logged ≢ None) ⊎ IsTrue (turns under_way.doing)
 
   abbrev pub FailuresAreTold : Type 0
   FailuresAreTold =
       keeps → (config : Config) (turns : List Turn) (first lives : ℕ → Life D) → IsTrue (lawful config (events_of turns)) → AreFresh config first →
-      Leads (start config) turns first lives → (n : ℕ) (after : Life D) → HasFailed config (events_of turns) lives n after →
+      Leads (start config) turns first lives → (n : ℕ) (after : Life D) → (f : HasFailed config (events_of turns) lives n after) →
       IsToldFailure config (events_of turns) lives n after
+      ⊎ StarvesIn (setup_of config n) (run config (events_of turns)).bag f.under_way.doing (lives n) after
