@@ -1,38 +1,34 @@
--- A crash of all shards at once: each disk holds what it held at some moment of the call that its shard was in, and crashes within these calls,
--- one behind the other, tell it.
-use Rattle.std.proofs.Common.{◌≡◌, ◌≢◌, ◌⊎◌, inl, inr, ℕ, zero, suc, ◌≤◌, Bool, true, ◌&&◌, nat_eq, nat_le, nat_lt, List, [], ◌∷◌, ◌++◌, length}
+-- A crash of all shards at once: each disk holds what it held at some moment of the call that its shard was in, and crashes within calls, one
+-- behind the other, tell it.
+use Rattle.std.proofs.Common.{◌≡◌, ◌≢◌, ◌⊎◌, inl, inr, ℕ, zero, suc, ◌≤◌, ◌<◌, Bool, true, false, cond, nat_eq, List, [], ◌∷◌, ◌++◌, length, map}
 use Rattle.std.proofs.Common.{Option, Some, None, slice_get, refl, sym, ap, ◌∙◌, subst, arith}
 use Rattle.std.proofs.lemmas.Bool.{and_from, and_parts, cases_eq}
 use Rattle.std.proofs.lemmas.Bool.Decides.{nat_tests}
-use Rattle.std.proofs.lemmas.Option.{slice_get_within}
+use Rattle.std.proofs.lemmas.Option.{slice_get_past}
 use Rattle.units.specs.Lists.{replaced, when}
 use Rattle.units.specs.declared.fault.Fault.TheVariants.{Stranger}
-use Rattle.truetime.specs.Reading.{is_honest}
 use Rattle.disk.specs.declared.plan.FailurePlan.{FailurePlan}
-use Rattle.disk.specs.declared.plan.Fate.{Fate}
 use Rattle.disk.specs.File.{File, surface}
 use Rattle.disk.specs.Image.{MayLeave}
-use Rattle.world.specs.Areas.{MayHaveDone, MayLeaveArea}
-use Rattle.world.specs.Lawful.{is_in, lawful, lawful_from, may_act, may_crash, may_do, may_happen}
-use Rattle.world.specs.World.{World, After, ShardNow, State, crashed_in, effect, happens, acts, refused, run, run_from, set_shard, setup_of, start, ticked}
-use Rattle.world.specs.declared.event.Act.{Act}
+use Rattle.world.specs.Areas.{MayLeaveArea}
+use Rattle.world.specs.Lawful.{is_down, is_in, lawful, lawful_from, may_crash, may_do, may_happen}
+use Rattle.world.specs.World.{World, After, ShardNow, State, Nothing, acts, crashed_in, effect, happens, refused, run, run_from, set_shard, setup_of, start, ticked}
 use Rattle.world.specs.declared.event.Config.{Config}
 use Rattle.world.specs.declared.event.Doing.{Doing}
 use Rattle.world.specs.declared.event.Event.{Event}
 use Rattle.world.specs.declared.event.Reply.{Reply}
 use Rattle.world.proofs.Places.{get-replaced_same, get-replaced_other}
-use Rattle.lives.specs.Held.{HoldsArea}
 use Rattle.law.proofs.WholeLaw.{run_on}
-use Rattle.images.specs.Images.{AllCrashAtOnce, AreBeside, AreInOrder, AreTold, AreWithinCalls, Call, IsUnderWay, LeavesInCalls, Life}
-use Rattle.images.specs.Images.{disk_of, events_of}
+use Rattle.images.specs.Images.{AllCrashAtOnce, AllGoOn, AllRestart, AreBeside, AreInOrder, AreTold, AreWithinCalls, Call, IsBesideThen, IsUnderWay}
+use Rattle.images.specs.Images.{Happens, Leads, LeavesInCalls, Life, RestartsFrom, disk_of, events_of}
 use Rattle.images.proofs.Held.{ReadsAs}
 use Rattle.images.proofs.Placed.{some_shard}
-use Rattle.images.proofs.Told.{below, done_left, may_come_in, no_later, same_number}
+use Rattle.images.proofs.Told.{IsLeftIn, call_left, comes_later, crash_comes, crash_of, crash_turns, now_left, same_number}
 use Rattle.images.proofs.Turned.{HoldRun, MayLeaveHere, have_logs, holds, now_reads, under_way_reads}
 
--- ---- shards in calls
+-- ---- shards that crash in calls
 
--- a shard, and the time of the event of its call
+-- a shard, and the time at which it crashes
 abbrev pub Place : Type 0
 Place = ℕ × ℕ
 
@@ -46,17 +42,7 @@ abbrev pub AreLater : Place → List Place → Type 0
 AreLater p [] = Unit {0}
 AreLater p (q ∷ qs) = (p.0 ≢ q.0) × (p.1 ≤ q.1) × AreLater p qs
 
--- an image of a shard's disk has what the shard was doing, and a crash may come there
-pub record IsLeftIn (w : World) (time n : ℕ) (image : List ℕ) : Type 0 where
-  pub later : w.time ≤ time
-  pub doing : Doing
-  pub may : may_do w time n doing ≡ true
-  pub crash : may_crash w n doing ≡ true
-  pub shard : ShardNow
-  pub there : slice_get w.shards n ≡ Some shard
-  pub reads : ReadsAs (MayHaveDone w shard n doing) image
-
--- so it is of each of some shards
+-- the image of each is such as a crash in a call leaves
 abbrev pub AreLeftIn : World → List (List ℕ) → List Place → Type 0
 AreLeftIn w images [] = Unit {0}
 AreLeftIn w images (p ∷ ps) =
@@ -68,23 +54,10 @@ AreLeftBetween w images ps =
     (m : ℕ) (s : ShardNow) (image : List ℕ) → slice_get w.shards m ≡ Some s → slice_get images m ≡ Some image → AreOther m ps →
     ReadsAs (MayLeaveArea s) image
 
--- crashes within calls, behind which all images are such
-pub record Told (w : World) (images : List (List ℕ)) : Type 0 where
-  pub crashes : List Event
-  pub within : AreWithinCalls crashes
-  pub may : lawful_from w crashes ≡ true
-  pub lines : (run_from w crashes).lines ≡ w.lines
-  pub count : length (run_from w crashes).shards ≡ length w.shards
-  pub between : (m : ℕ) (s : ShardNow) (image : List ℕ) → slice_get (run_from w crashes).shards m ≡ Some s → slice_get images m ≡ Some image →
-      ReadsAs (MayLeaveArea s) image
-
 same_count : (ss : List ShardNow) (n : ℕ) (t : ShardNow) → length (replaced ss n t) ≡ length ss
 same_count [] n t = refl
 same_count (s ∷ ss) zero t = refl
 same_count (s ∷ ss) (suc n) t = ap suc (same_count ss n t)
-
-at_most : (a b : ℕ) → a ≤ b → nat_le a b ≡ true
-at_most a b h = grind (arith, nat_tests)
 
 some_image : (a b : List ℕ) → Some a ≡ Some b → a ≡ b
 some_image a b e = cc
@@ -92,40 +65,24 @@ some_image a b e = cc
 -- ---- one crash
 
 module _ (w : World) (time n : ℕ) (image : List ℕ) (l : IsLeftIn w time n image) where
-  abbrev crash : Event
-  crash = record { time = time; act = Act.CrashIn n 3 Fate.New n l.doing }
-
   -- what there is of the shard then
   abbrev left : ShardNow
-  left = crashed_in l.shard 3 Fate.New l.doing (effect (setup_of w.config n) w.bag l.shard l.doing)
+  left = crashed_in l.shard l.call l.fate l.doing (effect (setup_of w.config n) w.bag l.shard l.doing)
 
   -- and of the world
   abbrev next : World
   next = ticked (set_shard n left w) time
 
-  happens_next : (happens w crash).0 ≡ next
+  happens_next : (happens w (crash_of w time n image l)).0 ≡ next
   unfolding happens acts
   happens_next = ap (λ (o : Option ShardNow). ticked ((elim o as (λ x. After) [
     | None ↦ refused w Stranger
-    | Some s ↦ (set_shard n (crashed_in s 3 Fate.New l.doing (effect (setup_of w.config n) w.bag s l.doing)) w, Reply.Crashed)
+    | Some s ↦ (set_shard n (crashed_in s l.call l.fate l.doing (effect (setup_of w.config n) w.bag s l.doing)) w, Reply.Crashed)
   ]).0) time) l.there
-
-  may_crash_now : may_happen w crash ≡ true
-  unfolding may_act
-  may_crash_now = and_from (nat_le w.time time) _ (at_most w.time time l.later)
-      (and_from (nat_lt n (length w.shards) && nat_eq n n && may_do w time n l.doing) (may_crash w n l.doing)
-      (and_from (nat_lt n (length w.shards) && nat_eq n n) (may_do w time n l.doing)
-      (and_from (nat_lt n (length w.shards)) (nat_eq n n) (below n (length w.shards) (slice_get_within w.shards n l.shard l.there)) (same_number n))
-      l.may) l.crash)
 
   -- its image is what is there
   here_between : ReadsAs (MayLeaveArea left) image
-  here_between = record {
-    log = left.log;
-    area = left.area;
-    holds = subst (λ a. HoldsArea a image) (done_left w l.shard n l.doing l.reads.log l.reads.area l.reads.fits) l.reads.holds;
-    fits = inl (refl, refl);
-  }
+  here_between = record { log = left.log; area = left.area; holds = l.holds; fits = inl (refl, refl) }
 
   there_next : slice_get next.shards n ≡ Some left
   there_next = get-replaced_same w.shards n l.shard left l.there
@@ -161,24 +118,14 @@ module _ (w : World) (time n : ℕ) (image : List ℕ) (l : IsLeftIn w time n im
     still_left : (at : ℕ) (other_image : List ℕ) → time ≤ at → IsLeftIn w at m other_image → IsLeftIn next at m other_image
     still_left at other_image le k = record {
       later = le;
+      call = k.call;
+      fate = k.fate;
       doing = k.doing;
       may = same_may at k.doing ∙ k.may;
       crash = same_crash k.doing ∙ k.crash;
       shard = k.shard;
       there = same_shard ∙ k.there;
-      reads = record {
-        log = k.reads.log;
-        area = k.reads.area;
-        holds = k.reads.holds;
-        fits = record {
-          logged = k.reads.fits.logged;
-          memory = k.reads.fits.memory;
-          out = k.reads.fits.out;
-          does = k.reads.fits.does;
-          log_is = k.reads.fits.log_is;
-          area_is = k.reads.fits.area_is;
-        };
-      };
+      holds = k.holds;
     }
 
   all_still_left : (images : List (List ℕ)) (ps : List Place) → AreLater (n, time) ps → AreLeftIn w images ps → AreLeftIn next images ps
@@ -201,33 +148,6 @@ module _ (w : World) (time n : ℕ) (image : List ℕ) (l : IsLeftIn w time n im
 
 -- ---- all crashes
 
-told_by : (ps : List Place) (w : World) (images : List (List ℕ)) → AreLeftIn w images ps → AreLeftBetween w images ps → Told w images
-told_by [] w images k between = record {
-  crashes = [];
-  within = tt;
-  may = refl;
-  lines = refl;
-  count = refl;
-  between = λ m s image there is. between m s image there is tt;
-}
-told_by (p ∷ ps) w images ((image, is, l), later, k) between =
-    let behind : Told (next w p.1 p.0 image l) images =
-    told_by ps (next w p.1 p.0 image l) images (all_still_left w p.1 p.0 image l images ps later k)
-    (all_still_between w p.1 p.0 image l images ps is between) in
-    with_one (next w p.1 p.0 image l) (happens_next w p.1 p.0 image l) refl behind
-  where
-    with_one : (v : World) → (happens w (crash w p.1 p.0 image l)).0 ≡ v → v ≡ next w p.1 p.0 image l → Told v images → Told w images
-    with_one v goes same t = record {
-      crashes = crash w p.1 p.0 image l ∷ t.crashes;
-      within = ((p.0, 3, Fate.New, l.doing, refl), t.within);
-      may = and_from (may_happen w (crash w p.1 p.0 image l)) _ (may_crash_now w p.1 p.0 image l)
-          (ap (λ x. lawful_from x t.crashes) goes ∙ t.may);
-      lines = ap (λ x. (run_from x t.crashes).lines) goes ∙ t.lines ∙ ap (λ (x : World). x.lines) same;
-      count = ap (λ x. length (run_from x t.crashes).shards) goes ∙ t.count ∙ ap (λ (x : World). length x.shards) same
-          ∙ same_count w.shards p.0 (left w p.1 p.0 image l);
-      between = λ m s found there shown. t.between m s found (subst (λ x. slice_get (run_from x t.crashes).shards m ≡ Some s) goes there) shown;
-    }
-
 -- events that may come one behind the other
 joined : (w : World) (es more : List Event) → lawful_from w es ≡ true → lawful_from (run_from w es) more ≡ true → lawful_from w (es ++ more) ≡ true
 joined w [] more h k = k
@@ -243,8 +163,6 @@ run_both : (config : Config) (es more : List Event) → run config (es ++ more) 
 unfolding run
 run_both config es more = run_on (start config) es more
 
--- ---- calls
-
 image_at : (ss : List ShardNow) (images : List (List ℕ)) → length images ≡ length ss → (n : ℕ) (s : ShardNow) → slice_get ss n ≡ Some s →
     (image : List ℕ) × (slice_get images n ≡ Some image)
 image_at [] [] count n s there = absurd (cc)
@@ -252,6 +170,91 @@ image_at [] (x ∷ images) count n s there = absurd (cc)
 image_at (t ∷ ss) [] count n s there = absurd (cc)
 image_at (t ∷ ss) (x ∷ images) count zero s there = (x, refl)
 image_at (t ∷ ss) (x ∷ images) count (suc n) s there = image_at ss images (omega (arith, count)) n s there
+
+shard_at : (ss : List ShardNow) (n : ℕ) → n < length ss → (s : ShardNow) × (slice_get ss n ≡ Some s)
+shard_at [] n lt = absurd (omega (arith, lt))
+shard_at (s ∷ ss) zero lt = (s, refl)
+shard_at (s ∷ ss) (suc n) lt = shard_at ss n (omega (arith, lt))
+
+-- one of some shards, or another
+is_one : (n : ℕ) (ps : List Place) → AreOther n ps ⊎ (AreOther n ps → ⊥)
+is_one n [] = inl tt
+is_one n (p ∷ ps) = by_head (cases_eq n p.0) (is_one n ps)
+  where
+    by_head : (n ≡ p.0) ⊎ (n ≢ p.0) → AreOther n ps ⊎ (AreOther n ps → ⊥) → AreOther n (p ∷ ps) ⊎ (AreOther n (p ∷ ps) → ⊥)
+    by_head (inl same) rest = inr (λ other. other.0 same)
+    by_head (inr ne) (inl other) = inl (ne, other)
+    by_head (inr ne) (inr one) = inr (λ other. one other.1)
+
+module _ {D : Type 0} (keeps obeys : Type 0) (file : D → File) (clock : D → ℕ) (since : D → ℕ → List ℕ → Type 0) (failures : D → ℕ)
+    (plan : D → FailurePlan) where
+  -- another in the place of what there is of one shard
+  abbrev with_new : ℕ → Life D → (ℕ → Life D) → ℕ → Life D
+  with_new n x lives m = cond (nat_eq n m) x (lives m)
+
+  with_same : (n : ℕ) (x : Life D) (lives : ℕ → Life D) → with_new n x lives n ≡ x
+  with_same n x lives = ap (λ b. cond b x (lives n)) (same_number n)
+
+  with_other : (n m : ℕ) (x : Life D) (lives : ℕ → Life D) → n ≢ m → with_new n x lives m ≡ lives m
+  with_other n m x lives ne = ap (λ b. cond b x (lives m)) (differ n m ne)
+    where
+      differ : (a b : ℕ) → a ≢ b → nat_eq a b ≡ false
+      differ a b other = grind (arith, nat_tests)
+
+  -- crashes within calls, behind which all images are such as a crash between two events leaves, and all that goes on is beside the run
+  record Told (w : World) (images : List (List ℕ)) (ps : List Place) : Type 0 where
+    crashes : List Event
+    within : AreWithinCalls crashes
+    may : lawful_from w crashes ≡ true
+    lines : (run_from w crashes).lines ≡ w.lines
+    count : length (run_from w crashes).shards ≡ length w.shards
+    between : (m : ℕ) (s : ShardNow) (image : List ℕ) → AreLeftBetween w images ps → slice_get (run_from w crashes).shards m ≡ Some s →
+        slice_get images m ≡ Some image → ReadsAs (MayLeaveArea s) image
+    leads : (old new : ℕ → Life D) → ((m : ℕ) (image : List ℕ) → slice_get images m ≡ Some image → RestartsFrom file image (new m)) →
+        ((m : ℕ) → AreOther m ps → new m ≡ old m) → Leads keeps obeys file clock since failures plan w (map Happens crashes) old new
+
+  told_by : (ps : List Place) (w : World) (images : List (List ℕ)) → AreLeftIn w images ps → Told w images ps
+  told_by [] w images k = record {
+    crashes = [];
+    within = tt;
+    may = refl;
+    lines = refl;
+    count = refl;
+    between = λ m s image between there is. between m s image there is tt;
+    leads = λ old new restarts others m. others m tt;
+  }
+  told_by (p ∷ ps) w images ((image, is, l), later, k) =
+      with_one (next w p.1 p.0 image l) (happens_next w p.1 p.0 image l) refl
+      (told_by ps (next w p.1 p.0 image l) images (all_still_left w p.1 p.0 image l images ps later k))
+    where
+      crash : Event
+      crash = crash_of w p.1 p.0 image l
+
+      with_one : (v : World) → (happens w crash).0 ≡ v → v ≡ next w p.1 p.0 image l → Told v images ps → Told w images (p ∷ ps)
+      with_one v goes same t = record {
+        crashes = crash ∷ t.crashes;
+        within = ((p.0, l.call, l.fate, l.doing, refl), t.within);
+        may = and_from (may_happen w crash) _ (crash_comes w p.1 p.0 image l) (ap (λ x. lawful_from x t.crashes) goes ∙ t.may);
+        lines = ap (λ x. (run_from x t.crashes).lines) goes ∙ t.lines ∙ ap (λ (x : World). x.lines) same;
+        count = ap (λ x. length (run_from x t.crashes).shards) goes ∙ t.count ∙ ap (λ (x : World). length x.shards) same
+            ∙ same_count w.shards p.0 (left w p.1 p.0 image l);
+        between = λ m s found rest there shown.
+            t.between m s found (subst (λ x. AreLeftBetween x images ps) (sym same) (all_still_between w p.1 p.0 image l images ps is rest))
+            (subst (λ x. slice_get (run_from x t.crashes).shards m ≡ Some s) goes there) shown;
+        leads = λ old new restarts others. (
+          with_new p.0 (new p.0) old,
+          crash_turns keeps obeys file clock since failures plan w p.1 p.0 image l old (with_new p.0 (new p.0) old)
+              (λ m ne. with_other p.0 m (new p.0) old ne)
+              (subst (RestartsFrom file image) (sym (with_same p.0 (new p.0) old)) (restarts p.0 image is)),
+          subst (λ x. Leads keeps obeys file clock since failures plan x (map Happens t.crashes) (with_new p.0 (new p.0) old) new) (sym goes)
+              (t.leads (with_new p.0 (new p.0) old) new restarts (λ m other. elim (cases_eq p.0 m) [
+                | inl at ↦ sym (subst (λ i. with_new p.0 (new p.0) old i ≡ new i) at (with_same p.0 (new p.0) old))
+                | inr ne ↦ others m ((λ e. ne (sym e)), other) ∙ sym (with_other p.0 m (new p.0) old ne)
+              ])),
+        );
+      }
+
+-- ---- calls
 
 module _ {D : Type 0} (keeps obeys : Type 0) (file : D → File) (clock : D → ℕ) (since : D → ℕ → List ℕ → Type 0) (failures : D → ℕ)
     (plan : D → FailurePlan)
@@ -273,7 +276,8 @@ module _ {D : Type 0} (keeps obeys : Type 0) (file : D → File) (clock : D → 
     record Sorted (Asked : ℕ → Type 0) (cs : List OneCall) : Type 0 where
       ps : List Place
       within : AreLeftIn (run config es) images ps
-      later : (c : OneCall) → Beside c cs → AreLater (c.n, c.under_way.event.time) ps
+      later : (p : Place) → ((c : OneCall) → Beside c cs → p ≡ (c.n, c.under_way.event.time) → AreLater p ps)
+      soon : (m : ℕ) → AreOther m ps → AreLater (m, (run config es).time) ps
       between : (m : ℕ) (s : ShardNow) (image : List ℕ) → Asked m → slice_get (run config es).shards m ≡ Some s → slice_get images m ≡ Some image →
           AreOther m ps → ReadsAs (MayLeaveArea s) image
 
@@ -295,7 +299,8 @@ module _ {D : Type 0} (keeps obeys : Type 0) (file : D → File) (clock : D → 
     sorted [] order Asked asked each = record {
       ps = [];
       within = tt;
-      later = λ c beside. tt;
+      later = λ p c beside is. tt;
+      soon = λ m other. tt;
       between = λ m s image a there is rest. now_reads keeps obeys file clock since failures plan counts kept config es fair lives h m s image there
           (each m image a is);
     }
@@ -330,7 +335,8 @@ module _ {D : Type 0} (keeps obeys : Type 0) (file : D → File) (clock : D → 
         by_fits rest (inl fits) = record {
           ps = rest.ps;
           within = rest.within;
-          later = λ d besides. rest.later d besides.2;
+          later = λ p d besides is. rest.later p d besides.2 is;
+          soon = rest.soon;
           between = λ m s image a at is other. elim (cases_eq c.n m) [
             | inl same ↦
                 let one : u.shard ≡ s = some_shard u.shard s (sym there ∙ subst (λ i. slice_get (run config es).shards i ≡ Some s) (sym same) at) in
@@ -340,37 +346,39 @@ module _ {D : Type 0} (keeps obeys : Type 0) (file : D → File) (clock : D → 
             | inr ne ↦ rest.between m s image (a, ne) at is other
           ];
         }
-        by_fits rest (inr done) =
-            let may = may_come_in keeps obeys file clock since failures plan counts kept config es fair lives h c.n u.shard there c.after u
-            done.logged done.memory done.out done.does in
-            record {
-              ps = (c.n, u.event.time) ∷ rest.ps;
-              within = (
-                (
-                  found.0,
-                  found.1,
-                  record {
-                    later = may.0;
-                    doing = u.doing;
-                    may = may.1;
-                    crash = may.2;
-                    shard = u.shard;
-                    there = there;
-                    reads = record { log = reads.log; area = reads.area; holds = reads.holds; fits = done };
-                  },
-                ),
-                rest.later c beside,
-                rest.within,
-              );
-              later = λ d besides. (besides.0, besides.1, rest.later d besides.2);
-              between = λ m s image a at is other. rest.between m s image (a, λ e. other.0 (sym e)) at is other.1;
-            }
+        by_fits rest (inr done) = record {
+          ps = (c.n, u.event.time) ∷ rest.ps;
+          within = (
+            (
+              found.0,
+              found.1,
+              call_left keeps obeys file clock since failures plan counts kept config es fair lives h c.n u.shard there c.after u found.0
+                  reads.log reads.area reads.holds done,
+            ),
+            rest.later (c.n, u.event.time) c beside refl,
+            rest.within,
+          );
+          later = λ p d besides is.
+              subst (λ q. AreLater q ((c.n, u.event.time) ∷ rest.ps)) (sym is) (besides.0, besides.1, rest.later (d.n, d.under_way.event.time) d besides.2 refl);
+          soon = λ m other. (
+            other.0,
+            comes_later keeps obeys file clock since failures plan counts kept config es fair lives h c.n u.shard there c.after u,
+            rest.soon m other.1,
+          );
+          between = λ m s image a at is other. rest.between m s image (a, λ e. other.0 (sym e)) at is other.1;
+        }
+
+    abbrev Told_so : List Place → Type 0
+    Told_so ps = Told keeps obeys file clock since failures plan (run config es) images ps
+
+    told_so : (ps : List Place) → AreLeftIn (run config es) images ps → Told_so ps
+    told_so ps k = told_by keeps obeys file clock since failures plan ps (run config es) images k
 
     told_at_once : (cs : List OneCall) → AreInOrder keeps obeys file clock since failures plan config es lives cs →
         ((m : ℕ) (image : List ℕ) → slice_get images m ≡ Some image → Leaves cs m image) → AreTold config es images
     told_at_once cs order each =
         let s : Sorted (λ m. Unit {0}) cs = sorted cs order (λ m. Unit {0}) (all_asked cs) (λ m image a is. each m image is) in
-        let t : Told (run config es) images = told_by s.ps (run config es) images s.within (λ m x image there is other. s.between m x image tt there is other) in
+        let t : Told_so s.ps = told_so s.ps s.within in
         let both : run config (es ++ t.crashes) ≡ run_from (run config es) t.crashes = run_both config es t.crashes in
         let may : lawful config (es ++ t.crashes) ≡ true = all_lawful config es t.crashes fair t.may in
         record {
@@ -379,10 +387,97 @@ module _ {D : Type 0} (keeps obeys : Type 0) (file : D → File) (clock : D → 
           may = may;
           lines = ap (λ (x : World). x.lines) both ∙ t.lines;
           logs = have_logs config (es ++ t.crashes) may images (count ∙ sym t.count ∙ ap (λ (x : World). length x.shards) (sym both))
-              (λ m x image there is. t.between m x image (subst (λ (v : World). slice_get v.shards m ≡ Some x) both there) is);
+              (λ m x image there is. t.between m x image (λ i y found at shown other. s.between i y found tt at shown other)
+              (subst (λ (v : World). slice_get v.shards m ≡ Some x) both there) is);
         }
+
+    -- ---- all others crash too, before them
+
+    module _ (can : (n : ℕ) (s : ShardNow) → slice_get (run config es).shards n ≡ Some s → (is_down s.state ≡ false) ⊎ (s.unsure ≡ Nothing))
+        (cs : List OneCall) (s : Sorted (λ m. Unit {0}) cs) where
+      -- these, and all shards below a number
+      record Whole (below : ℕ) : Type 0 where
+        ps : List Place
+        within : AreLeftIn (run config es) images ps
+        soon : (m : ℕ) → AreOther m ps → AreLater (m, (run config es).time) ps
+        more : (m : ℕ) → AreOther m ps → AreOther m s.ps
+        all : (m : ℕ) → m < below → AreOther m ps → ⊥
+
+      whole : (below : ℕ) → below ≤ length (run config es).shards → Whole below
+      whole zero le = record {
+        ps = s.ps;
+        within = s.within;
+        soon = s.soon;
+        more = λ m other. other;
+        all = λ m lt other. omega (arith, lt);
+      }
+      whole (suc n) le = by_one (whole n (omega (arith, le)))
+        where
+          by_one : Whole n → Whole (suc n)
+          by_one rest = elim (is_one n rest.ps) [
+            | inr one ↦ record {
+              ps = rest.ps;
+              within = rest.within;
+              soon = rest.soon;
+              more = rest.more;
+              all = λ m lt other. elim (cases_eq n m) [
+                | inl same ↦ one (subst (λ i. AreOther i rest.ps) (sym same) other)
+                | inr ne ↦ rest.all m (less m n lt ne) other
+              ];
+            }
+            | inl other ↦
+                let x = shard_at (run config es).shards n (omega (arith, le)) in
+                let image = image_at (run config es).shards images count n x.0 x.1 in
+                record {
+                  ps = (n, (run config es).time) ∷ rest.ps;
+                  within = (
+                    (
+                      image.0,
+                      image.1,
+                      now_left keeps obeys file clock since failures plan counts kept config es fair lives h n x.0 x.1 (run config es).time image.0
+                          (omega arith) (s.between n x.0 image.0 tt x.1 image.1 (rest.more n other)) (can n x.0 x.1),
+                    ),
+                    rest.soon n other,
+                    rest.within,
+                  );
+                  soon = λ m not_these. (not_these.0, omega arith, rest.soon m not_these.1);
+                  more = λ m not_these. rest.more m not_these.1;
+                  all = λ m lt not_these. elim (cases_eq n m) [
+                    | inl same ↦ not_these.0 (sym same)
+                    | inr ne ↦ rest.all m (less m n lt ne) not_these.1
+                  ];
+                }
+          ]
+            where
+              less : (a b : ℕ) → a < suc b → b ≢ a → a < b
+              less a b lt ne = elim (cases_eq b a) [ inl same ↦ absurd (ne same) | inr other ↦ lower a b lt other ]
+                where
+                  lower : (x y : ℕ) → x < suc y → y ≢ x → x < y
+                  lower x y under differs = grind (arith, nat_tests)
+
+      go_on : (new : ℕ → Life D) → AllRestart file images lives new → IsBesideThen keeps obeys file clock since failures plan config es lives new
+      go_on new restarts =
+          let a : Whole (length (run config es).shards) = whole (length (run config es).shards) (omega arith) in
+          let t : Told_so a.ps = told_so a.ps a.within in
+          record {
+            crashes = t.crashes;
+            within = t.within;
+            may = all_lawful config es t.crashes fair t.may;
+            leads = t.leads lives new restarts.0 (λ m other. restarts.1 m
+                (slice_get_past images m (past m (length images) (λ lt. a.all m (subst (λ k. m < k) count lt) other))));
+          }
+        where
+          past : (m k : ℕ) → (m < k → ⊥) → k ≤ m
+          past m k never = grind arith
 
   pub all_crash_at_once : AllCrashAtOnce keeps obeys file clock since failures plan
   all_crash_at_once keep config turns first lives fair fresh leads calls order images left =
       told_at_once config (events_of turns) fair lives (holds keeps obeys file clock since failures plan counts kept config turns first lives fair fresh leads)
       images left.count calls order left.each
+
+  pub all_go_on : AllGoOn keeps obeys file clock since failures plan
+  all_go_on keep config turns first lives new fair fresh leads calls order can images left restarts =
+      let h = holds keeps obeys file clock since failures plan counts kept config turns first lives fair fresh leads in
+      go_on config (events_of turns) fair lives h images left.count can calls
+      (sorted config (events_of turns) fair lives h images left.count calls order (λ m. Unit {0})
+      (all_asked config (events_of turns) fair lives h images left.count calls) (λ m image a is. left.each m image is)) new restarts

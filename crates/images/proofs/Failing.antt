@@ -1,9 +1,8 @@
 -- However a device fails in a call, some event of the run tells it.
-use Rattle.std.proofs.Common.{◌≡◌, ◌≢◌, ◌⊎◌, inl, inr, ℕ, ◌≤◌, Bool, true, false, cond, ◌&&◌, nat_eq, nat_le, nat_lt, IsTrue, List, [], ◌∷◌, ◌++◌, length}
-use Rattle.std.proofs.Common.{Option, Some, None, slice_get, Result, Ok, Err, refl, sym, ap, ◌∙◌, subst}
-use Rattle.std.proofs.lemmas.Bool.{and_from, and_parts, false≢true}
+use Rattle.std.proofs.Common.{◌≡◌, ◌⊎◌, inl, inr, ℕ, ◌≤◌, true, false, cond, ◌&&◌, nat_eq, nat_le, nat_lt, IsTrue, List, [], ◌∷◌, ◌++◌, length}
+use Rattle.std.proofs.Common.{Option, Some, None, slice_get, Ok, Err, refl, sym, ap, ◌∙◌, subst}
+use Rattle.std.proofs.lemmas.Bool.{and_from, and_parts}
 use Rattle.std.proofs.lemmas.Option.{slice_get_within}
-use Rattle.units.specs.declared.fault.Fault.{Fault}
 use Rattle.units.specs.declared.fault.Fault.TheVariants.{Device}
 use Rattle.units.specs.declared.setup.Setup.{Setup}
 use Rattle.truetime.specs.Interval.{Interval}
@@ -24,7 +23,7 @@ use Rattle.shard.specs.On.{record_of, step_of}
 use Rattle.shard.specs.Opened.{HasRoom}
 use Rattle.world.specs.Lawful.{is_up, lawful, may_act, may_do, may_happen}
 use Rattle.world.specs.Steady.{HasAreas, IsSteady}
-use Rattle.world.specs.World.{World, ShardNow, State, Runs, IsStopped, IsDown, Nothing, effect, failed_in, failed_turn, input_of, new_area, read_area}
+use Rattle.world.specs.World.{ShardNow, State, Runs, IsStopped, IsDown, Nothing, effect, failed_in, failed_turn, input_of, new_area, read_area}
 use Rattle.world.specs.World.{read_log, run, setup_of, turns}
 use Rattle.world.specs.declared.event.Act.{Act}
 use Rattle.world.specs.declared.event.Config.{Config}
@@ -33,21 +32,18 @@ use Rattle.world.specs.declared.event.Event.{Event}
 use Rattle.world.proofs.EveryRun.{is_steady}
 use Rattle.world.proofs.Rooms.{done_wanted}
 use Rattle.world.proofs.Untouched.{run_settings}
-use Rattle.lives.specs.Inputs.{has_input}
 use Rattle.lives.specs.Carries.{turns_in}
 use Rattle.lives.proofs.Living.{asks_the_resting, not_up_opens, turns_as}
-use Rattle.law.proofs.Areas.{logs_no_turn}
 use Rattle.law.proofs.HasAreas.{always_has_areas}
 use Rattle.lives.specs.Held.{HoldsArea}
 use Rattle.images.specs.Images.{Calls, FailsOr, FailuresAreTold, HasFailed, IsToldFailure, LeavesNow, Life, Opens, OpensTo, Takes, TakesWhat, TurnsOver}
-use Rattle.images.specs.Images.{AnAppend, ATurnover, Failing, FailsEarly, StarvesIn, NoCall, Up, Down, disk_of, events_of, failing}
+use Rattle.images.specs.Images.{AnAppend, ATurnover, FailsEarly, StarvesIn, NoCall, Up, Down, disk_of, events_of, failing}
 use Rattle.images.proofs.Called.{IsKnown, fails_logging, left_now, not_opened_now, opening_now, opens, stopped_fails_not, stopped_turns_not, turn_fails_doing}
 use Rattle.images.proofs.Called.{turned_now}
 use Rattle.images.proofs.Held.{HoldsLog, HoldsOr, LivesAs, LivesIn, sure_only}
 use Rattle.images.proofs.Placed.{IsInput, given, input_whole, no_input, opening_is, rests_holds, some_shard}
-use Rattle.images.proofs.Told.{below, last_of, may_be_done, no_later, same_number}
+use Rattle.images.proofs.Told.{below, last_of, may_be_done, same_number}
 use Rattle.images.proofs.Turned.{HoldRun, holds, same_disk}
-use Rattle.images.proofs.Turnovers.{turn_of}
 
 module _ {D : Type 0} (keeps obeys : Type 0) (file : D → File) (clock : D → ℕ) (since : D → ℕ → List ℕ → Type 0) (failures : D → ℕ)
     (plan : D → FailurePlan)

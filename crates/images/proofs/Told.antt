@@ -28,15 +28,13 @@ use Rattle.world.specs.declared.event.Act.{Act}
 use Rattle.world.specs.declared.event.Config.{Config}
 use Rattle.world.specs.declared.event.Doing.{Doing}
 use Rattle.world.specs.declared.event.Event.{Event}
-use Rattle.world.proofs.EveryRun.{is_steady}
 use Rattle.world.proofs.Untouched.{run_settings}
 use Rattle.lives.specs.Inputs.{goes_on}
 use Rattle.lives.specs.Held.{HoldsArea}
 use Rattle.lives.proofs.Living.{asks_the_resting}
 use Rattle.law.proofs.Areas.{logs_no_turn, no_more}
-use Rattle.law.proofs.HasAreas.{always_has_areas}
 use Rattle.law.proofs.Instants.{last_may}
-use Rattle.images.specs.Images.{Calls, CrashesAreTold, IsTold, IsUnderWay, LeavesImage, Life, RestartsFrom, RestartsWith}
+use Rattle.images.specs.Images.{AreElsewhere, CrashesAreTold, IsTold, IsUnderWay, LeavesImage, Life, RestartsFrom, RestartsWith, Turns}
 use Rattle.images.specs.Images.{Up, Down, disk_of, events_of}
 use Rattle.images.proofs.Held.{LivesAs, LivesIn, ReadsAs, life_holds, sure_area}
 use Rattle.images.proofs.Placed.{no_input, some_shard}
@@ -164,6 +162,70 @@ done_left w s n doing log area h = h.area_is ∙ by_logged h.logged h.does
     by_logged (Some r) does = logs_behind (setup_of w.config n) w.bag s doing r h.memory h.out does
         ∙ logged_left s doing r h.memory h.out (effect (setup_of w.config n) w.bag s doing) does
 
+-- where the oldest change is undone, what is unsure is not there
+old_stays : (area : Area) (u : Unsure) → left_area_of Fate.Old area u ≡ area
+old_stays area Nothing = refl
+old_stays area (Shown r) = no_more area
+old_stays area (Hidden r) = no_more area
+old_stays area (TurnShown other) = refl
+old_stays area (TurnHidden other) = refl
+
+-- a crash at the front of a chore, by which nothing is there yet: of a shard that runs, and of one that is stopped
+up_left : (s : ShardNow) (now : Interval) (st : Stepped) → s.unsure ≡ Nothing → s.area ≡ (crashed_in s 0 Fate.Old (Doing.Resume now) st).area
+unfolding crashed_in
+up_left s now (Refuses f) sure = sym (old_stays s.area s.unsure)
+up_left s now (Does None memory out) sure = sym (sure_area s sure)
+up_left s now (Does (Some r) memory out) sure = sym (no_more (read_area s) ∙ sure_area s sure)
+
+stopped_left : (s : ShardNow) (now : Interval) (st : Stepped) → st ≡ Refuses Stopped → s.area ≡ (crashed_in s 0 Fate.Old (Doing.Resume now) st).area
+unfolding crashed_in
+stopped_left s now st is = subst (λ x. s.area ≡ (crashed_in s 0 Fate.Old (Doing.Resume now) x).area) (sym is) (sym (old_stays s.area s.unsure))
+
+-- an image of a shard's disk holds what a crash in a call of a doing leaves, and it may come at a time
+pub record IsLeftIn (w : World) (time n : ℕ) (image : List ℕ) : Type 0 where
+  pub later : w.time ≤ time
+  pub call : ℕ
+  pub fate : Fate
+  pub doing : Doing
+  pub may : may_do w time n doing ≡ true
+  pub crash : may_crash w n doing ≡ true
+  pub shard : ShardNow
+  pub there : slice_get w.shards n ≡ Some shard
+  pub holds : HoldsArea (crashed_in shard call fate doing (effect (setup_of w.config n) w.bag shard doing)).area image
+
+pub at_most : (a b : ℕ) → a ≤ b → nat_le a b ≡ true
+at_most a b e = grind (arith, nat_tests)
+
+-- the crash
+abbrev pub crash_of : (w : World) (time n : ℕ) (image : List ℕ) → IsLeftIn w time n image → Event
+crash_of w time n image l = record { time = time; act = Act.CrashIn n l.call l.fate n l.doing }
+
+pub crash_comes : (w : World) (time n : ℕ) (image : List ℕ) (l : IsLeftIn w time n image) → may_happen w (crash_of w time n image l) ≡ true
+unfolding may_act
+crash_comes w time n image l = and_from (nat_le w.time time) _ (at_most w.time time l.later)
+    (and_from (nat_lt n (length w.shards) && nat_eq n n && may_do w time n l.doing) (may_crash w n l.doing)
+    (and_from (nat_lt n (length w.shards) && nat_eq n n) (may_do w time n l.doing)
+    (and_from (nat_lt n (length w.shards)) (nat_eq n n) (below n (length w.shards) (slice_get_within w.shards n l.shard l.there)) (same_number n))
+    l.may) l.crash)
+
+-- what goes on from an image that holds an area
+restarts : {D : Type 0} (file : D → File) (image : List ℕ) (area : Area) (new : Life D) → HoldsArea area image → RestartsFrom file image new →
+    RestartsWith file area new
+restarts file image area (Up core) has k = absurd k
+restarts file image area (Down disk) has k = λ later may. ((k later may).0 ∙ has.0, (k later may).1 ∙ has.1)
+
+pub crash_turns : {D : Type 0} (keeps obeys : Type 0) (file : D → File) (clock : D → ℕ) (since : D → ℕ → List ℕ → Type 0) (failures : D → ℕ)
+    (plan : D → FailurePlan) (w : World) (time n : ℕ) (image : List ℕ) (l : IsLeftIn w time n image) (old new : ℕ → Life D) → AreElsewhere n old new →
+    RestartsFrom file image (new n) → Turns keeps obeys file clock since failures plan w (crash_of w time n image l).act old new
+crash_turns keeps obeys file clock since failures plan w time n image l old new elsewhere k = record {
+  elsewhere = elsewhere;
+  here = λ t e. subst
+      (λ (x : ShardNow). RestartsWith file
+      (crashed_in x l.call l.fate l.doing (effect (setup_of w.config n) w.bag x l.doing)).area (new n))
+      (some_shard l.shard t (sym l.there ∙ e))
+      (restarts file image (crashed_in l.shard l.call l.fate l.doing (effect (setup_of w.config n) w.bag l.shard l.doing)).area (new n) l.holds k);
+}
+
 module _ {D : Type 0} (keeps obeys : Type 0) (file : D → File) (clock : D → ℕ) (since : D → ℕ → List ℕ → Type 0) (failures : D → ℕ)
     (plan : D → FailurePlan)
     (counts : (disk : D) (moment : ℕ) (image : List ℕ) → moment ≤ clock disk → MayLeave (surface (file disk)) image → since disk moment image)
@@ -179,11 +241,6 @@ module _ {D : Type 0} (keeps obeys : Type 0) (file : D → File) (clock : D → 
   here : LivesAs file (setup_of (run config es).config n) s (lives n)
   here = h n s there
 
-  -- what goes on from an image that holds an area
-  restart : (image : List ℕ) (area : Area) (new : Life D) → HoldsArea area image → RestartsFrom file image new → RestartsWith file area new
-  restart image area (Up core) has k = absurd k
-  restart image area (Down disk) has k = λ later may. ((k later may).0 ∙ has.0, (k later may).1 ∙ has.1)
-
   is_shard : (t : ShardNow) → slice_get (run config es).shards n ≡ Some t → s ≡ t
   is_shard t e = some_shard s t (sym there ∙ e)
 
@@ -193,93 +250,98 @@ module _ {D : Type 0} (keeps obeys : Type 0) (file : D → File) (clock : D → 
   in_state : (test : State → Bool) → test s.state ≡ true → is_in (run config es) n test ≡ true
   in_state test is = ap (when (λ (t : ShardNow). test t.state)) there ∙ is
 
-  -- ---- the events
-
-  -- the shard crashes
-  by_crash : (image : List ℕ) → HoldsArea s.area image → is_down s.state ≡ false → Told image
-  unfolding may_act
-  by_crash image holds up = record {
-    event = record { time = (run config es).time; act = Act.Crash n };
-    may = and_from (nat_le (run config es).time (run config es).time) (is_in (run config es) n (λ st. not (is_down st)))
-        (no_later (run config es).time) (in_state (λ st. not (is_down st)) (ap not up));
-    tells = λ new elsewhere k. record {
-      elsewhere = elsewhere;
-      here = λ t e. inl (subst (λ (x : ShardNow). RestartsWith file x.area (new n)) (is_shard t e) (restart image s.area (new n) holds k));
-    };
+  -- the event of such a crash tells it
+  crash_told : (time : ℕ) (image : List ℕ) → IsLeftIn (run config es) time n image → Told image
+  crash_told time image l = record {
+    event = crash_of (run config es) time n image l;
+    may = crash_comes (run config es) time n image l;
+    tells = λ new elsewhere k. crash_turns keeps obeys file clock since failures plan (run config es) time n image l lives new elsewhere k;
   }
-
-  -- it crashes within a call
-  crashes_in : (image : List ℕ) (call time : ℕ) (fate : Fate) (doing : Doing) → (run config es).time ≤ time → may_do (run config es) time n doing ≡ true →
-      may_crash (run config es) n doing ≡ true →
-      HoldsArea (crashed_in s call fate doing (effect (setup_of (run config es).config n) (run config es).bag s doing)).area image → Told image
-  unfolding may_act
-  crashes_in image call time fate doing later may_do_it may_crash_it holds = record {
-    event = record { time = time; act = Act.CrashIn n call fate n doing };
-    may = and_from (nat_le (run config es).time time) _ (at_most (run config es).time time later)
-        (and_from (nat_lt n (length (run config es).shards) && nat_eq n n && may_do (run config es) time n doing) (may_crash (run config es) n doing)
-        (and_from (nat_lt n (length (run config es).shards) && nat_eq n n) (may_do (run config es) time n doing)
-        (and_from (nat_lt n (length (run config es).shards)) (nat_eq n n) counted (same_number n)) may_do_it) may_crash_it);
-    tells = λ new elsewhere k. record {
-      elsewhere = elsewhere;
-      here = λ t e. subst
-          (λ (x : ShardNow). RestartsWith file
-          (crashed_in x call fate doing (effect (setup_of (run config es).config n) (run config es).bag x doing)).area (new n))
-          (is_shard t e)
-          (restart image (crashed_in s call fate doing (effect (setup_of (run config es).config n) (run config es).bag s doing)).area (new n) holds k);
-    };
-  }
-    where
-      at_most : (a b : ℕ) → a ≤ b → nat_le a b ≡ true
-      at_most a b e = grind (arith, nat_tests)
 
   -- ---- between two calls
 
-  now_told : (image : List ℕ) → ReadsAs (MayLeaveArea s) image → (is_down s.state ≡ false) ⊎ (s.unsure ≡ Nothing) → Told image
-  now_told image reads can = by_fits reads.fits can
+  pub now_left : (time : ℕ) (image : List ℕ) → (run config es).time ≤ time → ReadsAs (MayLeaveArea s) image →
+      (is_down s.state ≡ false) ⊎ (s.unsure ≡ Nothing) → IsLeftIn (run config es) time n image
+  now_left time image later reads can = by_fits reads.fits can
     where
       now : Interval
-      now = record { earliest = (run config es).time; latest = (run config es).time }
+      now = record { earliest = time; latest = time }
+
+      Left : Type 0
+      Left = IsLeftIn (run config es) time n image
+
+      what : Doing → Stepped
+      what doing = effect (setup_of (run config es).config n) (run config es).bag s doing
 
       -- nothing is unsure of a shard that runs
-      stopped : (st : State) → LivesIn file (setup_of (run config es).config n) s (lives n) st → is_down st ≡ false →
-          IsBeside s s.unsure reads.log reads.area → is_up st ≡ false
-      stopped st l up beside = by_life (lives n) st l up
+      stopped : (st : State) → LivesIn file (setup_of (run config es).config n) s (lives n) st → is_down st ≡ false → (is_up st ≡ false) ⊎ (s.unsure ≡ Nothing)
+      stopped st l up = by_life (lives n) st l up
         where
-          by_life : (life : Life D) (x : State) → LivesIn file (setup_of (run config es).config n) s life x → is_down x ≡ false → is_up x ≡ false
-          by_life (Up core) (Runs m) k up = absurd (subst (λ u. IsBeside s u reads.log reads.area) k.sure beside)
-          by_life (Up core) (IsStopped m) k up = refl
+          by_life : (life : Life D) (x : State) → LivesIn file (setup_of (run config es).config n) s life x → is_down x ≡ false →
+              (is_up x ≡ false) ⊎ (s.unsure ≡ Nothing)
+          by_life (Up core) (Runs m) k up = inr k.sure
+          by_life (Up core) (IsStopped m) k up = inl refl
           by_life (Up core) IsDown k up = absurd k
           by_life (Down disk) (Runs m) k up = absurd k
-          by_life (Down disk) (IsStopped m) k up = refl
+          by_life (Down disk) (IsStopped m) k up = inl refl
           by_life (Down disk) IsDown k up = absurd (false≢true (sym up))
 
+      -- a shard that is up or stopped crashes in a chore
+      by_chore : (fate : Fate) → is_down s.state ≡ false → reads.area ≡ (crashed_in s 0 fate (Doing.Resume now) (what (Doing.Resume now))).area → Left
+      by_chore fate up same = record {
+        later = later;
+        call = 0;
+        fate = fate;
+        doing = Doing.Resume now;
+        may = honest_at time;
+        crash = in_state (λ st. not (is_down st)) (ap not up);
+        shard = s;
+        there = there;
+        holds = subst (λ a. HoldsArea a image) same reads.holds;
+      }
+
+      resting : is_up s.state ≡ false → what (Doing.Resume now) ≡ Refuses Stopped
+      resting rests = asks_the_resting (setup_of (run config es).config n) (run config es).bag s (Doing.Resume now) refl rests
+
+      -- before its first call
+      before : is_down s.state ≡ false → reads.area ≡ s.area → Left
+      before up same = elim (stopped s.state here up) [
+        | inl rests ↦ by_chore Fate.Old up (same ∙ stopped_left s now (what (Doing.Resume now)) (resting rests))
+        | inr sure ↦ by_chore Fate.Old up (same ∙ up_left s now (what (Doing.Resume now)) sure)
+      ]
+
+      -- with what was unsure
+      with_unsure : is_down s.state ≡ false → IsBeside s s.unsure reads.log reads.area → Left
+      with_unsure up beside = elim (stopped s.state here up) [
+        | inl rests ↦ by_chore Fate.New up (refused_left s now reads.log reads.area (what (Doing.Resume now)) (resting rests) beside)
+        | inr sure ↦ absurd (subst (λ u. IsBeside s u reads.log reads.area) sure beside)
+      ]
+
       -- a shard that is down crashes within an opening, before its append
-      by_opening : is_down s.state ≡ true → s.unsure ≡ Nothing → reads.area ≡ s.area → Told image
-      by_opening down sure same = crashes_in image 0 (run config es).time Fate.Old Doing.Open (omega arith)
-          (in_state (λ st. not (is_up st)) (down_rests s.state down)) refl
-          (subst (λ a. HoldsArea a image) (same ∙ sym (sure_area s sure)
-          ∙ unopened_left s (effect (setup_of (run config es).config n) (run config es).bag s Doing.Open)) reads.holds)
+      by_opening : is_down s.state ≡ true → s.unsure ≡ Nothing → reads.area ≡ s.area → Left
+      by_opening down sure same = record {
+        later = later;
+        call = 0;
+        fate = Fate.Old;
+        doing = Doing.Open;
+        may = in_state (λ st. not (is_up st)) (down_rests s.state down);
+        crash = refl;
+        shard = s;
+        there = there;
+        holds = subst (λ a. HoldsArea a image) (same ∙ sym (sure_area s sure) ∙ unopened_left s (what Doing.Open)) reads.holds;
+      }
         where
           down_rests : (st : State) → is_down st ≡ true → not (is_up st) ≡ true
           down_rests (Runs m) e = absurd (false≢true e)
           down_rests (IsStopped m) e = absurd (false≢true e)
           down_rests IsDown e = refl
 
-      with_unsure : is_down s.state ≡ false → IsBeside s s.unsure reads.log reads.area → Told image
-      with_unsure up beside =
-          let rests : is_up s.state ≡ false = stopped s.state here up beside in
-          crashes_in image 0 (run config es).time Fate.New (Doing.Resume now) (omega arith) (honest_at (run config es).time)
-          (in_state (λ st. not (is_down st)) (ap not up))
-          (subst (λ a. HoldsArea a image)
-          (refused_left s now reads.log reads.area (effect (setup_of (run config es).config n) (run config es).bag s (Doing.Resume now))
-          (asks_the_resting (setup_of (run config es).config n) (run config es).bag s (Doing.Resume now) refl rests) beside) reads.holds)
-
-      by_down : (b : Bool) → is_down s.state ≡ b → s.unsure ≡ Nothing → reads.area ≡ s.area → Told image
+      by_down : (b : Bool) → is_down s.state ≡ b → s.unsure ≡ Nothing → reads.area ≡ s.area → Left
       by_down true down sure same = by_opening down sure same
-      by_down false up sure same = by_crash image (subst (λ a. HoldsArea a image) same reads.holds) up
+      by_down false up sure same = before up same
 
-      by_fits : MayLeaveArea s reads.log reads.area → (is_down s.state ≡ false) ⊎ (s.unsure ≡ Nothing) → Told image
-      by_fits (inl same) (inl up) = by_crash image (subst (λ a. HoldsArea a image) same.1 reads.holds) up
+      by_fits : MayLeaveArea s reads.log reads.area → (is_down s.state ≡ false) ⊎ (s.unsure ≡ Nothing) → Left
+      by_fits (inl same) (inl up) = before up same.1
       by_fits (inl same) (inr sure) = by_down (is_down s.state) refl sure same.1
       by_fits (inr beside) (inl up) = with_unsure up beside
       by_fits (inr beside) (inr sure) = absurd (subst (λ u. IsBeside s u reads.log reads.area) sure beside)
@@ -309,19 +371,32 @@ module _ {D : Type 0} (keeps obeys : Type 0) (file : D → File) (clock : D → 
   may_be_in (Doing.Forget at now) logged memory out does = crash_may (Doing.Forget at now) logged memory out does refl
   may_be_in (Doing.Nudge t now) logged memory out does = crash_may (Doing.Nudge t now) logged memory out does refl
 
-  -- in a call that is under way, and that the definitions do, a crash may come at the time of its event
-  pub may_come_in : (after : Life D) (u : IsUnderWay keeps obeys file clock since failures plan config es lives n after) (logged : Option Record)
-      (memory : Memory) (out : List Envelope) → effect (setup_of (run config es).config n) (run config es).bag s u.doing ≡ Does logged memory out →
-      ((run config es).time ≤ u.event.time) × (may_do (run config es) u.event.time n u.doing ≡ true) × (may_crash (run config es) n u.doing ≡ true)
-  may_come_in after u logged memory out does = (
-    later (run config es).time u.event.time parts.0,
-    may_be_done (run config es) u.event.time n u.doing u.event.act u.of parts.1,
-    may_be_in u.doing logged memory out does,
-  )
+  -- what a call that is under way has done
+  pub call_left : (after : Life D) (u : IsUnderWay keeps obeys file clock since failures plan config es lives n after) (image : List ℕ) (log : List Record)
+      (area : Area) → HoldsArea area image → MayHaveDone (run config es) s n u.doing log area → IsLeftIn (run config es) u.event.time n image
+  call_left after u image log area holds done = record {
+    later = later (run config es).time u.event.time parts.0;
+    call = 3;
+    fate = Fate.New;
+    doing = u.doing;
+    may = may_be_done (run config es) u.event.time n u.doing u.event.act u.of parts.1;
+    crash = may_be_in u.doing done.logged done.memory done.out done.does;
+    shard = s;
+    there = there;
+    holds = subst (λ a. HoldsArea a image) (done_left (run config es) s n u.doing log area done) holds;
+  }
     where
       parts : (nat_le (run config es).time u.event.time ≡ true) × (may_act (run config es) u.event.time u.event.act ≡ true)
       parts = and_parts (nat_le (run config es).time u.event.time) (may_act (run config es) u.event.time u.event.act) (last_of config es u.event u.may)
 
+      later : (a b : ℕ) → nat_le a b ≡ true → a ≤ b
+      later a b e = grind (arith, nat_tests)
+
+  -- the event of a call is no earlier than the events before it
+  pub comes_later : (after : Life D) (u : IsUnderWay keeps obeys file clock since failures plan config es lives n after) → (run config es).time ≤ u.event.time
+  comes_later after u = later (run config es).time u.event.time
+      (and_parts (nat_le (run config es).time u.event.time) (may_act (run config es) u.event.time u.event.act) (last_of config es u.event u.may)).0
+    where
       later : (a b : ℕ) → nat_le a b ≡ true → a ≤ b
       later a b e = grind (arith, nat_tests)
 
@@ -333,11 +408,9 @@ module _ {D : Type 0} (keeps obeys : Type 0) (file : D → File) (clock : D → 
       reads = under_way_reads keeps obeys file clock since failures plan counts kept config es fair lives h n after u s image there left
 
       by_fits : MayLeaveHere (run config es) n u.doing s reads.log reads.area → Told image
-      by_fits (inl fits) = now_told image (record { log = reads.log; area = reads.area; holds = reads.holds; fits = fits }) can
-      by_fits (inr may_have) =
-          let may = may_come_in after u may_have.logged may_have.memory may_have.out may_have.does in
-          crashes_in image 3 u.event.time Fate.New u.doing may.0 may.1 may.2
-          (subst (λ a. HoldsArea a image) (done_left (run config es) s n u.doing reads.log reads.area may_have) reads.holds)
+      by_fits (inl fits) = crash_told (run config es).time image (now_left (run config es).time image (omega arith)
+          (record { log = reads.log; area = reads.area; holds = reads.holds; fits = fits }) can)
+      by_fits (inr done) = crash_told u.event.time image (call_left after u image reads.log reads.area reads.holds done)
 
 module _ {D : Type 0} (keeps obeys : Type 0) (file : D → File) (clock : D → ℕ) (since : D → ℕ → List ℕ → Type 0) (failures : D → ℕ)
     (plan : D → FailurePlan)
@@ -350,7 +423,10 @@ module _ {D : Type 0} (keeps obeys : Type 0) (file : D → File) (clock : D → 
       by_left : HoldRun keeps obeys file clock since failures plan counts kept config (events_of turns) lives →
           LeavesImage keeps obeys file clock since failures plan config (events_of turns) lives n image →
           IsTold keeps obeys file clock since failures plan config (events_of turns) lives n image
-      by_left h (inl now) = now_told keeps obeys file clock since failures plan counts kept config (events_of turns) fair lives h n s there image
-          ((life_holds file (setup_of (run config (events_of turns)).config n) s (lives n) s.state (h n s there)).left image now) can
+      by_left h (inl now) =
+          let w : World = run config (events_of turns) in
+          crash_told keeps obeys file clock since failures plan counts kept config (events_of turns) fair lives h n s there w.time image
+          (now_left keeps obeys file clock since failures plan counts kept config (events_of turns) fair lives h n s there w.time image (omega arith)
+          ((life_holds file (setup_of w.config n) s (lives n) s.state (h n s there)).left image now) can)
       by_left h (inr call) = within_told keeps obeys file clock since failures plan counts kept config (events_of turns) fair lives h n s there
           call.0 image call.1 call.2 can

@@ -49,7 +49,7 @@ use Rattle.images.proofs.Acted.{acts_hold, starves_hold}
 use Rattle.images.proofs.Called.{Comes, IsKnown, LeavesRead, left_since, not_opened_only_before, not_opened_since, only_before, opened, opened_not_refused}
 use Rattle.images.proofs.Called.{opened_since, refused_only_before, turn_only_before, turn_refused_only_before, turned_since}
 use Rattle.images.proofs.Held.{HoldsLog, HoldsOr, LivesAs, LivesIn, ReadsAs, life_holds, surely_holds}
-use Rattle.images.proofs.Placed.{Hold, IsInput, given, input_whole, no_input, opening_is, rests_holds, some_shard}
+use Rattle.images.proofs.Placed.{Hold, IsInput, given, input_whole, no_input, opening_is, rests_holds}
 
 -- ---- logs
 

@@ -170,6 +170,12 @@ module _ {D : Type 0} (file : D → File) where
   RestartsFrom image (Down disk) = (later : List ℕ) → MayLeave (surface (file disk)) later →
       (records_in later ≡ records_in image) × (begins_in later ≡ begins_in image)
 
+  -- each shard goes on from its image, and there are no others
+  abbrev pub AllRestart : List (List ℕ) → (ℕ → Life D) → (ℕ → Life D) → Type 0
+  AllRestart images lives new =
+      ((n : ℕ) (image : List ℕ) → slice_get images n ≡ Some image → RestartsFrom image (new n))
+      × ((n : ℕ) → slice_get images n ≡ None → new n ≡ lives n)
+
 module _ {D : Type 0} (keeps obeys : Type 0) (file : D → File) (clock : D → ℕ) (since : D → ℕ → List ℕ → Type 0) (failures : D → ℕ)
     (plan : D → FailurePlan) where
   -- ---- one call
@@ -392,6 +398,21 @@ module _ {D : Type 0} (keeps obeys : Type 0) (file : D → File) (clock : D → 
       Leads (start config) turns first lives → (calls : List (Call config (events_of turns) lives)) → AreInOrder config (events_of turns) lives calls →
       (images : List (List ℕ)) → AreImages (run config (events_of turns)) (LeavesInCalls config (events_of turns) lives calls) images →
       AreTold config (events_of turns) images
+
+  -- and where each shard is up or stopped, or is down with nothing unsure on its disk, whoever goes on from what was left is beside the run
+  pub record IsBesideThen (config : Config) (es : List Event) (lives new : ℕ → Life D) : Type 0 where
+    pub crashes : List Event
+    pub within : AreWithinCalls crashes
+    pub may : IsTrue (lawful config (es ++ crashes))
+    pub leads : Leads (run config es) (map Happens crashes) lives new
+
+  abbrev pub AllGoOn : Type 0
+  AllGoOn =
+      keeps → (config : Config) (turns : List Turn) (first lives new : ℕ → Life D) → IsTrue (lawful config (events_of turns)) → AreFresh config first →
+      Leads (start config) turns first lives → (calls : List (Call config (events_of turns) lives)) → AreInOrder config (events_of turns) lives calls →
+      ((n : ℕ) (s : ShardNow) → slice_get (run config (events_of turns)).shards n ≡ Some s → (is_down s.state ≡ false) ⊎ (s.unsure ≡ Nothing)) →
+      (images : List (List ℕ)) → AreImages (run config (events_of turns)) (LeavesInCalls config (events_of turns) lives calls) images →
+      AllRestart file images lives new → IsBesideThen config (events_of turns) lives new
 
   -- ---- every failure of a device is told, or none of the run's events: that of an opening before its append
 

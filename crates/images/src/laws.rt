@@ -1,5 +1,5 @@
 //! Laws of images.
-ghost use Rattle.images.specs.Images.{AllCrashAtOnce, CoresKnowTheRun, CrashesAreTold, FailuresAreTold, ImagesHaveLogs};
+ghost use Rattle.images.specs.Images.{AllCrashAtOnce, AllGoOn, CoresKnowTheRun, CrashesAreTold, FailuresAreTold, ImagesHaveLogs};
 ghost use Rattle.images.specs.Unturned.{AreasAreLogs};
 
 use disk::Disk;
@@ -20,6 +20,8 @@ pub fn images_have_logs<D: Disk>()
     ensures told { CrashesAreTold D.keeps_model D.obeys D.file D.clock D.since D.failures D.plan }
     // All shards may crash at once, some or each within a call: crashes within these calls tell it, and the law holds behind them.
     ensures at_once { AllCrashAtOnce D.keeps_model D.obeys D.file D.clock D.since D.failures D.plan }
+    // And all cores that go on from there stand beside the run with such crashes.
+    ensures go_on { AllGoOn D.keeps_model D.obeys D.file D.clock D.since D.failures D.plan }
     // So it is where a device fails in a call that writes, unless something was unsure on a disk that was opened.
     ensures failed { FailuresAreTold D.keeps_model D.obeys D.file D.clock D.since D.failures D.plan }
 {}
