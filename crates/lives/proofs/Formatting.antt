@@ -2,6 +2,7 @@
 use Rattle.std.specs.List.{list_all}
 use Rattle.std.proofs.Common.{◌≡◌, inl, inr, ℕ, IsTrue, List, [], ◌∷◌, Some, None, Ok, Err, refl, sym, ap}
 use Rattle.std.proofs.Common.{◌∙◌, subst, arith}
+use Rattle.units.specs.Keys.{Bytes}
 use Rattle.units.specs.declared.fault.Fault.{Fault}
 use Rattle.units.specs.declared.fault.Fault.TheVariants.{Memory}
 use Rattle.units.specs.declared.setup.Book.TheVariants.{Off}
@@ -30,7 +31,8 @@ use Rattle.world.specs.World.{effect, finished, fresh_shard, step_of_opening, wa
 use Rattle.world.specs.declared.event.Doing.{Doing}
 use Rattle.lives.specs.Carries.{Comes, IsOrderly}
 use Rattle.lives.specs.Lives.{HoldsLog, LivesAs}
-use Rattle.lives.specs.Shows.{Acts, AreViews, ShowsLife, StandsFor, done_by, is_apart, is_within}
+use Rattle.lives.specs.Shows.{Acts, AreViews, ShowsLife, StandsFor, done_by, is_within}
+use Rattle.lives.specs.Spots.{AreOf, line}
 use Rattle.lives.specs.Unopened.{unopened_shard}
 use Rattle.lives.specs.declared.life.Life.TheVariants.{Down}
 use Rattle.lives.specs.declared.run_shard.RunShard.{RunShard}
@@ -50,16 +52,22 @@ holds_none disk never stands read begins = record {
       (ap items_of (stands (crash_leaves fates (disk_file disk)) may), begins (crash_leaves fates (disk_file disk)) may);
 }
 
+of_none : {k : Bytes} → AreOf [] k []
+of_none = record {
+  each = λ j lt. absurd (omega (arith, lt));
+  all = λ p lt same. absurd (omega (arith, lt));
+  up = λ j l less lt. absurd (omega (arith, lt));
+}
+
 pub formatted_stands : (setup : Setup) (disk : SimDisk) (shard : RunShard) → disk_plan disk ≡ FailurePlan.Never → Stands (surface (disk_file disk)) (Ok [])
     → log (surface (disk_file disk)).seen ≡ Ok [] → Begins (surface (disk_file disk)) first_beginning → shard.setup ≡ setup → shard.life ≡ Down disk
-    → shard.installs.items ≡ [] → shard.views.items ≡ []
-    → StandsFor setup shard unopened_shard
-formatted_stands setup disk shard never stands read begins told life installs views = record {
+    → shard.installs.items ≡ [] → shard.spots.entries ≡ [] → shard.views.items ≡ [] → StandsFor setup shard unopened_shard
+formatted_stands setup disk shard never stands read begins told life installs spots views = record {
   setup_is = told;
   lives = subst (λ l. LivesAs setup unopened_shard l) (sym life) (holds_none disk never stands read begins);
   views = subst (λ vs. AreViews shard.installs.items vs []) (sym views) tt;
   within = (λ i. list_all (is_within (installs i)) (views i));
-  apart = λ rises. (λ i. list_all (is_apart (installs i) shard.high) (views i));
+  spots = λ k. subst (λ is. AreOf is k (line shard.spots.entries k)) (sym installs) (subst (λ es. AreOf [] k (line es k)) (sym spots) of_none);
   shows = subst (ShowsLife shard.installs.items shard.from) (sym life) tt;
 }
 

@@ -8,9 +8,11 @@ pub mod Formatting
 pub mod Happened
 pub mod Holding
 pub mod Living
+pub mod Narrowing
+pub mod Newest
 pub mod Opening
 pub mod Replying
-pub mod Shared
 pub mod Showing
+pub mod Standing
 pub mod Stepping
 pub mod Turning

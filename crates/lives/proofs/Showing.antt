@@ -6,7 +6,7 @@ use Rattle.std.proofs.Common.{Option, Some, None, Result, Ok, Err, OnOk, refl, s
 use Rattle.std.proofs.lemmas.Bool.{and_parts, false≢true}
 use Rattle.std.proofs.lemmas.Bool.Decides.{nat_tests}
 use Rattle.std.proofs.lemmas.List.{length-append, length-drop, take-append-le, take-append-drop, drop-append-le, take_all}
-use Rattle.std.proofs.Math.Seq.{drop-append_seam, drop-length}
+use Rattle.std.proofs.Math.Seq.{drop-append_seam}
 use Rattle.units.specs.Keys.{Bytes, shard_of}
 use Rattle.units.specs.Versions.{at_time}
 use Rattle.units.specs.declared.fault.Fault.{Fault}
@@ -18,7 +18,6 @@ use Rattle.record.specs.Facts.{facts_of}
 use Rattle.record.specs.declared.record.Record.{Record}
 use Rattle.message.specs.declared.message.Envelope.{Envelope}
 use Rattle.protocol.specs.Rows.{Memory as Kept, safe}
-use Rattle.protocol.proofs.AboveVersions.{each_append}
 use Rattle.protocol.specs.Step.{Stepped, Refuses, Does}
 use Rattle.renewal.specs.Keeps.{Alike}
 use Rattle.renewal.proofs.Alike.{alike-keeps}
@@ -34,9 +33,10 @@ use Rattle.world.specs.declared.event.Doing.{Doing}
 use Rattle.world.specs.declared.event.Reply.{Reply}
 use Rattle.lives.specs.Lives.{IsCoreIn, IsCoreOf, IsDiskIn, IsRunningAs, LivesAs, LivesIn, crash_by}
 use Rattle.lives.specs.Carries.{Carries, Comes, IsOrderly, ShowsOn, by_call, calls_of, failed_by, left_by, left_by_refusal, stepped_shard, unopened}
-use Rattle.lives.specs.Looks.{is_above, look_at, look_core}
-use Rattle.lives.specs.Shows.{Acts, AreShared, AreViews, BeginsAt, HasNoted, IsKept, IsView, NotesOfLife, ShowsLife, StandsFor, done_by, is_apart, is_within}
+use Rattle.lives.specs.Looks.{look_at, look_core}
+use Rattle.lives.specs.Shows.{Acts, AreShared, AreViews, BeginsAt, HasNoted, IsKept, IsView, NotesOfLife, ShowsLife, StandsFor, done_by, is_within}
 use Rattle.lives.specs.Shows.{view_now}
+use Rattle.lives.specs.Spots.{AreSpots}
 use Rattle.lives.specs.declared.life.Life.{Life}
 use Rattle.lives.specs.declared.life.Life.TheVariants.{Up, Down}
 use Rattle.lives.specs.declared.run_shard.RunShard.{RunShard}
@@ -91,39 +91,6 @@ within_more is [] ws h k = k
 within_more is (v ∷ vs) ws h k =
     let p : (is_within is v ≡ true) × (list_all (is_within is) vs ≡ true) = and_parts _ _ h in
     ap (λ b. b && list_all (is_within is) (vs ++ ws)) p.0 ∙ within_more is vs ws p.1 k
-
--- views stay apart from what comes later, where that is above all that they serve
-still_apart : (is more : List Install) (high higher : ℕ) (vs : List CodeView) → high ≤ higher → list_all (is_within is) vs ≡ true →
-    list_all (is_above high) more ≡ true → list_all (is_apart is high) vs ≡ true → list_all (is_apart (is ++ more) higher) vs ≡ true
-still_apart is more high higher [] le h above k = refl
-still_apart is more high higher (v ∷ vs) le h above k =
-    let p : (is_within is v ≡ true) × (list_all (is_within is) vs ≡ true) = and_parts _ _ h in
-    let q : (is_apart is high v ≡ true) × (list_all (is_apart is high) vs ≡ true) = and_parts _ _ k in
-    let r : (nat_le v.safe high ≡ true) × (list_all (is_above v.safe) (drop (v.from + v.count) is) ≡ true) = and_parts _ _ q.0 in
-    let low : nat_le v.safe higher ≡ true = less_too v.safe high higher r.0 le in
-    let later : list_all (is_above v.safe) (drop (v.from + v.count) (is ++ more)) ≡ true =
-    ap (list_all (is_above v.safe)) (drop-append-le (v.from + v.count) is more (counted is v p.0))
-    ∙ each_append (is_above v.safe) (drop (v.from + v.count) is) more r.1 (all_above v.safe high more (under v.safe high r.0) above) in
-    let here : is_apart (is ++ more) higher v ≡ true = ap (λ b. b && list_all (is_above v.safe) (drop (v.from + v.count) (is ++ more))) low ∙ later in
-    ap (λ b. b && list_all (is_apart (is ++ more) higher) vs) here ∙ still_apart is more high higher vs le p.1 above q.1
-  where
-    under : (a b : ℕ) → nat_le a b ≡ true → a ≤ b
-    under a b e = grind (arith, nat_tests)
-
-    less_too : (a b c : ℕ) → nat_le a b ≡ true → b ≤ c → nat_le a c ≡ true
-    less_too a b c e f = grind (arith, nat_tests)
-
-    less_above : (a b c : ℕ) → a ≤ b → nat_lt b c ≡ true → nat_lt a c ≡ true
-    less_above a b c e f = grind (arith, nat_tests)
-
-    all_above : (low high : ℕ) (ys : List Install) → low ≤ high → list_all (is_above high) ys ≡ true → list_all (is_above low) ys ≡ true
-    all_above low high [] e f = refl
-    all_above low high (y ∷ ys) e f =
-        let s : (is_above high y ≡ true) × (list_all (is_above high) ys ≡ true) = and_parts _ _ f in
-        ap (λ b. b && list_all (is_above low) ys) (less_above low high y.at e s.0) ∙ all_above low high ys e s.1
-
-at_most : (a b : ℕ) → a ≤ b → nat_le a b ≡ true
-at_most a b h = grind (arith, nat_tests)
 
 -- ---- the list of all versions
 
@@ -211,12 +178,11 @@ abbrev pub with_life : RunShard → Life → RunShard
 with_life s life = record s { life = life }
 
 pub life_kept : (s : RunShard) (life : Life) → IsKept s (with_life s life)
-life_kept s life = record { setup = refl; installs = refl; from = refl; views = refl; high = refl; rises = refl }
+life_kept s life = record { setup = refl; installs = refl; from = refl; views = refl; spots = refl }
 
-same_apart : (setup : Setup) (s : ShardNow) (old mid : RunShard) → IsKept old mid → StandsFor setup old s → mid.rises ≡ true →
-    list_all (is_apart mid.installs.items mid.high) mid.views.items ≡ true
-same_apart setup s old mid kept h rises =
-    (λ i. list_all (is_apart (kept.installs i) (kept.high i)) (kept.views i)) ∙ h.apart (sym kept.rises ∙ rises)
+same_spots : (setup : Setup) (s : ShardNow) (old mid : RunShard) → IsKept old mid → StandsFor setup old s → AreSpots mid.installs.items mid.spots.entries
+same_spots setup s old mid kept h = subst (λ m. AreSpots mid.installs.items m.entries) (sym kept.spots)
+    (subst (λ is. AreSpots is old.spots.entries) (sym kept.installs) h.spots)
 
 -- there is no core of a shard that is down
 down_shows : (setup : Setup) (s : ShardNow) (life : Life) (is : List Install) (from : ℕ) → LivesIn setup s life IsDown → ShowsLife is from life
@@ -244,8 +210,8 @@ module _ (setup : Setup) (bag : List Envelope) (s : ShardNow) (call : Option ℕ
   same : AreViews mid.installs.items mid.views.items s.views × (list_all (is_within mid.installs.items) mid.views.items ≡ true)
   same = same_views setup s old mid kept.installs kept.views h
 
-  apart_as_before : mid.rises ≡ true → list_all (is_apart mid.installs.items mid.high) mid.views.items ≡ true
-  apart_as_before = same_apart setup s old mid kept h
+  spots_as_before : AreSpots mid.installs.items mid.spots.entries
+  spots_as_before = same_spots setup s old mid kept h
 
   -- a shard with the same views
   stands_as : (t : ShardNow) → t.views ≡ s.views → LivesAs setup t mid.life → ShowsLife mid.installs.items mid.from mid.life → StandsFor setup mid t
@@ -254,7 +220,7 @@ module _ (setup : Setup) (bag : List Envelope) (s : ShardNow) (call : Option ℕ
     lives = l;
     views = subst (AreViews mid.installs.items mid.views.items) (sym views) same.0;
     within = same.1;
-    apart = apart_as_before;
+    spots = spots_as_before;
     shows = shows;
   }
 
@@ -379,24 +345,6 @@ module _ (setup : Setup) (bag : List Envelope) (s : ShardNow) (call : Option ℕ
           ((λ j. list_all (is_within (n.installs j)) mid.views.items) ∙ still_within mid.installs.items more mid.views.items same.1)
           (made_within (makes_view doing))
 
-      made_apart : (b : Bool) → (b ≡ true → safe_at core ≤ new.high) → list_all (is_apart new.installs.items new.high)
-          (cond b (view_now new.from core ∷ []) []) ≡ true
-      made_apart false low = refl
-      made_apart true low =
-          let none : drop (new.from + length shown_all) new.installs.items ≡ [] =
-          ap (λ n. drop n new.installs.items) (all_behind new.installs.items shown_all new.from from_within behind_now) ∙ drop-length new.installs.items in
-          let under : nat_le (safe_at core) new.high ≡ true = at_most (safe_at core) new.high (low refl) in
-          (λ i. (under i && list_all (is_above (safe_at core)) (none i)) && true)
-
-      apart_is : new.rises ≡ true → list_all (is_apart new.installs.items new.high) new.views.items ≡ true
-      apart_is rises =
-          let was = n.rises rises in
-          ap (list_all (is_apart new.installs.items new.high)) n.views
-          ∙ each_append (is_apart new.installs.items new.high) mid.views.items made
-          ((λ j. list_all (is_apart (n.installs j) new.high) mid.views.items)
-          ∙ still_apart mid.installs.items more mid.high new.high mid.views.items n.high.0 same.1 was.1 (apart_as_before was.0))
-          (made_apart (makes_view doing) n.high.1)
-
       done_stands : ShowsLife new.installs.items new.from mid.life → StandsFor setup new (finished s doing logged memory)
       unfolding finished
       done_stands shows = record {
@@ -406,7 +354,7 @@ module _ (setup : Setup) (bag : List Envelope) (s : ShardNow) (call : Option ℕ
             mid.life l);
         views = views_are;
         within = within_is;
-        apart = apart_is;
+        spots = n.spots spots_as_before;
         shows = subst (ShowsLife new.installs.items new.from) (sym n.life) shows;
       }
 
@@ -503,7 +451,7 @@ crash_stands setup s t fate old new h kept views l =
       lives = l;
       views = subst (AreViews new.installs.items new.views.items) (sym views) same.0;
       within = same.1;
-      apart = same_apart setup s old new kept h;
+      spots = same_spots setup s old new kept h;
       shows = down_shows setup (crash_by fate t) new.life new.installs.items new.from l;
     }
 
@@ -537,8 +485,7 @@ crash_in_so setup bag s call fate doing old mid new answer (Ok reply) h kept car
       installs = later.installs ∙ kept.installs;
       from = later.from ∙ kept.from;
       views = later.views ∙ kept.views;
-      high = later.high ∙ kept.high;
-      rises = later.rises ∙ kept.rises;
+      spots = later.spots ∙ kept.spots;
     })
     (subst (λ x. LivesAs x (crash_by fate t) new.life) told (fallen t (subst (λ x. LivesAs x t mid.life) (sym told) lives)))
   where

@@ -6,4 +6,5 @@ pub mod Lives
 pub mod Looks
 pub mod Runs
 pub mod Shows
+pub mod Spots
 pub mod Unopened

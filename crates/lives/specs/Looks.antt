@@ -19,7 +19,3 @@ look_at here installs horizon safe k at =
 -- a look at what a core shows now
 abbrev pub look_core : CoreView SimDisk → Bytes → ℕ → Reply
 look_core core k at = look_at (is_here core k) core.facts.installs core.facts.horizon (safe_at core) k at
-
--- a version of a later time
-abbrev pub is_above : ℕ → Install → Bool
-is_above time i = nat_lt time i.at

@@ -1,6 +1,6 @@
 -- How a shard of a run in the code stands for one of the definitions, with its views.
 use Rattle.std.specs.List.{list_all}
-use Rattle.std.specs.Prelude.{◌≡◌, ◌≤◌, ℕ, ◌+◌, ◌-◌, Bool, true, false, cond, nat_le, ◌&&◌, List, [], ◌∷◌, ◌++◌, length, take, drop, Option, Some}
+use Rattle.std.specs.Prelude.{◌≡◌, ◌≤◌, ℕ, ◌+◌, ◌-◌, Bool, true, false, cond, nat_le, List, [], ◌∷◌, ◌++◌, length, take, drop, Option, Some}
 use Rattle.std.specs.Prelude.{None, Result, slice_get}
 use Rattle.units.specs.Keys.{Bytes}
 use Rattle.units.specs.Versions.{at_time}
@@ -20,7 +20,7 @@ use Rattle.world.specs.declared.event.Doing.{Doing}
 use Rattle.world.specs.declared.event.Reply.{Reply}
 use Rattle.lives.specs.Carries.{Comes, IsOrderly, by_call, calls_of, failed_by, left_by_refusal}
 use Rattle.lives.specs.Lives.{LivesAs, crash_by}
-use Rattle.lives.specs.Looks.{is_above}
+use Rattle.lives.specs.Spots.{AreSpots}
 use Rattle.lives.specs.declared.life.Life.{Life}
 use Rattle.lives.specs.declared.life.Life.TheVariants.{Up, Down}
 use Rattle.lives.specs.declared.run_shard.RunShard.{RunShard}
@@ -46,10 +46,6 @@ AreViews installs _ _ = ⊥
 abbrev pub is_within : List Install → CodeView → Bool
 is_within installs v = nat_le (v.from + v.count) (length installs)
 
--- it serves nothing above a time, and all versions that came behind it are above what it serves
-abbrev pub is_apart : List Install → ℕ → CodeView → Bool
-is_apart installs high v = nat_le v.safe high && list_all (is_above v.safe) (drop (v.from + v.count) installs)
-
 -- while there is a core, the last versions are those that it shows
 abbrev pub ShowsLife : List Install → ℕ → Life → Type 0
 ShowsLife installs from (Up core) = (from ≤ length installs) × (drop from installs ≡ (seen core).facts.installs)
@@ -61,7 +57,7 @@ pub record StandsFor (setup : Setup) (r : RunShard) (s : ShardNow) : Type 0 wher
   pub lives : LivesAs setup s r.life
   pub views : AreViews r.installs.items r.views.items s.views
   pub within : list_all (is_within r.installs.items) r.views.items ≡ true
-  pub apart : r.rises ≡ true → list_all (is_apart r.installs.items r.high) r.views.items ≡ true
+  pub spots : AreSpots r.installs.items r.spots.entries
   pub shows : ShowsLife r.installs.items r.from r.life
 
 -- what a call of it leaves, but for what lives
@@ -70,8 +66,7 @@ pub record IsKept (old new : RunShard) : Type 0 where
   pub installs : new.installs.items ≡ old.installs.items
   pub from : new.from ≡ old.from
   pub views : new.views.items ≡ old.views.items
-  pub high : new.high ≡ old.high
-  pub rises : new.rises ≡ old.rises
+  pub spots : new.spots ≡ old.spots
 
 -- a shard after a doing, with the view that it makes, where a refusal leaves that other one
 abbrev pub leads_to : ShardNow → ShardNow → Option ℕ → Doing → Stepped → ShardNow
@@ -111,9 +106,7 @@ pub record HasNoted (doing : Doing) (core : CoreView SimDisk) (old new : RunShar
   pub from : BeginsAt doing old.from old.installs.items core.facts.installs new.from
   pub installs : new.installs.items ≡ old.installs.items ++ drop (length old.installs.items - new.from) core.facts.installs
   pub views : new.views.items ≡ old.views.items ++ cond (makes_view doing) (view_now new.from core ∷ []) []
-  pub high : (old.high ≤ new.high) × (makes_view doing ≡ true → safe_at core ≤ new.high)
-  pub rises : new.rises ≡ true → (old.rises ≡ true)
-      × (list_all (is_above old.high) (drop (length old.installs.items - new.from) core.facts.installs) ≡ true)
+  pub spots : AreSpots old.installs.items old.spots.entries → AreSpots new.installs.items new.spots.entries
 
 -- of a core; there is nothing to keep of a shard that is down
 abbrev pub NotesOfLife : Doing → RunShard → RunShard → Life → Type 0

@@ -7,6 +7,7 @@ mod life;
 mod looking;
 mod run;
 mod run_shard;
+mod spots;
 mod view;
 
 pub use fleet::Shards;

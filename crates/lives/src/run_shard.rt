@@ -7,12 +7,15 @@ ghost use Rattle.lives.specs.Lives.{HoldsLog, disk_log};
 ghost use Rattle.lives.specs.Carries.{IsOrderly};
 ghost use Rattle.lives.specs.Fleet.{IsOn};
 ghost use Rattle.lives.specs.Shows.{BeginsAt, StandsFor};
+ghost use Rattle.lives.specs.Spots.{AreSpots};
 
 use crate::life::{Life, opens, setup_with};
 use crate::looking::look_at_core;
-use crate::view::{View, are_above, begin_with, behind};
+use crate::spots::{Spots, add};
+use crate::view::{View, begin_with, behind};
 use disk::Fate;
 use gatelog::{Entry, GateLog};
+use indexmap::IndexMap;
 use message::{Envelope, Outbox};
 use record::Record;
 use simdisk::SimDisk;
@@ -20,17 +23,15 @@ use std::alloc::Global;
 use units::{Book, Fault, Install, Key, Setup, ShardNo, Stamp, copy_value};
 use world::{Config, Doing, Reply};
 
-/// A shard of a run: what it is told, its core or its disk, every version that a core of it ever showed, where those of the
-/// last core begin, and the views that count into them. Of these also the greatest time that one serves, and whether each version
-/// that came behind a view is above what it serves: in lawful runs it is. It has to be spent.
+/// A shard of a run: what it is told, its core or its disk, every version that a core of it ever showed, where those of each key stand
+/// among them, where those of the last core begin, and the views that count into them. It has to be spent.
 pub struct RunShard {
     pub setup: Setup,
     pub life: Life,
     pub installs: Vec<Install>,
+    pub spots: Spots,
     pub from: usize,
     pub views: Vec<View>,
-    pub high: Stamp,
-    pub rises: bool,
 }
 
 // The shard of a number.
@@ -45,11 +46,10 @@ fn numbered(number: usize) -> ShardNo
 }
 
 impl RunShard {
-    ghost use Rattle.std.specs.Prelude.{nat_eq, slice_get, take, drop};
+    ghost use Rattle.std.specs.Prelude.{nat_eq};
     ghost use Rattle.units.specs.Keys.{shard_of};
     ghost use Rattle.world.specs.Lawful.{is_down, is_up};
     ghost use Rattle.world.specs.declared.event.Doing.{Doing};
-    ghost use Rattle.lives.specs.Looks.{look_at};
     ghost use Rattle.lives.specs.Shows.{Acts, NotesOfLife, crashed_within, look_by};
 
     /// The shard of a number on a new disk, formatted and opened, with its first view. It is told to keep no book.
@@ -76,10 +76,9 @@ impl RunShard {
             setup,
             life: Life::Down(log.into_disk()),
             installs: Vec::new(alloc),
+            spots: IndexMap::new(alloc),
             from: 0,
             views: Vec::new(alloc),
-            high: Stamp::zero(),
-            rises: true,
         };
         match shard.act(alloc, &[], None, &Doing::Open) {
             Ok(out) => {
@@ -132,7 +131,7 @@ impl RunShard {
             → Acts setup bag.now s call doing.now self.new result }
     {
         match self.life.carry(alloc, &self.setup, bag, call, doing) {
-            Ok(out) => match self.note(doing) {
+            Ok(out) => match self.note(alloc, doing) {
                 Ok(()) => Ok(out),
                 Err(fault) => {
                     drop(out);
@@ -144,7 +143,7 @@ impl RunShard {
     }
 
     // Keeps what its core shows more than before, and the view that the doing makes.
-    fn note(&mut self, doing: &Doing) -> Result<(), Fault>
+    fn note(&mut self, alloc: Global, doing: &Doing) -> Result<(), Fault>
         ensures noted { OnOk result (NotesOfLife doing.now self.old self.new self.old.life) }
         ensures memory { IfErr result (λ fault. fault ≡ Fault.Memory) }
     {
@@ -154,14 +153,15 @@ impl RunShard {
         let shown = core.installs();
         let from = begins_at(doing, self.from, &self.installs, shown);
         let known = self.installs.len().saturating_sub(from);
-        let more = behind(shown, known);
-        let rises = self.rises && are_above(more, self.high);
-        push_copies(&mut self.installs, more)?;
+        push_copies(
+            &mut self.installs,
+            &mut self.spots,
+            alloc,
+            behind(shown, known),
+        )?;
         self.from = from;
-        self.rises = rises;
         if makes_view(doing) {
             self.views.push(View::of(core, from))?;
-            self.high = self.high.later(core.safe());
         }
         Ok(())
     }
@@ -209,7 +209,7 @@ impl RunShard {
     {
         match view {
             Some(number) => match self.views.get(number as usize) {
-                Some(view) => self.look_at_view(alloc, *view, is_here, key, at),
+                Some(view) => view.look(&self.installs, &self.spots, is_here, key, at),
                 None => Ok(Reply::Refused(Fault::Stranger)),
             },
             None => match &self.life {
@@ -217,33 +217,6 @@ impl RunShard {
                 Life::Down(_) => Ok(Reply::Refused(Fault::Stopped)),
             },
         }
-    }
-
-    // A look at one of its views. Where its core has the view's versions, what came since is above what the view serves, and the core has
-    // not forgotten the time since, it is the core that is looked at, which finds a version by halves.
-    fn look_at_view(
-        &self,
-        alloc: Global,
-        view: View,
-        is_here: bool,
-        key: &Key,
-        at: Stamp,
-    ) -> Result<Reply, Fault>
-        ensures shown { (setup : Setup) (s : ShardNow) (n : ℕ) → StandsFor setup self.now s
-            → slice_get self.now.views.items n ≡ Some view
-            → is_here ≡ nat_eq (shard_of setup.splits key.now) setup.shard
-            → IfOk result (λ reply. reply ≡ look_at is_here
-            (take view.count (drop view.from self.now.installs.items)) view.horizon view.safe
-            key.now at) }
-        ensures memory { IfErr result (λ fault. fault ≡ Fault.Memory) }
-    {
-        if let Life::Up(core) = &self.life {
-            let now = View::of(core, self.from);
-            if self.rises && view.from == self.from && view.serves(at) && now.serves(at) {
-                return look_at_core(alloc, core, key, at);
-            }
-        }
-        view.look(&self.installs, is_here, key, at)
     }
 
     /// Its disk as it is.
@@ -254,13 +227,13 @@ impl RunShard {
             setup,
             life,
             installs,
+            spots,
             from: _,
             views,
-            high: _,
-            rises: _,
         } = self;
         drop(setup);
         drop(installs);
+        drop(spots);
         drop(views);
         life.into_disk()
     }
@@ -310,12 +283,20 @@ fn copy_records(records: &mut Vec<Record>, alloc: Global, entries: &[Entry]) -> 
     Ok(())
 }
 
-// Copies of versions behind others.
-fn push_copies(installs: &mut Vec<Install>, more: &[Install]) -> Result<(), Fault>
+// Copies of versions behind others, and where they stand.
+fn push_copies(
+    installs: &mut Vec<Install>,
+    spots: &mut Spots,
+    alloc: Global,
+    more: &[Install],
+) -> Result<(), Fault>
     ensures all { OnOk result (installs.new.items ≡ installs.old.items ++ more.now) }
+    ensures spots { OnOk result (AreSpots installs.old.items spots.old.entries
+        → AreSpots installs.new.items spots.new.entries) }
     ensures memory { IfErr result (λ fault. fault ≡ Fault.Memory) }
 {
     for install in more {
+        add(spots, alloc, installs.len(), install)?;
         installs.reserve(1)?;
         let value = copy_value(&install.value)?;
         installs.push_reserved(Install {

@@ -1,11 +1,12 @@
 //! What a shard shows at one moment.
-ghost use Rattle.std.specs.Prelude.{◌≡◌, ◌≤◌, true, IfOk, IfErr, length, take, drop};
-ghost use Rattle.std.specs.List.{list_all};
+ghost use Rattle.std.specs.Prelude.{◌≡◌, true, IfOk, IfErr, length, take, drop};
 ghost use Rattle.units.specs.Versions.{at_time};
 ghost use Rattle.shard.specs.Core.{seen};
-ghost use Rattle.lives.specs.Looks.{is_above, look_at};
+ghost use Rattle.lives.specs.Looks.{look_at};
 ghost use Rattle.lives.specs.Shows.{view_now};
+ghost use Rattle.lives.specs.Spots.{AreSpots};
 
+use crate::spots::{Spots, narrowed};
 use shard::Core;
 use simdisk::SimDisk;
 use units::{Fault, Install, Key, Stamp, Value, may_look};
@@ -34,31 +35,26 @@ impl View {
         }
     }
 
-    /// It serves a time, and has not forgotten it.
-    pub fn serves(&self, at: Stamp) -> bool
-        ensures { result ≡ true → (self.now.horizon ≤ at) × (at ≤ self.now.safe) }
-    {
-        self.horizon <= at && at <= self.safe
-    }
-
-    /// A look at it, by all versions of the shard, where the key belongs to the shard or not.
+    /// A look at it, by all versions of the shard and where those of each key stand, where the key belongs to the shard or not.
     pub fn look(
         self,
         installs: &[Install],
+        spots: &Spots,
         is_here: bool,
         key: &Key,
         at: Stamp,
     ) -> Result<Reply, Fault>
-        ensures shown { IfOk result
-            (λ reply. reply ≡ look_at is_here
+        ensures shown { AreSpots installs.now spots.now.entries
+            → IfOk result (λ reply. reply ≡ look_at is_here
             (take self.count (drop self.from installs.now)) self.horizon self.safe key.now at) }
         ensures memory { IfErr result (λ fault. fault ≡ Fault.Memory) }
     {
         if let Err(fault) = may_look(is_here, self.horizon, self.safe, at) {
             return Ok(Reply::Refused(fault));
         }
-        let installs = behind(installs, self.from);
-        let count = self.count.min(installs.len());
+        let (from, count) = narrowed(spots, key, self.from, self.count, at);
+        let installs = behind(installs, from);
+        let count = count.min(installs.len());
         match value_at(&installs[..count], key, at) {
             Ok(value) => Ok(Reply::Shows(value)),
             Err(fault) => Err(fault),
@@ -82,18 +78,6 @@ pub fn begin_with(installs: &[Install], known: &[Install]) -> bool
     }
     for (place, one) in known.iter().enumerate() {
         if !is_same(one, &installs[place]) {
-            return false;
-        }
-    }
-    true
-}
-
-/// All of them are above a time.
-pub fn are_above(installs: &[Install], time: Stamp) -> bool
-    ensures { result ≡ true → list_all (is_above time) installs.now ≡ true }
-{
-    for place in 0..installs.len() {
-        if installs[place].at <= time {
             return false;
         }
     }

@@ -24,7 +24,7 @@ returns-in-Ok-act-clause-fresh c =
     (subst (λ d. Stands (surface (disk_file d)) (Ok [])) same (c.in-Ok-format.ensures.empty tt))
     (subst (λ d. log (surface (disk_file d)).seen ≡ Ok []) same (c.in-Ok-format.ensures.read tt))
     (subst (λ d. Begins (surface (disk_file d)) first_beginning) same (c.in-Ok-format.ensures.begins tt)) told refl
-    c.new-2.ensures.items c.new-3.ensures.items in
+    c.new-2.ensures.items c.new-3.ensures.empty c.new-4.ensures.items in
     fresh_stands setup refl c.act.new.self _ (subst (Acts setup [] unopened_shard None Doing.Open c.act.new.self) c.in-Ok-act.is
     (c.act.ensures setup unopened_shard unopened))
 
@@ -40,6 +40,6 @@ returns-in-Err-act-clause-memory c =
     (subst (λ d. Stands (surface (disk_file d)) (Ok [])) same (c.in-Ok-format.ensures.empty tt))
     (subst (λ d. log (surface (disk_file d)).seen ≡ Ok []) same (c.in-Ok-format.ensures.read tt))
     (subst (λ d. Begins (surface (disk_file d)) first_beginning) same (c.in-Ok-format.ensures.begins tt)) told refl
-    c.new-2.ensures.items c.new-3.ensures.items in
+    c.new-2.ensures.items c.new-3.ensures.empty c.new-4.ensures.items in
     fresh_refused setup refl c.act.new.self _ (subst (Acts setup [] unopened_shard None Doing.Open c.act.new.self) c.in-Err-act.is
     (c.act.ensures setup unopened_shard unopened))

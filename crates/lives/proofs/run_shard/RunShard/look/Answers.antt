@@ -1,8 +1,10 @@
-use Rattle.std.proofs.Common.{◌≡◌, IfOk, Some, slice_get, refl, sym, ap, ◌∙◌, subst}
+use Rattle.std.proofs.Common.{◌≡◌, IfOk, Some, slice_get, take, drop, refl, sym, ap, ◌∙◌, subst}
 use Rattle.std.proofs.lemmas.Option.{slice_get_past, slice_get_read}
 use Rattle.shard.specs.Core.{seen}
 use Rattle.lives.specs.Lives.{LivesAs}
+use Rattle.lives.specs.Looks.{look_at}
 use Rattle.lives.specs.Shows.{look_by}
+use Rattle.lives.specs.Spots.{AreSpots}
 use Rattle.lives.proofs.Showing.{looked, looked_at, looked_at_none, looked_down}
 use Rattle.lives.proofs.run_shard.RunShard.look.Goals as goal
 
@@ -12,12 +14,14 @@ returns-in-Some-get-clause-shown c setup s h here =
     let n = c.in-Some.number in
     let v = c.in-Some-get.view.now in
     let found = c.in-Some-get.ensures.lookup in
+    let all = c.deref-in-Some-get.ensures.value in
     let there : slice_get r.views.items n ≡ Some v =
     ap (λ vs. slice_get vs n) (sym c.deref.ensures.value) ∙ slice_get_read c.deref.result.now _ n v refl found.3.0 found.1 in
-    subst (λ x. IfOk c.look_at_view.result (λ reply. reply ≡ x))
+    subst (λ x. IfOk c.look.result (λ reply. reply ≡ x))
     (looked_at setup r.installs.items r.views.items s.views n v c.args.is_here c.args.key.now c.args.at h.views there here
     ∙ ap (λ o. look_by setup s o c.args.key.now c.args.at) (sym c.in-Some.is))
-    (c.look_at_view.ensures.shown setup s n h there here)
+    (subst (λ is. IfOk c.look.result (λ reply. reply ≡ look_at c.args.is_here (take v.count (drop v.from is)) v.horizon v.safe c.args.key.now c.args.at)) all
+    (c.look.ensures.shown (subst (λ is. AreSpots is r.spots.entries) (sym all) h.spots)))
 
 pub returns-in-None-get-clause-shown : goal.returns-in-None-get-clause-shown
 returns-in-None-get-clause-shown c setup s h here =
