@@ -183,25 +183,19 @@ aborted_on made a were is = all_both (λ (b : Attempt). runs_again b.ran b.ended
 
 -- ---- a new transaction
 
-pub begins : (w : Worker) (run : ℕ) (splits : List Bytes) (drawing new : Drawing) (past : List Traffic) (tx : Session) (first wire : Traffic)
-    → record { run = run; splits = splits; drawing = drawing; traffics = past } ≡ w
+pub begins : (v w : Worker) (new : Drawing) (tx : Session) (first wire : Traffic) → v ≡ w
     → first.sent ≡ [] → first.heard ≡ [] → wire ≡ first
-    → tx.splits ≡ splits → tx.client ≡ begun (record { run = run; number = tx.client.txn.number })
-    → new.source ≡ drawing.source → new.drawn ≡ drawing.drawn ++ tx.client.txn.number ∷ []
-    → (n : ℕ) × (record { session = tx; traffic = wire } ≡ beginning w.splits (record { run = w.run; number = n }))
-    × (record { run = run; splits = splits; drawing = new; traffics = past } ≡ drew w n)
-begins w run splits drawing new past tx first wire is sent heard same tx_splits tx_begun source drawn =
+    → tx.splits ≡ v.splits → tx.client ≡ begun (record { run = v.run; number = tx.client.txn.number })
+    → new.source ≡ v.drawing.source → new.drawn ≡ v.drawing.drawn ++ tx.client.txn.number ∷ []
+    → (n : ℕ) × (record { session = tx; traffic = wire } ≡ beginning w.splits (record { run = w.run; number = n })) × (record v { drawing = new } ≡ drew w n)
+begins v w new tx first wire is sent heard same splits client source drawn =
     let n = tx.client.txn.number in
-    let runs : run ≡ w.run = ap (λ (x : Worker). x.run) is in
-    let parts : splits ≡ w.splits = ap (λ (x : Worker). x.splits) is in
-    let its_splits : tx.splits ≡ w.splits = tx_splits ∙ parts in
-    let its_client : tx.client ≡ begun (record { run = w.run; number = n }) = tx_begun ∙ ap (λ (r : ℕ). begun (record { run = r; number = n })) runs in
+    let its_splits : tx.splits ≡ w.splits = splits ∙ ap (λ (x : Worker). x.splits) is in
+    let its_client : tx.client ≡ begun (record { run = w.run; number = n }) = client ∙ ap (λ (x : Worker). begun (record { run = x.run; number = n })) is in
     let put_out : wire.sent ≡ [] = ap (λ (t : Traffic). t.sent) same ∙ sent in
     let was_heard : wire.heard ≡ [] = ap (λ (t : Traffic). t.heard) same ∙ heard in
-    let from : new.source ≡ w.drawing.source = source ∙ ap (λ (x : Worker). x.drawing.source) is in
-    let draws : new.drawn ≡ w.drawing.drawn ++ n ∷ [] = drawn ∙ ap (λ (x : Worker). x.drawing.drawn ++ n ∷ []) is in
-    let earlier : past ≡ w.traffics = ap (λ (x : Worker). x.traffics) is in (
+    let draws : record v { drawing = new } ≡ drew v n = λ i. record v { drawing = record { source = source i; drawn = drawn i } } in (
       n,
       λ i. record { session = record { splits = its_splits i; client = its_client i }; traffic = record { sent = put_out i; heard = was_heard i } },
-      λ i. record { run = runs i; splits = parts i; drawing = record { source = from i; drawn = draws i }; traffics = earlier i },
+      draws ∙ ap (λ (x : Worker). drew x n) is,
     )

@@ -11,6 +11,7 @@ use Rattle.units.specs.declared.writes.Write.{Write}
 use Rattle.message.specs.Ends.{End}
 use Rattle.message.specs.declared.message.Envelope.{Envelope}
 use Rattle.tickets.specs.Draws.{Drawing}
+use Rattle.board.specs.Views.{Viewing}
 use Rattle.session.specs.Sessions.{Client, Goes, begun, buffers}
 use Rattle.session.specs.Shown.{Session}
 use Rattle.client.specs.Ends.{IsEnded, IsGivenUp, IsRefused, left}
@@ -105,17 +106,20 @@ runs_again ran ended = false
 
 -- ---- a client
 
--- what contracts see of a client: the run of its ids, the splits of its store, what it has drawn from which source, and what was put out and
--- heard of each of its attempts
+-- what contracts see of a client: the run of its ids, the splits of its store, what it has drawn from which source, what was put out and
+-- heard of each of its attempts, its viewers by shard, and of its clock the epsilon and the timestamp from which it goes on
 pub record Worker : Type 0 where
   pub run : ℕ
   pub splits : List Bytes
   pub drawing : Drawing
   pub traffics : List Traffic
+  pub viewers : List Viewing
+  pub epsilon : ℕ
+  pub from : ℕ
 
--- a client of a run over these splits that has made no attempt
-abbrev pub IsFresh : ℕ → List Bytes → Worker → Type 0
-IsFresh run splits w = (w.run ≡ run) × (w.splits ≡ splits) × (w.traffics ≡ [])
+-- a client of a run over these splits that has made no attempt, and whose clock has this epsilon and goes on from this timestamp
+abbrev pub IsFresh : ℕ → List Bytes → ℕ → ℕ → Worker → Type 0
+IsFresh run splits epsilon from w = (w.run ≡ run) × (w.splits ≡ splits) × (w.epsilon ≡ epsilon) × (w.from ≡ from) × (w.traffics ≡ [])
 
 -- the client has drawn one number more
 abbrev pub drew : Worker → ℕ → Worker

@@ -2,10 +2,12 @@
 use Rattle.std.specs.Prelude.{ℕ, List}
 use Rattle.units.specs.Keys.{Bytes}
 
--- the run of its ids, its splits, how many shards it has and for how many clients, and the timestamp from which its clock goes on
+-- the run of its ids, its splits, how many shards it has and for how many clients, and of its clock the epsilon and the timestamp from which it
+-- goes on
 pub record Standing : Type 0 where
   pub run : ℕ
   pub splits : List Bytes
   pub shards : ℕ
   pub clients : ℕ
+  pub epsilon : ℕ
   pub last : ℕ

@@ -1,36 +1,67 @@
--- What a view tells of a key.
-use Rattle.std.specs.Prelude.{◌≡◌, ◌⊎◌, ℕ, true, false, nat_lt, List, take, Option, Some, None}
+-- What a view tells of a key, why it tells nothing, and of which time it is.
+use Rattle.std.specs.Prelude.{◌≡◌, ◌⊎◌, ◌+◌, ◌≤◌, ℕ, true, false, nat_lt, List, take, slice_get, slice_set, Option, Some, None, IsTrue, IsSome}
 use mathlib.Core.List.{IsPrefix}
 use Rattle.units.specs.Keys.{Bytes}
+use Rattle.units.specs.Looks.{IsRefusedLook}
 use Rattle.units.specs.declared.fault.Fault.{Fault}
-use Rattle.units.specs.declared.fault.Fault.TheVariants.{Memory, NotYet, Room, Stopped, Stranger, TooOld}
+use Rattle.units.specs.declared.fault.Fault.TheVariants.{Memory, Room, Stopped}
 use Rattle.units.specs.declared.line.Seen.{Seen}
 use Rattle.units.specs.declared.line.Seen.TheVariants.{Absent, Value}
 use Rattle.board.specs.Board.{is_board, horizon_on, safe_on, shown_at}
 use Rattle.board.specs.Look.{AnswerStays, is_at_home}
 use Rattle.board.specs.Views.{Viewing}
 use Rattle.board.specs.declared.entry.BoardEntry.{BoardEntry}
+use Rattle.board.specs.declared.home.Home.{Home}
+use Rattle.store.specs.Attempts.{Worker}
 
 -- what a look has put into a buffer
 abbrev pub seen_in : Seen → List ℕ → Option Bytes
 seen_in Absent buffer = None
 seen_in (Value n) buffer = Some (take n buffer)
 
--- The value of a key at a timestamp by one list of its shard's board, which serves the timestamp and has not forgotten it. The list
--- begins with all that the viewer has seen and was told of before, and every longer list of the board gives the same value.
-pub record IsShown (viewer : Viewing) (key : Bytes) (at : ℕ) (value : Option Bytes) : Type 0 where
-  pub list : List BoardEntry
-  pub later : IsPrefix viewer.seen list
-  pub told : IsPrefix viewer.told list
-  pub lawful : is_board list ≡ true
-  pub home : is_at_home viewer.home key ≡ true
-  pub recent : nat_lt at (horizon_on list) ≡ false
-  pub served : nat_lt (safe_on list) at ≡ false
-  pub shows : shown_at list key at ≡ value
-  pub stays : AnswerStays key at list
+-- a viewer behind some looks: of the same board and shard, told of no more, and it has seen what it had seen, or more
+pub record IsLater (viewer after : Viewing) : Type 0 where
+  pub board : after.board ≡ viewer.board
+  pub home : after.home ≡ viewer.home
+  pub told : after.told ≡ viewer.told
+  pub seen : IsPrefix viewer.seen after.seen
 
--- why a view does not tell the value of a key: its shard does not serve the timestamp, has forgotten it, or gives no entry; there is no such shard,
--- or the key is not its; or there is no room or no memory for the value
-abbrev pub IsUnseen : Fault → Type 0
-IsUnseen fault =
-    (fault ≡ NotYet) ⊎ ((fault ≡ TooOld) ⊎ ((fault ≡ Stopped) ⊎ ((fault ≡ Stranger) ⊎ ((fault ≡ Room) ⊎ (fault ≡ Memory)))))
+-- A viewer behind a look that was answered or refused by a list of its board: the one that it has seen last. It begins with all that the viewer
+-- has seen and was told of before.
+pub record IsNewest (viewer after : Viewing) : Type 0 where
+  pub later : IsLater viewer after
+  pub told : IsPrefix viewer.told after.seen
+  pub lawful : is_board after.seen ≡ true
+
+-- The value of a key at a timestamp by the list of its shard's board that the viewer has seen last, which serves the timestamp and has not
+-- forgotten it. Every longer list of the board gives the same value.
+pub record IsShown (viewer after : Viewing) (key : Bytes) (at : ℕ) (value : Option Bytes) : Type 0 where
+  pub newest : IsNewest viewer after
+  pub home : is_at_home viewer.home key ≡ true
+  pub recent : nat_lt at (horizon_on after.seen) ≡ false
+  pub served : nat_lt (safe_on after.seen) at ≡ false
+  pub shows : shown_at after.seen key at ≡ value
+  pub stays : AnswerStays key at after.seen
+
+-- the list has a value of the key at the timestamp, which it serves and has not forgotten; but there is no room, or no memory, for the value
+abbrev pub IsTooMuch : Home → List BoardEntry → Bytes → ℕ → Fault → Type 0
+IsTooMuch home list key at fault =
+    ((fault ≡ Room) ⊎ (fault ≡ Memory)) × IsTrue (is_at_home home key) × (horizon_on list ≤ at) × (at ≤ safe_on list) × IsSome (shown_at list key at)
+
+-- Why a view does not tell the value of a key at a timestamp. By the list of its shard's board that the viewer has seen last, a look is refused:
+-- the key belongs elsewhere, the timestamp is below the horizon, or it is not served; or the value is too much. Or the board gives no entry.
+abbrev pub IsUnseenBy : Viewing → Viewing → Bytes → ℕ → Fault → Type 0
+IsUnseenBy viewer after key at fault =
+    (IsNewest viewer after
+    × (IsRefusedLook (is_at_home viewer.home key) (horizon_on after.seen) (safe_on after.seen) at fault ⊎ IsTooMuch viewer.home after.seen key at fault))
+    ⊎ ((fault ≡ Stopped) × IsLater viewer after)
+
+-- of some viewers by shard, the one of this shard has looked, and no other one: what it was and has become keeps this
+abbrev pub LookedAt : List Viewing → List Viewing → ℕ → (Viewing → Viewing → Type 0) → Type 0
+LookedAt old new shard P =
+    (viewer : Viewing) × (slice_get old shard ≡ Some viewer) × ((after : Viewing) × (new ≡ slice_set old shard after) × P viewer after)
+
+-- The timestamp of a view that the client opens: no earlier than the one from which its clock goes on, and an epsilon behind a microsecond of the
+-- machine.
+abbrev pub IsPresent : Worker → ℕ → Type 0
+IsPresent w at = (w.from ≤ at) × ((micros : ℕ) × (micros + w.epsilon ≤ at))

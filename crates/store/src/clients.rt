@@ -1,8 +1,9 @@
 //! A client: it runs transactions, one at a time, and opens views.
-ghost use Rattle.std.specs.Prelude.{◌≡◌, ℕ, List, [], ◌∷◌, ◌++◌, MatchResult};
+ghost use Rattle.std.specs.Prelude.{◌≡◌, ℕ, List, [], ◌∷◌, ◌++◌, IfSome, MatchResult};
 ghost use Rattle.message.specs.Ends.{End};
 ghost use Rattle.message.specs.declared.message.Envelope.{Envelope};
 ghost use Rattle.store.specs.Attempts.{Attempt, CannotBegin, ComesTo, Ends, HasTried, IsAtWork, beginning, drew, kept, runs_again};
+ghost use Rattle.store.specs.Views.{IsPresent};
 
 use crate::shared::Shared;
 use crate::steady::StoreClock;
@@ -19,8 +20,8 @@ use tickets::Drawer;
 use truetime::Clock;
 use units::{Fault, ShardNo};
 
-/// A client of a store. It is one thread's at a time. Contracts see the run of its ids, the splits of its store, what it has drawn, and what
-/// was put out and heard of each of its attempts.
+/// A client of a store. It is one thread's at a time. Contracts see the run of its ids, the splits of its store, what it has drawn, what
+/// was put out and heard of each of its attempts, its viewers, and of its clock the epsilon and the timestamp from which it goes on.
 #[derive(Drop)]
 pub struct Client<'s, R> {
     pub(crate) rt: &'s R,
@@ -45,6 +46,9 @@ impl<'s, R> Model for Client<'s, R> {
       splits = c.shared.now.splits;
       drawing = c.drawer;
       traffics = c.past;
+      viewers = c.viewers.items;
+      epsilon = c.clock.machine.epsilon;
+      from = c.clock.from;
     } };
 
     ghost invariant = { λ c. c.drawer.source ≡ c.shared.now.ids };
@@ -138,8 +142,13 @@ impl<'s, R: Wait + time::Clock> Client<'s, R> {
         ended
     }
 
-    /// A view of the whole store at the present. There is none where the clock gives no reading.
-    pub fn view(&mut self) -> Option<View<'_, 's, R>> {
+    /// A view of the whole store at the present: its timestamp is the latest of a reading of the client's clock. There is none where that
+    /// gives no reading.
+    pub fn view(&mut self) -> Option<View<'_, 's, R>>
+        ensures present { IfSome result (λ view. IsPresent self.old view.at) }
+        ensures splits { IfSome result (λ view. view.shared.now.splits ≡ self.old.splits) }
+        ensures viewers { IfSome result (λ view. view.viewers.now.items ≡ self.old.viewers) }
+    {
         let now = self.clock.now()?;
         Some(View {
             rt: self.rt,

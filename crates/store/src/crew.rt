@@ -32,7 +32,8 @@ impl Crew {
         requires { All (λ drawer. drawer.source ≡ shared.now.ids) self.old.drawers.items }
         ensures drawers { All (λ drawer. drawer.source ≡ shared.now.ids) self.new.drawers.items }
         ensures client { IfSome result
-            (λ client. IsFresh shared.now.run shared.now.splits client
+            (λ client. IsFresh shared.now.run shared.now.splits
+            clock.entry.machine.epsilon clock.entry.from client
             × (client.drawing.source ≡ shared.now.ids)) }
     {
         let inbox = self.inboxes.pop()?;
@@ -54,7 +55,7 @@ impl Crew {
 }
 
 /// The clients, as many as there are inboxes. Each is of the run and the splits that they share, draws from their one
-/// source, and has made no attempt.
+/// source, has the clock, and has made no attempt.
 pub fn clients_of<'s, R>(
     rt: &'s R,
     shared: &'s Shared,
@@ -64,7 +65,8 @@ pub fn clients_of<'s, R>(
 ) -> Result<Vec<Client<'s, R>>, Fault>
     requires { All (λ drawer. drawer.source ≡ shared.now.ids) crew.drawers.items }
     ensures clients { IfOk result (λ clients. All (λ client.
-        IsFresh shared.now.run shared.now.splits client
+        IsFresh shared.now.run shared.now.splits
+        clock.entry.machine.epsilon clock.entry.from client
         × (client.drawing.source ≡ shared.now.ids)) clients.items) }
     ensures refused { IfErr result (λ fault. fault ≡ Fault.Memory) }
 {

@@ -46,7 +46,7 @@ pub fn serve_kept<
 ) -> Result<T, Fault>
     requires { F.IsAlwaysCallable work }
     ensures clients { IfOk result (λ answer. (clients : _) × F.post work clients answer
-        × All (IsFresh epoch options.now.splits) clients.items) }
+        × All (IsFresh epoch options.now.splits options.now.epsilon last) clients.items) }
     ensures refused { 0 < length viewers.by_worker.items
         → length viewers.by_worker.items ≤ 256
         → IfErr result (λ fault. fault ≡ Fault.Memory) }
@@ -73,7 +73,7 @@ fn serve_nodes<
 ) -> Result<T, Fault>
     requires { F.IsAlwaysCallable work }
     ensures clients { IfOk result (λ answer. (clients : _) × F.post work clients answer
-        × All (IsFresh epoch options.now.splits) clients.items) }
+        × All (IsFresh epoch options.now.splits options.now.epsilon last) clients.items) }
     ensures refused { 0 < length viewers.by_worker.items
         → length viewers.by_worker.items ≤ 256
         → IfErr result (λ fault. fault ≡ Fault.Memory) }
@@ -152,7 +152,8 @@ fn work_beside<
     requires work { F.IsAlwaysCallable work }
     requires drawers { All (λ drawer. drawer.source ≡ shared.now.ids) crew.drawers.items }
     ensures clients { IfOk result (λ answer. (clients : _) × F.post work clients answer
-        × All (IsFresh shared.now.run shared.now.splits) clients.items) }
+        × All (IsFresh shared.now.run shared.now.splits
+        clock.entry.machine.epsilon clock.entry.from) clients.items) }
     ensures refused { IfErr result (λ fault. fault ≡ Fault.Memory) }
 {
     thread::scope(
@@ -163,7 +164,8 @@ fn work_beside<
             requires work { F.IsAlwaysCallable work }
             requires drawers { All (λ drawer. drawer.source ≡ shared.now.ids) crew.drawers.items }
             ensures clients { IfOk result (λ answer. (clients : _) × F.post work clients answer
-                × All (IsFresh shared.entry.now.run shared.entry.now.splits) clients.items) }
+                × All (IsFresh shared.entry.now.run shared.entry.now.splits
+                clock.entry.machine.epsilon clock.entry.from) clients.items) }
             ensures refused { IfErr result (λ fault. fault ≡ Fault.Memory) }
         {
             let answer = if start_in(scope, rt, served, &shared.stopped) {
@@ -196,7 +198,8 @@ fn work_with<
     requires work { F.IsAlwaysCallable work }
     requires drawers { All (λ drawer. drawer.source ≡ shared.now.ids) crew.drawers.items }
     ensures clients { IfOk result (λ answer. (clients : _) × F.post work clients answer
-        × All (IsFresh shared.now.run shared.now.splits) clients.items) }
+        × All (IsFresh shared.now.run shared.now.splits
+        clock.entry.machine.epsilon clock.entry.from) clients.items) }
     ensures refused { IfErr result (λ fault. fault ≡ Fault.Memory) }
 {
     let clients = clients_of(rt, shared, crew, clock, patience)?;

@@ -13,8 +13,8 @@ use workers::MachineClock;
 /// The machine's clock, but one that does not go back (`SteadyClock`): its copies share the latest microsecond that was reached, and its readings
 /// end at a microsecond from which it goes on, or later.
 pub struct StoreClock<'a, R> {
-    machine: MachineClock<'a, R>,
-    from: u64,
+    pub(crate) machine: MachineClock<'a, R>,
+    pub(crate) from: u64,
     reached: &'a AtomicU64,
 }
 

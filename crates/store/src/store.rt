@@ -24,7 +24,7 @@ use std::time;
 use units::{Fault, Reason};
 
 /// A store whose shards are open, each over a disk of its own. Contracts see the run of its ids, its splits, how many shards it has and for how
-/// many clients, and the timestamp from which its clock goes on.
+/// many clients, and of its clock the epsilon and the timestamp from which it goes on.
 #[derive(Drop)]
 pub struct Store<'r, R: Wait, D: Disk + Drop> {
     rt: &'r R,
@@ -44,6 +44,7 @@ impl<'r, R: Wait, D: Disk + Drop> Model for Store<'r, R, D> {
       splits = s.options.splits;
       shards = length s.opened.nodes.items;
       clients = length s.opened.viewers.by_worker.items;
+      epsilon = s.options.epsilon;
       last = s.opened.last;
     } };
 
@@ -70,6 +71,7 @@ impl<'r, R: Threads + Wait + Sync, D: Disk + Drop + Send> Store<'r, R, D> {
         ensures splits { IfOk result (λ store. store.splits ≡ options.splits) }
         ensures shards { IfOk result (λ store. store.shards ≡ length disks.items) }
         ensures clients { IfOk result (λ store. store.clients ≡ options.clients) }
+        ensures epsilon { IfOk result (λ store. store.epsilon ≡ options.epsilon) }
         ensures each { IsOk result → length disks.items ≡ length options.splits + 1 }
         ensures limits { (1000000 < options.epsilon)
             ⊎ ((options.clients ≡ 0) ⊎ (64 < options.clients))
@@ -106,7 +108,8 @@ impl<'r, R: Threads + Wait + time::Clock + Sync, D: Disk + Drop + Send> Store<'r
         requires { F.IsAlwaysCallable work }
         ensures disks { IfOk result (λ done. length done.1.items ≡ self.entry.shards) }
         ensures clients { IfOk result (λ done. (clients : _) × F.post work clients done.0
-            × All (IsFresh self.entry.run self.entry.splits) clients.items) }
+            × All (IsFresh self.entry.run self.entry.splits self.entry.epsilon self.entry.last)
+            clients.items) }
         ensures refused { IfErr result (λ fault. fault ≡ Fault.Memory) }
     {
         let Store {
@@ -146,6 +149,7 @@ impl<'r, R: Files<File = File> + RandomSource + Threads + Wait + Sync> Store<'r,
         ensures splits { IfOk result (λ store. store.splits ≡ options.splits) }
         ensures shards { IfOk result (λ store. store.shards ≡ length options.splits + 1) }
         ensures clients { IfOk result (λ store. store.clients ≡ options.clients) }
+        ensures epsilon { IfOk result (λ store. store.epsilon ≡ options.epsilon) }
         ensures limits { (1000000 < options.epsilon)
             ⊎ ((options.clients ≡ 0) ⊎ (64 < options.clients))
             → IfOk result (λ _. ⊥) }

@@ -1,8 +1,7 @@
 //! A view of the whole store at one timestamp.
-ghost use Rattle.std.specs.Prelude.{◌≡◌, ◌⊎◌, ◌≤◌, Some, length, slice_get, IfErr, IfOk};
+ghost use Rattle.std.specs.Prelude.{◌≡◌, ◌⊎◌, ◌≤◌, None, length, slice_get, IfErr, IfOk, IsSome};
 ghost use Rattle.units.specs.Keys.{shard_of};
-ghost use Rattle.board.specs.Views.{Viewing};
-ghost use Rattle.store.specs.Views.{IsShown, IsUnseen, seen_in};
+ghost use Rattle.store.specs.Views.{IsShown, IsUnseenBy, LookedAt, seen_in};
 
 use crate::shared::Shared;
 use board::{Snapshot, Viewer};
@@ -37,11 +36,15 @@ impl<R: Wait + time::Clock> View<'_, '_, R> {
     pub fn get(&mut self, key: &Key) -> Result<Option<Value>, Fault>
         ensures at { self.new.at ≡ self.old.at }
         ensures splits { self.new.shared.now.splits ≡ self.old.shared.now.splits }
-        ensures shown { IfOk result (λ value. (viewer : Viewing)
+        ensures shown { IfOk result (λ value. LookedAt self.old.viewers.now.items
+            self.new.viewers.now.items (shard_of self.old.shared.now.splits key.now)
+            (λ viewer after. IsShown viewer after key.now self.old.at value)) }
+        ensures refused { IfErr result (λ fault. ((fault ≡ Fault.Stranger)
             × (slice_get self.old.viewers.now.items
-            (shard_of self.old.shared.now.splits key.now) ≡ Some viewer)
-            × IsShown viewer key.now self.old.at value) }
-        ensures refused { IfErr result IsUnseen }
+            (shard_of self.old.shared.now.splits key.now) ≡ None))
+            ⊎ LookedAt self.old.viewers.now.items
+            self.new.viewers.now.items (shard_of self.old.shared.now.splits key.now)
+            (λ viewer after. IsUnseenBy viewer after key.now self.old.at fault)) }
     {
         let shard = self.shared.splits.shard_of(key);
         match self.viewers.get_mut(usize::from(shard.number())) {
@@ -65,8 +68,8 @@ fn shown<R: Wait + time::Clock>(
     at: Stamp,
     key: &Key,
 ) -> Result<Option<Value>, Fault>
-    ensures shown { IfOk result (IsShown viewer.old key.now snapshot) }
-    ensures refused { IfErr result IsUnseen }
+    ensures shown { IfOk result (IsShown viewer.old viewer.new key.now snapshot) }
+    ensures refused { IfErr result (IsUnseenBy viewer.old viewer.new key.now snapshot) }
 {
     let shard = shared.splits.shard_of(key);
     let longest = Duration::from_millis(PAUSE);
@@ -85,7 +88,8 @@ fn shown<R: Wait + time::Clock>(
 fn value_seen(alloc: Global, seen: Seen, buffer: &[u8]) -> Result<Option<Value>, Fault>
     ensures value { IfOk result (λ value. value ≡ seen_in seen buffer.now) }
     ensures refused { length buffer.now ≤ 4096
-        → IfErr result (λ fault. (fault ≡ Fault.Memory) ⊎ (fault ≡ Fault.Room)) }
+        → IfErr result (λ fault. IsSome (seen_in seen buffer.now)
+        × ((fault ≡ Fault.Memory) ⊎ (fault ≡ Fault.Room))) }
 {
     match seen {
         Seen::Absent => Ok(None),

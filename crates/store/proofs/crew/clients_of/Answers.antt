@@ -6,7 +6,9 @@ use Rattle.store.proofs.crew.clients_of.Goals as goal
 pub loop-client-preserved : goal.loop-client-preserved
 loop-client-preserved g c =
     let shared = c.args.shared.now in
-    let P : Worker → Type 0 = λ client. IsFresh shared.run shared.splits client × (client.drawing.source ≡ shared.ids) in
+    let clock = c.args.clock in
+    let P : Worker → Type 0 =
+    λ client. IsFresh shared.run shared.splits clock.machine.epsilon clock.from client × (client.drawing.source ≡ shared.ids) in
     record {
       drawers = c.next.ensures.drawers;
       clients = subst (All P) (sym c.in_ok-push.ensures.items)

@@ -1,3 +1,4 @@
+use Rattle.store.specs.Attempts.{Worker}
 use Rattle.store.proofs.Attempts.{begins}
 use Rattle.store.proofs.clients.Client.begin.Goals as goal
 
@@ -5,5 +6,14 @@ pub returns : goal.returns
 returns g c =
     let inside = c.self.inside in
     let is = c.in_ok-tx.ensures in
-    begins c.args.self.now inside.shared.now.run inside.shared.now.splits inside.drawer c.begin.new.drawer inside.past c.in_ok-tx.tx c.new-wire.result
-    c.begin.new.self c.self.view_is c.new-wire.ensures.0 c.new-wire.ensures.1 is.wire is.splits is.begun is.source is.drawn
+    let before : Worker = record {
+      run = inside.shared.now.run;
+      splits = inside.shared.now.splits;
+      drawing = inside.drawer;
+      traffics = inside.past;
+      viewers = inside.viewers.items;
+      epsilon = inside.clock.machine.epsilon;
+      from = inside.clock.from;
+    } in
+    begins before c.args.self.now c.begin.new.drawer c.in_ok-tx.tx c.new-wire.result c.begin.new.self c.self.view_is
+    c.new-wire.ensures.0 c.new-wire.ensures.1 is.wire is.splits is.begun is.source is.drawn

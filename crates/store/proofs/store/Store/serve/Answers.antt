@@ -2,7 +2,7 @@ use Rattle.std.proofs.Common.{◌∙◌, ap, arith}
 use Rattle.store.specs.Standing.{Standing}
 use Rattle.store.proofs.store.Store.serve.Goals as goal
 
--- the clients are of the run and the splits of the store
+-- the clients are of the run, the splits and the clock of the store
 pub returns-in_ok-closed-in-Ok-clause-clients : goal.returns-in_ok-closed-in-Ok-clause-clients
 returns-in_ok-closed-in-Ok-clause-clients g c =
     let worked = c.in-Ok.ensures.clients in (
@@ -11,7 +11,9 @@ returns-in_ok-closed-in-Ok-clause-clients g c =
       λ k d lt. (
         (worked.2 k d lt).0 ∙ ap (λ (s : Standing). s.run) c.self.view_is,
         (worked.2 k d lt).1 ∙ ap (λ (s : Standing). s.splits) c.self.view_is,
-        (worked.2 k d lt).2,
+        (worked.2 k d lt).2 ∙ ap (λ (s : Standing). s.epsilon) c.self.view_is,
+        (worked.2 k d lt).3 ∙ ap (λ (s : Standing). s.last) c.self.view_is,
+        (worked.2 k d lt).4,
       ),
     )
 
