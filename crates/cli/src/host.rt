@@ -8,9 +8,11 @@ ghost use Rattle.command_line.specs.declared.commands.Command.TheVariants.{Help}
 ghost use Rattle.command_line.specs.declared.usage.TheConstants.{USAGE};
 ghost use Rattle.command_line.specs.Lines.{are_plain, asks_help};
 ghost use Rattle.output.specs.Replies.{Is};
-ghost use Rattle.commands.specs.Faults.{AnyFault, MayRefuseTo};
+ghost use Rattle.commands.specs.Faults.{MayRefuseTo};
 ghost use Rattle.cli.specs.Ends.{IsDriven};
-ghost use Rattle.commands.specs.Puts.{AnyEnd};
+ghost use Rattle.cli.specs.Written.{IsUnwritten, IsWritten};
+ghost use Rattle.client.specs.declared.ended.Ended.{Ended};
+ghost use Rattle.commands.specs.declared.engine.Put.{Put};
 ghost use Rattle.drive.specs.Told.{HasNoVerdict, IsTold};
 ghost use Rattle.system.specs.declared.asked.Driven.{Driven};
 ghost use Rattle.system.specs.declared.asked.NoVerdict.{NoVerdict};
@@ -59,8 +61,9 @@ pub fn program<
         → (result ≡ 0)
         × Appends (O.contents (writer_of out.old)) (O.contents (writer_of out.new)) USAGE.now }
     // What files tell: a format and a migration print nothing, an inspection a verdict, which its status goes with, and a dump lines of records.
+    // What becomes of a write is what the attempts to put it came to.
     ensures tells { are_plain (map (λ w. w.now) words.entry.now) ≡ true → result ≢ 2
-        → (text : List ℕ) × TellsTo IsDriven AnyEnd
+        → (text : List ℕ) × TellsTo IsDriven IsWritten
         (command_of (map (λ w. w.now) words.entry.now)) result text
         × Appends (O.contents (writer_of out.old)) (O.contents (writer_of out.new)) text }
     ensures quiet { result ≢ 2 → err.new ≡ err.old }
@@ -72,10 +75,10 @@ pub fn program<
         × ((failures_of err.old < failures_of err.new)
         ⊎ Appends (E.contents (writer_of err.old)) (E.contents (writer_of err.new))
         (fault_line fault))) }
-    // The fault of a command over files is one of its own, and so is that of a drive.
+    // The fault of a command over files is one of its own, and so are that of a drive and that of a put.
     ensures numbered { are_plain (map (λ w. w.now) words.entry.now) ≡ true → result ≡ 2
         → (failures_of out.old < failures_of out.new)
-        ⊎ ((fault : Fault) × MayRefuseTo HasNoVerdict AnyFault
+        ⊎ ((fault : Fault) × MayRefuseTo HasNoVerdict IsUnwritten
         (command_of (map (λ w. w.now) words.entry.now)) fault
         × ((failures_of err.old < failures_of err.new)
         ⊎ Appends (E.contents (writer_of err.old)) (E.contents (writer_of err.new))
@@ -97,7 +100,11 @@ pub fn program<
         rt,
         is_watched: terminal.is_some(),
     };
-    let put = |alloc: Global, write: Put<'_>| put_in_store(rt, alloc, write);
+    let put = |alloc: Global, write: Put<'_>| -> Result<Ended, Fault>
+        ensures written { IfOk result (IsWritten write.entry.folder.now write.entry.key.now
+            write.entry.value.now) }
+        ensures refused { IfErr result IsUnwritten }
+    { put_in_store(rt, alloc, write) };
     let engine = Engine { run: drive, put };
     answer_by(alloc, files, engine, words, out, err)
 }
@@ -123,6 +130,10 @@ fn answer_by<
         → IsDriven (string_bytes driven.text) driven.verdict }
     requires refuses { (settings : _) (none : NoVerdict) → D.post engine.run alloc settings (Err none)
         → HasNoVerdict none.fault }
+    requires written { (write : Put) (ended : Ended) → P.post engine.put alloc write (Ok ended)
+        → IsWritten write.folder.now write.key.now write.value.now ended }
+    requires unwritten { (write : Put) (fault : Fault) → P.post engine.put alloc write (Err fault)
+        → IsUnwritten fault }
     ensures status { (result ≡ 0) ⊎ (result ≡ 1) ⊎ (result ≡ 2) }
     ensures printed { are_plain (map (λ w. w.now) words.entry.now) ≡ true → result ≢ 2
         → (text : List ℕ) × Is (reply_to (map (λ w. w.now) words.entry.now)) (Ok (text, result))
@@ -134,8 +145,9 @@ fn answer_by<
         → (result ≡ 0)
         × Appends (O.contents (writer_of out.old)) (O.contents (writer_of out.new)) USAGE.now }
     // What files tell: a format and a migration print nothing, an inspection a verdict, which its status goes with, and a dump lines of records.
+    // What becomes of a write is what the attempts to put it came to.
     ensures tells { are_plain (map (λ w. w.now) words.entry.now) ≡ true → result ≢ 2
-        → (text : List ℕ) × TellsTo IsDriven AnyEnd
+        → (text : List ℕ) × TellsTo IsDriven IsWritten
         (command_of (map (λ w. w.now) words.entry.now)) result text
         × Appends (O.contents (writer_of out.old)) (O.contents (writer_of out.new)) text }
     ensures quiet { result ≢ 2 → err.new ≡ err.old }
@@ -147,10 +159,10 @@ fn answer_by<
         × ((failures_of err.old < failures_of err.new)
         ⊎ Appends (E.contents (writer_of err.old)) (E.contents (writer_of err.new))
         (fault_line fault))) }
-    // The fault of a command over files is one of its own.
+    // The fault of a command over files is one of its own, and so are that of a drive and that of a put.
     ensures numbered { are_plain (map (λ w. w.now) words.entry.now) ≡ true → result ≡ 2
         → (failures_of out.old < failures_of out.new)
-        ⊎ ((fault : Fault) × MayRefuseTo HasNoVerdict AnyFault
+        ⊎ ((fault : Fault) × MayRefuseTo HasNoVerdict IsUnwritten
         (command_of (map (λ w. w.now) words.entry.now)) fault
         × ((failures_of err.old < failures_of err.new)
         ⊎ Appends (E.contents (writer_of err.old)) (E.contents (writer_of err.new))

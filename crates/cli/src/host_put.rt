@@ -1,4 +1,7 @@
 //! A write to a store in a folder of the machine, on its threads.
+ghost use Rattle.std.specs.Prelude.{IfErr, IfOk, MatchResult};
+ghost use Rattle.cli.specs.Written.{IsPut, IsUnwritten, IsWritten, Puts};
+
 use commands::Put;
 use std::alloc::Global;
 use std::fs::File;
@@ -7,7 +10,7 @@ use std::sync::Wait;
 use std::thread::Threads;
 use std::{rt, time};
 use store::{Client, Ended, Halt, Options, Store, Transaction};
-use units::{Fault, Key, Value};
+use units::{Fault, Key, Reason, Value};
 
 // How often the write is tried: no other client is there, and an abort may be left of what the store was in the midst of when it was closed.
 const TRIES: u32 = 5;
@@ -15,13 +18,17 @@ const TRIES: u32 = 5;
 // How often 20 milliseconds may pass in silence: two seconds, since a store that was opened again waits until the last ceiling has passed.
 const PATIENCE: u32 = 100;
 
-/// Opens the store, commits the write as a transaction of its own, and closes the store. Says what became of the write; where nobody could
-/// write, it stands nowhere. A refusal behind the commit, for want of memory alone, does not say that the write stands nowhere.
+/// Opens the store, commits the write as a transaction of its own, and closes the store. Says what became of the write. A refusal behind
+/// the commit, for want of memory alone, does not say that the write stands nowhere.
 pub fn put_in_store<R: rt::Files<File = File> + RandomSource + Threads + Wait + time::Clock + Sync>(
     rt: &R,
     alloc: Global,
     write: Put<'_>,
-) -> Result<Ended, Fault> {
+) -> Result<Ended, Fault>
+    ensures written { IfOk result (IsWritten write.entry.folder.now write.entry.key.now
+        write.entry.value.now) }
+    ensures refused { IfErr result IsUnwritten }
+{
     let Put {
         folder,
         splits,
@@ -34,22 +41,31 @@ pub fn put_in_store<R: rt::Files<File = File> + RandomSource + Threads + Wait + 
         Ok(store) => store,
         Err(unopened) => return Err(unopened.fault),
     };
-    let (ended, disks) = store.serve(|clients: Vec<Client<'_, R>>| commit(clients, key, value))?;
+    let (ended, disks) = store.serve(
+        |clients: Vec<Client<'_, R>>| -> Result<Ended, Fault>
+            ensures { MatchResult result (IsPut key.entry.now value.entry.now) IsUnwritten }
+        { commit(clients, key, value) },
+    )?;
     drop(disks);
     ended
 }
 
-// What became of the write, by one of the clients.
+// What became of the write, by one of the clients. A store that lends none is refused as `settings`.
 fn commit<R: Wait + time::Clock>(
     clients: Vec<Client<'_, R>>,
     key: &Key,
     value: &Value,
-) -> Result<Ended, Fault> {
+) -> Result<Ended, Fault>
+    ensures { MatchResult result (IsPut key.now value.now) IsUnwritten }
+{
     let mut clients = clients;
     let Some(mut client) = clients.pop() else {
-        return Ok(Ended::Aborted);
+        return Err(Fault::BadRequest(Reason::Settings));
     };
-    client.transact(TRIES, |tx: &mut Transaction<'_, R>| -> Result<(), Halt> {
-        tx.put(key, value.copy()?)
-    })
+    client.transact(
+        TRIES,
+        |tx: &mut Transaction<'_, R>| -> Result<(), Halt>
+            ensures { Puts key.entry.now value.entry.now tx.old result tx.new }
+        { tx.put(key, value.copy()?) },
+    )
 }
