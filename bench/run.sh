@@ -47,7 +47,10 @@ build_drives() {
         inspection) echo 'use shim::prelude::*; mod judged; pub use judged::judge;' >"$to/$crate/lib.rs" ;;
         drive)
             rm -f "$to/drive/shards.rs"
-            { echo 'use shim::prelude::*; pub use engine::drive;' && (cd "$to/drive" && ls | sed -n 's/^\(.*\)\.rs$/mod \1;/p' | grep -v lib); } >"$to/lib.rs"
+            # Earlier revisions drive by the machine's clock; this one is told the clock.
+            driver='pub use engine::drive;'
+            grep -q 'pub fn drive<' "$to/drive/engine.rs" || driver=$(cat "$here/standins/drive.rs")
+            { echo "use shim::prelude::*; $driver" && (cd "$to/drive" && ls | sed -n 's/^\(.*\)\.rs$/mod \1;/p' | grep -v lib); } >"$to/lib.rs"
             mv "$to/lib.rs" "$to/drive/lib.rs"
             ;;
         esac

@@ -71,50 +71,6 @@ impl From<Fault> for NoVerdict {
     }
 }
 
-/// Drives the shards of some disks, one a shard, by the machine's clock. Each disk has a formatted log. Settings beyond their limits,
-/// and more or fewer disks than shards, are refused as `settings`; a disk that is refused, as `Core::open` refuses it. The watch
-/// is told of each turn, by the thread of its worker, and of each shard whose device fails: then the workers end soon, and there is no
-/// verdict, but `Device`.
-pub fn drive<
-    R: Threads + Wait + time::Clock + Sync,
-    D: Disk + Drop + Send,
-    G: Gate + Sync,
-    W: Watch + Sync,
->(
-    rt: &R,
-    alloc: Global,
-    settings: &Settings,
-    disks: Vec<D>,
-    gate: &G,
-    watch: &W,
-) -> Result<Driven<D>, Fault>
-    ensures verdict { IfOk result (λ driven. D.keeps_model
-        → IsJudged (λ disk. (surface (D.file disk)).seen) driven.disks.items driven.lines.items
-        driven.summary.verdict) }
-    ensures disks { IfOk result (λ driven. length driven.disks.items ≡ length disks.items) }
-    ensures tried { IfOk result (λ driven.
-        tried driven.summary.counts ≡ settings.now.workers * settings.now.transactions) }
-    ensures looks { IfOk result (λ driven.
-        driven.summary.counts.looks ≤ tried driven.summary.counts) }
-    ensures told { IfOk result (λ driven.
-        IsTally (settings.now.workers * settings.now.transactions)
-        driven.summary.counts driven.lines.items) }
-    ensures shards { IsOk result → length disks.items ≡ length settings.now.splits + 1 }
-    ensures limits { IsOk result
-        → IsDrivable settings.now.workers settings.now.transactions settings.now.keys }
-    ensures beyond { ¬ IsDrivable settings.now.workers settings.now.transactions settings.now.keys
-        → result ≡ Err (Fault.BadRequest Reason.Settings) }
-    ensures many { length disks.items ≢ length settings.now.splits + 1
-        → result ≡ Err (Fault.BadRequest Reason.Settings) }
-    ensures undriven { IfErr result IsUndriven }
-{
-    let clock = clock_of(rt, settings);
-    match drive_wide(rt, alloc, settings, disks, clock, gate, watch) {
-        Ok(driven) => Ok(driven),
-        Err(none) => Err(none.fault),
-    }
-}
-
 /// The machine's clock, whose readings are as wide as the settings say.
 pub fn clock_of<'r, R>(rt: &'r R, settings: &Settings) -> MachineClock<'r, R>
     ensures { result.epsilon ≡ settings.now.epsilon }
@@ -125,51 +81,12 @@ pub fn clock_of<'r, R>(rt: &'r R, settings: &Settings) -> MachineClock<'r, R>
     }
 }
 
-/// The same by a clock, of which each node and each worker has a copy; its readings do not go back, and end no earlier than the greatest
-/// timestamp of the logs.
+/// Drives the shards of some disks, one a shard, by a clock, of which each node and each worker has a copy; its readings do not go back,
+/// and end no earlier than the greatest timestamp of the logs. Each disk has a formatted log. Settings beyond their limits, and more or
+/// fewer disks than shards, are refused as `settings`; a disk that is refused, as `Core::open` refuses it. The watch is told of each turn,
+/// by the thread of its worker, and of each shard whose device fails: then the workers end soon, and there is no verdict, but `Device`.
+/// Where there is no verdict, the counts are told all the same.
 pub fn drive_by<
-    R: Threads + Wait + time::Clock + Sync,
-    D: Disk + Drop + Send,
-    C: Clock + Copy + Send,
-    G: Gate + Sync,
-    W: Watch + Sync,
->(
-    rt: &R,
-    alloc: Global,
-    settings: &Settings,
-    disks: Vec<D>,
-    clock: C,
-    gate: &G,
-    watch: &W,
-) -> Result<Driven<D>, Fault>
-    ensures verdict { IfOk result (λ driven. D.keeps_model
-        → IsJudged (λ disk. (surface (D.file disk)).seen) driven.disks.items driven.lines.items
-        driven.summary.verdict) }
-    ensures disks { IfOk result (λ driven. length driven.disks.items ≡ length disks.items) }
-    ensures tried { IfOk result (λ driven.
-        tried driven.summary.counts ≡ settings.now.workers * settings.now.transactions) }
-    ensures looks { IfOk result (λ driven.
-        driven.summary.counts.looks ≤ tried driven.summary.counts) }
-    ensures told { IfOk result (λ driven.
-        IsTally (settings.now.workers * settings.now.transactions)
-        driven.summary.counts driven.lines.items) }
-    ensures shards { IsOk result → length disks.items ≡ length settings.now.splits + 1 }
-    ensures limits { IsOk result
-        → IsDrivable settings.now.workers settings.now.transactions settings.now.keys }
-    ensures beyond { ¬ IsDrivable settings.now.workers settings.now.transactions settings.now.keys
-        → result ≡ Err (Fault.BadRequest Reason.Settings) }
-    ensures many { length disks.items ≢ length settings.now.splits + 1
-        → result ≡ Err (Fault.BadRequest Reason.Settings) }
-    ensures undriven { IfErr result IsUndriven }
-{
-    match drive_counted(rt, alloc, settings, disks, clock, gate, watch) {
-        Ok(driven) => Ok(driven),
-        Err(none) => Err(none.fault),
-    }
-}
-
-/// The same by a clock, of which each node and each worker has a copy, as `drive_by` says. Where there is no verdict, the counts are told all the same.
-pub fn drive_counted<
     R: Threads + Wait + time::Clock + Sync,
     D: Disk + Drop + Send,
     C: Clock + Copy + Send,
@@ -255,7 +172,7 @@ pub(crate) fn drive_wide<
         → result ≡ Err (refused_for (Fault.BadRequest Reason.Settings)) }
     ensures undriven { IfErr result (λ none. IsUndriven none.fault) }
 {
-    drive_counted(rt, alloc, settings, disks, clock, gate, watch)
+    drive_by(rt, alloc, settings, disks, clock, gate, watch)
 }
 
 // Drives nodes of any kind, with a viewer for each worker.

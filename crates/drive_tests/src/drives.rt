@@ -3,7 +3,7 @@ use crate::disks::{disks_of, settings_of};
 use crate::gates::Meeting;
 use crate::kept::Kept;
 use crate::verdict::end;
-use drive::{Driven, drive, drive_by, run};
+use drive::{Driven, clock_of, drive_by, run};
 use made::WrongRows;
 use progress::{Ended, NoWatch, Turn, Watch};
 use simdisk::SimDisk;
@@ -14,7 +14,7 @@ use std::sync::atomic::{AtomicU64, Ordering};
 use std::thread::Threads;
 use std::time;
 use truetime::{Clock, Reading};
-use units::{Fault, Line, Reason, Stride, Verdict};
+use units::{Fault, Line, Reason, Stamp, Stride, Verdict};
 use workers::Summary;
 
 // Why a drive is refused; or how many transactions are tried, how many commits and answered looks there are at least, and of
@@ -202,27 +202,31 @@ fn are_of(lines: &[Line], run: u64) -> bool {
     true
 }
 
-// The moment of a line that has one.
-fn moment_of(line: &Line) -> Option<u64> {
-    match line {
-        Line::Begin(_, moment) => Some(*moment),
-        Line::Ack(_, _, moment) => Some(*moment),
-        _ => None,
-    }
-}
-
-// Whether the moments of one worker's lines are 0, 1, 2 and so on: each is drawn when what it tells of is done, once.
+// Whether one worker's lines are in order: their moments are 0, 1, 2 and so on, each drawn once, when what it tells of is done; and each
+// acknowledgement and each look is at a later timestamp than those before, since a commit waits and the clock does not go back.
 fn are_in_turn(lines: &[Line]) -> bool {
     let mut next: u64 = 0;
+    let mut last: u64 = 0;
+    let mut right = true;
     for line in lines {
-        if let Some(moment) = moment_of(line) {
-            if moment != next {
-                return false;
+        match line {
+            Line::Begin(_, moment) => {
+                right = right & (*moment == next);
+                next = next.saturating_add(1);
             }
-            next = next.saturating_add(1);
+            Line::Ack(_, at, moment) => {
+                right = right & (*moment == next) & (at.micros() > last);
+                next = next.saturating_add(1);
+                last = at.micros();
+            }
+            Line::Read(_, _, _) => {}
+            Line::Look(_, at, _) => {
+                right = right & (at.micros() > last);
+                last = at.micros();
+            }
         }
     }
-    true
+    right
 }
 
 // How many lines are of reads.
@@ -262,7 +266,8 @@ fn go<R: Threads + Wait + time::Clock + Sync + Abort>(
     gate: &Meeting<R>,
 ) -> Vec<SimDisk> {
     let settings = settings_of(rt, alloc, row.workers, row.transactions, row.keys);
-    let driven = drive(rt, alloc, &settings, disks, gate, &NoWatch);
+    let clock = clock_of(rt, &settings);
+    let driven = drive_by(rt, alloc, &settings, disks, clock, gate, &NoWatch);
     drop(settings);
     let (held, disks) = match driven {
         Ok(
@@ -277,9 +282,9 @@ fn go<R: Threads + Wait + time::Clock + Sync + Abort>(
             drop(lines);
             (held, disks)
         }
-        Err(why) => {
+        Err(none) => {
             let held = match row.comes {
-                Comes::Refused(fault) => why == fault,
+                Comes::Refused(fault) => none.fault == fault,
                 _ => false,
             };
             (held, Vec::new(alloc))
@@ -389,13 +394,14 @@ fn as_settings_say(rt: HostRuntime) {
         looks: AtomicU64::new(0),
     };
     let disks = disks_of(&rt, rt.alloc(), 2, false);
-    let driven = drive(&rt, rt.alloc(), &settings, disks, &gate, &watch);
+    let clock = clock_of(&rt, &settings);
+    let driven = drive_by(&rt, rt.alloc(), &settings, disks, clock, &gate, &watch);
     drop(settings);
     let Driven {
         summary,
         lines,
         disks,
-    } = driven.expect(&rt, "a drive");
+    } = driven.ok().expect(&rt, "a drive");
     let told = is_sound(&summary, 6) && are_told(&summary, 6, &lines);
     let (last, reads) = (last_look(&lines), reads_in(&lines));
     drop(lines);
@@ -431,43 +437,46 @@ fn nodes_in_turn(rt: HostRuntime) {
     assert!(rt; sound && gate.have_met());
 }
 
-// Never has a reading, so that each letter is lost.
+// A clock by which nobody is told that a transaction has committed: it has no reading, so that each letter is lost; or its readings all
+// begin at 0, so that no wait is over, and each ends later than the one before.
 #[derive(Clone, Copy)]
-struct Stopped;
+struct Stuck<'a> {
+    reached: Option<&'a AtomicU64>,
+}
 
-impl Clock for Stopped {
+impl Clock for Stuck<'_> {
     fn now(&mut self) -> Option<Reading> {
-        None
+        let micros = self.reached?.fetch_add(10, Ordering::SeqCst);
+        let latest = Stamp::new(micros).ok()?;
+        Reading::new(Stamp::zero(), latest).ok()
     }
 }
 
-// What one worker of one transaction comes to else.
-const ELSE: Comes = Comes::Driven {
-    tried: 1,
-    committed: 1,
-    looks: 1,
-    run: 1,
-};
-
-// Whether a drive of one worker and one transaction, whose nodes lose each letter, commits nothing and has no look answered,
-// so that it does not come to what one worker comes to.
-fn loses<R: Threads + Wait + time::Clock + Sync + Abort>(rt: &R, alloc: Global) -> bool {
+// Whether a drive of one worker and one transaction by such a clock counts an abort, where it is to be one, and else an end that nobody
+// knows; and no answered look, since letters are lost, or since what is decided of the key is before the look and not settled.
+fn is_untold<R: Threads + Wait + time::Clock + Sync + Abort>(
+    rt: &R,
+    alloc: Global,
+    clock: Stuck<'_>,
+    aborted: u64,
+) -> bool {
     let settings = settings_of(rt, alloc, 1, 1, 10);
     let gate = Meeting::new(rt, false);
     let disks = disks_of(rt, alloc, 2, false);
-    let driven = drive_by(rt, alloc, &settings, disks, Stopped, &gate, &NoWatch);
+    let driven = drive_by(rt, alloc, &settings, disks, clock, &gate, &NoWatch);
     drop(settings);
-    let driven = driven.expect(rt, "one transaction");
+    let driven = driven.ok().expect(rt, "one transaction");
     let counts = driven.summary.counts;
-    let lost = is_sound(&driven.summary, 1)
-        && counts.aborted == 1
-        && counts.looks == 0
-        && !is_driven(&driven.summary, driven.lines.as_slice(), ELSE);
+    let untold = is_sound(&driven.summary, 1)
+        && counts.committed == 0
+        && counts.aborted == aborted
+        && counts.looks == 0;
     drop(driven);
-    lost
+    untold
 }
 
-// It fails where nodes lose every letter, as they do with a clock that has no reading.
+// It fails where nodes lose every letter, as they do with a clock that has no reading; where an abort is counted as an end that nobody knows,
+// or such an end as an abort; and where a look that nobody answered is told and counted.
 #[test]
 fn lose_every_letter(rt: HostRuntime) {
     let gate = Meeting::new(&rt, false);
@@ -480,6 +489,12 @@ fn lose_every_letter(rt: HostRuntime) {
         disks_of(&rt, rt.alloc(), 2, false),
         &gate,
     ));
-    wrong.unless(loses(&rt, rt.alloc()), "a clock without a reading");
+    let lost = Stuck { reached: None };
+    wrong.unless(is_untold(&rt, rt.alloc(), lost, 1), "letters are lost");
+    let reached = AtomicU64::new(10_000_000);
+    let waits = Stuck {
+        reached: Some(&reached),
+    };
+    wrong.unless(is_untold(&rt, rt.alloc(), waits, 0), "no wait is over");
     end(&rt, wrong);
 }

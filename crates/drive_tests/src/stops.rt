@@ -2,7 +2,7 @@
 use crate::disks::{failing, settings_of};
 use crate::gates::Meeting;
 use crate::verdict::end;
-use drive::drive;
+use drive::{clock_of, drive_by};
 use made::WrongRows;
 use progress::{Turn, Watch};
 use std::alloc::Global;
@@ -118,14 +118,15 @@ impl Watch for Told {
 }
 
 // Whether a drive as the row says is refused as `Device` within ten seconds, though each turn that waits for a shard in vain takes two; and
-// each turn is told, and the stop of the shard.
+// each turn is told, and the stop of the shard. The turns behind the stop, which are most of them, are aborted, and none of these has a look.
 fn goes<R: Threads + Wait + time::Clock + Sync + Abort>(rt: &R, alloc: Global, row: &Row) -> bool {
     let settings = settings_of(rt, alloc, WORKERS, TRANSACTIONS, 10);
     let told = Told::new();
     let start = Instant::now(rt).ok().expect(rt, "a clock");
     let disks = failing(rt, alloc, row.shard, row.call);
     let gate = Meeting::new(rt, false);
-    let driven = drive(rt, alloc, &settings, disks, &gate, &told);
+    let clock = clock_of(rt, &settings);
+    let driven = drive_by(rt, alloc, &settings, disks, clock, &gate, &told);
     drop(settings);
     drop(gate);
     let took = start.elapsed(rt).ok().expect(rt, "a clock");
@@ -134,7 +135,13 @@ fn goes<R: Threads + Wait + time::Clock + Sync + Abort>(rt: &R, alloc: Global, r
             drop(driven);
             false
         }
-        Err(fault) => fault == Fault::Device,
+        Err(none) => {
+            let few = match none.counts {
+                Some(counts) => counts.looks < counts.aborted,
+                None => !row.begins,
+            };
+            none.fault == Fault::Device && few
+        }
     };
     let is_told = if row.begins {
         told.has(WORKERS * TRANSACTIONS, Some(usize::from(row.shard)))

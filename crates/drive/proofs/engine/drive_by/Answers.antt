@@ -3,7 +3,7 @@ use Rattle.std.specs.Prelude.{IfSome}
 use Rattle.workers.specs.Reports.{IsTally}
 use Rattle.workers.specs.Summaries.{tried}
 use Rattle.fleet.proofs.Outcomes.{on_err, on_ok}
-use Rattle.drive.proofs.engine.drive_counted.Goals as goal
+use Rattle.drive.proofs.engine.drive_by.Goals as goal
 
 pub returns-clause-disks : goal.returns-clause-disks
 returns-clause-disks g c = on_ok _ _ c.drive_nodes.result (λ driven is. is ∙ c.in_ok-opened.ensures.nodes) c.drive_nodes.ensures.disks
