@@ -14,12 +14,12 @@ use Rattle.workers.specs.Summaries.{counts_text, summary_text, tried}
 use Rattle.fleet.specs.Unopened.{IsUnmade}
 use Rattle.drive.specs.declared.engine.NoVerdict.{NoVerdict}
 
--- it is the summary of so many transactions in all and a verdict
+-- it is the summary of some counts and a verdict, and the counts are those of the lines of so many transactions in all
 pub record IsTold (transactions : ℕ) (text : List ℕ) (verdict : Verdict) : Type 0 where
   pub counts : Counts
+  pub lines : List Line
   pub summary : text ≡ summary_text counts verdict
-  pub all : tried counts ≡ transactions
-  pub looks : counts.looks ≤ tried counts
+  pub tally : IsTally transactions counts lines
 
 -- It is the summary of some counts and a verdict. The counts are those of the lines of so many transactions, and the verdict is that on
 -- these lines and on so many disks, where what these hold is known.

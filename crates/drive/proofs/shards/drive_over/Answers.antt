@@ -8,9 +8,9 @@ pub returns-in_ok-text_of-in-Ok-clause-told : goal.returns-in_ok-text_of-in-Ok-c
 returns-in_ok-text_of-in-Ok-clause-told g c =
     record {
       counts = c.in-Ok.driven.summary.counts;
+      lines = c.in-Ok.driven.lines.items;
       summary = c.in_ok-text_of-in-Ok.ensures.text;
-      all = c.in-Ok.ensures.tried;
-      looks = c.in-Ok.ensures.looks;
+      tally = c.in-Ok.ensures.told;
     }
 
 pub returns-in_ok-text_of-in-Ok-clause-judged : goal.returns-in_ok-text_of-in-Ok-clause-judged
