@@ -50,10 +50,6 @@ IsNotPut puts fault = IsUnreadStore fault ⊎ puts fault
 abbrev pub IsUnputBy : (Put → Result Ended Fault → Type 0) → Fault → Type 0
 IsUnputBy call fault = (write : Put) × call write (Err fault)
 
--- any fault
-abbrev pub AnyFault : Fault → Type 0
-AnyFault fault = Unit {0}
-
 -- what a command may be refused for, where its words do not tell it, by what a drive and what a write are refused for
 abbrev pub MayRefuse : (Fault → Type 0) → (Fault → Type 0) → Asked → Fault → Type 0
 MayRefuse drives puts help fault = Unit {0}

@@ -23,10 +23,6 @@ put_status (Unknown txn) = 1
 abbrev pub Said : Type 1
 Said = List ℕ → List ℕ → List ℕ → Ended → Type 0
 
--- anything may
-abbrev pub AnyEnd : Said
-AnyEnd folder key value ended = Unit {0}
-
 -- a call that is to write this value to this key, in the store in this folder, gave this
 abbrev pub IsPutBy : (Put → Result Ended Fault → Type 0) → Said
 IsPutBy call folder key value ended =
