@@ -1,8 +1,9 @@
 #!/bin/sh
-# Runs programs with the N-th growth of their memory refused, for N = 1, 2, .. until none is. `refusing` has to ask again, and to end as
-# without. The program has to end as without, or with `1 Memory` behind what it printed so far: `once`, `play`, `inspect`, `migrate`, `compact`, and `drive`
-# at some of its growths, whose number depends on its threads. And a drive over files has to sync each write of a file before the next one, and
-# the last. It wants both programs built (as the gate does), and the kit's own clang; where there is none, nothing is tried.
+# Runs programs with the N-th growth of their memory refused, for N = 1, 2, .. until none is. The test `two_stories` of `core_tests` has to ask
+# again, and to end as without. The program has to end as without, or with `1 Memory` behind what it printed so far: `once`, `play`, `inspect`,
+# `migrate`, `compact`, and `drive` at some of its growths, whose number depends on its threads. And a drive over files has to sync each write of a
+# file before the next one, and the last. It wants these tests and the program built (as the gate does), and the kit's own clang; where there is none,
+# nothing is tried.
 set -eu
 root=$(dirname "$(dirname "$(readlink -f "$0")")")
 clang=$(dirname "$(rt doc | head -n 1)")/toolchain/bin/clang
@@ -38,7 +39,7 @@ is_memory() {
 
 # It ended as without a refusal, but for what says which call was refused.
 is_whole() {
-    [ "$status" -eq 0 ] && [ ! -s "$room/err" ] && ! grep -q '^refused: .*, not all as before$' "$room/out" \
+    [ "$status" -eq 0 ] && [ ! -s "$room/err" ] && ! grep -q '^refused, not all as before: ' "$room/out" \
         && grep -v '^refused: ' "$room/out" | cmp -s - "$room/whole"
 }
 
@@ -112,6 +113,25 @@ writes_in_turn() {
         END { for (file in open) if (open[file]) bad = 1; print bad ? 0 : count + 0 }' "$room/turns"
 }
 
+# What the stories tell, and how a test ends that passes.
+cat >"$room/told" <<END
+session 1.1 done 1.1 committed 111
+session 1.2 done 1.2 committed 200
+look z 200 =2
+log 0
+base 1 200 0
+version 111 a=1
+version 200 a=1
+settled 1.1 111 0
+settled 1.2 200 0,1
+log 1
+base 1 200 0
+version 200 z=2
+closed 1.2 0 committed 200
+
+test result: ok
+END
+
 # Version 1: Opened 1, and a closed gate.
 printf 'SPNLOG01\245\000\000\000\011\001\000\000\000\000\000\000\000\001\000' >"$room/old.log"
 cp "$room/old.log" "$room/kept.log"
@@ -129,8 +149,8 @@ fi
 
 from=$(date +%s)
 done=
-sweep refusing 1 is_whole is_whole "$root/crates/refusing/out/refusing"
-cmp -s "$room/whole" "$root/crates/refusing/stdout" || fail
+sweep stories 1 is_whole is_whole "$root/crates/core_tests/out/core_tests_tests" without_memory::two_stories
+cmp -s "$room/whole" "$room/told" || fail
 sweep once 1 is_whole is_memory "$program" once a 1 100 110 112 121
 sweep play 1 is_whole is_memory "$program" play "$root/docs/example.schedule"
 sweep inspect 1 is_whole is_memory "$program" inspect "$room/no.lines" "$room/logs/shard-0.log" "$room/logs/shard-1.log"

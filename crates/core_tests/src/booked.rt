@@ -111,25 +111,14 @@ fn is_page(page: &Page, kept: &Kept) -> bool {
         && are_shaped(page.outbox(), shapes)
 }
 
-// Compares the book of a core, and gives its pages to one that came to be in the same way and keeps none: that puts out and
-// shows the same.
-fn replay(
-    wrong: &mut WrongRows,
-    alloc: Global,
-    core: &Core<SimDisk>,
-    again: &mut Core<SimDisk>,
-    row: &Row,
-) {
-    let Some(book) = core.book() else {
-        return wrong.unless(false, row.name);
-    };
-    let mut held = book.found().len() == row.found && book.pages().len() == row.pages.len();
-    for (page, kept) in book.pages().iter().zip(row.pages) {
+// The pages of a book are these; and a core that came to be in the same way, and keeps none, puts out the same when it is given them.
+fn is_replayed(alloc: Global, pages: &[Page], again: &mut Core<SimDisk>, kept: &[Kept]) -> bool {
+    let mut held = pages.len() == kept.len();
+    for (page, kept) in pages.iter().zip(kept) {
         let answer = again.on(alloc, &page.reading(), page.input());
-        let answered = is_told(answer, Told::Says(kept.2));
-        held = held && answered && is_page(page, kept);
+        held = is_told(answer, Told::Says(kept.2)) & is_page(page, kept) & held;
     }
-    wrong.unless_at(held && again.book().is_none(), row.name, 0);
+    held & again.book().is_none()
 }
 
 fn keep(wrong: &mut WrongRows, rt: &impl Abort, alloc: Global, row: &Row) {
@@ -151,7 +140,12 @@ fn keep(wrong: &mut WrongRows, rt: &impl Abort, alloc: Global, row: &Row) {
     let disk = disk_of(wrong, rt, alloc, row.name, unbooked, row.origin);
     match opened(rt, alloc, disk, unbooked).ok() {
         Some(mut again) => {
-            replay(wrong, alloc, &core, &mut again, row);
+            let held = match core.book() {
+                Some(book) => is_replayed(alloc, book.pages(), &mut again, row.pages)
+                    && book.found().len() == row.found,
+                None => false,
+            };
+            wrong.unless_at(held, row.name, 0);
             part.exchanges = &[];
             play(wrong, rt, alloc, &mut again, &part);
             drop(again.stop());

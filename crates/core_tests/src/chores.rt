@@ -268,15 +268,19 @@ fn tell<R: Threads + Wait + time::Clock + Sync + Abort>(
     );
     drop(to);
     drop(inbox);
+    compare(wrong, alloc, node.close(), &seen, row);
+    drop(seen);
+}
+
+// What was seen of a node, and its log, are as the row says.
+fn compare(wrong: &mut WrongRows, alloc: Global, disk: SimDisk, seen: &Seen, row: &Row) {
     let answered = seen.answered(row.sessions, row.before);
     wrong.unless_at(answered, row.name, seen.place(0));
     let tells = seen.tells.load(Ordering::SeqCst);
     wrong.unless_at(tells <= row.tells, row.name, tells);
-    let served = seen.served.load(Ordering::SeqCst);
-    drop(seen);
-    let disk = node.close();
     match &row.end {
         Some(end) => {
+            let served = seen.served.load(Ordering::SeqCst);
             wrong.unless_at(served == end.served, row.name, served);
             drop(with_log(wrong, alloc, disk, row.name, end.log, &[]));
         }

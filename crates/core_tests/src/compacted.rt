@@ -2,11 +2,11 @@
 use crate::compacted_rows::{COMPACTED, Compacted, FAILING, Failing, REFUSED, Refused};
 use crate::cores::{bytes_on, disk_with, formatted, plain};
 use crate::logs::with_log;
-use crate::turned_rows::{COMMIT, REOPENED, SETTLE, TURN};
-use crate::turning::{Kind, compare_bytes, crashed, left};
+use crate::turned_rows::{COMMIT, LEFT, SETTLE, TURN};
+use crate::turning::{Asked, Kind, Row, crashed, found, left};
 use crate::verdict::end;
 use compaction::{Gathered, compact};
-use disk::{Disk, Fate};
+use disk::Disk;
 use gatelog::GateLog;
 use made::{WrongRows, with_slots};
 use simdisk::SimDisk;
@@ -34,6 +34,17 @@ fn compare_old(
     wrong.unless_at(same, name, len);
 }
 
+// What is gathered of a file.
+fn gathered(rt: &impl Abort, alloc: Global, old: SimDisk) -> Gathered<SimDisk> {
+    match Gathered::of(alloc, old) {
+        Ok(gathered) => gathered,
+        Err(refused) => {
+            drop(refused);
+            rt.panic("a file is refused")
+        }
+    }
+}
+
 // The disk of the new file. The old one stays as it is.
 fn compacted(
     wrong: &mut WrongRows,
@@ -44,46 +55,47 @@ fn compacted(
 ) -> SimDisk {
     let mut old = old;
     let before = bytes_on(rt, alloc, &mut old);
-    let gathered = Gathered::of(alloc, old).ok().expect(rt, name);
-    let (old, log) = compact(gathered, SimDisk::new(alloc)).ok().expect(rt, name);
+    let (old, new, right) = ended(gathered(rt, alloc, old), SimDisk::new(alloc), 10);
+    wrong.unless_at(right, name, 10);
     compare_old(wrong, rt, alloc, old, name, before);
-    log.into_disk()
+    new
 }
 
-fn go<R: Wait + Abort>(wrong: &mut WrongRows, rt: &R, alloc: Global, row: &Compacted) {
-    let name = row.name;
-    let (new, setting) = (formatted(rt, alloc), plain(0, 0));
-    let old = left(
+// The disk that a new core leaves behind which was asked this.
+fn begun<R: Wait + Abort>(
+    wrong: &mut WrongRows,
+    rt: &R,
+    alloc: Global,
+    name: &str,
+    asks: &[Asked],
+) -> SimDisk {
+    let new = formatted(rt, alloc);
+    left(
         wrong,
         rt,
         alloc,
         Kind::Core,
         new,
-        setting,
+        plain(0, 0),
         name,
         &[],
-        row.asks,
-    );
-    wrong.unless_at(old.len() == row.old_size, name, old.len());
-    let mut disk = compacted(wrong, rt, alloc, old, name);
-    wrong.unless_at(disk.len() == row.new_size, name, disk.len());
-    if let Some(wanted) = row.bytes {
-        compare_bytes(wrong, rt, alloc, &mut disk, name, wanted);
-    }
-    let disk = crashed(rt, alloc, disk, Some(Fate::Old));
-    let disk = with_log(wrong, alloc, disk, name, row.log, &[]);
-    let disk = left(
-        wrong,
-        rt,
-        alloc,
-        Kind::Core,
-        disk,
-        setting,
-        name,
-        &[],
-        row.again,
-    );
-    drop(with_log(wrong, alloc, disk, name, row.log, REOPENED));
+        asks,
+    )
+}
+
+fn go<R: Wait + Abort>(wrong: &mut WrongRows, rt: &R, alloc: Global, row: &Compacted) {
+    let old = begun(wrong, rt, alloc, row.name, row.asks);
+    wrong.unless_at(old.len() == row.old_size, row.name, old.len());
+    let disk = compacted(wrong, rt, alloc, old, row.name);
+    let new = Row {
+        name: row.name,
+        bytes: row.bytes,
+        size: Some(row.new_size),
+        log: row.log,
+        again: row.again,
+        ..LEFT
+    };
+    found(wrong, rt, alloc, Kind::Core, disk, &new);
 }
 
 // Of a log without records, and of what it is compacted to.
@@ -97,53 +109,50 @@ fn go_empty(wrong: &mut WrongRows, rt: &impl Abort, alloc: Global) {
     drop(with_log(wrong, alloc, disk, name, &[], &[]));
 }
 
-// How many records a file holds.
-fn held(alloc: Global, disk: SimDisk) -> Result<usize, Fault> {
+// The file holds as many records as the row says of a call that failed, or is no log.
+fn is_held(alloc: Global, disk: SimDisk, row: &Failing, call: u64) -> bool {
     match GateLog::open(alloc, disk) {
         Ok((log, entries)) => {
             let count = entries.len();
             drop(log);
             drop(entries);
-            Ok(count)
+            let wanted = if call < row.all_from { 0 } else { 3 };
+            call >= row.empty_from && count == wanted
         }
         Err((fault, disk)) => {
             drop(disk);
-            Err(fault)
+            call < row.empty_from && fault == Fault::NotALog
         }
     }
 }
 
-// A call of the new file fails, where there is one: it is not laid out before call 5.
+// Both disks behind a compaction of which a call of the new file fails, where there is one, and whether it is refused by that call: the file
+// is not laid out before call 5.
+fn ended(from: Gathered<SimDisk>, to: SimDisk, call: u64) -> (SimDisk, SimDisk, bool) {
+    match compact(from, to) {
+        Ok((old, log)) => (old, log.into_disk(), call == 10),
+        Err((fault, old, laid)) => match laid {
+            Ok(log) => {
+                let right = fault == Fault::Device && call >= 5 && call < 10;
+                (old, log.into_disk(), right)
+            }
+            Err(disk) => (old, disk, fault == Fault::Device && call < 5),
+        },
+    }
+}
+
+// A call of the new file fails.
 fn fail<R: Wait + Abort>(wrong: &mut WrongRows, rt: &R, alloc: Global, row: &Failing, call: u64) {
     let name = "a call of the new file fails";
-    let (new, setting) = (formatted(rt, alloc), plain(0, 0));
-    let asks = &[COMMIT, SETTLE, TURN];
-    let mut old = left(wrong, rt, alloc, Kind::Core, new, setting, name, &[], asks);
+    let mut old = begun(wrong, rt, alloc, name, &[COMMIT, SETTLE, TURN]);
     let before = bytes_on(rt, alloc, &mut old);
-    let gathered = Gathered::of(alloc, old).ok().expect(rt, name);
     let mut to = SimDisk::new(alloc);
     to.fail_next(call);
-    let (old, disk, right) = match compact(gathered, to) {
-        Ok((old, log)) => (old, log.into_disk(), call == 10),
-        Err((fault, old, second)) => {
-            let (disk, calls) = match second {
-                Ok(log) => (log.into_disk(), 5..10),
-                Err(disk) => (disk, 0..5),
-            };
-            (old, disk, fault == Fault::Device && calls.contains(&call))
-        }
-    };
+    let (old, disk, right) = ended(gathered(rt, alloc, old), to, call);
     wrong.unless_at(right, name, call);
     compare_old(wrong, rt, alloc, old, name, before);
     let disk = crashed(rt, alloc, disk, row.fate);
-    let holds = if call < row.empty_from {
-        Err(Fault::NotALog)
-    } else if call < row.all_from {
-        Ok(0)
-    } else {
-        Ok(3)
-    };
-    wrong.unless_at(held(alloc, disk) == holds, name, call);
+    wrong.unless_at(is_held(alloc, disk, row, call), name, call);
 }
 
 // The file is refused, and stays as it is.

@@ -88,3 +88,14 @@ pub fn opened(
         Err(refused) => Err(refused),
     }
 }
+
+/// The core of a shard on a disk.
+pub fn core_of(rt: &impl Abort, alloc: Global, disk: SimDisk, setting: Setting) -> Core<SimDisk> {
+    match opened(rt, alloc, disk, setting) {
+        Ok(core) => core,
+        Err(refused) => {
+            drop(refused);
+            rt.panic("no core")
+        }
+    }
+}

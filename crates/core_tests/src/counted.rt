@@ -1,5 +1,5 @@
 //! Numbers of viewers that no board has: they are refused, and what was given comes back with nothing logged.
-use crate::cores::{formatted, opened, plain, setup};
+use crate::cores::{core_of, formatted, plain, setup};
 use crate::logs::{Line, with_log};
 use crate::verdict::end;
 use made::WrongRows;
@@ -18,8 +18,7 @@ const OPENED: &[Line] = &[Line::Opened(1)];
 static COUNTS: [usize; 2] = [0, 65];
 
 fn fresh(rt: &impl Abort, alloc: Global) -> Core<SimDisk> {
-    let core = opened(rt, alloc, formatted(rt, alloc), plain(1, 0)).ok();
-    core.expect(rt, "a core")
+    core_of(rt, alloc, formatted(rt, alloc), plain(1, 0))
 }
 
 fn desk_of_core<R: Wait + Abort>(wrong: &mut WrongRows, rt: &R, alloc: Global, count: usize) {

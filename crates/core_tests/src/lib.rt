@@ -4,6 +4,8 @@
 #[cfg(test)]
 mod answers;
 #[cfg(test)]
+mod asked_twice;
+#[cfg(test)]
 mod booked;
 #[cfg(test)]
 mod chores;
@@ -67,3 +69,5 @@ mod unserved;
 mod verdict;
 #[cfg(test)]
 mod viewed;
+#[cfg(test)]
+mod without_memory;

@@ -1,6 +1,6 @@
 //! Stories of a node with one viewer, of fresh shard 1: what is asked of both, and what the log holds then.
 use crate::answers::{Told, is_told};
-use crate::cores::{Setting, formatted, opened, plain};
+use crate::cores::{Setting, core_of, formatted, plain};
 use crate::given::{Given, input_of, reading};
 use crate::logs::{Line, with_log};
 use board::Viewer;
@@ -56,8 +56,8 @@ pub fn fresh_node<R: Wait + Drop>(
     alloc: Global,
     setting: Setting,
 ) -> (Node<SimDisk, R>, Vec<Viewer>) {
-    let core = opened(rt, alloc, formatted(rt, alloc), setting).ok();
-    match Node::new(own, alloc, core.expect(rt, "a core"), 1) {
+    let core = core_of(rt, alloc, formatted(rt, alloc), setting);
+    match Node::new(own, alloc, core, 1) {
         Ok(made) => made,
         Err((_, core)) => {
             drop(core.stop());

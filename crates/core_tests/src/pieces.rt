@@ -1,5 +1,5 @@
 //! Logs that are read in pieces, on a disk that fails every longer read.
-use crate::cores::{Setting, formatted, opened, setup};
+use crate::cores::{Setting, core_of, formatted, setup};
 use crate::given::{Given, commit, input_of, reading};
 use crate::strained::Strained;
 use crate::verdict::end;
@@ -147,9 +147,7 @@ fn open_in_pieces<R: time::Clock + Abort>(
 
 // The disk with the log of the row.
 fn written(rt: &impl Abort, alloc: Global, row: &Row) -> SimDisk {
-    let mut core = opened(rt, alloc, formatted(rt, alloc), ALONE)
-        .ok()
-        .expect(rt, row.name);
+    let mut core = core_of(rt, alloc, formatted(rt, alloc), ALONE);
     let full = usize::from(row.full);
     let mut number = 0u16;
     for place in 0..full + row.lengths.len() {
@@ -200,9 +198,7 @@ fn a_long_body_is_gathered(rt: HostRuntime) {
     }
     let writes = Writes::from_vec(writes).ok().expect(&rt, "writes");
     let input = Input::Deliver(commit(alloc, 1, Parts::only(shard(0)), writes));
-    let mut core = opened(&rt, alloc, formatted(&rt, alloc), ALONE)
-        .ok()
-        .expect(&rt, LONG.name);
+    let mut core = core_of(&rt, alloc, formatted(&rt, alloc), ALONE);
     give(&rt, alloc, &mut core, &input);
     drop(input);
     open_in_pieces(&mut wrong, &rt, alloc, core.stop(), &LONG);

@@ -1,5 +1,5 @@
 //! Shards that are opened side by side.
-use crate::cores::{disk_with, formatted, opened, plain, setup};
+use crate::cores::{core_of, disk_with, formatted, plain, setup};
 use crate::strained::Strained;
 use crate::verdict::end;
 use disk::Disk;
@@ -117,8 +117,7 @@ fn disk_of(rt: &impl Abort, alloc: Global, given: &Given) -> SimDisk {
     };
     let mut disk = formatted(rt, alloc);
     for _ in 0..before {
-        let core = opened(rt, alloc, disk, plain(given.shard, 0)).ok();
-        disk = core.expect(rt, "a core").stop();
+        disk = core_of(rt, alloc, disk, plain(given.shard, 0)).stop();
     }
     disk
 }

@@ -30,8 +30,8 @@ pub const TURN: Asked = (230, 240, Ask::Turn(Ok(())));
 // The same commit again.
 const AGAIN: Asked = (230, 240, Ask::Given(A, DONE));
 
-/// What the next opening adds.
-pub const REOPENED: &[Line] = &[Line::Opened(2)];
+// What the next opening adds.
+const REOPENED: &[Line] = &[Line::Opened(2)];
 
 /// The log of the commit, and that of its turnover.
 pub const OLD: &[Line] = &[

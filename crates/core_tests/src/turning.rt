@@ -1,11 +1,12 @@
 //! Cores and desks that are asked, and turned over between: what they answer, what the file holds then, and what an opening finds in it.
 use crate::answers::{Told, is_told};
-use crate::cores::{Setting, bytes_on, opened, plain};
+use crate::cores::{Setting, bytes_on, core_of, plain};
 use crate::given::{Given, input_of, reading};
 use crate::logs::{Line, with_log};
 use board::Viewer;
 use disk::{Disk, Fate};
 use made::{WrongRows, key, stamp, with_slots};
+use message::{Input, Outbox};
 use node::Desk;
 use shard::Core;
 use simdisk::{Choice, SimDisk};
@@ -67,16 +68,22 @@ pub struct Row {
     pub then: &'static [Line],
 }
 
-// A desk with a viewer.
-pub struct Watched<'a, R: Wait> {
-    desk: Desk<SimDisk, &'a R>,
-    viewers: Vec<Viewer>,
+/// Who is asked: a core, or a desk with a viewer. Of either no more than this is known where all are asked, which costs less to prove.
+pub trait Asks {
+    /// What it answers to an input.
+    fn give(&mut self, alloc: Global, now: &Reading, input: &Input) -> Result<Outbox, Fault>;
+
+    /// Whether all else that is asked is answered as told.
+    fn is_served(&mut self, alloc: Global, now: &Reading, ask: Ask) -> bool;
+
+    /// The disk that it leaves behind.
+    fn ended(self) -> SimDisk;
 }
 
-// What is asked: a core, or a desk.
-pub enum Shard<'a, R: Wait> {
-    Core(Core<SimDisk>),
-    Desk(Watched<'a, R>),
+// A desk with a viewer.
+struct Watched<'a, R: Wait> {
+    desk: Desk<SimDisk, &'a R>,
+    viewers: Vec<Viewer>,
 }
 
 // Which of both.
@@ -86,33 +93,13 @@ pub enum Kind {
     Desk,
 }
 
-// The shard of a disk.
-fn shard_of<'a, R: Wait + Abort>(
-    rt: &'a R,
-    alloc: Global,
-    kind: Kind,
-    disk: SimDisk,
-    setting: Setting,
-) -> Shard<'a, R> {
-    let core = opened(rt, alloc, disk, setting).ok();
-    let core = core.expect(rt, "a core");
-    match kind {
-        Kind::Core => Shard::Core(core),
-        Kind::Desk => match Desk::new(rt, alloc, core, 1) {
-            Ok((desk, viewers)) => Shard::Desk(Watched { desk, viewers }),
-            Err((_, core)) => {
-                drop(core.stop());
-                rt.panic("no desk")
-            }
-        },
-    }
-}
-
-impl<R: Wait> Shard<'_, R> {
-    fn core(&self) -> &Core<SimDisk> {
-        match self {
-            Shard::Core(core) => core,
-            Shard::Desk(watched) => watched.desk.core(),
+// The desk of a core.
+fn desk_of<'a, R: Wait + Abort>(rt: &'a R, alloc: Global, core: Core<SimDisk>) -> Watched<'a, R> {
+    match Desk::new(rt, alloc, core, 1) {
+        Ok((desk, viewers)) => Watched { desk, viewers },
+        Err((_, core)) => {
+            drop(core.stop());
+            rt.panic("no desk")
         }
     }
 }
@@ -129,68 +116,94 @@ fn sees(seen: Result<Seen, Fault>, buffer: &[u8]) -> Sees {
     }
 }
 
-// What a desk alone is asked.
-fn is_served<R: Wait>(watched: &mut Watched<'_, R>, now: &Reading, ask: Ask) -> bool {
+// What is read of a core.
+fn is_shown(core: &Core<SimDisk>, ask: Ask) -> bool {
     match ask {
-        Ask::Renew(micros, least, wanted) => watched.desk.renew(now, micros, least) == wanted,
-        Ask::KeepFor(micros, wanted) => watched.desk.keep_for(now, micros) == wanted,
-        Ask::Advance(to) => match watched.desk.advance(now, stamp(to)) {
-            Ok(told) => told.safe() == stamp(to),
-            Err(_) => false,
-        },
-        Ask::View(letter, at, wanted) => match watched.viewers.first_mut() {
-            Some(viewer) => {
-                let mut buffer = [9u8; 4];
-                let seen = viewer.look(&key(letter), stamp(at), &mut buffer);
-                sees(seen, &buffer) == wanted
-            }
-            None => false,
-        },
+        Ask::Look(letter, at, wanted) => {
+            let mut buffer = [9u8; 4];
+            let seen = core.look(&key(letter), stamp(at), &mut buffer);
+            sees(seen, &buffer) == wanted
+        }
+        Ask::Gate(gate) => core.gate() == gate,
+        Ask::Horizon(at) => core.horizon().micros() == at,
         _ => false,
     }
 }
 
+// Whether a viewer sees this.
+fn is_viewed(viewers: &mut [Viewer], letter: u8, at: u32, wanted: Sees) -> bool {
+    match viewers.first_mut() {
+        Some(viewer) => {
+            let mut buffer = [9u8; 4];
+            let seen = viewer.look(&key(letter), stamp(at), &mut buffer);
+            sees(seen, &buffer) == wanted
+        }
+        None => false,
+    }
+}
+
+impl Asks for Core<SimDisk> {
+    fn give(&mut self, alloc: Global, now: &Reading, input: &Input) -> Result<Outbox, Fault> {
+        self.on(alloc, now, input)
+    }
+
+    fn is_served(&mut self, alloc: Global, _now: &Reading, ask: Ask) -> bool {
+        match ask {
+            Ask::Turn(wanted) => self.turn_over(alloc) == wanted,
+            ask => is_shown(self, ask),
+        }
+    }
+
+    fn ended(self) -> SimDisk {
+        self.stop()
+    }
+}
+
+impl<R: Wait> Asks for Watched<'_, R> {
+    fn give(&mut self, _alloc: Global, now: &Reading, input: &Input) -> Result<Outbox, Fault> {
+        self.desk.deliver(now, input)
+    }
+
+    fn is_served(&mut self, _alloc: Global, now: &Reading, ask: Ask) -> bool {
+        match ask {
+            Ask::Turn(wanted) => self.desk.turn_over() == wanted,
+            Ask::Renew(micros, least, wanted) => self.desk.renew(now, micros, least) == wanted,
+            Ask::KeepFor(micros, wanted) => self.desk.keep_for(now, micros) == wanted,
+            Ask::Advance(to) => match self.desk.advance(now, stamp(to)) {
+                Ok(told) => told.safe() == stamp(to),
+                Err(_) => false,
+            },
+            Ask::View(letter, at, wanted) => is_viewed(&mut self.viewers, letter, at, wanted),
+            ask => is_shown(self.desk.core(), ask),
+        }
+    }
+
+    fn ended(self) -> SimDisk {
+        let Watched { desk, viewers } = self;
+        drop(viewers);
+        desk.close()
+    }
+}
+
 // Whether what is asked is answered as told.
-fn is_answered<R: Wait + Abort>(
-    rt: &R,
-    alloc: Global,
-    shard: &mut Shard<'_, R>,
-    asked: &Asked,
-) -> bool {
+fn is_answered<S: Asks>(rt: &impl Abort, alloc: Global, shard: &mut S, asked: &Asked) -> bool {
     let now = reading(rt, asked.0, asked.1);
     match asked.2 {
         Ask::Given(given, wanted) => {
             let input = input_of(rt, alloc, given);
-            let answer = match shard {
-                Shard::Core(core) => core.on(alloc, &now, &input),
-                Shard::Desk(watched) => watched.desk.deliver(&now, &input),
-            };
+            let answer = shard.give(alloc, &now, &input);
             drop(input);
             is_told(answer, wanted)
         }
-        Ask::Turn(wanted) => match shard {
-            Shard::Core(core) => core.turn_over(alloc) == wanted,
-            Shard::Desk(watched) => watched.desk.turn_over() == wanted,
-        },
-        Ask::Look(letter, at, wanted) => {
-            let mut buffer = [9u8; 4];
-            let seen = shard.core().look(&key(letter), stamp(at), &mut buffer);
-            sees(seen, &buffer) == wanted
-        }
-        Ask::Gate(gate) => shard.core().gate() == gate,
-        Ask::Horizon(at) => shard.core().horizon().micros() == at,
-        ask => match shard {
-            Shard::Core(_) => false,
-            Shard::Desk(watched) => is_served(watched, &now, ask),
-        },
+        ask => shard.is_served(alloc, &now, ask),
     }
 }
 
-fn ask_all<R: Wait + Abort>(
+fn ask_all<S: Asks>(
     wrong: &mut WrongRows,
-    rt: &R,
+    rt: &impl Abort,
     alloc: Global,
-    shard: &mut Shard<'_, R>,
+    shard: &mut S,
     name: &str,
     asks: &[Asked],
 ) {
@@ -200,7 +213,23 @@ fn ask_all<R: Wait + Abort>(
     }
 }
 
-// The disk that a shard leaves behind which was asked all that, the first first.
+// The disk that is left behind by who was asked all that, the first first.
+fn left_by<S: Asks>(
+    wrong: &mut WrongRows,
+    rt: &impl Abort,
+    alloc: Global,
+    shard: S,
+    name: &str,
+    before: &[Asked],
+    asks: &[Asked],
+) -> SimDisk {
+    let mut shard = shard;
+    ask_all(wrong, rt, alloc, &mut shard, name, before);
+    ask_all(wrong, rt, alloc, &mut shard, name, asks);
+    shard.ended()
+}
+
+// The same of the shard of a disk.
 pub fn left<R: Wait + Abort>(
     wrong: &mut WrongRows,
     rt: &R,
@@ -212,15 +241,12 @@ pub fn left<R: Wait + Abort>(
     before: &[Asked],
     asks: &[Asked],
 ) -> SimDisk {
-    let mut shard = shard_of(rt, alloc, kind, disk, setting);
-    ask_all(wrong, rt, alloc, &mut shard, name, before);
-    ask_all(wrong, rt, alloc, &mut shard, name, asks);
-    match shard {
-        Shard::Core(core) => core.stop(),
-        Shard::Desk(watched) => {
-            let Watched { desk, viewers } = watched;
-            drop(viewers);
-            desk.close()
+    let core = core_of(rt, alloc, disk, setting);
+    match kind {
+        Kind::Core => left_by(wrong, rt, alloc, core, name, before, asks),
+        Kind::Desk => {
+            let desk = desk_of(rt, alloc, core);
+            left_by(wrong, rt, alloc, desk, name, before, asks)
         }
     }
 }
@@ -265,8 +291,8 @@ pub fn crashed(rt: &impl Abort, alloc: Global, disk: SimDisk, fate: Option<Fate>
     disk
 }
 
-// The shard of a disk is asked what the row says, opened again, and asked once more.
-pub fn go_on<R: Wait + Abort>(
+/// The disk of a shard is what the row says. It crashes, if the row has that, is opened again, and asked once more.
+pub fn found<R: Wait + Abort>(
     wrong: &mut WrongRows,
     rt: &R,
     alloc: Global,
@@ -274,14 +300,8 @@ pub fn go_on<R: Wait + Abort>(
     disk: SimDisk,
     row: &Row,
 ) {
-    let again = plain(row.shard, 0);
-    let setting = Setting {
-        fails: row.fails,
-        ..again
-    };
     let name = row.name;
-    let (before, asks) = (row.before, row.asks);
-    let mut disk = left(wrong, rt, alloc, kind, disk, setting, name, before, asks);
+    let mut disk = disk;
     if let Some(wanted) = row.bytes {
         compare_bytes(wrong, rt, alloc, &mut disk, name, wanted);
     }
@@ -290,6 +310,25 @@ pub fn go_on<R: Wait + Abort>(
     }
     let disk = crashed(rt, alloc, disk, row.fate);
     let disk = with_log(wrong, alloc, disk, name, row.log, &[]);
+    let again = plain(row.shard, 0);
     let disk = left(wrong, rt, alloc, kind, disk, again, name, &[], row.again);
     drop(with_log(wrong, alloc, disk, name, row.log, row.then));
+}
+
+/// The shard of a disk is asked what the row says, opened again, and asked once more.
+pub fn go_on<R: Wait + Abort>(
+    wrong: &mut WrongRows,
+    rt: &R,
+    alloc: Global,
+    kind: Kind,
+    disk: SimDisk,
+    row: &Row,
+) {
+    let setting = Setting {
+        fails: row.fails,
+        ..plain(row.shard, 0)
+    };
+    let (name, before, asks) = (row.name, row.before, row.asks);
+    let disk = left(wrong, rt, alloc, kind, disk, setting, name, before, asks);
+    found(wrong, rt, alloc, kind, disk, row);
 }
