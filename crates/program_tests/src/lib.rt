@@ -1,4 +1,4 @@
-//! Tests of whole runs, and of what the program prints.
+//! Tests of whole runs, also of drawn ones, and of what the program prints.
 #![tactic(auto)]
 
 #[cfg(test)]
@@ -10,6 +10,10 @@ mod comparing;
 #[cfg(test)]
 mod crashes;
 #[cfg(test)]
+mod drawing;
+#[cfg(test)]
+mod drawn;
+#[cfg(test)]
 mod each_call;
 #[cfg(test)]
 mod files;
@@ -18,20 +22,38 @@ mod given;
 #[cfg(test)]
 mod horizons;
 #[cfg(test)]
+mod judging;
+#[cfg(test)]
+mod long;
+#[cfg(test)]
 mod outside;
 #[cfg(test)]
 mod places;
 #[cfg(test)]
 mod played;
 #[cfg(test)]
+mod replying;
+#[cfg(test)]
 mod schedule_texts;
+#[cfg(test)]
+mod sight;
+#[cfg(test)]
+mod steps;
 #[cfg(test)]
 mod stops;
 #[cfg(test)]
+mod telling;
+#[cfg(test)]
 mod tests;
+#[cfg(test)]
+mod totals;
+#[cfg(test)]
+mod turned;
 #[cfg(test)]
 mod turnovers;
 #[cfg(test)]
 mod unlawful;
+#[cfg(test)]
+mod verdict;
 #[cfg(test)]
 mod words;

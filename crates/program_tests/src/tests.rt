@@ -1,19 +1,13 @@
-//! The tests, each of some areas.
+//! The tests of written runs and of the program, each of some areas.
 use crate::cases::CASES;
 use crate::crashes::CRASHES;
 use crate::horizons::HORIZONS;
 use crate::turnovers::TURNOVERS;
+use crate::verdict::end;
 use crate::{
     asked, comparing, each_call, outside, places, played, schedule_texts, stops, unlawful, words,
 };
 use made::WrongRows;
-use std::process::Abort;
-
-// Ends the test where rows are wrong, with all of them.
-fn end(rt: &impl Abort, wrong: WrongRows) {
-    assert!(rt; wrong.is_none(), "{}", wrong.text());
-    drop(wrong);
-}
 
 #[test]
 fn answers(rt: HostRuntime) {
