@@ -61,16 +61,16 @@ putting run splits key value a (Ok done) is puts ran =
     record {
       attempt = is;
       wrote =
-          subst (λ (x : Result (Unit {0}) Halt). MatchResult x (λ _. a.left.session.client ≡ one_write key value (id_in run a)) (λ why. why ≡ halt.Refused Memory))
-          (sym same) its;
+          subst (λ (x : Result (Unit {0}) Halt). MatchResult x (λ _. a.left.session.client ≡ one_write key value (id_in run a))
+          (λ why. why ≡ halt.Refused Memory)) (sym same) its;
     }
 putting run splits key value a (Err why) is puts ran =
     let same = by_id (id_in run a) a.left.session.client.txn a.ran (Err why) (ap (λ (d : Doing). d.session.client.txn) puts.0) ran in
     record {
       attempt = is;
       wrote =
-          subst (λ (x : Result (Unit {0}) Halt). MatchResult x (λ _. a.left.session.client ≡ one_write key value (id_in run a)) (λ why. why ≡ halt.Refused Memory))
-          (sym same) (by_cause puts.1);
+          subst (λ (x : Result (Unit {0}) Halt). MatchResult x (λ _. a.left.session.client ≡ one_write key value (id_in run a))
+          (λ why. why ≡ halt.Refused Memory)) (sym same) (by_cause puts.1);
     }
   where
     by_cause : (why ≡ halt.Refused Memory) ⊎ ((fault : Fault) × (why ≡ halt_for fault)

@@ -12,7 +12,8 @@ use Rattle.disk.specs.File.{File, surface}
 use Rattle.disk.specs.Image.{MayLeave}
 use Rattle.world.specs.Areas.{MayLeaveArea}
 use Rattle.world.specs.Lawful.{is_down, is_in, lawful, lawful_from, may_crash, may_do, may_happen}
-use Rattle.world.specs.World.{World, After, ShardNow, State, Nothing, acts, crashed_in, effect, happens, refused, run, run_from, set_shard, setup_of, start, ticked}
+use Rattle.world.specs.World.{World, After, ShardNow, State, Nothing, acts, crashed_in, effect, happens, refused, run, run_from, set_shard}
+use Rattle.world.specs.World.{setup_of, start, ticked}
 use Rattle.world.specs.declared.event.Config.{Config}
 use Rattle.world.specs.declared.event.Doing.{Doing}
 use Rattle.world.specs.declared.event.Event.{Event}
@@ -359,7 +360,8 @@ module _ {D : Type 0} (keeps obeys : Type 0) (file : D → File) (clock : D → 
             rest.within,
           );
           later = λ p d besides is.
-              subst (λ q. AreLater q ((c.n, u.event.time) ∷ rest.ps)) (sym is) (besides.0, besides.1, rest.later (d.n, d.under_way.event.time) d besides.2 refl);
+              subst (λ q. AreLater q ((c.n, u.event.time) ∷ rest.ps)) (sym is)
+              (besides.0, besides.1, rest.later (d.n, d.under_way.event.time) d besides.2 refl);
           soon = λ m other. (
             other.0,
             comes_later keeps obeys file clock since failures plan counts kept config es fair lives h c.n u.shard there c.after u,

@@ -150,7 +150,8 @@ module _ {D : Type 0} (keeps obeys : Type 0) (file : D → File) (clock : D → 
             (λ (x : ShardNow). FailsOr keeps obeys file clock since failures plan setup bag x doing call (failing call doing (effect setup bag x doing))
             (lives n) (new n))
             (some_shard s t (sym there ∙ e))
-            (subst (λ l. FailsOr keeps obeys file clock since failures plan setup bag s doing call (failing call doing (What doing)) (lives n) l) (sym is) fails);
+            (subst (λ l. FailsOr keeps obeys file clock since failures plan setup bag s doing call (failing call doing (What doing)) (lives n) l)
+            (sym is) fails);
       };
     }
 
