@@ -27,10 +27,11 @@ use Rattle.protocol.proofs.RowTable.{with_row-is}
 use Rattle.world.specs.World.{ShardNow, Runs, Unsure, Nothing, Shown, read_log, shown_records, setup_of}
 use Rattle.world.specs.World.{step_of_opening, input_of, step_with}
 use Rattle.world.specs.Lawful.{goes_to, may_do}
+use Rattle.world.specs.declared.event.Act.{Act}
 use Rattle.world.specs.declared.event.Doing.{Doing}
 use Rattle.law.specs.Among.{IsAmong}
 use Rattle.law.specs.Evidence.{Scene, Sent, CommitAsked, BeganBy, PhaseEvidence, RowsEvidence, AllTold, StateEvidence, Holds}
-use Rattle.world.specs.Headline.{IsUnsure}
+use Rattle.world.specs.Headline.{IsUnsure, doing_of}
 use Rattle.law.proofs.Logged.{AreLogged, rests_logged}
 use Rattle.law.proofs.Members.{among_cases, among_left}
 use Rattle.world.proofs.Places.{with_record}
@@ -53,7 +54,15 @@ SteppedEvidence sc n log (Does logged memory out) = DoesEvidence sc n log logged
 
 -- the same scene
 pub grows_same : (sc : Scene) → Grows sc sc
-grows_same sc = record { sent = λ e h. h; lines = λ l h. h; times = λ i time h. h; now = omega arith; closed = λ t messages h. h; logs = λ n r h. h }
+grows_same sc = record {
+  sent = λ e h. h;
+  lines = λ l h. h;
+  times = λ i time h. h;
+  came = λ a h. h;
+  now = omega arith;
+  closed = λ t messages h. h;
+  logs = λ n r h. h;
+}
 
 pub within_record : (log : List Record) (o : Option Record) → Within log (with_record log o)
 within_record log None r h = h
@@ -117,21 +126,53 @@ sent_to sc n m e is goes = by_address e.to refl goes
 honest_given : (sc : Scene) (now : Interval) → (nat_le now.earliest sc.now && nat_le sc.now now.latest) ≡ true → (now.earliest ≤ sc.now) × (sc.now ≤ now.latest)
 honest_given sc now h = let p = and_parts _ _ h in (leb-true _ _ p.0, leb-true _ _ p.1)
 
-pub given : (sc : Scene) (n : ℕ) (doing : Doing) → may_do sc.world sc.now n doing ≡ true → Given sc n (input_of sc.world.bag doing)
-given sc n (Doing.Take m now) h =
+-- what a doing hands to its shard came now
+abbrev pub HasCome : Scene → ℕ → Doing → Type 0
+HasCome sc n doing =
+    (now : Interval) (m : Message) → input_of sc.world.bag doing ≡ Some (now, Input.Deliver m) →
+    IsAmong sc.came (record { shard = n; message = m; time = sc.now })
+
+-- and so is what an act hands to one
+abbrev pub HasComeBy : Scene → Act → Type 0
+HasComeBy sc a = (n : ℕ) (doing : Doing) → doing_of sc.world a ≡ Some (n, doing) → HasCome sc n doing
+
+-- a delivery to a shard is a doing of it
+pub delivers_to : (sc : Scene) (m : ℕ) (now : Interval) (e : Envelope) (n : ℕ) → slice_get sc.world.bag m ≡ Some e → e.to ≡ Shard n →
+    doing_of sc.world (Act.Deliver m now) ≡ Some (n, Doing.Take m now)
+delivers_to sc m now e n is goes =
+    ap
+    (λ o. elim o as (λ x. Option (ℕ × Doing)) [
+      | None ↦ None
+      | Some x ↦ elim x.to as (λ y. Option (ℕ × Doing)) [ Shard k ↦ Some (k, Doing.Take m now) | Session t ↦ None ]
+    ]) is
+    ∙ ap (λ a. elim a as (λ y. Option (ℕ × Doing)) [ Shard k ↦ Some (k, Doing.Take m now) | Session t ↦ None ]) goes
+
+-- a message that was put out for a shard is honestly given to it
+pub delivered : (sc : Scene) (m : ℕ) (now : Interval) (e : Envelope) (n : ℕ) → slice_get sc.world.bag m ≡ Some e → e.to ≡ Shard n →
+    (sc.now ≤ now.latest) × (now.earliest ≤ sc.now) → HasComeBy sc (Act.Deliver m now) → Given sc n (input_of sc.world.bag (Doing.Take m now))
+delivered sc m now e n is goes honest came =
+    let hand = ap (option_map (λ x. (now, Input.Deliver x.message))) is in
+    let sent : Sent sc.world n e.message = subst (λ (a : Address). IsAmong sc.world.bag (record { to = a; message = e.message })) goes
+    (get_among sc.world.bag m e is) in
+    subst (Given sc n) (sym hand)
+    ((sent, came n (Doing.Take m now) (delivers_to sc m now e n is goes) now e.message hand), honest.1, honest.0)
+
+pub given : (sc : Scene) (n : ℕ) (doing : Doing) → may_do sc.world sc.now n doing ≡ true → HasCome sc n doing → Given sc n (input_of sc.world.bag doing)
+given sc n (Doing.Take m now) h came =
     by_message (slice_get sc.world.bag m) refl (honest_given sc now (and_parts _ _ h).0) (and_parts _ _ h).1
   where
     by_message : (o : Option Envelope) → slice_get sc.world.bag m ≡ o → (now.earliest ≤ sc.now) × (sc.now ≤ now.latest) → when (goes_to n) o ≡ true →
         Given sc n (option_map (λ e. (now, Input.Deliver e.message)) o)
     by_message None is honest goes = tt
-    by_message (Some e) is honest goes = (sent_to sc n m e is goes, honest.0, honest.1)
-given sc n (Doing.Resume now) h = let p = honest_given sc now h in (tt, p.0, p.1)
-given sc n (Doing.Settle t now) h = let p = honest_given sc now h in (tt, p.0, p.1)
-given sc n (Doing.Advance at now) h = let p = honest_given sc now (and_parts _ _ h).0 in (tt, p.0, p.1)
-given sc n (Doing.Forget at now) h = let p = honest_given sc now (and_parts _ _ h).0 in (tt, p.0, p.1)
-given sc n (Doing.Nudge t now) h = let p = honest_given sc now h in (tt, p.0, p.1)
-given sc n Doing.Turn h = tt
-given sc n Doing.Open h = tt
+    by_message (Some e) is honest goes =
+        ((sent_to sc n m e is goes, came now e.message (ap (option_map (λ x. (now, Input.Deliver x.message))) is)), honest.0, honest.1)
+given sc n (Doing.Resume now) h came = let p = honest_given sc now h in (tt, p.0, p.1)
+given sc n (Doing.Settle t now) h came = let p = honest_given sc now h in (tt, p.0, p.1)
+given sc n (Doing.Advance at now) h came = let p = honest_given sc now (and_parts _ _ h).0 in (tt, p.0, p.1)
+given sc n (Doing.Forget at now) h came = let p = honest_given sc now (and_parts _ _ h).0 in (tt, p.0, p.1)
+given sc n (Doing.Nudge t now) h came = let p = honest_given sc now h in (tt, p.0, p.1)
+given sc n Doing.Turn h came = tt
+given sc n Doing.Open h came = tt
 
 -- ---- a doing of a shard
 
@@ -161,6 +202,7 @@ module _ (sc : Scene) (h : Holds sc) (n : ℕ) (s : ShardNow) (there : slice_get
         rows = state.0;
         statuses = statuses sc s.log n orderly evidence.records;
         honest = heard.1;
+        later = heard.2;
         began = began_by p.0.latest heard.2;
         passed = passed_by;
       } in

@@ -27,10 +27,11 @@ use Rattle.law.specs.Left.{AreLeft}
 use Rattle.world.specs.Steady.{IsSteady}
 use Rattle.world.proofs.EveryRun.{is_steady}
 use Rattle.law.proofs.Logged.{AreLogged, rests_logged}
+use Rattle.law.specs.Arrivals.{arrivals}
 use Rattle.law.proofs.Members.{among_cases}
 use Rattle.law.proofs.Recorded.{none_listed, outcome_among}
 use Rattle.law.proofs.Doings.{get_among}
-use Rattle.law.proofs.Every.{RunEvidence, every_run_holds, tick_holds, present_now, rises_now}
+use Rattle.law.proofs.Every.{RunEvidence, begun_at, came_now, every_run_holds, tick_holds, present_now, rises_now}
 use Rattle.law.proofs.InHistory.{acknowledged, ordered}
 use Rattle.law.proofs.Lefts.{left_between, left_within}
 use Rattle.law.proofs.AllWhole.{whole}
@@ -73,14 +74,15 @@ moment config es logs fair (inr within) =
     let from : r.scene.world.time ≤ e.time = leb-true _ _ p.0 in
     let time = r.clock.time in
     let later : r.scene.now ≤ e.time = omega (arith, from, time) in
-    let begun = tick_holds r.scene e.time r.holds r.clock later in
-    let sc : Scene = record { world = r.scene.world; times = r.scene.times ++ e.time ∷ []; event = r.scene.event; now = e.time } in
+    let more = arrivals r.scene.world e in
+    let begun = tick_holds r.scene e.time more r.holds r.clock later in
+    let sc : Scene = begun_at r.scene e in
     record {
       scene = sc;
       same = r.same;
       holds = begun;
-      rises = rises_now r.scene e.time r.holds r.clock later;
-      left = left_within sc begun steady (present_now r.scene e.time r.holds r.clock later) e.act n doing logs p.1
+      rises = rises_now r.scene e.time more r.holds r.clock later;
+      left = left_within sc begun steady (present_now r.scene e.time more r.holds r.clock later) e.act n doing logs p.1 (came_now r.scene e)
           (subst (λ (w : World). doing_of w e.act ≡ Some (n, doing)) (sym r.same) within.4)
           (subst (λ (w : World). MayLeaveWithin w n doing n w.shards logs) (sym r.same) within.5);
     }

@@ -12,7 +12,7 @@ use Rattle.record.specs.Accepted.{follows, followed, outcome_fits}
 use Rattle.record.specs.Facts.{Facts, facts_of, learn}
 use Rattle.record.specs.Records.{committed_of, prepared_of, ended_of}
 use Rattle.record.specs.declared.record.Record.{Record}
-use Rattle.record.specs.declared.record.Record.TheVariants.{Opened, Prepare, Commit, Outcome, Base, Version, Settled, Closed}
+use Rattle.record.specs.declared.record.Record.TheVariants.{Prepare, Commit, Outcome, Base, Version, Settled, Closed}
 use Rattle.record.proofs.LearnAgrees.{learn_agrees, followed_more}
 use Rattle.message.specs.declared.message.Input.{Input}
 use Rattle.protocol.specs.Plan.{Plan, start_of_step}

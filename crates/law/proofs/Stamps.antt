@@ -18,7 +18,7 @@ use Rattle.record.specs.Facts.{Facts, facts_of, learn, recorded, after_outcome}
 use Rattle.record.specs.Installs.{installs_of}
 use Rattle.record.specs.Records.{Status, StandsPrepared, StandsDecided, HasAborted}
 use Rattle.record.specs.declared.record.Record.{Record}
-use Rattle.record.specs.declared.record.Record.TheVariants.{Opened, Ceiling, Prepare, Commit, Abort, Outcome}
+use Rattle.record.specs.declared.record.Record.TheVariants.{Prepare, Commit}
 use Rattle.record.proofs.LearnAgrees.{accepted_follows}
 use Rattle.record.proofs.Statuses.{recorded_is}
 use Rattle.message.specs.declared.message.Input.{Input}

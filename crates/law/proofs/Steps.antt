@@ -18,6 +18,7 @@ use Rattle.protocol.specs.Rows.{Row, standing, standing_by, find_row, claims}
 use Rattle.protocol.specs.Plan.{Before, stands}
 use Rattle.protocol.specs.Cells.{plan_resume, plan_resume_id, plan_resume_row}
 use Rattle.protocol.specs.Step.{is_for, plan_message, plan_input}
+use Rattle.law.specs.Among.{IsAmong}
 use Rattle.law.specs.Evidence.{Scene, Sent, CommitAsked, BeganBy, PhaseEvidence, RowsEvidence, StatusEvidence}
 use Rattle.law.proofs.Moves.{PlannedEvidence, StandingEvidence, replying, refusing, choosing}
 use Rattle.law.proofs.Table.{reading, preparing, committing, voting, ending_by, giving_up, questioned, going_on, settling, advancing, nudging, forgetting}
@@ -29,14 +30,15 @@ pub record Knows (sc : Scene) (log : List Record) (b : Before) (now : Interval) 
   pub statuses : (t : Id) → StatusEvidence log sc.now t (recorded b.facts t)
   -- the reading is honest
   pub honest : now.earliest ≤ sc.now
+  pub later : sc.now ≤ now.latest
   -- a transaction that was asked to commit began before this reading's end
   pub began : (t : Id) (ps : List ℕ) (rs : List Bytes) (ws : List Write) → CommitAsked sc.world b.shard t ps rs ws → BeganBy sc t now.latest
   -- a commit is told once its time has passed
   pub passed : (from : ℕ) (t : Id) (s : ℕ) → Sent sc.world b.shard (Message.Outcome (record { from = from; txn = t; outcome = Some s })) → s < sc.now
 
--- what was given to a shard was put out for it
+-- what was given to a shard was put out for it, and came now
 abbrev pub Heard : Scene → ℕ → Input → Type 0
-Heard sc n (Input.Deliver m) = Sent sc.world n m
+Heard sc n (Input.Deliver m) = Sent sc.world n m × IsAmong sc.came (record { shard = n; message = m; time = sc.now })
 Heard sc n _ = Unit {0}
 
 module _ (sc : Scene) (log : List Record) (b : Before) (now : Interval) (knows : Knows sc log b now) where
@@ -75,29 +77,34 @@ module _ (sc : Scene) (log : List Record) (b : Before) (now : Interval) (knows :
   unfolding plan_resume
   resuming = resuming_id (ready (claims b.memory.rows))
 
-  hearing : (m : Message) → Sent sc.world b.shard m → PlannedEvidence sc log b.shard (plan_message b now m)
+  hearing : (m : Message) → Sent sc.world b.shard m → IsAmong sc.came (record { shard = b.shard; message = m; time = sc.now }) →
+      PlannedEvidence sc log b.shard (plan_message b now m)
   unfolding plan_message
-  hearing (Message.Read r) sent = reading sc log b r.txn r.key (stands b r.txn)
-  hearing (Message.Prepare p) sent =
+  hearing (Message.Read r) sent came = reading sc log b r.txn r.key (stands b r.txn)
+  hearing (Message.Prepare p) sent came =
       preparing sc log b now.earliest p (record { epoch = p.reads.epoch; sent = sent }) (stands b p.txn) (stands_by_evidence p.txn)
-  hearing (Message.Commit c) sent =
+  hearing (Message.Commit c) sent came =
       let asked : CommitAsked sc.world b.shard c.txn c.parts c.reads.keys c.writes = record { epoch = c.reads.epoch; sent = sent } in
-      committing sc log b now.latest c (record { asked = asked; began = knows.began c.txn c.parts c.reads.keys c.writes asked })
+      committing sc log b now.latest c (record {
+        asked = asked;
+        came = record { epoch = c.reads.epoch; time = sc.now; there = came; below = knows.later };
+        began = knows.began c.txn c.parts c.reads.keys c.writes asked;
+      })
       (stands b c.txn) (stands_by_evidence c.txn)
-  hearing (Message.GiveUp g) sent = giving_up sc log b g.txn (stands b g.txn) (stands_by_evidence g.txn)
-  hearing (Message.Vote v) sent = voting sc log b v.from v.txn v.vote sent (stands b v.txn) (stands_by_evidence v.txn)
-  hearing (Message.Outcome o) sent =
+  hearing (Message.GiveUp g) sent came = giving_up sc log b g.txn (stands b g.txn) (stands_by_evidence g.txn)
+  hearing (Message.Vote v) sent came = voting sc log b v.from v.txn v.vote sent (stands b v.txn) (stands_by_evidence v.txn)
+  hearing (Message.Outcome o) sent came =
       ending_by sc log b o.from o.txn o.outcome sent
       (λ s is. knows.passed o.from o.txn s (subst (λ x. Sent sc.world b.shard (Message.Outcome (record { from = o.from; txn = o.txn; outcome = x }))) is sent))
       (stands b o.txn) (stands_by_evidence o.txn)
-  hearing (Message.Ask a) sent = questioned sc log b a.from a.txn sent (stands b a.txn) (stands_by_evidence a.txn)
-  hearing (Message.ReadAnswer a) sent = refusing sc log b Stranger
-  hearing (Message.Done d) sent = refusing sc log b Stranger
+  hearing (Message.Ask a) sent came = questioned sc log b a.from a.txn sent (stands b a.txn) (stands_by_evidence a.txn)
+  hearing (Message.ReadAnswer a) sent came = refusing sc log b Stranger
+  hearing (Message.Done d) sent came = refusing sc log b Stranger
 
   -- each input is planned with evidence
   pub planned : (setup : Setup) (i : Input) → Heard sc b.shard i → PlannedEvidence sc log b.shard (plan_input setup b now i)
   unfolding plan_input
-  planned setup (Input.Deliver m) heard = choosing sc log b (is_for setup m) _ _ (hearing m heard) (refusing sc log b Stranger)
+  planned setup (Input.Deliver m) heard = choosing sc log b (is_for setup m) _ _ (hearing m heard.0 heard.1) (refusing sc log b Stranger)
   planned setup Input.Resume heard = resuming
   planned setup (Input.Settle t) heard = settling sc log b now.earliest t knows.honest (stands b t) (stands_by_evidence t)
   planned setup (Input.Advance at) heard = advancing sc log b now.latest setup.stride at

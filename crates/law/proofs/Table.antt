@@ -90,6 +90,7 @@ module _ (sc : Scene) (log : List Record) (b : Before) where
         asked = remembers.asked;
         voted = λ m h. voted_below t (other_parts b.shard ps) votes s m (top_of b.memory.last latest votes) all evidence h;
         latest = latest;
+        came = remembers.came;
         began = remembers.began;
         above = over b.memory.last latest votes;
       })

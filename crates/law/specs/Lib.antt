@@ -1,5 +1,6 @@
 pub mod Acknowledged
 pub mod Among
+pub mod Arrivals
 pub mod Evidence
 pub mod InOrder
 pub mod Left

@@ -1,7 +1,8 @@
 //! The laws of whole runs.
 ghost use Rattle.law.specs.Acknowledged.{CommitsAreLines};
 ghost use Rattle.law.specs.InOrder.{BeforeIsInFront, IdsStandOnce};
-ghost use Rattle.law.specs.Passes.{AllAreWhole, HeldReadsAreLatest, OutcomesHavePassed, PutOutIsLogged, ServedIsBelow, ShardsAreOfTheirLogs};
+ghost use Rattle.law.specs.Passes.{AllAreWhole, CommitsAreAboveArrival, HeldReadsAreLatest};
+ghost use Rattle.law.specs.Passes.{OutcomesHavePassed, PutOutIsLogged, ServedIsBelow, ShardsAreOfTheirLogs};
 ghost use Rattle.law.specs.TimeLaws.{InstalledInThePast, LooksShowAcknowledged};
 ghost use Rattle.law.specs.Written.{WrittenBySessions};
 ghost use Rattle.world.specs.Areas.{AreasKeep};
@@ -76,8 +77,10 @@ pub fn served_is_below()
     ensures { ServedIsBelow }
 {}
 
-/// An outcome that commits is logged, and its versions are installed, only once its timestamp has passed.
+/// An outcome that commits is logged, and its versions are installed, only once its timestamp has passed; and a decision's timestamp is above the
+/// true time of a delivery to its shard of the message that asks for it: of one, not of that on which the decision rests.
 pub fn outcomes_have_passed()
     ensures logged { OutcomesHavePassed }
     ensures installed { InstalledInThePast }
+    ensures decided { CommitsAreAboveArrival }
 {}
