@@ -13,7 +13,7 @@ use Rattle.client.specs.declared.ended.Ended.TheVariants.{Aborted}
 use Rattle.client.specs.declared.ended.Halt.{Halt}
 use Rattle.client.specs.declared.ended.Halt.TheVariants as halt
 use Rattle.store.specs.Attempts.{Attempt, Doing, IsAttempt, id_in}
-use Rattle.fleet.specs.Unopened.{IsUnmade}
+use Rattle.store.specs.Unopened.{IsUnmade}
 use Rattle.host_files.specs.Folders.{IsFolderFault}
 use Rattle.commands.specs.Puts.{Said}
 

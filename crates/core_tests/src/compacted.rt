@@ -1,8 +1,8 @@
 //! Logs that are compacted: the new file, byte for byte where it is told, with each failing call; and the old one, which stays as it is.
-use crate::compacted_rows::{COMPACTED, Compacted, FAILING, Failing, REFUSED, Refused};
+use crate::compacted_rows::{Compacted, FAILING, Failing, REFUSED, Refused, compacted_logs};
 use crate::cores::{bytes_on, disk_with, formatted, plain};
 use crate::logs::with_log;
-use crate::turned_rows::{COMMIT, LEFT, SETTLE, TURN};
+use crate::turned_rows::{COMMIT, SETTLE, TURN, left_row};
 use crate::turning::{Asked, Kind, Row, crashed, found, left};
 use crate::verdict::end;
 use compaction::{Gathered, compact};
@@ -93,7 +93,7 @@ fn go<R: Wait + Abort>(wrong: &mut WrongRows, rt: &R, alloc: Global, row: &Compa
         size: Some(row.new_size),
         log: row.log,
         again: row.again,
-        ..LEFT
+        ..left_row()
     };
     found(wrong, rt, alloc, Kind::Core, disk, &new);
 }
@@ -179,7 +179,7 @@ fn refuse(wrong: &mut WrongRows, rt: &impl Abort, alloc: Global, row: &Refused) 
 }
 
 fn tell_compacted<R: Wait + Abort>(wrong: &mut WrongRows, rt: &R, alloc: Global) {
-    for row in &COMPACTED {
+    for row in compacted_logs() {
         go(wrong, rt, alloc, row);
     }
 }

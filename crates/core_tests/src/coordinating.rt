@@ -1,10 +1,8 @@
 //! Shards that decide for transactions of several parts.
 use crate::answers::Told;
 use crate::given::Given;
-use crate::stories::{Moment, Origin, Shows, Story, tell};
-use made::{FIRST_GATE, WrongRows};
-use std::alloc::Global;
-use std::process::Abort;
+use crate::stories::{Moment, Origin, Shows, Story};
+use made::FIRST_GATE;
 
 static COORDINATING: [Story; 4] = [
     Story {
@@ -110,6 +108,6 @@ static COORDINATING: [Story; 4] = [
     },
 ];
 
-pub fn tell_coordinating(wrong: &mut WrongRows, rt: &impl Abort, alloc: Global) {
-    tell(wrong, rt, alloc, &COORDINATING);
+pub fn coordinating() -> &'static [Story] {
+    &COORDINATING
 }

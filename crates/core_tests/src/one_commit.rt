@@ -1,17 +1,16 @@
 //! Commits of one part.
 use crate::answers::Told;
 use crate::given::{Given, LAST};
-use crate::stories::{Moment, Origin, Shows, Story, tell};
-use made::{FIRST_GATE, ONE_COMMIT, WrongRows};
-use std::alloc::Global;
-use std::process::Abort;
+use crate::stories::{Moment, Origin, Shows, Story};
+use made::{FIRST_GATE, ONE_COMMIT};
 use units::Fault;
 
 const A: Given = Given::Commit(1, 0, b"a", b"1");
 
 const DONE: Told = Told::Says(&[(b'd', 9, 1, 111)]);
 
-static COMMITS: [Story; 5] = [
+// One commit, and commits that are refused.
+static COMMITS: [Story; 2] = [
     Story {
         name: "one commit and its log",
         shard: 0,
@@ -77,6 +76,10 @@ static COMMITS: [Story; 5] = [
             shows: &[Shows::Size(FIRST_GATE + 57)],
         }],
     },
+];
+
+// Commits beside others, and a long one.
+static BESIDE: [Story; 3] = [
     // The younger one is decided first.
     Story {
         name: "the earliest decided is not the oldest",
@@ -194,10 +197,15 @@ static FAILING: [Story; 4] = [
     },
 ];
 
-pub fn tell_commits(wrong: &mut WrongRows, rt: &impl Abort, alloc: Global) {
-    tell(wrong, rt, alloc, &COMMITS);
+// A body that names a table costs much to prove, so each table is handed on.
+pub fn commits() -> &'static [Story] {
+    &COMMITS
 }
 
-pub fn tell_failing(wrong: &mut WrongRows, rt: &impl Abort, alloc: Global) {
-    tell(wrong, rt, alloc, &FAILING);
+pub fn beside() -> &'static [Story] {
+    &BESIDE
+}
+
+pub fn failing() -> &'static [Story] {
+    &FAILING
 }

@@ -1,13 +1,12 @@
 //! Shards that take part in transactions which another decides.
 use crate::answers::Told;
 use crate::given::Given;
-use crate::stories::{Moment, Origin, Shows, Story, tell};
-use made::{FIRST_GATE, WrongRows};
-use std::alloc::Global;
-use std::process::Abort;
+use crate::stories::{Moment, Origin, Shows, Story};
+use made::FIRST_GATE;
 use units::{Fault, Seen};
 
-static PROMISING: [Story; 5] = [
+// Promises of who has read nothing.
+static PROMISES: [Story; 2] = [
     Story {
         name: "a promise holds the served time",
         shard: 1,
@@ -59,6 +58,10 @@ static PROMISING: [Story; 5] = [
             ],
         }],
     },
+];
+
+// Promises beside readers.
+static READERS: [Story; 3] = [
     Story {
         name: "an older prepare ends a younger reader",
         shard: 1,
@@ -141,6 +144,11 @@ static PROMISING: [Story; 5] = [
     },
 ];
 
-pub fn tell_promising(wrong: &mut WrongRows, rt: &impl Abort, alloc: Global) {
-    tell(wrong, rt, alloc, &PROMISING);
+// A body that names a table costs much to prove, so each table is handed on.
+pub fn promises() -> &'static [Story] {
+    &PROMISES
+}
+
+pub fn readers() -> &'static [Story] {
+    &READERS
 }

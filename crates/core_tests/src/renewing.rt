@@ -60,7 +60,8 @@ const NOT_TURNED: &[Line] = &[
     Line::Horizon(211),
 ];
 
-pub static RENEWED: [Row; 5] = [
+// When a log is turned over, and what its viewer sees.
+static RENEWED: [Row; 2] = [
     KEPT,
     Row {
         name: "a log is turned over once it has grown by so much, and is twice as long",
@@ -92,6 +93,10 @@ pub static RENEWED: [Row; 5] = [
         log: GROWN,
         ..KEPT
     },
+];
+
+// The horizon is raised before that.
+static RAISED: [Row; 3] = [
     // So far behind 400 is 211, where the second commit is.
     Row {
         name: "the horizon comes first",
@@ -144,3 +149,12 @@ pub static RENEWED: [Row; 5] = [
         ..KEPT
     },
 ];
+
+// A body that names a table costs much to prove, so each table is handed on.
+pub fn renewed() -> &'static [Row] {
+    &RENEWED
+}
+
+pub fn raised() -> &'static [Row] {
+    &RAISED
+}

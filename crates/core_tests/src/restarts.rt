@@ -2,12 +2,7 @@
 use crate::answers::Told;
 use crate::given::Given;
 use crate::logs::Line;
-use crate::nodes::{Ask, Asked, Moment, Story, tell};
-use made::WrongRows;
-use std::alloc::Global;
-use std::process::Abort;
-use std::sync::Wait;
-use std::thread::Threads;
+use crate::nodes::{Ask, Asked, Moment, Story};
 use units::{Fault, Reason, Seen};
 
 const FAILS: Asked = (250, 260, Ask::Advance(250, Err(Fault::Device)));
@@ -185,10 +180,10 @@ static ONCE: [Story; 1] = [Story {
     }],
 }];
 
-pub fn tell_nodes<R: Threads + Wait + Sync + Abort>(wrong: &mut WrongRows, rt: &R, alloc: Global) {
-    tell(wrong, rt, alloc, &NODES);
+pub fn nodes() -> &'static [Story] {
+    &NODES
 }
 
-pub fn tell_once<R: Threads + Wait + Sync + Abort>(wrong: &mut WrongRows, rt: &R, alloc: Global) {
-    tell(wrong, rt, alloc, &ONCE);
+pub fn once() -> &'static [Story] {
+    &ONCE
 }

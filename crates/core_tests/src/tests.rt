@@ -1,9 +1,11 @@
-//! The tests of cores, and of nodes with their viewers. A body that names several tables costs much to prove, so each has a function of its own.
+//! The tests of cores, and of nodes with their viewers. A body that names a table costs much to prove, so each has a function that hands it on.
 use crate::booked::keep_books;
+use crate::coordinating::coordinating;
+use crate::turned_nodes::turning;
 use crate::verdict::end;
+use crate::viewed::viewed;
 use crate::{
-    coordinating, damaged, one_commit, promising, reopening, restarts, served, together,
-    turned_nodes, viewed,
+    damaged, nodes, one_commit, promising, reopening, restarts, served, stories, together,
 };
 use made::WrongRows;
 
@@ -11,20 +13,28 @@ use made::WrongRows;
 #[test]
 fn always_memory(rt: HostRuntime) {
     let mut wrong = WrongRows::none(rt.alloc());
-    one_commit::tell_commits(&mut wrong, &rt, rt.alloc());
+    stories::tell(&mut wrong, &rt, rt.alloc(), one_commit::commits());
+    stories::tell(&mut wrong, &rt, rt.alloc(), one_commit::beside());
     end(&rt, wrong);
 }
 
 #[test]
 fn cores(rt: HostRuntime) {
     let mut wrong = WrongRows::none(rt.alloc());
-    one_commit::tell_failing(&mut wrong, &rt, rt.alloc());
-    coordinating::tell_coordinating(&mut wrong, &rt, rt.alloc());
-    promising::tell_promising(&mut wrong, &rt, rt.alloc());
-    served::tell_serving(&mut wrong, &rt, rt.alloc());
-    reopening::tell_reopened(&mut wrong, &rt, rt.alloc());
-    reopening::tell_armed(&mut wrong, &rt, rt.alloc());
-    reopening::tell_refused(&mut wrong, &rt, rt.alloc());
+    for table in [
+        one_commit::failing(),
+        coordinating(),
+        promising::promises(),
+        promising::readers(),
+        served::advances(),
+        served::looks(),
+        reopening::reopened(),
+        reopening::unended(),
+        reopening::armed(),
+        reopening::refused(),
+    ] {
+        stories::tell(&mut wrong, &rt, rt.alloc(), table);
+    }
     keep_books(&mut wrong, &rt, rt.alloc());
     end(&rt, wrong);
 }
@@ -56,8 +66,8 @@ fn shards_are_opened_side_by_side(rt: HostRuntime) {
 #[test]
 fn nodes_are_opened_again_and_turned_over(rt: HostRuntime) {
     let mut wrong = WrongRows::none(rt.alloc());
-    restarts::tell_nodes(&mut wrong, &rt, rt.alloc());
-    turned_nodes::tell_turning(&mut wrong, &rt, rt.alloc());
+    nodes::tell(&mut wrong, &rt, rt.alloc(), restarts::nodes());
+    nodes::tell(&mut wrong, &rt, rt.alloc(), turning());
     end(&rt, wrong);
 }
 
@@ -65,7 +75,7 @@ fn nodes_are_opened_again_and_turned_over(rt: HostRuntime) {
 #[test]
 fn each_call_is_one_input(rt: HostRuntime) {
     let mut wrong = WrongRows::none(rt.alloc());
-    restarts::tell_once(&mut wrong, &rt, rt.alloc());
+    nodes::tell(&mut wrong, &rt, rt.alloc(), restarts::once());
     end(&rt, wrong);
 }
 
@@ -73,6 +83,6 @@ fn each_call_is_one_input(rt: HostRuntime) {
 #[test]
 fn always_stopped_viewer(rt: HostRuntime) {
     let mut wrong = WrongRows::none(rt.alloc());
-    viewed::tell_viewed(&mut wrong, &rt, rt.alloc());
+    nodes::tell(&mut wrong, &rt, rt.alloc(), viewed());
     end(&rt, wrong);
 }

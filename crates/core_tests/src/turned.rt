@@ -1,12 +1,12 @@
 //! Logs that are turned over: of cores and desks, with each of its device calls failing, and where no slot is left.
 use crate::answers::Told;
 use crate::cores::formatted;
-use crate::forgetting::FORGOTTEN;
+use crate::forgetting::forgotten;
 use crate::given::Given;
 use crate::logs::Line;
-use crate::renewing::RENEWED;
+use crate::renewing::{raised, renewed};
 use crate::turned_rows::{
-    A, COMMIT, DONE, LEFT, LOOKED, NEW, OLD, SAID, SETTLE, SETTLED, STANDING,
+    A, COMMIT, DONE, LEFT, NEW, OLD, SAID, SETTLE, left_row, looked, settled, standing,
 };
 use crate::turning::{Ask, Asked, Kind, Row, go_on};
 use crate::verdict::end;
@@ -80,7 +80,7 @@ fn turnover_of(row: &Failing, call: u64) -> Row {
         fate: row.fate,
         log: if call < row.new_from { OLD } else { NEW },
         again: AGAIN,
-        ..LEFT
+        ..left_row()
     }
 }
 
@@ -171,19 +171,6 @@ fn tell_both<R: Wait + Abort>(wrong: &mut WrongRows, rt: &R, alloc: Global, rows
     tell(wrong, rt, alloc, Kind::Desk, rows);
 }
 
-// A body that names several tables costs much to prove, so each has a function of its own.
-fn tell_settled<R: Wait + Abort>(wrong: &mut WrongRows, rt: &R, alloc: Global) {
-    tell_both(wrong, rt, alloc, &SETTLED);
-}
-
-fn tell_looked<R: Wait + Abort>(wrong: &mut WrongRows, rt: &R, alloc: Global) {
-    tell_both(wrong, rt, alloc, &LOOKED);
-}
-
-fn tell_standing<R: Wait + Abort>(wrong: &mut WrongRows, rt: &R, alloc: Global) {
-    tell_both(wrong, rt, alloc, &STANDING);
-}
-
 fn tell_failing<R: Wait + Abort>(wrong: &mut WrongRows, rt: &R, alloc: Global) {
     for row in &FAILING {
         for call in 0..6 {
@@ -197,21 +184,13 @@ fn tell_spent<R: Wait + Abort>(wrong: &mut WrongRows, rt: &R, alloc: Global) {
     tell(wrong, rt, alloc, Kind::Desk, &SPENT_ROWS);
 }
 
-fn tell_renewed<R: Wait + Abort>(wrong: &mut WrongRows, rt: &R, alloc: Global) {
-    tell(wrong, rt, alloc, Kind::Desk, &RENEWED);
-}
-
-fn tell_forgotten<R: Wait + Abort>(wrong: &mut WrongRows, rt: &R, alloc: Global) {
-    tell(wrong, rt, alloc, Kind::Desk, &FORGOTTEN);
-}
-
 // What stands is there behind a turnover.
 #[test]
 fn logs_are_turned_over(rt: HostRuntime) {
     let mut wrong = WrongRows::none(rt.alloc());
-    tell_settled(&mut wrong, &rt, rt.alloc());
-    tell_looked(&mut wrong, &rt, rt.alloc());
-    tell_standing(&mut wrong, &rt, rt.alloc());
+    tell_both(&mut wrong, &rt, rt.alloc(), settled());
+    tell_both(&mut wrong, &rt, rt.alloc(), looked());
+    tell_both(&mut wrong, &rt, rt.alloc(), standing());
     end(&rt, wrong);
 }
 
@@ -227,7 +206,8 @@ fn turnovers_that_fail(rt: HostRuntime) {
 #[test]
 fn desks_renew_their_logs(rt: HostRuntime) {
     let mut wrong = WrongRows::none(rt.alloc());
-    tell_renewed(&mut wrong, &rt, rt.alloc());
-    tell_forgotten(&mut wrong, &rt, rt.alloc());
+    for rows in [renewed(), raised(), forgotten()] {
+        tell(&mut wrong, &rt, rt.alloc(), Kind::Desk, rows);
+    }
     end(&rt, wrong);
 }

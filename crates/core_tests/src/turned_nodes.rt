@@ -2,12 +2,7 @@
 use crate::answers::Told;
 use crate::given::Given;
 use crate::logs::Line;
-use crate::nodes::{Ask, Asked, Moment, Story, tell};
-use made::WrongRows;
-use std::alloc::Global;
-use std::process::Abort;
-use std::sync::Wait;
-use std::thread::Threads;
+use crate::nodes::{Ask, Asked, Moment, Story};
 use units::{Fault, Seen};
 
 const PROMISE: Asked = (
@@ -181,10 +176,6 @@ static TURNING: [Story; 4] = [
     },
 ];
 
-pub fn tell_turning<R: Threads + Wait + Sync + Abort>(
-    wrong: &mut WrongRows,
-    rt: &R,
-    alloc: Global,
-) {
-    tell(wrong, rt, alloc, &TURNING);
+pub fn turning() -> &'static [Story] {
+    &TURNING
 }

@@ -97,7 +97,7 @@ const WHOLE: Row = Row {
     then: REOPENED,
 };
 
-pub static SETTLED: [Row; 6] = [
+static SETTLED: [Row; 6] = [
     WHOLE,
     Row {
         name: "the same with a crash",
@@ -164,7 +164,7 @@ pub const LEFT: Row = Row {
     ..WHOLE
 };
 
-pub static LOOKED: [Row; 2] = [
+static LOOKED: [Row; 2] = [
     Row {
         name: "what is seen stays, and so does the horizon",
         asks: &[
@@ -216,7 +216,7 @@ pub static LOOKED: [Row; 2] = [
     },
 ];
 
-pub static STANDING: [Row; 4] = [
+static STANDING: [Row; 4] = [
     Row {
         name: "an abort stays",
         asks: &[
@@ -292,3 +292,25 @@ pub static STANDING: [Row; 4] = [
         ..LEFT
     },
 ];
+
+// A body that names a table or a long row costs much to prove, so each is handed on.
+
+/// A row of a log that is turned over and left to a crash.
+pub fn left_row() -> Row {
+    LEFT
+}
+
+/// Rows of the settled commit.
+pub fn settled() -> &'static [Row] {
+    &SETTLED
+}
+
+/// Rows of what is seen, and of horizons.
+pub fn looked() -> &'static [Row] {
+    &LOOKED
+}
+
+/// Rows of what has not ended.
+pub fn standing() -> &'static [Row] {
+    &STANDING
+}

@@ -2,12 +2,7 @@
 use crate::answers::Told;
 use crate::given::Given;
 use crate::logs::Line;
-use crate::nodes::{Ask, Moment, Story, tell};
-use made::WrongRows;
-use std::alloc::Global;
-use std::process::Abort;
-use std::sync::Wait;
-use std::thread::Threads;
+use crate::nodes::{Ask, Moment, Story};
 use units::{Fault, Seen};
 
 // A promise at 200, and two advances to 250 with the outcome between them.
@@ -83,6 +78,6 @@ static VIEWED: [Story; 1] = [Story {
     ],
 }];
 
-pub fn tell_viewed<R: Threads + Wait + Sync + Abort>(wrong: &mut WrongRows, rt: &R, alloc: Global) {
-    tell(wrong, rt, alloc, &VIEWED);
+pub fn viewed() -> &'static [Story] {
+    &VIEWED
 }

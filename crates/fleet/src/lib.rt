@@ -5,6 +5,7 @@ mod opening;
 mod steady;
 mod unopened;
 
+pub use node::Node;
 pub use opening::{Closes, Opened, open_shards, run_of};
 pub use steady::{SteadyClock, steady_over};
 pub use unopened::{Unopened, UnopenedIn};

@@ -29,6 +29,18 @@ pub fn go_over<R: Row>(wrong: &mut WrongRows, rt: &HostRuntime, area: &'static s
     }
 }
 
+/// Goes over the rows of an area that stand in several tables.
+pub fn go_over_all<R: Row>(
+    wrong: &mut WrongRows,
+    rt: &HostRuntime,
+    area: &'static str,
+    tables: &[&[R]],
+) {
+    for rows in tables {
+        go_over(wrong, rt, area, *rows);
+    }
+}
+
 /// Whether there is memory for the text, and it is this one.
 pub fn is_text(text: Result<String, AllocError>, wanted: &str) -> bool {
     match text {

@@ -1,5 +1,5 @@
 //! Lines of a drive, and its table.
-use crate::checks::{Row, go_over, is_text};
+use crate::checks::{Row, go_over_all, is_text};
 use made::WrongRows;
 use progress::{Ended, Progress, Turn};
 
@@ -21,7 +21,8 @@ pub struct Drive {
     table: &'static str,
 }
 
-static ROWS: [Drive; 6] = [
+// Turns of each kind, and of none.
+static KINDS: [Drive; 3] = [
     Drive {
         name: "nothing",
         turns: 200,
@@ -102,6 +103,10 @@ static ROWS: [Drive; 6] = [
             \x20aborts           0           -           -           -           -\n\
             \x20 looks           1           7           7           7           7\n",
     },
+];
+
+// What stands in the columns of the table.
+static COLUMNS: [Drive; 3] = [
     Drive {
         name: "none committed",
         turns: 3,
@@ -222,6 +227,15 @@ impl Row for Drive {
     }
 }
 
+// A body that names a table costs much to prove, so each is handed on.
+fn kinds() -> &'static [Drive] {
+    &KINDS
+}
+
+fn columns() -> &'static [Drive] {
+    &COLUMNS
+}
+
 pub fn tell_drives(wrong: &mut WrongRows, rt: &HostRuntime) {
-    go_over(wrong, rt, "lines", &ROWS);
+    go_over_all(wrong, rt, "lines", &[kinds(), columns()]);
 }

@@ -1,5 +1,5 @@
 //! The bytes of records.
-use crate::checks::{Row, go_over, is_spelled};
+use crate::checks::{Row, go_over, go_over_all, is_spelled};
 use crate::text_logs::record_of;
 use made::WrongRows;
 use record::Record;
@@ -173,7 +173,8 @@ pub struct Read {
     is_record: bool,
 }
 
-static READ: [Read; 55] = [
+// Unknown kinds, lengths that do not fit, and records of one number.
+static NUMBERS: [Read; 15] = [
     Read {
         what: "no byte",
         bytes: &[],
@@ -252,6 +253,10 @@ static READ: [Read; 55] = [
         bytes: &[7],
         is_record: false,
     },
+];
+
+// Promises and decisions.
+static DECISIONS: [Read; 6] = [
     Read {
         what: "reads a and b",
         bytes: READS,
@@ -297,7 +302,10 @@ static READ: [Read; 55] = [
         ],
         is_record: false,
     },
-    // Of a renewed log's head.
+];
+
+// Bases, of a renewed log's head.
+static BASES: [Read; 9] = [
     Read {
         what: "a base of its kind alone",
         bytes: &[8],
@@ -360,6 +368,10 @@ static READ: [Read; 55] = [
         ],
         is_record: true,
     },
+];
+
+// Versions and erasures.
+static VERSIONS: [Read; 11] = [
     Read {
         what: "a version of its kind alone",
         bytes: &[9],
@@ -415,6 +427,10 @@ static READ: [Read; 55] = [
         bytes: &[9, 1, 0x61, 0, 0, 0, 0, 0, 0, 0, 0x6f, 1, 0, 0],
         is_record: true,
     },
+];
+
+// Settled decisions and closed promises.
+static ENDED: [Read; 14] = [
     Read {
         what: "a settled decision of its kind alone",
         bytes: &[0x0a],
@@ -524,10 +540,36 @@ impl Row for Read {
     }
 }
 
+// A body that names a table costs much to prove, so each is handed on.
+fn numbers() -> &'static [Read] {
+    &NUMBERS
+}
+
+fn decisions() -> &'static [Read] {
+    &DECISIONS
+}
+
+fn bases() -> &'static [Read] {
+    &BASES
+}
+
+fn versions() -> &'static [Read] {
+    &VERSIONS
+}
+
+fn ended() -> &'static [Read] {
+    &ENDED
+}
+
 pub fn tell_vectors(wrong: &mut WrongRows, rt: &HostRuntime) {
     go_over(wrong, rt, "spellings", &VECTORS);
 }
 
 pub fn tell_read(wrong: &mut WrongRows, rt: &HostRuntime) {
-    go_over(wrong, rt, "bytes that are read", &READ);
+    go_over_all(
+        wrong,
+        rt,
+        "bytes that are read",
+        &[numbers(), decisions(), bases(), versions(), ended()],
+    );
 }

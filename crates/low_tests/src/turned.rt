@@ -1,5 +1,5 @@
 //! Logs that are turned over.
-use crate::checks::go_over;
+use crate::checks::go_over_all;
 use crate::files::{Case, Does, Place, open, put_lines};
 use crate::spellings::{COMMIT, OPENED, OUTCOME};
 use crate::text_logs::record_of;
@@ -57,7 +57,8 @@ const FAILED: Case = Case {
     ..WHOLE
 };
 
-static TURNED: [Case; 16] = [
+// Turnovers that go well, and what comes behind them.
+static TURNED: [Case; 5] = [
     Case {
         what: "one turnover, byte for byte",
         slots: Some((
@@ -106,6 +107,10 @@ static TURNED: [Case; 16] = [
         ends: Some((9369, 2)),
         ..WHOLE
     },
+];
+
+// One of the first four calls fails.
+static EARLY: [Case; 7] = [
     Case {
         what: "the first call fails",
         does: &[(Does::TurnsOver(AREA), Some(0), Err(Fault::Device))],
@@ -148,6 +153,10 @@ static TURNED: [Case; 16] = [
         does: &[(Does::TurnsOver(AREA), Some(3), Err(Fault::Device))],
         ..FAILED
     },
+];
+
+// A later call fails.
+static LATE: [Case; 4] = [
     Case {
         what: "the fifth call fails, with its change lost",
         does: &[(Does::TurnsOver(AREA), Some(4), Err(Fault::Device))],
@@ -243,6 +252,24 @@ pub fn ends(rt: &HostRuntime) -> bool {
     whole & last & spent & goes_on
 }
 
+// A body that names a table costs much to prove, so each is handed on.
+fn turned() -> &'static [Case] {
+    &TURNED
+}
+
+fn early() -> &'static [Case] {
+    &EARLY
+}
+
+fn late() -> &'static [Case] {
+    &LATE
+}
+
 pub fn tell_turned(wrong: &mut WrongRows, rt: &HostRuntime) {
-    go_over(wrong, rt, "logs that are turned over", &TURNED);
+    go_over_all(
+        wrong,
+        rt,
+        "logs that are turned over",
+        &[turned(), early(), late()],
+    );
 }

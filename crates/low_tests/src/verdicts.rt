@@ -57,7 +57,8 @@ const ONE_RENEWED: &[&str] = &[
     "base 1 200 0\nversion 200 z=2\nclosed 1.2 0 committed 200\nopened 2\n",
 ];
 
-static CASES: [Case; 44] = [
+// A commit at one shard, without horizons and with them.
+static SINGLE: [Case; 10] = [
     Case {
         name: "a whole report",
         logs: ONE_SHARD,
@@ -118,6 +119,10 @@ static CASES: [Case; 44] = [
         lines: "look a 111 =1\nread 1.2 a none\n",
         verdict: "no read 1",
     },
+];
+
+// Two commits in their order, and a commit of two shards.
+static ORDERED: [Case; 5] = [
     Case {
         name: "two shards",
         logs: TWO_SHARDS,
@@ -148,6 +153,10 @@ static CASES: [Case; 44] = [
         lines: "begin 1.2 4\nack 1.2 105 5\nack 1.1 111 6\nbegin 1.9 9\nbegin 1.2 9\n",
         verdict: "no order 4 1",
     },
+];
+
+// Logs that are torn, and one that is not.
+static TORN: [Case; 8] = [
     Case {
         name: "no promise",
         logs: &["opened 1\ncommit 1.2 200 0,1 - a=1\n", "opened 1\n"],
@@ -208,6 +217,10 @@ static CASES: [Case; 44] = [
         lines: "",
         verdict: "yes",
     },
+];
+
+// Versions of a key.
+static LOOKED: [Case; 4] = [
     Case {
         name: "versions in turn",
         logs: VERSIONS,
@@ -232,7 +245,10 @@ static CASES: [Case; 44] = [
         lines: "read 1.2 a =1\nread 1.3 a =1\n",
         verdict: "no read 1",
     },
-    // Of these nothing is read. The places of lines are those of all lines.
+];
+
+// Of renewed logs nothing is read. The places of lines are those of all lines.
+static RENEWED_LOGS: [Case; 10] = [
     Case {
         name: "a renewed log",
         logs: RENEWED,
@@ -296,6 +312,10 @@ static CASES: [Case; 44] = [
         lines: "ack 1.2 200 7\n",
         verdict: "yes",
     },
+];
+
+// What was settled or closed in renewed logs.
+static ENDED: [Case; 7] = [
     Case {
         name: "closed without its decision",
         logs: &[
@@ -385,14 +405,44 @@ fn has_its_verdict(alloc: Global, case: &Case) -> bool {
     read && given
 }
 
-// A body that names a table costs much to prove, so the table is handed on.
-fn cases() -> &'static [Case] {
-    &CASES
+// A body that names a table costs much to prove, so each is handed on.
+fn single() -> &'static [Case] {
+    &SINGLE
+}
+
+fn ordered() -> &'static [Case] {
+    &ORDERED
+}
+
+fn torn() -> &'static [Case] {
+    &TORN
+}
+
+fn looked() -> &'static [Case] {
+    &LOOKED
+}
+
+fn renewed_logs() -> &'static [Case] {
+    &RENEWED_LOGS
+}
+
+fn ended() -> &'static [Case] {
+    &ENDED
 }
 
 /// Goes over all rows.
 pub fn go_over(wrong: &mut WrongRows, alloc: Global) {
-    for case in cases() {
-        wrong.unless(has_its_verdict(alloc, case), case.name);
+    let tables = [
+        single(),
+        ordered(),
+        torn(),
+        looked(),
+        renewed_logs(),
+        ended(),
+    ];
+    for cases in &tables {
+        for case in *cases {
+            wrong.unless(has_its_verdict(alloc, case), case.name);
+        }
     }
 }

@@ -1,7 +1,7 @@
 //! The versions of keys.
 ghost use Rattle.std.specs.Prelude.{◌≡◌, ◌<◌, []};
 
-use crate::checks::{Row, byte, go_over};
+use crate::checks::{Row, byte, go_over_all};
 use crate::horizons::forget_both;
 use counts::Count;
 use made::{WrongRows, key, stamp};
@@ -140,7 +140,8 @@ const LATER: &[Version] = &[
     (b'd', 50, Some(b'8')),
 ];
 
-static LOOKED: [Looked; 18] = [
+// What is found at timestamps.
+static FOUND: [Looked; 5] = [
     Looked {
         what: "a value from its timestamp on",
         versions: &[(b'a', 111, Some(b'1')), (b'z', 200, Some(b'2'))],
@@ -201,7 +202,10 @@ static LOOKED: [Looked; 18] = [
         ],
         ..EMPTY
     },
-    // Those below a horizon are forgotten.
+];
+
+// Those below a horizon are forgotten.
+static FORGOTTEN: [Looked; 7] = [
     Looked {
         what: "the older of two goes",
         versions: TWO,
@@ -287,6 +291,10 @@ static LOOKED: [Looked; 18] = [
         ],
         ..EMPTY
     },
+];
+
+// Horizons over several keys, over none, and one behind another.
+static HORIZONS: [Looked; 6] = [
     Looked {
         what: "each key by itself",
         versions: SIX,
@@ -630,6 +638,19 @@ impl Row for Drawn {
     }
 }
 
+// A body that names a table costs much to prove, so each is handed on.
+fn found() -> &'static [Looked] {
+    &FOUND
+}
+
+fn forgotten() -> &'static [Looked] {
+    &FORGOTTEN
+}
+
+fn horizons() -> &'static [Looked] {
+    &HORIZONS
+}
+
 pub fn tell_looked(wrong: &mut WrongRows, rt: &HostRuntime) {
-    go_over(wrong, rt, "versions", &LOOKED);
+    go_over_all(wrong, rt, "versions", &[found(), forgotten(), horizons()]);
 }

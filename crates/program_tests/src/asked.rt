@@ -1,12 +1,12 @@
 //! Commands that ask the system for files, and some that do not; in rows of lines that come to the same.
-use crate::files::FILES;
+use crate::files::all_files;
 use crate::given::{AMPLE, Asked, Memory, REFUSED, TAKEN, Writes, comes_to};
 use made::WrongRows;
 use showing::stats_files;
 use std::alloc::Global;
 
-// What is printed, also beside a fault.
-static ANSWERED: [Asked; 43] = [
+// What commits, new logs, verdicts and drives print, also beside a fault.
+static JUDGED: [Asked; 11] = [
     Asked {
         lines: &[
             "once a 1 100 110 112 121",
@@ -90,6 +90,10 @@ static ANSWERED: [Asked; 43] = [
         refused: "fault: 2 Device\n",
         ..REFUSED
     },
+];
+
+// What dumps print.
+static DUMPED: [Asked; 6] = [
     Asked {
         lines: &["dump done.log"],
         printed: "9224 opened 1\n9238 commit 1.2 200 0 - a=1\n9280 outcome 1.2 committed 200\nclosed at 9311\n",
@@ -120,6 +124,10 @@ static ANSWERED: [Asked; 43] = [
         printed: "9224 opened 1\ntorn at 9238\n",
         ..TAKEN
     },
+];
+
+// What the numbers of logs print.
+static COUNTED: [Asked; 9] = [
     Asked {
         lines: &["stats done.log"],
         printed: "log done.log\nbytes 9312\nrecords 3\nopened 1\nceiling 0\nprepare 0\ncommit 1\nabort 0\noutcome 1\n\
@@ -195,6 +203,10 @@ static ANSWERED: [Asked; 43] = [
             keys 0\nversions 0\nepoch 0\nfloor 0\nin doubt 0\n",
         ..TAKEN
     },
+];
+
+// What is told of keys, and of writes to them.
+static TOLD: [Asked; 9] = [
     Asked {
         lines: &["history one a"],
         printed: "111 1.1 =1\n",
@@ -260,6 +272,10 @@ static ANSWERED: [Asked; 43] = [
         status: 1,
         ..TAKEN
     },
+];
+
+// What is told of renewed logs.
+static RENEWED: [Asked; 8] = [
     Asked {
         lines: &["history renewed a"],
         printed: "111 - =1\n200 - none\n400 1.4 =7 decided\n",
@@ -309,8 +325,8 @@ static ANSWERED: [Asked; 43] = [
     },
 ];
 
-// Refusals: nothing but a fault is told.
-static REFUSALS: [Asked; 14] = [
+// Words that are refused: nothing but a fault is told.
+static REFUSED_WORDS: [Asked; 4] = [
     Asked {
         lines: &[
             "once a 1 110 100 112 121",
@@ -369,6 +385,10 @@ static REFUSALS: [Asked; 14] = [
         refused: "fault: 7 BadRequest(key)\n",
         ..REFUSED
     },
+];
+
+// Files that are refused: nothing but a fault is told.
+static REFUSED_FILES: [Asked; 10] = [
     Asked {
         lines: &[
             "format opened.log",
@@ -528,25 +548,72 @@ static FAILING: [Asked; 4] = [
     },
 ];
 
+// A body that names a table costs much to prove, so each is handed on.
+fn judged() -> &'static [Asked] {
+    &JUDGED
+}
+
+fn dumped() -> &'static [Asked] {
+    &DUMPED
+}
+
+fn counted() -> &'static [Asked] {
+    &COUNTED
+}
+
+fn told() -> &'static [Asked] {
+    &TOLD
+}
+
+fn renewed() -> &'static [Asked] {
+    &RENEWED
+}
+
+fn helped() -> &'static [Asked] {
+    &HELP
+}
+
+fn failing() -> &'static [Asked] {
+    &FAILING
+}
+
+fn refused_words() -> &'static [Asked] {
+    &REFUSED_WORDS
+}
+
+fn refused_files() -> &'static [Asked] {
+    &REFUSED_FILES
+}
+
 // Goes over the lines of some rows.
 fn go_over(wrong: &mut WrongRows, alloc: Global, rows: &[Asked]) {
     for row in rows {
         for line in row.lines {
-            wrong.unless(comes_to(alloc, &FILES, line, row), line);
+            wrong.unless(comes_to(alloc, &all_files(), line, row), line);
         }
     }
 }
 
 /// Goes over what is answered, also of help and where a write fails.
 pub fn go_over_answers(wrong: &mut WrongRows, alloc: Global) {
-    go_over(wrong, alloc, &ANSWERED);
-    go_over(wrong, alloc, &HELP);
-    go_over(wrong, alloc, &FAILING);
+    for rows in [
+        judged(),
+        dumped(),
+        counted(),
+        told(),
+        renewed(),
+        helped(),
+        failing(),
+    ] {
+        go_over(wrong, alloc, rows);
+    }
 }
 
 /// Goes over what is refused.
 pub fn go_over_refusals(wrong: &mut WrongRows, alloc: Global) {
-    go_over(wrong, alloc, &REFUSALS);
+    for rows in [refused_words(), refused_files()] {
+        go_over(wrong, alloc, rows);
+    }
 }
 
 /// Of no log nothing is told. No command line asks for that.

@@ -1,7 +1,8 @@
 //! Runs of which a part counts most: a promise, an outcome that comes twice, a question, a vote that comes first.
 use crate::comparing::Case;
 
-pub static CASES: [Case; 12] = [
+// Promises, outcomes, questions and votes.
+static MESSAGES: [Case; 6] = [
     // A promise at 200 holds the served time of its shard below it.
     Case {
         name: "a promise holds the served time",
@@ -197,6 +198,10 @@ begin 1.2 0
 verdict yes
 ",
     },
+];
+
+// Further votes, sessions that end, reads, views and horizons.
+static READS: [Case; 6] = [
     // Three parts. The first vote is the greatest, since shard 1 has served up to 199; the timestamp is not below it.
     Case {
         name: "the first vote is the greatest",
@@ -494,3 +499,17 @@ verdict yes
 ",
     },
 ];
+
+// A body that names a table costs much to prove, so each is handed on.
+fn messages() -> &'static [Case] {
+    &MESSAGES
+}
+
+fn reads() -> &'static [Case] {
+    &READS
+}
+
+/// All rows.
+pub fn cases() -> [&'static [Case]; 2] {
+    [messages(), reads()]
+}

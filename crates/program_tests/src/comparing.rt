@@ -33,7 +33,7 @@ pub fn reports(alloc: Global, schedule: &str, wanted: &str) -> bool {
         path: "a.schedule",
         bytes: schedule.as_bytes(),
     };
-    let printed = print(alloc, &[file], PLAY, AMPLE);
+    let printed = print(alloc, &[&[file]], PLAY, AMPLE);
     let right = match str::from_utf8(&printed.out) {
         Ok(report) => is_wanted(report, wanted),
         Err(_) => false,
@@ -43,10 +43,12 @@ pub fn reports(alloc: Global, schedule: &str, wanted: &str) -> bool {
     right
 }
 
-/// Goes over schedules, which come to what is wanted.
-pub fn go_over(wrong: &mut WrongRows, alloc: Global, cases: &[Case]) {
-    for case in cases {
-        let right = reports(alloc, case.schedule, case.report);
-        wrong.unless(right, case.name);
+/// Goes over tables of schedules, which come to what is wanted.
+pub fn go_over(wrong: &mut WrongRows, alloc: Global, tables: &[&[Case]]) {
+    for cases in tables {
+        for case in *cases {
+            let right = reports(alloc, case.schedule, case.report);
+            wrong.unless(right, case.name);
+        }
     }
 }

@@ -1,7 +1,8 @@
 //! Runs with crashes, failing calls and openings.
 use crate::comparing::Case;
 
-pub static CRASHES: [Case; 9] = [
+// Crashes between events, and a lost outcome.
+static CRASHES: [Case; 5] = [
     // A ceiling is above the time that was served before the crash. What is promised behind the opening is above the ceiling. A
     // view is answered while its shard is down.
     Case {
@@ -222,6 +223,10 @@ look z 200 =2
 verdict yes
 ",
     },
+];
+
+// Crashes in device calls, and failing calls.
+static CALLS: [Case; 4] = [
     // The crash comes behind the last call of a settling, so its message is not put out. The Commit is delivered once more, and
     // its answer acknowledges. The promise's vote is the same as before a crash.
     Case {
@@ -427,3 +432,17 @@ verdict yes
 ",
     },
 ];
+
+// A body that names a table costs much to prove, so each is handed on.
+fn between() -> &'static [Case] {
+    &CRASHES
+}
+
+fn in_calls() -> &'static [Case] {
+    &CALLS
+}
+
+/// All rows.
+pub fn crashes() -> [&'static [Case]; 2] {
+    [between(), in_calls()]
+}

@@ -2,7 +2,7 @@
 //! Then the shard is opened, each message comes once more, the transaction is settled, and each message comes again. In the end it is
 //! committed on all three, at one timestamp. So it is too where each shard's log was turned over behind the decision.
 use crate::given::{AMPLE, File, PLAY, print};
-use crate::stops::{STOPS, Stop};
+use crate::stops::{Stop, all_stops};
 use made::WrongRows;
 use std::alloc::{AllocError, Global};
 
@@ -125,6 +125,15 @@ const TURNED: &str = "236 turn 0
 236 turn 2
 ";
 
+// A body that names a table costs much to prove, so each is handed on.
+fn steps() -> &'static [Step] {
+    &STEPS
+}
+
+fn all_stopped() -> &'static [Stopped] {
+    &STOPPED
+}
+
 // Adds the events up to the stop, and the opening behind it.
 fn add_stop(
     text: &mut String,
@@ -134,7 +143,7 @@ fn add_stop(
     turned: bool,
 ) -> Result<(), AllocError> {
     text.push_str(BEGUN)?;
-    for (place, step) in STEPS.iter().enumerate() {
+    for (place, step) in steps().iter().enumerate() {
         let Step { time, shard, act } = step;
         if turned && place == DECISION + 1 {
             text.push_str(TURNED)?;
@@ -158,7 +167,7 @@ fn played(alloc: Global, text: &str) -> Vec<u8> {
         path: "a.schedule",
         bytes: text.as_bytes(),
     };
-    print(alloc, &[file], PLAY, AMPLE).out
+    print(alloc, &[&[file]], PLAY, AMPLE).out
 }
 
 // How many messages a schedule puts out.
@@ -265,7 +274,7 @@ fn is_so(alloc: Global, stopped: &Stopped, stop: &Stop, call: u64, turned: bool)
 // A stop in each call comes to what the row says. Its place is that of the stop, and the call. The byte of an open gate makes its write whole,
 // as the fate `new` does, and is not tried.
 fn go_over_calls(wrong: &mut WrongRows, alloc: Global, stopped: &Stopped, turned: bool) {
-    for (number, stop) in STOPS.iter().enumerate() {
+    for (number, stop) in all_stops().iter().enumerate() {
         let calls = if stop.fate == " a5" { 0 } else { CALLS };
         for call in 0..calls {
             let place = (number as u64).saturating_mul(10).saturating_add(call);
@@ -277,7 +286,7 @@ fn go_over_calls(wrong: &mut WrongRows, alloc: Global, stopped: &Stopped, turned
 
 /// Goes over all rows, and those behind the decision once more where each shard's log was turned over behind it.
 pub fn go_over(wrong: &mut WrongRows, alloc: Global) {
-    for stopped in &STOPPED {
+    for stopped in all_stopped() {
         go_over_calls(wrong, alloc, stopped, false);
         if stopped.place > DECISION {
             go_over_calls(wrong, alloc, stopped, true);

@@ -19,7 +19,8 @@ const OF_SHARD_1: &[u8] = b"SPNLOG02\xa5\0\0\0\x09\x01\0\0\0\0\0\0\0\x01\
     \xa5\0\0\0\x24\x03\0\0\0\0\0\0\0\x01\0\0\0\0\0\0\0\x06\0\0\0\0\0\0\0\x01\xfe\0\0\0\x01\x01y\x01\0\x014\
     \xa5\0\0\0\x12\x06\0\0\0\0\0\0\0\x01\0\0\0\0\0\0\0\x06\0\0";
 
-pub static FILES: [File<'static>; 60] = [
+// Texts and lists of lines.
+static LISTS: [File<'static>; 7] = [
     File {
         path: "empty",
         bytes: b"",
@@ -48,6 +49,10 @@ pub static FILES: [File<'static>; 60] = [
         path: "right.lines",
         bytes: b"begin 1.2 2\nack 1.2 200 3\nlook a 200 =1\nlook a 199 none\n",
     },
+];
+
+// Logs.
+static LOGS: [File<'static>; 13] = [
     // Opened 1.
     File {
         path: "opened.log",
@@ -119,6 +124,10 @@ pub static FILES: [File<'static>; 60] = [
             \xa5\0\0\0\x09\x02\0\0\0\0\0\0\x01,\
             \xa5\0\0\0\x09\x07\0\0\0\0\0\0\0\xc8\0",
     },
+];
+
+// Settings of drives.
+static SETTINGS: [File<'static>; 4] = [
     File {
         path: "good.settings",
         bytes: b"shards = 2\nsplits = [\"k0005\"]\nstride = 1000\nepsilon = 100\nworkers = 4\ntransactions = 50\nkeys = 10\n",
@@ -135,6 +144,10 @@ pub static FILES: [File<'static>; 60] = [
         path: "unknown.settings",
         bytes: b"shards = 1\nsplits = []\nstride = 0\nepsilon = 0\nworkers = 1\ntransactions = 1\nkeys = 1\nkey = 1\n",
     },
+];
+
+// Stores with their logs, or with those of others.
+static STORES: [File<'static>; 11] = [
     File {
         path: "one/store.toml",
         bytes: ONE_SHARD,
@@ -191,6 +204,10 @@ pub static FILES: [File<'static>; 60] = [
         path: "bare/shard-0.log",
         bytes: BARE,
     },
+];
+
+// Stores without a log, and manifests that are odd or none.
+static FAULTY: [File<'static>; 8] = [
     File {
         path: "cut/store.toml",
         bytes: ONE_SHARD,
@@ -224,6 +241,10 @@ pub static FILES: [File<'static>; 60] = [
         path: "bytes/shard-0.log",
         bytes: BARE,
     },
+];
+
+// Logs whose numbers are told.
+static COUNTED: [File<'static>; 5] = [
     // Opened 1; Commit 1.2 at 200 by shard 0, with a=1; Abort 1.3; Ceiling 300; Opened 2; and behind the closed gate what a crash left.
     File {
         path: "kinds.log",
@@ -263,6 +284,10 @@ pub static FILES: [File<'static>; 60] = [
             \xa5\0\0\0\x1f\x04\0\0\0\0\0\0\0\x01\0\0\0\0\0\0\0\x02\0\0\0\0\0\0\0\xc8\0\x01\0\0\0\0\
             \xa5\0\0\0\x1f\x04\0\0\0\0\0\0\0\x01\0\0\0\0\0\0\0\x03\0\0\0\0\0\0\x01\x2c\0\x02\0\0\0\0\0",
     },
+];
+
+// Renewed logs, and what is asked of them.
+static RENEWED: [File<'static>; 6] = [
     File {
         path: "renewed/store.toml",
         bytes: TWO_SHARDS,
@@ -303,6 +328,10 @@ pub static FILES: [File<'static>; 60] = [
         bytes: b"SPNLOG02\xa5\0\0\0\x09\x01\0\0\0\0\0\0\0\x01\
             \xa5\0\0\0\x19\x08\0\0\0\0\0\0\0\x01\0\0\0\0\0\0\0\0\0\0\0\0\0\0\0\0\0",
     },
+];
+
+// A schedule, settings that are refused, and logs that are there.
+static GIVEN: [File<'static>; 6] = [
     // Two events, the second of which may not happen.
     File {
         path: "a.schedule",
@@ -329,3 +358,50 @@ pub static FILES: [File<'static>; 60] = [
         bytes: CUT,
     },
 ];
+
+// A body that names a table costs much to prove, so each is handed on.
+fn lists() -> &'static [File<'static>] {
+    &LISTS
+}
+
+fn logs() -> &'static [File<'static>] {
+    &LOGS
+}
+
+fn settings() -> &'static [File<'static>] {
+    &SETTINGS
+}
+
+fn stores() -> &'static [File<'static>] {
+    &STORES
+}
+
+fn faulty() -> &'static [File<'static>] {
+    &FAULTY
+}
+
+fn counted() -> &'static [File<'static>] {
+    &COUNTED
+}
+
+fn renewed() -> &'static [File<'static>] {
+    &RENEWED
+}
+
+fn given() -> &'static [File<'static>] {
+    &GIVEN
+}
+
+/// All files. No two have one path.
+pub fn all_files() -> [&'static [File<'static>]; 8] {
+    [
+        lists(),
+        logs(),
+        settings(),
+        stores(),
+        faulty(),
+        counted(),
+        renewed(),
+        given(),
+    ]
+}

@@ -16,17 +16,19 @@ pub struct File<'f> {
     pub bytes: &'f [u8],
 }
 
-//// Some files.
+/// Some files, in a few lists.
 #[derive(Clone, Copy)]
 pub struct Memory<'f> {
-    pub files: &'f [File<'f>],
+    pub files: &'f [&'f [File<'f>]],
 }
 
 impl<'f> Memory<'f> {
     fn file(&self, path: &str) -> Option<&'f [u8]> {
-        for file in self.files {
-            if file.path == path {
-                return Some(file.bytes);
+        for files in self.files {
+            for file in *files {
+                if file.path == path {
+                    return Some(file.bytes);
+                }
             }
         }
         None
@@ -141,7 +143,7 @@ pub struct Printed {
 }
 
 /// Carries a command line over some files out. Where memory is wanting for its words it has none.
-pub fn print(alloc: Global, files: &[File<'_>], line: &str, writes: Writes) -> Printed {
+pub fn print(alloc: Global, files: &[&[File<'_>]], line: &str, writes: Writes) -> Printed {
     let words = match words_of(alloc, line) {
         Ok(words) => words,
         Err(_) => Vec::new(alloc),
@@ -210,7 +212,7 @@ pub fn words_of(alloc: Global, line: &str) -> Result<Vec<&str>, AllocError> {
 }
 
 /// Whether a line over some files comes to what the row says.
-pub fn comes_to(alloc: Global, files: &[File<'_>], line: &str, row: &Asked) -> bool {
+pub fn comes_to(alloc: Global, files: &[&[File<'_>]], line: &str, row: &Asked) -> bool {
     let printed = print(alloc, files, line, row.writes);
     let wanted = row.printed.as_bytes();
     let right = printed.out.starts_with(wanted)

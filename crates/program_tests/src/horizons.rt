@@ -1,7 +1,7 @@
 //! A shard forgets what is below a horizon: nothing above what it serves, and what is forgotten stays so, also behind an opening.
 use crate::comparing::Case;
 
-pub static HORIZONS: [Case; 3] = [
+static HORIZONS: [Case; 3] = [
     // Shard 1 has z=1 at 200 and z=2 at 300, and serves up to 400. The promise at 410 holds its served time at 409. The views of before
     // show what they did; that of the second advance has the horizon of its moment.
     Case {
@@ -198,3 +198,8 @@ verdict yes
 ",
     },
 ];
+
+/// All rows.
+pub fn horizons() -> &'static [Case] {
+    &HORIZONS
+}

@@ -12,7 +12,7 @@ pub struct Stop {
     pub kept: u64,
 }
 
-pub static STOPS: [Stop; 5] = [
+static STOPS: [Stop; 5] = [
     Stop {
         word: "crash",
         fate: " old",
@@ -361,7 +361,7 @@ stride 0
 
 // A stop in each call comes to what the row says, and so does a crash behind the last. The place is that of the stop, and of the call.
 fn go_over_calls(wrong: &mut WrongRows, alloc: Global, act: &Act) {
-    for (number, stop) in STOPS.iter().enumerate() {
+    for (number, stop) in all_stops().iter().enumerate() {
         let calls = if stop.fails() {
             act.calls
         } else {
@@ -430,10 +430,10 @@ verdict yes
 
 /// Goes over all rows.
 pub fn go_over(wrong: &mut WrongRows, alloc: Global) {
-    for row in &FAILED {
+    for row in all_failed() {
         wrong.unless(has_failed(alloc, row), row.name);
     }
-    for act in &ACTS {
+    for act in all_acts() {
         go_over_calls(wrong, alloc, act);
     }
     for call in 0..5 {
@@ -442,4 +442,17 @@ pub fn go_over(wrong: &mut WrongRows, alloc: Global) {
         }
     }
     wrong.unless(is_spent(alloc), "slots");
+}
+
+// A body that names a table costs much to prove, so each is handed on.
+pub fn all_stops() -> &'static [Stop] {
+    &STOPS
+}
+
+fn all_failed() -> &'static [Failed] {
+    &FAILED
+}
+
+fn all_acts() -> &'static [Act] {
+    &ACTS
 }

@@ -1,8 +1,8 @@
 //! The tests of written runs and of the program, each of some areas.
-use crate::cases::CASES;
-use crate::crashes::CRASHES;
-use crate::horizons::HORIZONS;
-use crate::turnovers::TURNOVERS;
+use crate::cases::cases;
+use crate::crashes::crashes;
+use crate::horizons::horizons;
+use crate::turnovers::turnovers;
 use crate::verdict::end;
 use crate::{
     asked, comparing, each_call, outside, places, played, schedule_texts, stops, unlawful, words,
@@ -30,10 +30,10 @@ fn answers(rt: HostRuntime) {
 fn whole_runs(rt: HostRuntime) {
     let alloc = rt.alloc();
     let mut wrong = WrongRows::none(alloc);
-    comparing::go_over(wrong.of("runs"), alloc, &CASES);
-    comparing::go_over(wrong.of("crashes"), alloc, &CRASHES);
-    comparing::go_over(wrong.of("horizons"), alloc, &HORIZONS);
-    comparing::go_over(wrong.of("turnovers"), alloc, &TURNOVERS);
+    comparing::go_over(wrong.of("runs"), alloc, &cases());
+    comparing::go_over(wrong.of("crashes"), alloc, &crashes());
+    comparing::go_over(wrong.of("horizons"), alloc, &[horizons()]);
+    comparing::go_over(wrong.of("turnovers"), alloc, &[turnovers()]);
     end(&rt, wrong);
 }
 

@@ -1,7 +1,7 @@
 //! A shard's log is turned over: it then begins with a base, and keeps what it said.
 use crate::comparing::Case;
 
-pub static TURNOVERS: [Case; 5] = [
+static TURNOVERS: [Case; 5] = [
     Case {
         name: "a settled commit is turned over, and asked for again",
         schedule: "shards 2
@@ -227,3 +227,8 @@ verdict yes
 ",
     },
 ];
+
+/// All rows.
+pub fn turnovers() -> &'static [Case] {
+    &TURNOVERS
+}

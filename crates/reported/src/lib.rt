@@ -4,3 +4,4 @@
 mod laws;
 
 pub use laws::reports;
+pub use playing::{Report, play};

@@ -157,6 +157,7 @@ fn services_hear_of_stopped_shards(rt: HostRuntime) {
 
 // The run of a transaction's id, and the timestamp of a view that was answered.
 fn seen<R: Wait + time::Clock>(clients: Vec<Client<'_, R>>) -> Option<(u64, u64)> {
+    let key = Key::new(KEYS[0]).ok()?;
     let mut clients = clients;
     let mut client = clients.pop()?;
     let mut run = 0;
@@ -166,7 +167,7 @@ fn seen<R: Wait + time::Clock>(clients: Vec<Client<'_, R>>) -> Option<(u64, u64)
     });
     let mut at = 0;
     if let Some(mut view) = client.view() {
-        if view.get(&Key::new(KEYS[0]).ok()?).is_ok() {
+        if view.get(&key).is_ok() {
             at = view.at().micros();
         }
     }

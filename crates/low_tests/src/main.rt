@@ -80,3 +80,6 @@ mod turned;
 mod verdicts;
 #[cfg(test)]
 mod versioned;
+
+// These are tests alone. A program is built sooner than a library (docs/GATE.md).
+fn main() {}
