@@ -51,7 +51,8 @@ module _ (sc : Scene) (n : ℕ) (old new : ShardNow) (there : slice_get sc.world
     sent = λ e h. h;
     lines = λ l h. h;
     times = λ i time h. h;
-    came = λ a h. h;
+    asked = λ r h. h;
+    decided = λ n c h. h;
     now = omega arith;
     closed = λ t messages h. record { client = h.client; there = h.there; closed = h.closed; same = h.same };
     logs = logs_grow;

@@ -37,7 +37,7 @@ use Rattle.law.proofs.Members.{among_cases, among_left}
 use Rattle.world.proofs.Places.{with_record}
 use Rattle.law.proofs.Moves.{LoggedEvidence, ChangeEvidence, PlannedEvidence}
 use Rattle.law.proofs.Picked.{some_same}
-use Rattle.law.proofs.Steps.{Knows, Heard, planned}
+use Rattle.law.proofs.Steps.{Knows, Heard, IsAsked, planned}
 use Rattle.law.proofs.Grows.{Within, Grows, rows_stay}
 use Rattle.law.proofs.Orderly.{IsOrderly}
 use Rattle.law.proofs.Recorded.{rebuilt_rows, statuses}
@@ -58,7 +58,8 @@ grows_same sc = record {
   sent = λ e h. h;
   lines = λ l h. h;
   times = λ i time h. h;
-  came = λ a h. h;
+  asked = λ r h. h;
+  decided = λ n c h. h;
   now = omega arith;
   closed = λ t messages h. h;
   logs = λ n r h. h;
@@ -112,7 +113,7 @@ get_among (y ∷ ys) (suc i) x e = inr (get_among ys i x e)
 -- a reading and an input were honestly given
 abbrev pub Given : Scene → ℕ → Option (Interval × Input) → Type 0
 Given sc n None = Unit {0}
-Given sc n (Some p) = Heard sc n p.1 × (p.0.earliest ≤ sc.now) × (sc.now ≤ p.0.latest)
+Given sc n (Some p) = Heard sc n p.0 p.1 × (p.0.earliest ≤ sc.now) × (sc.now ≤ p.0.latest)
 
 pub sent_to : (sc : Scene) (n m : ℕ) (e : Envelope) → slice_get sc.world.bag m ≡ Some e → goes_to n e ≡ true → Sent sc.world n e.message
 sent_to sc n m e is goes = by_address e.to refl goes
@@ -126,15 +127,13 @@ sent_to sc n m e is goes = by_address e.to refl goes
 honest_given : (sc : Scene) (now : Interval) → (nat_le now.earliest sc.now && nat_le sc.now now.latest) ≡ true → (now.earliest ≤ sc.now) × (sc.now ≤ now.latest)
 honest_given sc now h = let p = and_parts _ _ h in (leb-true _ _ p.0, leb-true _ _ p.1)
 
--- what a doing hands to its shard came now
-abbrev pub HasCome : Scene → ℕ → Doing → Type 0
-HasCome sc n doing =
-    (now : Interval) (m : Message) → input_of sc.world.bag doing ≡ Some (now, Input.Deliver m) →
-    IsAmong sc.came (record { shard = n; message = m; time = sc.now })
+-- what a doing asks of its shard is asked now
+abbrev pub IsAskedNow : Scene → ℕ → Doing → Type 0
+IsAskedNow sc n doing = (p : Interval × Input) → input_of sc.world.bag doing ≡ Some p → IsAsked sc n p.0 p.1
 
--- and so is what an act hands to one
-abbrev pub HasComeBy : Scene → Act → Type 0
-HasComeBy sc a = (n : ℕ) (doing : Doing) → doing_of sc.world a ≡ Some (n, doing) → HasCome sc n doing
+-- and so is what an act asks of one
+abbrev pub IsAskedBy : Scene → Act → Type 0
+IsAskedBy sc a = (n : ℕ) (doing : Doing) → doing_of sc.world a ≡ Some (n, doing) → IsAskedNow sc n doing
 
 -- a delivery to a shard is a doing of it
 pub delivers_to : (sc : Scene) (m : ℕ) (now : Interval) (e : Envelope) (n : ℕ) → slice_get sc.world.bag m ≡ Some e → e.to ≡ Shard n →
@@ -149,30 +148,30 @@ delivers_to sc m now e n is goes =
 
 -- a message that was put out for a shard is honestly given to it
 pub delivered : (sc : Scene) (m : ℕ) (now : Interval) (e : Envelope) (n : ℕ) → slice_get sc.world.bag m ≡ Some e → e.to ≡ Shard n →
-    (sc.now ≤ now.latest) × (now.earliest ≤ sc.now) → HasComeBy sc (Act.Deliver m now) → Given sc n (input_of sc.world.bag (Doing.Take m now))
-delivered sc m now e n is goes honest came =
+    (sc.now ≤ now.latest) × (now.earliest ≤ sc.now) → IsAskedBy sc (Act.Deliver m now) → Given sc n (input_of sc.world.bag (Doing.Take m now))
+delivered sc m now e n is goes honest asks =
     let hand = ap (option_map (λ x. (now, Input.Deliver x.message))) is in
     let sent : Sent sc.world n e.message = subst (λ (a : Address). IsAmong sc.world.bag (record { to = a; message = e.message })) goes
     (get_among sc.world.bag m e is) in
     subst (Given sc n) (sym hand)
-    ((sent, came n (Doing.Take m now) (delivers_to sc m now e n is goes) now e.message hand), honest.1, honest.0)
+    ((sent, asks n (Doing.Take m now) (delivers_to sc m now e n is goes) (now, Input.Deliver e.message) hand), honest.1, honest.0)
 
-pub given : (sc : Scene) (n : ℕ) (doing : Doing) → may_do sc.world sc.now n doing ≡ true → HasCome sc n doing → Given sc n (input_of sc.world.bag doing)
-given sc n (Doing.Take m now) h came =
+pub given : (sc : Scene) (n : ℕ) (doing : Doing) → may_do sc.world sc.now n doing ≡ true → IsAskedNow sc n doing → Given sc n (input_of sc.world.bag doing)
+given sc n (Doing.Take m now) h asks =
     by_message (slice_get sc.world.bag m) refl (honest_given sc now (and_parts _ _ h).0) (and_parts _ _ h).1
   where
     by_message : (o : Option Envelope) → slice_get sc.world.bag m ≡ o → (now.earliest ≤ sc.now) × (sc.now ≤ now.latest) → when (goes_to n) o ≡ true →
         Given sc n (option_map (λ e. (now, Input.Deliver e.message)) o)
     by_message None is honest goes = tt
     by_message (Some e) is honest goes =
-        ((sent_to sc n m e is goes, came now e.message (ap (option_map (λ x. (now, Input.Deliver x.message))) is)), honest.0, honest.1)
-given sc n (Doing.Resume now) h came = let p = honest_given sc now h in (tt, p.0, p.1)
-given sc n (Doing.Settle t now) h came = let p = honest_given sc now h in (tt, p.0, p.1)
-given sc n (Doing.Advance at now) h came = let p = honest_given sc now (and_parts _ _ h).0 in (tt, p.0, p.1)
-given sc n (Doing.Forget at now) h came = let p = honest_given sc now (and_parts _ _ h).0 in (tt, p.0, p.1)
-given sc n (Doing.Nudge t now) h came = let p = honest_given sc now h in (tt, p.0, p.1)
-given sc n Doing.Turn h came = tt
-given sc n Doing.Open h came = tt
+        ((sent_to sc n m e is goes, asks (now, Input.Deliver e.message) (ap (option_map (λ x. (now, Input.Deliver x.message))) is)), honest.0, honest.1)
+given sc n (Doing.Resume now) h asks = let p = honest_given sc now h in (tt, p.0, p.1)
+given sc n (Doing.Settle t now) h asks = let p = honest_given sc now h in (tt, p.0, p.1)
+given sc n (Doing.Advance at now) h asks = let p = honest_given sc now (and_parts _ _ h).0 in (tt, p.0, p.1)
+given sc n (Doing.Forget at now) h asks = let p = honest_given sc now (and_parts _ _ h).0 in (tt, p.0, p.1)
+given sc n (Doing.Nudge t now) h asks = let p = honest_given sc now h in (tt, p.0, p.1)
+given sc n Doing.Turn h asks = tt
+given sc n Doing.Open h asks = tt
 
 -- ---- a doing of a shard
 

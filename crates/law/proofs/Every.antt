@@ -11,7 +11,6 @@ use Rattle.truetime.specs.Reading.{is_honest}
 use Rattle.message.specs.declared.message.Address.{Address}
 use Rattle.message.specs.declared.message.Address.TheVariants.{Shard, Session}
 use Rattle.message.specs.declared.message.Envelope.{Envelope}
-use Rattle.message.specs.declared.message.Message.{Message}
 use Rattle.session.specs.Sessions.{Client}
 use Rattle.world.specs.World.{World, After, ShardNow, client_of, input_of, at_shard, do_at, deliver_to, acts, happens, ticked, start, run, run_from}
 use Rattle.world.specs.World.{setup_of, did, effect, did_with_failure, crashed, crashed_in, set_shard, to_session, refused, look_noted, look_shard}
@@ -22,8 +21,7 @@ use Rattle.world.specs.declared.event.Config.{Config}
 use Rattle.world.specs.declared.event.Doing.{Doing}
 use Rattle.world.specs.declared.event.Event.{Event}
 use Rattle.world.specs.declared.event.Reply.{Reply}
-use Rattle.law.specs.Among.{IsAmong}
-use Rattle.law.specs.Arrivals.{Arrival, CameIn, arrivals, brought, handed}
+use Rattle.law.specs.Requests.{Request, asked, asked_by}
 use Rattle.law.specs.Evidence.{Scene, RecordEvidence, Holds, ShardEvidence}
 use Rattle.world.specs.Steady.{IsSteady, AlwaysSteady}
 use Rattle.world.proofs.Places.{replicated}
@@ -33,8 +31,7 @@ use Rattle.law.proofs.Sessions.{begin_holds}
 use Rattle.law.proofs.Closings.{AfterHolds, reads_hold, writes_hold, closes_hold, quits_hold, to_session_holds, look_holds}
 use Rattle.law.proofs.Logged.{each_logged}
 use Rattle.law.proofs.Recorded.{rebuilt_rows}
-use Rattle.law.proofs.Doings.{Given, HasComeBy, delivered, given}
-use Rattle.law.proofs.Members.{among_cases, among_left, among_right}
+use Rattle.law.proofs.Doings.{Given, IsAskedBy, delivered, given}
 use Rattle.law.proofs.Shards.{doing_holds, plain_crash_holds, crash_within_holds, failure_holds}
 
 -- ---- one event
@@ -64,16 +61,16 @@ module _ (sc : Scene) (h : Holds sc) (steady : IsSteady sc.world) (present : sli
       by_value (Some c) e = cc
 
   delivers : (m : ℕ) (now : Interval) → (is_honest sc.now now && when (can_come sc.world) (slice_get sc.world.bag m)) ≡ true →
-      HasComeBy sc (Act.Deliver m now) → AfterHolds sc (deliver_to sc.world m now (slice_get sc.world.bag m))
+      IsAskedBy sc (Act.Deliver m now) → AfterHolds sc (deliver_to sc.world m now (slice_get sc.world.bag m))
   unfolding deliver_to
-  delivers m now lawful_now came = by_message (slice_get sc.world.bag m) refl
+  delivers m now lawful_now asks = by_message (slice_get sc.world.bag m) refl
     where
       times : (now.earliest ≤ sc.now) × (sc.now ≤ now.latest)
       times = let p = and_parts (nat_le now.earliest sc.now) (nat_le sc.now now.latest) ((and_parts _ _ lawful_now).0) in (leb-true _ _ p.0, leb-true _ _ p.1)
 
       by_address : (e : Envelope) → slice_get sc.world.bag m ≡ Some e → (a : Address) → e.to ≡ a →
           AfterHolds sc (elim a as (λ x. After) [ Shard n ↦ do_at sc.world n (Doing.Take m now) | Session t ↦ to_session sc.world e.message ])
-      by_address e is (Shard n) goes = do_at_holds n (Doing.Take m now) (delivered sc m now e n is goes (times.1, times.0) came)
+      by_address e is (Shard n) goes = do_at_holds n (Doing.Take m now) (delivered sc m now e n is goes (times.1, times.0) asks)
       by_address e is (Session t) goes = to_session_holds sc h present e.message
 
       by_message : (o : Option Envelope) → slice_get sc.world.bag m ≡ o → AfterHolds sc (deliver_to sc.world m now o)
@@ -81,28 +78,28 @@ module _ (sc : Scene) (h : Holds sc) (steady : IsSteady sc.world) (present : sli
       by_message (Some e) is = by_address e is e.to refl
 
   -- each act that may happen
-  acts_hold : (a : Act) → may_act sc.world sc.now a ≡ true → HasComeBy sc a → AfterHolds sc (acts sc.world a)
+  acts_hold : (a : Act) → may_act sc.world sc.now a ≡ true → IsAskedBy sc a → AfterHolds sc (acts sc.world a)
   unfolding acts may_act
-  acts_hold (Act.Begin t) may came = begins t may
-  acts_hold (Act.Read t k) may came = reads_hold sc h present t k
-  acts_hold (Act.Write t k x) may came = writes_hold sc h present t (record { key = k; value = x })
-  acts_hold (Act.Close t) may came = closes_hold sc h present t
-  acts_hold (Act.Quit t) may came = quits_hold sc h present t (client_of sc.world t) refl
-  acts_hold (Act.Deliver m now) may came = delivers m now may came
-  acts_hold (Act.At n doing) may came = do_at_holds n doing (given sc n doing (and_parts _ _ may).1 (came n doing refl))
-  acts_hold (Act.Look n k at) may came = at_shard_holds n (λ setup s. look_noted sc.world k at (look_shard setup s k at))
+  acts_hold (Act.Begin t) may asks = begins t may
+  acts_hold (Act.Read t k) may asks = reads_hold sc h present t k
+  acts_hold (Act.Write t k x) may asks = writes_hold sc h present t (record { key = k; value = x })
+  acts_hold (Act.Close t) may asks = closes_hold sc h present t
+  acts_hold (Act.Quit t) may asks = quits_hold sc h present t (client_of sc.world t) refl
+  acts_hold (Act.Deliver m now) may asks = delivers m now may asks
+  acts_hold (Act.At n doing) may asks = do_at_holds n doing (given sc n doing (and_parts _ _ may).1 (asks n doing refl))
+  acts_hold (Act.Look n k at) may asks = at_shard_holds n (λ setup s. look_noted sc.world k at (look_shard setup s k at))
       (λ s there. look_holds sc k at (look_shard (setup_of sc.world.config n) s k at) h)
-  acts_hold (Act.View n v k at) may came = at_shard_holds n (λ setup s. look_noted sc.world k at (look_at_view setup (slice_get s.views v) k at))
+  acts_hold (Act.View n v k at) may asks = at_shard_holds n (λ setup s. look_noted sc.world k at (look_at_view setup (slice_get s.views v) k at))
       (λ s there. look_holds sc k at (look_at_view (setup_of sc.world.config n) (slice_get s.views v) k at) h)
-  acts_hold (Act.Crash n) may came = at_shard_holds n (λ setup s. (set_shard n (crashed s s.log s.area) sc.world, Reply.Crashed))
+  acts_hold (Act.Crash n) may asks = at_shard_holds n (λ setup s. (set_shard n (crashed s s.log s.area) sc.world, Reply.Crashed))
       (λ s there. plain_crash_holds sc h steady present n s there)
-  acts_hold (Act.CrashIn n call fate named doing) may came =
+  acts_hold (Act.CrashIn n call fate named doing) may asks =
       at_shard_holds n (λ setup s. (set_shard n (crashed_in s call fate doing (effect setup sc.world.bag s doing)) sc.world, Reply.Crashed))
       (λ s there. crash_within_holds sc h steady present n s there call fate doing
-      (given sc n doing (and_parts _ _ (and_parts _ _ may).0).1 (came n doing refl)))
-  acts_hold (Act.FailIn n call named doing) may came =
+      (given sc n doing (and_parts _ _ (and_parts _ _ may).0).1 (asks n doing refl)))
+  acts_hold (Act.FailIn n call named doing) may asks =
       at_shard_holds n (λ setup s. did_with_failure sc.world n s call doing (effect setup sc.world.bag s doing))
-      (λ s there. failure_holds sc h steady present n s there call doing (given sc n doing (and_parts _ _ may).1 (came n doing refl)))
+      (λ s there. failure_holds sc h steady present n s there call doing (given sc n doing (and_parts _ _ may).1 (asks n doing refl)))
 
 -- ---- time
 
@@ -141,20 +138,25 @@ length_push : (xs : List ℕ) (x : ℕ) → length (xs ++ x ∷ []) ≡ suc (len
 length_push [] x = refl
 length_push (y ∷ xs) x = ap suc (length_push xs x)
 
-module _ (sc : Scene) (time : ℕ) (more : List Arrival) (h : Holds sc) (c : Clock sc) (later : sc.now ≤ time) where
+-- a scene at the next event, which asks for more
+abbrev pub ticking : Scene → ℕ → (Request → Type 0) → Scene
+ticking sc time more = record sc { times = sc.times ++ time ∷ []; asked = λ r. sc.asked r ⊎ more r; now = time }
+
+module _ (sc : Scene) (time : ℕ) (more : Request → Type 0) (h : Holds sc) (c : Clock sc) (later : sc.now ≤ time) where
   -- the next event begins
-  tick_grows : Grows sc (record { world = sc.world; times = sc.times ++ time ∷ []; came = sc.came ++ more; event = sc.event; now = time })
+  tick_grows : Grows sc (ticking sc time more)
   tick_grows = record {
     sent = λ e k. k;
     lines = λ l k. k;
     times = λ i x e. get_more sc.times (time ∷ []) i x e;
-    came = λ a k. among_left sc.came more a k;
+    asked = λ r k. inl k;
+    decided = λ n x k. k;
     now = later;
     closed = λ t messages k. k;
     logs = λ n r k. k;
   }
 
-  pub tick_holds : Holds (record { world = sc.world; times = sc.times ++ time ∷ []; came = sc.came ++ more; event = sc.event; now = time })
+  pub tick_holds : Holds (ticking sc time more)
   tick_holds = record {
     counted = h.counted;
     messages = λ e k. message_stays sc _ tick_grows e.to e.message (h.messages e k);
@@ -186,18 +188,19 @@ module _ (sc : Scene) (time : ℕ) (more : List Arrival) (h : Holds sc) (c : Clo
 
 -- the event is over
 module _ (sc : Scene) (time : ℕ) (h : Holds sc) where
-  over_grows : Grows sc (record { world = ticked sc.world time; times = sc.times; came = sc.came; event = suc sc.event; now = sc.now })
+  over_grows : Grows sc (record sc { world = ticked sc.world time; event = suc sc.event })
   over_grows = record {
     sent = λ e k. k;
     lines = λ l k. k;
     times = λ i x e. e;
-    came = λ a k. k;
+    asked = λ r k. k;
+    decided = λ n x k. k;
     now = omega arith;
     closed = λ t messages k. record { client = k.client; there = k.there; closed = k.closed; same = k.same };
     logs = λ n r k. k;
   }
 
-  pub over_holds : Holds (record { world = ticked sc.world time; times = sc.times; came = sc.came; event = suc sc.event; now = sc.now })
+  pub over_holds : Holds (record sc { world = ticked sc.world time; event = suc sc.event })
   over_holds = record {
     counted = ap suc h.counted;
     messages = λ e k. message_stays sc _ over_grows e.to e.message (h.messages e k);
@@ -211,52 +214,49 @@ module _ (sc : Scene) (time : ℕ) (h : Holds sc) where
 -- ---- a whole run
 
 -- a scene of a world, in which something stands behind all that there is
-pub record RunEvidence (w : World) : Type 0 where
+pub record RunEvidence (w : World) : Type 1 where
   pub scene : Scene
   pub same : scene.world ≡ w
   pub holds : Holds scene
   pub clock : Clock scene
 
--- the world after an event, with its time
-abbrev pub next : Scene → Event → Scene
-next sc e =
-    record {
-      world = ticked ((acts sc.world e.act).0) e.time;
-      times = sc.times ++ e.time ∷ [];
-      came = sc.came ++ arrivals sc.world e;
-      event = suc sc.event;
-      now = e.time;
-    }
+-- an event asks a shard for something, at most at the latest time of its reading
+pub record AsksFor (w : World) (e : Event) (r : Request) : Type 0 where
+  pub asks : asked_by w e.act ≡ Some r
+  pub honest : e.time ≤ r.latest
 
 -- an event is under way
 abbrev pub begun_at : Scene → Event → Scene
-begun_at sc e =
-    record { world = sc.world; times = sc.times ++ e.time ∷ []; came = sc.came ++ arrivals sc.world e; event = sc.event; now = e.time }
+begun_at sc e = ticking sc e.time (AsksFor sc.world e)
 
--- what it hands to a shard came at it
-pub came_now : (sc : Scene) (e : Event) → HasComeBy (begun_at sc e) e.act
-came_now sc e n doing is now m given_now =
-    among_right sc.came (arrivals sc.world e) arrival (subst (λ xs. IsAmong xs arrival) (sym comes) (inl refl))
-  where
-    arrival : Arrival
-    arrival = record { shard = n; message = m; time = e.time }
+-- the world after it, with its time
+abbrev pub next : Scene → Event → Scene
+next sc e = record (begun_at sc e) { world = ticked ((acts sc.world e.act).0) e.time; event = suc sc.event }
 
-    brings : brought sc.world e.act ≡ Some (n, m)
-    brings =
-        ap (λ o. elim o as (λ x. Option (ℕ × Message)) [ None ↦ None | Some p ↦ handed p.0 (input_of sc.world.bag p.1) ]) is ∙ ap (handed n) given_now
+-- what it asks of a shard counts as asked
+pub asked_now : (sc : Scene) (e : Event) → IsAskedBy (begun_at sc e) e.act
+asked_now sc e n doing is p given_now r asks honest = inr (record {
+  asks =
+      ap
+      (λ o. elim o as (λ x. Option Request) [
+        | None ↦ None
+        | Some q ↦ elim (input_of sc.world.bag q.1) as (λ x. Option Request) [ None ↦ None | Some z ↦ asked q.0 z.0 z.1 ]
+      ])
+      is
+      ∙ ap (λ o. elim o as (λ x. Option Request) [ None ↦ None | Some z ↦ asked n z.0 z.1 ]) given_now
+      ∙ asks;
+  honest = honest;
+})
 
-    comes : arrivals sc.world e ≡ arrival ∷ []
-    comes = ap (λ o. elim o as (λ x. List Arrival) [ None ↦ [] | Some p ↦ record { shard = p.0; message = p.1; time = e.time } ∷ [] ]) brings
-
-next_holds : (sc : Scene) (e : Event) → Holds sc → Clock sc → IsSteady sc.world → may_happen sc.world e ≡ true → Holds (next sc e) × Clock (next sc e)
+pub next_holds : (sc : Scene) (e : Event) → Holds sc → Clock sc → IsSteady sc.world → may_happen sc.world e ≡ true → Holds (next sc e) × Clock (next sc e)
 next_holds sc e h c steady may =
     let p = and_parts (nat_le sc.world.time e.time) (may_act sc.world e.time e.act) may in
     let from : sc.world.time ≤ e.time = leb-true _ _ p.0 in
     let same = c.time in
     let later : sc.now ≤ e.time = omega (arith, from, same) in
-    let more = arrivals sc.world e in
+    let more = AsksFor sc.world e in
     let begun = tick_holds sc e.time more h c later in
-    let after = acts_hold (begun_at sc e) begun steady (present_now sc e.time more h c later) e.act p.1 (came_now sc e) in (
+    let after = acts_hold (begun_at sc e) begun steady (present_now sc e.time more h c later) e.act p.1 (asked_now sc e) in (
       over_holds (with_world (begun_at sc e) (acts sc.world e.act).0) e.time after,
       record {
         count = length_push sc.times e.time ∙ ap suc c.count;
@@ -285,10 +285,11 @@ fresh_evidence sc n = record {
   state = (rebuilt_rows fresh_log (each_logged fresh_log refl) sc n, refl);
 }
 
-abbrev first_scene : Config → Scene
-first_scene config = record { world = start config; times = []; came = []; event = 0; now = 0 }
+abbrev pub first_scene : Config → Scene
+first_scene config =
+    record { world = start config; times = []; asked = λ r. ⊥; decided = λ n c. ⊥; event = 0; now = 0 }
 
-start_holds : (config : Config) → Holds (first_scene config)
+pub start_holds : (config : Config) → Holds (first_scene config)
 unfolding start
 start_holds config = record {
   counted = refl;
@@ -309,50 +310,3 @@ pub every_run_holds : AlwaysSteady → (config : Config) (es : List Event) → l
 unfolding run lawful
 every_run_holds steady config es e =
     holds_from (first_scene config) (start_holds config) (start_clock config) es e (λ ds l. steady config ds l)
-
--- ---- what came
-
--- what comes at an event is what its act brings, at its time
-arrived : (w : World) (e : Event) (a : Arrival) → IsAmong (arrivals w e) a → (brought w e.act ≡ Some (a.shard, a.message)) × (e.time ≡ a.time)
-arrived w e a = by_value (brought w e.act) refl
-  where
-    by_value : (o : Option (ℕ × Message)) → brought w e.act ≡ o →
-        IsAmong (elim o as (λ x. List Arrival) [ None ↦ [] | Some p ↦ record { shard = p.0; message = p.1; time = e.time } ∷ [] ]) a →
-        (brought w e.act ≡ Some (a.shard, a.message)) × (e.time ≡ a.time)
-    by_value None is none = absurd none
-    by_value (Some p) is (inl same) = (is ∙ ap (λ (x : Arrival). Some (x.shard, x.message)) same, ap (λ (x : Arrival). x.time) same)
-    by_value (Some p) is (inr none) = absurd none
-
-came_from : (sc : Scene) (h : Holds sc) (c : Clock sc) (es : List Event) (e : lawful_from sc.world es ≡ true)
-    (steady : (ds : List Event) → lawful_from sc.world ds ≡ true → IsSteady (run_from sc.world ds)) (a : Arrival) →
-    IsAmong (holds_from sc h c es e steady).scene.came a → IsAmong sc.came a ⊎ CameIn sc.world es a
-unfolding happens holds_from
-came_from sc h c [] e steady a k = inl k
-came_from sc h c (x ∷ xs) e steady a k =
-    let p = and_parts (may_happen sc.world x) (lawful_from ((happens sc.world x).0) xs) e in
-    let after = next_holds sc x h c (steady [] refl) p.0 in
-    elim (came_from (next sc x) after.0 after.1 xs p.1
-    (λ ds l. steady (x ∷ ds) (ap (λ b. b && lawful_from ((happens sc.world x).0) ds) p.0 ∙ l)) a k) [
-      | inl before ↦ elim (among_cases sc.came (arrivals sc.world x) a before) [
-        | inl old ↦ inl old
-        | inr new ↦ let is = arrived sc.world x a new in inr (record { front = []; event = x; back = xs; listed = refl; brings = is.0; timed = is.1 })
-      ]
-      | inr later ↦ inr (record {
-        front = x ∷ later.front;
-        event = later.event;
-        back = later.back;
-        listed = ap (λ ys. x ∷ ys) later.listed;
-        brings = later.brings;
-        timed = later.timed;
-      })
-    ]
-
--- all that came in a lawful run came at one of its events
-pub every_came : (steady : AlwaysSteady) (config : Config) (es : List Event) (fair : lawful config es ≡ true) (a : Arrival) →
-    IsAmong (every_run_holds steady config es fair).scene.came a → CameIn (start config) es a
-unfolding run lawful every_run_holds
-every_came steady config es fair a k =
-    elim (came_from (first_scene config) (start_holds config) (start_clock config) es fair (λ ds l. steady config ds l) a k) [
-      | inl none ↦ absurd none
-      | inr came ↦ came
-    ]

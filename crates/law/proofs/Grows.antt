@@ -1,5 +1,5 @@
 -- A scene that has grown: all that stood behind something still does.
-use Rattle.std.proofs.Common.{◌≡◌, inl, inr, ℕ, ◌≤◌, List, Option, Some, None, slice_get, arith}
+use Rattle.std.proofs.Common.{◌≡◌, ◌⊎◌, inl, inr, ℕ, ◌≤◌, List, Option, Some, None, slice_get, arith}
 use Rattle.std.specs.List.{AllByRecursion}
 use Rattle.units.specs.Ids.{Id}
 use Rattle.units.specs.Keys.{Bytes}
@@ -13,20 +13,22 @@ use Rattle.message.specs.declared.message.Envelope.{Envelope}
 use Rattle.message.specs.declared.message.Message.{Message}
 use Rattle.protocol.specs.Rows.{Row, Phase, Idle, WaitsRead, WaitsPrepare, WaitsCommit, Collecting, IsPrepared, IsDecided, Voted}
 use Rattle.law.specs.Among.{IsAmong}
-use Rattle.law.specs.Evidence.{Scene, log_at, ClosedOver, IsOfClosing, BeganBy, CameBy, PrepareAsked, CommitAsked, VotedYes, HasPromise, HasDecision}
-use Rattle.law.specs.Evidence.{HasOutcome, WasTold, CommitEvidence, RecordEvidence, Remembers, PhaseEvidence, RowsEvidence, Told, SaidBySome}
+use Rattle.law.specs.Requests.{Request}
+use Rattle.law.specs.Evidence.{Scene, log_at, ClosedOver, IsOfClosing, BeganBy, PrepareAsked, CommitAsked, VotedYes, HasPromise, HasDecision}
+use Rattle.law.specs.Evidence.{HasOutcome, WasTold, CommitEvidence, RestsOn, RecordEvidence, Remembers, PhaseEvidence, RowsEvidence, Told, SaidBySome}
 use Rattle.law.specs.Evidence.{MessageEvidence, LineEvidence}
 
 -- each member of the first list is one of the second
 abbrev pub Within : {A : Type 0} → List A → List A → Type 0
 Within {A} xs ys = (x : A) → IsAmong xs x → IsAmong ys x
 
--- more was put out, written down and logged, more came, and time went on
+-- more was put out, asked, written down and logged, and time went on
 pub record Grows (a b : Scene) : Type 0 where
   pub sent : Within a.world.bag b.world.bag
   pub lines : Within a.world.lines b.world.lines
   pub times : (i time : ℕ) → slice_get a.times i ≡ Some time → slice_get b.times i ≡ Some time
-  pub came : Within a.came b.came
+  pub asked : (r : Request) → a.asked r → b.asked r
+  pub decided : (n : ℕ) (c : Committed) → a.decided n c → b.decided n c
   pub now : a.now ≤ b.now
   pub closed : (t : Id) (messages : List Envelope) → ClosedOver a.world t messages → ClosedOver b.world t messages
   pub logs : (n : ℕ) → Within (log_at a.world n) (log_at b.world n)
@@ -94,23 +96,24 @@ module _ (a b : Scene) (g : Grows a b) where
   closing_stays : (t : Id) (e : Envelope) → IsOfClosing a.world t e → IsOfClosing b.world t e
   closing_stays t e h = record { messages = h.messages; over = g.closed t h.messages h.over; among = h.among }
 
-  came_stays : (n : ℕ) (t : Id) (l : ℕ) (ps : List ℕ) (rs : List Bytes) (ws : List Write) → CameBy a n t l ps rs ws → CameBy b n t l ps rs ws
-  came_stays n t l ps rs ws h = record { epoch = h.epoch; time = h.time; there = g.came _ h.there; below = h.below }
+  rests_stays : (n : ℕ) (c : Committed) → a.decided n c ⊎ RestsOn a n c → b.decided n c ⊎ RestsOn b n c
+  rests_stays n c (inl old) = inl (g.decided n c old)
+  rests_stays n c (inr r) = inr (record { latest = r.latest; asked = g.asked _ r.asked; above = r.above })
 
   commit_stays : (n : ℕ) (c : Committed) → CommitEvidence a n c → CommitEvidence b n c
   commit_stays n c h = record {
     asked = commit_asked_stays n c.txn c.parts c.reads c.writes h.asked;
     voted = λ m part. let v = h.voted m part in record { stamp = v.stamp; sent = g.sent _ v.sent; below = v.below };
     latest = h.latest;
-    came = came_stays n c.txn h.latest c.parts c.reads c.writes h.came;
     began = began_stays c.txn h.latest h.began;
     above = h.above;
+    rests = rests_stays n c h.rests;
   }
 
   remembers_stays : (n : ℕ) (t : Id) (l : ℕ) (ps : List ℕ) (rs : List Bytes) (ws : List Write) → Remembers a n t l ps rs ws → Remembers b n t l ps rs ws
   remembers_stays n t l ps rs ws h = record {
     asked = commit_asked_stays n t ps rs ws h.asked;
-    came = came_stays n t l ps rs ws h.came;
+    counts = g.asked _ h.counts;
     began = began_stays t l h.began;
   }
 

@@ -27,11 +27,10 @@ use Rattle.law.specs.Left.{AreLeft}
 use Rattle.world.specs.Steady.{IsSteady}
 use Rattle.world.proofs.EveryRun.{is_steady}
 use Rattle.law.proofs.Logged.{AreLogged, rests_logged}
-use Rattle.law.specs.Arrivals.{arrivals}
 use Rattle.law.proofs.Members.{among_cases}
 use Rattle.law.proofs.Recorded.{none_listed, outcome_among}
 use Rattle.law.proofs.Doings.{get_among}
-use Rattle.law.proofs.Every.{RunEvidence, begun_at, came_now, every_run_holds, tick_holds, present_now, rises_now}
+use Rattle.law.proofs.Every.{AsksFor, RunEvidence, begun_at, asked_now, every_run_holds, tick_holds, present_now, rises_now}
 use Rattle.law.proofs.InHistory.{acknowledged, ordered}
 use Rattle.law.proofs.Lefts.{left_between, left_within}
 use Rattle.law.proofs.AllWhole.{whole}
@@ -39,7 +38,7 @@ use Rattle.law.proofs.Resolved.{resolves}
 use Rattle.law.proofs.Picked.{each_of, among_join, Joined}
 
 -- logs that a crash may leave of a world, in a scene in which something stands behind all that there is
-pub record Moment (w : World) (logs : List (List Record)) : Type 0 where
+pub record Moment (w : World) (logs : List (List Record)) : Type 1 where
   pub scene : Scene
   pub same : scene.world ≡ w
   pub holds : Holds scene
@@ -74,7 +73,7 @@ moment config es logs fair (inr within) =
     let from : r.scene.world.time ≤ e.time = leb-true _ _ p.0 in
     let time = r.clock.time in
     let later : r.scene.now ≤ e.time = omega (arith, from, time) in
-    let more = arrivals r.scene.world e in
+    let more = AsksFor r.scene.world e in
     let begun = tick_holds r.scene e.time more r.holds r.clock later in
     let sc : Scene = begun_at r.scene e in
     record {
@@ -82,7 +81,7 @@ moment config es logs fair (inr within) =
       same = r.same;
       holds = begun;
       rises = rises_now r.scene e.time more r.holds r.clock later;
-      left = left_within sc begun steady (present_now r.scene e.time more r.holds r.clock later) e.act n doing logs p.1 (came_now r.scene e)
+      left = left_within sc begun steady (present_now r.scene e.time more r.holds r.clock later) e.act n doing logs p.1 (asked_now r.scene e)
           (subst (λ (w : World). doing_of w e.act ≡ Some (n, doing)) (sym r.same) within.4)
           (subst (λ (w : World). MayLeaveWithin w n doing n w.shards logs) (sym r.same) within.5);
     }

@@ -19,7 +19,7 @@ use Rattle.law.specs.Left.{IsLeftLog, AreLeft}
 use Rattle.world.specs.Steady.{IsSteady}
 use Rattle.law.proofs.Members.{among_left, among_cases}
 use Rattle.law.proofs.Grows.{record_stays}
-use Rattle.law.proofs.Doings.{SteppedEvidence, Given, HasComeBy, delivered, given, grows_same}
+use Rattle.law.proofs.Doings.{SteppedEvidence, Given, IsAskedBy, delivered, given, grows_same}
 use Rattle.law.proofs.Picked.{some_same}
 use Rattle.law.proofs.Shards.{effect_evidence, logged_known, within_listed}
 
@@ -107,24 +107,24 @@ module _ (sc : Scene) (h : Holds sc) (steady : IsSteady sc.world) where
   -- ---- within an event
 
   -- what is under way was honestly given
-  given_by : (a : Act) (n : ℕ) (doing : Doing) → may_act sc.world sc.now a ≡ true → HasComeBy sc a → doing_of sc.world a ≡ Some (n, doing) →
+  given_by : (a : Act) (n : ℕ) (doing : Doing) → may_act sc.world sc.now a ≡ true → IsAskedBy sc a → doing_of sc.world a ≡ Some (n, doing) →
       Given sc n (input_of sc.world.bag doing)
   unfolding may_act
-  given_by (Act.At m d) n doing may came e = by_same (some_same (m, d) (n, doing) e) (given sc m d (and_parts _ _ may).1 (came m d refl))
+  given_by (Act.At m d) n doing may asks e = by_same (some_same (m, d) (n, doing) e) (given sc m d (and_parts _ _ may).1 (asks m d refl))
     where
       by_same : ◌≡◌ {A = ℕ × Doing} (m, d) (n, doing) → Given sc m (input_of sc.world.bag d) → Given sc n (input_of sc.world.bag doing)
       by_same same g = subst (λ (p : ℕ × Doing). Given sc p.0 (input_of sc.world.bag p.1)) same g
-  given_by (Act.CrashIn m call fate named d) n doing may came e =
-      by_same (some_same (m, d) (n, doing) e) (given sc m d (and_parts _ _ (and_parts _ _ may).0).1 (came m d refl))
+  given_by (Act.CrashIn m call fate named d) n doing may asks e =
+      by_same (some_same (m, d) (n, doing) e) (given sc m d (and_parts _ _ (and_parts _ _ may).0).1 (asks m d refl))
     where
       by_same : ◌≡◌ {A = ℕ × Doing} (m, d) (n, doing) → Given sc m (input_of sc.world.bag d) → Given sc n (input_of sc.world.bag doing)
       by_same same g = subst (λ (p : ℕ × Doing). Given sc p.0 (input_of sc.world.bag p.1)) same g
-  given_by (Act.FailIn m call named d) n doing may came e =
-      by_same (some_same (m, d) (n, doing) e) (given sc m d (and_parts _ _ may).1 (came m d refl))
+  given_by (Act.FailIn m call named d) n doing may asks e =
+      by_same (some_same (m, d) (n, doing) e) (given sc m d (and_parts _ _ may).1 (asks m d refl))
     where
       by_same : ◌≡◌ {A = ℕ × Doing} (m, d) (n, doing) → Given sc m (input_of sc.world.bag d) → Given sc n (input_of sc.world.bag doing)
       by_same same g = subst (λ (p : ℕ × Doing). Given sc p.0 (input_of sc.world.bag p.1)) same g
-  given_by (Act.Deliver m now) n doing may came e = by_message (slice_get sc.world.bag m) refl e
+  given_by (Act.Deliver m now) n doing may asks e = by_message (slice_get sc.world.bag m) refl e
     where
       times : (now.earliest ≤ sc.now) × (sc.now ≤ now.latest)
       times = let p = and_parts (nat_le now.earliest sc.now) (nat_le sc.now now.latest)
@@ -134,7 +134,7 @@ module _ (sc : Scene) (h : Holds sc) (steady : IsSteady sc.world) where
           (elim a as (λ y. Option (ℕ × Doing)) [ Shard k ↦ Some (k, Doing.Take m now) | Session t ↦ None ]) ≡ Some (n, doing) →
           Given sc n (input_of sc.world.bag doing)
       by_address x is (Shard k) goes same = subst (λ (p : ℕ × Doing). Given sc p.0 (input_of sc.world.bag p.1))
-          (some_same (k, Doing.Take m now) (n, doing) same) (delivered sc m now x k is goes (times.1, times.0) came)
+          (some_same (k, Doing.Take m now) (n, doing) same) (delivered sc m now x k is goes (times.1, times.0) asks)
       by_address x is (Session t) goes same = cc
 
       by_message : (o : Option Envelope) → slice_get sc.world.bag m ≡ o →
@@ -149,7 +149,7 @@ module _ (sc : Scene) (h : Holds sc) (steady : IsSteady sc.world) where
           Given sc n (input_of sc.world.bag doing)
       by_message None is same = cc
       by_message (Some x) is same = by_address x is x.to refl same
-  given_by _ n doing may came e = cc
+  given_by _ n doing may asks e = cc
 
   module _ (present : slice_get sc.times sc.world.event ≡ Some sc.now) where
     step_left : (n : ℕ) (s : ShardNow) (doing : Doing) (log : List Record) → slice_get sc.world.shards n ≡ Some s → Given sc n (input_of sc.world.bag doing) →
@@ -164,9 +164,9 @@ module _ (sc : Scene) (h : Holds sc) (steady : IsSteady sc.world) where
           follows = steady.logged n s doing may.0 may.1.0.0 may.1.0.1 there may.1.0.2;
         })
 
-    pub left_within : (a : Act) (n : ℕ) (doing : Doing) (logs : List (List Record)) → may_act sc.world sc.now a ≡ true → HasComeBy sc a →
+    pub left_within : (a : Act) (n : ℕ) (doing : Doing) (logs : List (List Record)) → may_act sc.world sc.now a ≡ true → IsAskedBy sc a →
         doing_of sc.world a ≡ Some (n, doing) → MayLeaveWithin sc.world n doing n sc.world.shards logs → AreLeft sc logs
-    left_within a n doing logs may came is within = record {
+    left_within a n doing logs may asks is within = record {
       each = λ k log e. by_place k log (within_get sc.world n doing n sc.world.shards logs k log within e);
       all = λ k s e. within_all sc.world n doing n sc.world.shards logs k s within e;
     }
@@ -176,5 +176,5 @@ module _ (sc : Scene) (h : Holds sc) (steady : IsSteady sc.world) where
         by_place k log p = elim p.fits [
           | inl plain ↦ left_log k p.shard log p.there plain
           | inr here ↦ subst (λ m. IsLeftLog sc m log) (sym here.0)
-              (step_left n p.shard doing log (subst (λ m. slice_get sc.world.shards m ≡ Some p.shard) here.0 p.there) (given_by a n doing may came is) here.1)
+              (step_left n p.shard doing log (subst (λ m. slice_get sc.world.shards m ≡ Some p.shard) here.0 p.there) (given_by a n doing may asks is) here.1)
         ]

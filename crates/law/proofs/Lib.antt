@@ -2,6 +2,7 @@ pub mod Accepts
 pub mod Acts
 pub mod AllWhole
 pub mod Answering
+pub mod Appended
 pub mod Areas
 pub mod AreasAscend
 pub mod AreasOwn
@@ -37,8 +38,10 @@ pub mod Quiet
 pub mod ReadBefore
 pub mod ReadsEqual
 pub mod ReadsHold
+pub mod Rebased
 pub mod Recorded
 pub mod Resolved
+pub mod Rests
 pub mod Rising
 pub mod Said
 pub mod Says

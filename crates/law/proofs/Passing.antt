@@ -23,12 +23,12 @@ use Rattle.world.specs.declared.event.Event.{Event}
 use Rattle.world.proofs.EveryRun.{always_well, is_steady, shard_with}
 use Rattle.world.proofs.Sounds.{SoundShard}
 use Rattle.law.specs.Among.{IsAmong}
-use Rattle.law.specs.Evidence.{Scene, CommitEvidence, HasOutcome, MessageEvidence, SaidBySome, VoteEvidence, log_at}
+use Rattle.law.specs.Evidence.{Scene, HasOutcome, MessageEvidence, SaidBySome, VoteEvidence, log_at}
 use Rattle.law.specs.Passes.{AllAreWhole, CommitsAreAboveArrival, HasItsRecord, HeldReadsAreLatest}
 use Rattle.law.specs.Passes.{HeldWhileOpen, IsClaim, IsHeld, OutcomesHavePassed, PutOutIsLogged}
 use Rattle.law.specs.Passes.{ShardsAreOfTheirLogs, UndisturbedOnceLogged, WasTaken}
 use Rattle.law.proofs.Answering.{open_unrecorded}
-use Rattle.law.proofs.Every.{every_came, every_run_holds}
+use Rattle.law.proofs.Every.{every_run_holds}
 use Rattle.law.proofs.Fair.{IsFairInput}
 use Rattle.law.proofs.HeldRead.{HeldIs, Reads, IsLogged, WasGone}
 use Rattle.law.proofs.Homes.{log_in, outcome_stamp}
@@ -41,6 +41,7 @@ use Rattle.law.proofs.OfLogs.{memory_is, of_its_log}
 use Rattle.law.proofs.ReadBefore.{Claims}
 use Rattle.law.proofs.ReadsEqual.{asked_fairly}
 use Rattle.law.proofs.ReadsHold.{act_allowed, always_spoken, run_keeps_read}
+use Rattle.law.proofs.Rests.{every_decision_rests}
 use Rattle.law.proofs.Said.{AllOneEpoch, OwnIds, Took, answer_env}
 use Rattle.law.proofs.Stamps.{left_stamped}
 use Rattle.law.proofs.Undisturbed.{undisturbed}
@@ -125,13 +126,7 @@ outcomes_have_passed config es fair n s there t at logged =
 
 pub commits_are_above_arrival : CommitsAreAboveArrival
 commits_are_above_arrival config es fair n s there c logged =
-    let r = every_run_holds is_steady config es fair in
-    let of = r.holds.shards n s (subst (λ (w : World). slice_get w.shards n ≡ Some s) (sym r.same) there) in
-    let rests : CommitEvidence r.scene n c = elim logged [ inl sure ↦ of.records (Commit c) sure | inr unsure ↦ of.unsure (Commit c) unsure ] in
-    let came = rests.came in
-    let below = came.below in
-    let above = rests.above in
-    record { epoch = came.epoch; time = came.time; came = every_came is_steady config es fair _ came.there; above = omega (arith, below, above) }
+    every_decision_rests config es fair n c (record { shard = s; there = there; is = logged })
 
 -- ---- held reads
 

@@ -34,7 +34,8 @@ module _ (sc : Scene) (out : List Envelope) (ls : List Line) where
     sent = λ e h. among_left sc.world.bag out e h;
     lines = λ l h. among_left sc.world.lines ls l h;
     times = λ i time h. h;
-    came = λ a h. h;
+    asked = λ r h. h;
+    decided = λ n c h. h;
     now = omega arith;
     closed = λ t messages h. record { client = h.client; there = h.there; closed = h.closed; same = h.same };
     logs = λ n r h. h;

@@ -61,7 +61,8 @@ module _ (sc : Scene) (old new : Client) (there : client_of sc.world new.txn ≡
     sent = λ e h. h;
     lines = λ l h. h;
     times = λ i time h. h;
-    came = λ a h. h;
+    asked = λ r h. h;
+    decided = λ n c h. h;
     now = omega arith;
     closed = closed_stays;
     logs = λ n r h. h;
@@ -118,7 +119,8 @@ module _ (sc : Scene) (t : Id) (fresh : client_of sc.world t ≡ None) (present 
     sent = λ e h. h;
     lines = λ l h. among_left sc.world.lines (Line.Begin t sc.world.event ∷ []) l h;
     times = λ i time h. h;
-    came = λ a h. h;
+    asked = λ r h. h;
+    decided = λ n c h. h;
     now = omega arith;
     closed = λ u messages h. record { client = h.client; there = stays_begun u h.client h.there; closed = h.closed; same = h.same };
     logs = λ n r h. h;

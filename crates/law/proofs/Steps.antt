@@ -18,7 +18,7 @@ use Rattle.protocol.specs.Rows.{Row, standing, standing_by, find_row, claims}
 use Rattle.protocol.specs.Plan.{Before, stands}
 use Rattle.protocol.specs.Cells.{plan_resume, plan_resume_id, plan_resume_row}
 use Rattle.protocol.specs.Step.{is_for, plan_message, plan_input}
-use Rattle.law.specs.Among.{IsAmong}
+use Rattle.law.specs.Requests.{Request, asked}
 use Rattle.law.specs.Evidence.{Scene, Sent, CommitAsked, BeganBy, PhaseEvidence, RowsEvidence, StatusEvidence}
 use Rattle.law.proofs.Moves.{PlannedEvidence, StandingEvidence, replying, refusing, choosing}
 use Rattle.law.proofs.Table.{reading, preparing, committing, voting, ending_by, giving_up, questioned, going_on, settling, advancing, nudging, forgetting}
@@ -36,10 +36,14 @@ pub record Knows (sc : Scene) (log : List Record) (b : Before) (now : Interval) 
   -- a commit is told once its time has passed
   pub passed : (from : ℕ) (t : Id) (s : ℕ) → Sent sc.world b.shard (Message.Outcome (record { from = from; txn = t; outcome = Some s })) → s < sc.now
 
--- what was given to a shard was put out for it, and came now
-abbrev pub Heard : Scene → ℕ → Input → Type 0
-Heard sc n (Input.Deliver m) = Sent sc.world n m × IsAmong sc.came (record { shard = n; message = m; time = sc.now })
-Heard sc n _ = Unit {0}
+-- what an input asks of a shard counts as asked, where the present is not above its reading
+abbrev pub IsAsked : Scene → ℕ → Interval → Input → Type 0
+IsAsked sc n now i = (r : Request) → asked n now i ≡ Some r → sc.now ≤ r.latest → sc.asked r
+
+-- what was given to a shard was put out for it, and what it asks counts as asked
+abbrev pub Heard : Scene → ℕ → Interval → Input → Type 0
+Heard sc n now (Input.Deliver m) = Sent sc.world n m × IsAsked sc n now (Input.Deliver m)
+Heard sc n now _ = Unit {0}
 
 module _ (sc : Scene) (log : List Record) (b : Before) (now : Interval) (knows : Knows sc log b now) where
   -- a row that is found rests on something, and is that of the id
@@ -77,32 +81,32 @@ module _ (sc : Scene) (log : List Record) (b : Before) (now : Interval) (knows :
   unfolding plan_resume
   resuming = resuming_id (ready (claims b.memory.rows))
 
-  hearing : (m : Message) → Sent sc.world b.shard m → IsAmong sc.came (record { shard = b.shard; message = m; time = sc.now }) →
+  hearing : (m : Message) → Sent sc.world b.shard m → IsAsked sc b.shard now (Input.Deliver m) →
       PlannedEvidence sc log b.shard (plan_message b now m)
   unfolding plan_message
-  hearing (Message.Read r) sent came = reading sc log b r.txn r.key (stands b r.txn)
-  hearing (Message.Prepare p) sent came =
+  hearing (Message.Read r) sent asks = reading sc log b r.txn r.key (stands b r.txn)
+  hearing (Message.Prepare p) sent asks =
       preparing sc log b now.earliest p (record { epoch = p.reads.epoch; sent = sent }) (stands b p.txn) (stands_by_evidence p.txn)
-  hearing (Message.Commit c) sent came =
+  hearing (Message.Commit c) sent asks =
       let asked : CommitAsked sc.world b.shard c.txn c.parts c.reads.keys c.writes = record { epoch = c.reads.epoch; sent = sent } in
       committing sc log b now.latest c (record {
         asked = asked;
-        came = record { epoch = c.reads.epoch; time = sc.now; there = came; below = knows.later };
+        counts = asks _ refl knows.later;
         began = knows.began c.txn c.parts c.reads.keys c.writes asked;
       })
       (stands b c.txn) (stands_by_evidence c.txn)
-  hearing (Message.GiveUp g) sent came = giving_up sc log b g.txn (stands b g.txn) (stands_by_evidence g.txn)
-  hearing (Message.Vote v) sent came = voting sc log b v.from v.txn v.vote sent (stands b v.txn) (stands_by_evidence v.txn)
-  hearing (Message.Outcome o) sent came =
+  hearing (Message.GiveUp g) sent asks = giving_up sc log b g.txn (stands b g.txn) (stands_by_evidence g.txn)
+  hearing (Message.Vote v) sent asks = voting sc log b v.from v.txn v.vote sent (stands b v.txn) (stands_by_evidence v.txn)
+  hearing (Message.Outcome o) sent asks =
       ending_by sc log b o.from o.txn o.outcome sent
       (λ s is. knows.passed o.from o.txn s (subst (λ x. Sent sc.world b.shard (Message.Outcome (record { from = o.from; txn = o.txn; outcome = x }))) is sent))
       (stands b o.txn) (stands_by_evidence o.txn)
-  hearing (Message.Ask a) sent came = questioned sc log b a.from a.txn sent (stands b a.txn) (stands_by_evidence a.txn)
-  hearing (Message.ReadAnswer a) sent came = refusing sc log b Stranger
-  hearing (Message.Done d) sent came = refusing sc log b Stranger
+  hearing (Message.Ask a) sent asks = questioned sc log b a.from a.txn sent (stands b a.txn) (stands_by_evidence a.txn)
+  hearing (Message.ReadAnswer a) sent asks = refusing sc log b Stranger
+  hearing (Message.Done d) sent asks = refusing sc log b Stranger
 
   -- each input is planned with evidence
-  pub planned : (setup : Setup) (i : Input) → Heard sc b.shard i → PlannedEvidence sc log b.shard (plan_input setup b now i)
+  pub planned : (setup : Setup) (i : Input) → Heard sc b.shard now i → PlannedEvidence sc log b.shard (plan_input setup b now i)
   unfolding plan_input
   planned setup (Input.Deliver m) heard = choosing sc log b (is_for setup m) _ _ (hearing m heard.0 heard.1) (refusing sc log b Stranger)
   planned setup Input.Resume heard = resuming

@@ -90,9 +90,9 @@ module _ (sc : Scene) (log : List Record) (b : Before) where
         asked = remembers.asked;
         voted = λ m h. voted_below t (other_parts b.shard ps) votes s m (top_of b.memory.last latest votes) all evidence h;
         latest = latest;
-        came = remembers.came;
         began = remembers.began;
         above = over b.memory.last latest votes;
+        rests = inr (record { latest = latest; asked = remembers.counts; above = over b.memory.last latest votes });
       })
       (decided t s ps rs ws) tt)
       (refusing sc log b TimeSpent)

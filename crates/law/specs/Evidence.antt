@@ -21,13 +21,15 @@ use Rattle.session.specs.Sessions.{Client, Stage, IsOpen, closing_messages}
 use Rattle.world.specs.World.{World, ShardNow, State, Runs, Nothing, client_of}
 use Rattle.world.specs.Headline.{IsUnsure}
 use Rattle.law.specs.Among.{IsAmong}
-use Rattle.law.specs.Arrivals.{Arrival}
+use Rattle.law.specs.Requests.{Request, request_of}
 
--- a world with the true times of the events so far and what came to shards at them, the number of the event under way, and the present
-pub record Scene : Type 0 where
+-- a world with the true times of the events so far, the number of the event under way, and the present; with it what counts as asked of shards,
+-- and which decisions need no request
+pub record Scene : Type 1 where
   pub world : World
   pub times : List ℕ
-  pub came : List Arrival
+  pub asked : Request → Type 0
+  pub decided : ℕ → Committed → Type 0
   pub event : ℕ
   pub now : ℕ
 
@@ -79,19 +81,6 @@ pub record CommitAsked (w : World) (n : ℕ) (t : Id) (parts : List ℕ) (reads 
   pub epoch : ℕ
   pub sent : Sent w n (Message.Commit (record { txn = t; parts = parts; reads = record { epoch = epoch; keys = reads }; writes = writes }))
 
--- the request came to the shard at a time that is not above another
-pub record CameBy (sc : Scene) (n : ℕ) (t : Id) (latest : ℕ) (parts : List ℕ) (reads : List Bytes) (writes : List Write) : Type 0 where
-  pub epoch : ℕ
-  pub time : ℕ
-  pub there :
-      IsAmong sc.came
-      (record {
-        shard = n;
-        message = Message.Commit (record { txn = t; parts = parts; reads = record { epoch = epoch; keys = reads }; writes = writes });
-        time = time;
-      })
-  pub below : time ≤ latest
-
 -- a shard voted yes
 abbrev pub VotedYes : World → ℕ → Id → Voted → Type 0
 VotedYes w n t v = Sent w n (Message.Vote (record { from = v.shard; txn = t; vote = Some v.at }))
@@ -130,14 +119,20 @@ pub record WasTold (w : World) (log : List Record) (n : ℕ) (t : Id) (outcome :
   pub promised : HasPromise log t coordinator stamp
   pub sent : Sent w n (Message.Outcome (record { from = coordinator; txn = t; outcome = outcome }))
 
--- a decision rests on its request, which came before, on the votes of the other parts, and on its transaction's beginning
+-- what was asked is below a decision
+pub record RestsOn (sc : Scene) (n : ℕ) (c : Committed) : Type 0 where
+  pub latest : ℕ
+  pub asked : sc.asked (request_of n c latest)
+  pub above : latest < c.at
+
+-- a decision rests on its request, on the votes of the other parts, and on its transaction's beginning
 pub record CommitEvidence (sc : Scene) (n : ℕ) (c : Committed) : Type 0 where
   pub asked : CommitAsked sc.world n c.txn c.parts c.reads c.writes
   pub voted : (m : ℕ) → has (other_parts n c.parts) m ≡ true → VoteBelow sc.world n c.txn m c.at
   pub latest : ℕ
-  pub came : CameBy sc n c.txn latest c.parts c.reads c.writes
   pub began : BeganBy sc c.txn latest
   pub above : latest < c.at
+  pub rests : sc.decided n c ⊎ RestsOn sc n c
 
 -- why a coordinator may abort: it was asked to commit, or how the transaction ended
 pub record WasAsked (w : World) (n : ℕ) (t : Id) : Type 0 where
@@ -168,7 +163,7 @@ RecordEvidence sc log n _ = ⊥
 -- a request to commit that is remembered
 pub record Remembers (sc : Scene) (n : ℕ) (t : Id) (latest : ℕ) (parts : List ℕ) (reads : List Bytes) (writes : List Write) : Type 0 where
   pub asked : CommitAsked sc.world n t parts reads writes
-  pub came : CameBy sc n t latest parts reads writes
+  pub counts : sc.asked (record { shard = n; txn = t; latest = latest; parts = parts; reads = reads; writes = writes })
   pub began : BeganBy sc t latest
 
 -- what stands behind a row of a shard's memory

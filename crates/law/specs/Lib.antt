@@ -1,9 +1,9 @@
 pub mod Acknowledged
 pub mod Among
-pub mod Arrivals
 pub mod Evidence
 pub mod InOrder
 pub mod Left
 pub mod Passes
+pub mod Requests
 pub mod TimeLaws
 pub mod Written

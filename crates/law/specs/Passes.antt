@@ -21,11 +21,11 @@ use Rattle.protocol.specs.Sound.{IsSound, is_open}
 use Rattle.session.specs.Sessions.{Client}
 use Rattle.world.specs.Headline.{MayBeLeft, IsUnsure}
 use Rattle.world.specs.Lawful.{lawful}
-use Rattle.world.specs.World.{World, ShardNow, View, State, Runs, IsStopped, IsDown, Nothing, view_of, start, run}
+use Rattle.world.specs.World.{World, ShardNow, View, State, Runs, IsStopped, IsDown, Nothing, view_of, run}
 use Rattle.world.specs.declared.event.Config.{Config}
 use Rattle.world.specs.declared.event.Event.{Event}
 use Rattle.law.specs.Among.{IsAmong}
-use Rattle.law.specs.Arrivals.{CameIn}
+use Rattle.law.specs.Requests.{IsAboveArrival}
 use Rattle.law.specs.Evidence.{HasOutcome, VoteEvidence, log_at}
 
 -- ---- records, rows, versions and statuses are those of the log
@@ -160,19 +160,7 @@ ServedIsBelow =
 
 -- ---- timestamps and true time
 
--- a decision of a shard is above the true time at which what asks for it came to the shard
-pub record IsAboveArrival (config : Config) (es : List Event) (n : ℕ) (c : Committed) : Type 0 where
-  pub epoch : ℕ
-  pub time : ℕ
-  pub came :
-      CameIn (start config) es
-      (record {
-        shard = n;
-        message = Message.Commit (record { txn = c.txn; parts = c.parts; reads = record { epoch = epoch; keys = c.reads }; writes = c.writes });
-        time = time;
-      })
-  pub above : time < c.at
-
+-- each decision of a shard, also one that is unsure there, rests on an event that asked for it, and is above the true time of that
 abbrev pub CommitsAreAboveArrival : Type 0
 CommitsAreAboveArrival =
     (config : Config) (es : List Event) → IsTrue (lawful config es) → (n : ℕ) (s : ShardNow) → slice_get (run config es).shards n ≡ Some s →

@@ -78,7 +78,7 @@ pub fn served_is_below()
 {}
 
 /// An outcome that commits is logged, and its versions are installed, only once its timestamp has passed; and a decision's timestamp is above the
-/// true time of a delivery to its shard of the message that asks for it: of one, not of that on which the decision rests.
+/// true time at which what asks for it came to its shard, which remembered it from there on until the decision was in its log.
 pub fn outcomes_have_passed()
     ensures logged { OutcomesHavePassed }
     ensures installed { InstalledInThePast }

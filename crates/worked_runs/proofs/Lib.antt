@@ -6,6 +6,7 @@ pub mod Forgotten
 pub mod OneShardRun
 pub mod RandomRuns
 pub mod Recovery
+pub mod Requests
 pub mod Served
 pub mod Turnovers
 pub mod TwoShardRun

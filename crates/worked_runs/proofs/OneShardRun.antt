@@ -1,6 +1,6 @@
 -- A run of one transaction at one shard: it is decided, waits until its timestamp has passed, and is acknowledged.
 use Rattle.std.proofs.Common.{refl}
-use Rattle.std.specs.Prelude.{◌≡◌, true, List, [], ◌∷◌, take, Some}
+use Rattle.std.specs.Prelude.{◌≡◌, true, List, [], ◌∷◌, Some}
 use Rattle.record.specs.Verdict.{verdict}
 use Rattle.units.specs.declared.line.Verdict.TheVariants.{Yes}
 use Rattle.world.specs.World.{run, replies_of_run, logs_of}
@@ -15,7 +15,6 @@ use Rattle.world.specs.declared.event.Reply.{Reply}
 use Rattle.protocol.specs.Outputs.{decision}
 use Rattle.world.specs.Computing.{computing}
 use Rattle.protocol.proofs.Samples.{a, one, txn, clock, sets, commit_of, done_of, to_shard, to_session}
-use Rattle.law.specs.Arrivals.{arrivals}
 use Rattle.worked_runs.proofs.Events.{two_shards, on}
 
 abbrev pub events : List Event
@@ -60,13 +59,3 @@ lines_are = refl
 pub verdict_is : verdict logs lines ≡ Yes
 unfolding computing
 verdict_is = refl
-
--- what asks for the commit comes at 105, below the timestamp of the decision; a chore brings nothing
-pub asked_for : arrivals (run two_shards (take 3 events)) (on 105 (Act.Deliver 0 (clock 100 110)))
-    ≡ record { shard = 0; message = commit_of (txn 1) (0 ∷ []) 0 [] (sets a one ∷ []); time = 105 } ∷ []
-unfolding computing
-asked_for = refl
-
-pub not_asked_for : arrivals (run two_shards (take 4 events)) (on 112 (Act.At 0 (Doing.Settle (txn 1) (clock 105 112)))) ≡ []
-unfolding computing
-not_asked_for = refl
