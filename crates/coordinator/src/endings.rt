@@ -16,9 +16,8 @@ use message::{Ask, Done, Envelope, GiveUp, Outcome};
 use record::Record;
 use rows::RowCollecting;
 use std::alloc::Global;
-use truetime::Reading;
+use truetime::{Reading, Waited, pass};
 use units::{Fault, Parts, Stamp, TxnId};
-use waiting::{Waited, pass};
 
 /// A giving up of a transaction that collects votes: it is aborted. What it comes to of any other `participant::on_give_up` tells.
 pub fn give_up(

@@ -3,3 +3,10 @@ pub mod InStep
 pub mod Opening
 pub mod Renewed
 pub mod Seen
+pub use Rattle.shard.specs.Core
+pub use Rattle.shard.specs.Logs
+pub use Rattle.shard.specs.Look
+pub use Rattle.shard.specs.On
+pub use Rattle.shard.specs.Opened
+pub use Rattle.shard.specs.Settled
+pub use Rattle.shard.specs.declared.shard_core

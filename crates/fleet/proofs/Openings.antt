@@ -17,10 +17,10 @@ use Rattle.record.specs.Facts.{Facts, facts_of}
 use Rattle.record.specs.Records.{as_opened, epoch_of, floor_of, stamp_in}
 use Rattle.record.specs.declared.record.Record.{Record}
 use Rattle.protocol.specs.Rows.{rebuilt}
-use Rattle.shard.specs.declared.shard_core.Core.{Core}
-use Rattle.shard.specs.Core.{seen}
-use Rattle.shard.specs.Logs.{records_in}
-use Rattle.shard.specs.Opened.{IsTaken, IsToldReason, next_opening}
+use Rattle.node.specs.shard_core.Core.{Core}
+use Rattle.node.specs.Core.{seen}
+use Rattle.node.specs.Logs.{records_in}
+use Rattle.node.specs.Opened.{IsTaken, IsToldReason, next_opening}
 use Rattle.node.specs.Openings.{IsOpening}
 use Rattle.fleet.specs.Openings.{AreOpened, AreSetups, IsCauseOf, IsFirstOf, IsOpenedOver, epoch_in, last_in}
 use Rattle.fleet.specs.Setups.{IsSetupOf}

@@ -6,7 +6,7 @@ use Rattle.units.specs.declared.fault.Fault.{Fault}
 use Rattle.units.specs.declared.fault.Fault.TheVariants.{BadRequest, Memory}
 use Rattle.units.specs.declared.fault.Reason.TheVariants.{Settings}
 use Rattle.disk.specs.File.{File}
-use Rattle.desk.specs.InStep.{IsNoDesk}
+use Rattle.node.specs.InStep.{IsNoDesk}
 use Rattle.fleet.specs.Unopened.{IsFirst, IsRefusedFirst, IsUnmade}
 use Rattle.fleet.specs.declared.unopened.Unopened.{Unopened}
 

@@ -6,8 +6,8 @@ use Rattle.units.specs.declared.fault.Fault.{Fault}
 use Rattle.units.specs.declared.fault.Fault.TheVariants.{BadRequest, Memory}
 use Rattle.units.specs.declared.fault.Reason.TheVariants.{Settings}
 use Rattle.units.specs.declared.setup.Setup.{Setup}
-use Rattle.shard.specs.declared.shard_core.Core.{Core}
-use Rattle.shard.specs.Core.{seen}
+use Rattle.node.specs.shard_core.Core.{Core}
+use Rattle.node.specs.Core.{seen}
 use Rattle.fleet.specs.Setups.{IsSetupOf}
 use Rattle.fleet.specs.declared.unopened.Unopened.{Unopened}
 

@@ -11,8 +11,8 @@ use Rattle.units.specs.declared.setup.Setup.{Setup}
 use Rattle.disk.specs.File.{File, surface}
 use Rattle.record.specs.Records.{epoch_of, floor_of}
 use Rattle.record.specs.declared.record.Record.{Record}
-use Rattle.shard.specs.Logs.{records_in}
-use Rattle.shard.specs.Opened.{IsToldReason, is_reason}
+use Rattle.node.specs.Logs.{records_in}
+use Rattle.node.specs.Opened.{IsToldReason, is_reason}
 use Rattle.fleet.specs.Setups.{IsSetupOf}
 use Rattle.fleet.specs.declared.unopened.Unopened.{Unopened}
 

@@ -7,9 +7,8 @@ ghost use Rattle.fleet.specs.Unopened.{IsFirst, IsLastIn, IsRunOver, IsUnmade, u
 use crate::unopened::Unopened;
 use board::Viewer;
 use disk::Disk;
-use node::{Node, open_all};
+use node::{Core, Node, open_all};
 use settings::Settings;
-use shard::Core;
 use std::alloc::Global;
 use std::sync::Wait;
 use std::thread::Threads;

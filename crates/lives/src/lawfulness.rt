@@ -8,8 +8,7 @@ ghost use Rattle.lives.specs.Fleet.{act_shard, known_of};
 
 use crate::fleet::Known;
 use crate::life::opens;
-use bag::Bag;
-use message::Address;
+use message::{Address, Bag};
 use truetime::Reading;
 use units::{ShardNo, Stamp};
 use world::{Act, Doing, Sessions};

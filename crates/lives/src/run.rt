@@ -7,9 +7,8 @@ ghost use Rattle.lives.specs.Runs.{ComesAfter, IsRun, KeepsLaws, TakesEvent, act
 
 use crate::fleet::{Shards, fill, spend_all, take_logs};
 use crate::lawfulness::{may_be_done, may_come, shard_of};
-use bag::Bag;
 use disk::Fate;
-use message::Address;
+use message::{Address, Bag};
 use record::Record;
 use simdisk::SimDisk;
 use std::alloc::Global;

@@ -11,5 +11,5 @@ pub fn needed(floor: Stamp, to: Stamp, stride: Stride) -> Option<Record>
     ensures { result ≡
         (if nat_lt floor to then Some (Record.Ceiling (min (to + stride) Stamp.MAX)) else None) }
 {
-    ceiling::needed(floor, to, stride)
+    safetime::needed(floor, to, stride)
 }

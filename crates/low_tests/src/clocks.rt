@@ -1,13 +1,11 @@
 //! Readings of the clock, commit wait, the safe time, and ceilings.
 use crate::checks::{Row, go_over};
-use ceiling::needed;
 use made::{WrongRows, stamp};
 use record::Record;
-use safetime::SafeTime;
+use safetime::{SafeTime, needed};
 use std::alloc::Global;
-use truetime::Reading;
+use truetime::{Reading, pass};
 use units::{Fault, Reason, Stamp, Stride};
-use waiting::pass;
 
 /// A reading, and how a timestamp stands beside it. Commit wait for the timestamp passes once all of the reading is after it.
 pub struct Beside {

@@ -1,10 +1,9 @@
 //! Messages as they are printed, and the bag that they are put into.
 use crate::checks::is_printed;
 use crate::text_logs::{keys_of, parts_of, value_of, writes_of};
-use bag::Bag;
 use made::{WrongRows, id, key, shard, stamp};
 use message::{
-    Address, Answer, Ask, Commit, Done, Envelope, GiveUp, Message, Outcome, Prepare, Read,
+    Address, Answer, Ask, Bag, Commit, Done, Envelope, GiveUp, Message, Outcome, Prepare, Read,
     ReadAnswer, Reads, Vote,
 };
 use std::alloc::Global;

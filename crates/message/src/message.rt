@@ -3,8 +3,8 @@ ghost use Rattle.std.specs.Prelude.{◌≡◌, Some, None};
 
 use crate::Reads;
 use std::marker::Model;
+use truetime::Waited;
 use units::{Epoch, Key, Parts, ShardNo, Stamp, TxnId, Value, Writes};
-use waiting::Waited;
 
 /// A session asks for the value of a key.
 #[derive(Clone, Copy)]

@@ -6,7 +6,7 @@ use Rattle.disk.specs.declared.plan.FailurePlan.{FailurePlan}
 use Rattle.disk.specs.File.{File}
 use Rattle.desk.specs.InStep.{IsCount, IsNoDesk}
 use Rattle.desk.specs.Opening.{HasNoDesk}
-use Rattle.shard.specs.Opened.{HasNotOpened}
+use Rattle.desk.specs.Opened.{HasNotOpened}
 use Rattle.node.specs.Faults.{RefusesRestart}
 
 no_board : (n : ℕ) (fault : Fault) → IsNoDesk n fault → RefusesRestart n fault

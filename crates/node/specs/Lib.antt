@@ -4,3 +4,8 @@ pub mod Restart
 pub mod Seen
 pub mod SeenHeld
 pub mod Under
+pub use Rattle.desk.specs.Core
+pub use Rattle.desk.specs.InStep
+pub use Rattle.desk.specs.Logs
+pub use Rattle.desk.specs.Opened
+pub use Rattle.desk.specs.shard_core

@@ -6,8 +6,8 @@ use Rattle.units.specs.declared.fault.Reason.TheVariants.{Again}
 use Rattle.units.specs.declared.setup.Setup.{Setup}
 use Rattle.disk.specs.declared.plan.FailurePlan.{FailurePlan}
 use Rattle.disk.specs.File.{File}
-use Rattle.shard.specs.Look.{safe_at}
-use Rattle.shard.specs.Opened.{HasOpened}
+use Rattle.desk.specs.Look.{safe_at}
+use Rattle.desk.specs.Opened.{HasOpened}
 use Rattle.board.specs.declared.entry.BoardEntry.{BoardEntry}
 use Rattle.board.specs.Board.{first_entries}
 use Rattle.board.specs.Views.{Publishing, Viewing}

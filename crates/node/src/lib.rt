@@ -7,7 +7,7 @@ mod opening;
 mod place;
 mod serves;
 
-pub use desk::Desk;
+pub use desk::{Core, Desk};
 pub use letters::{Gate, Letter, Post, Served, start};
 pub use node::Node;
 pub use opening::open_all;

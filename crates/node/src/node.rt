@@ -5,14 +5,14 @@ ghost use Rattle.desk.specs.Faults.{refuses_input, refuses_advance, refuses_hori
 ghost use Rattle.desk.specs.InStep.{IsCount, IsNoDesk};
 ghost use Rattle.node.specs.Faults.{RefusesRestart};
 ghost use Rattle.node.specs.Restart.{AreOnNewBoard};
-ghost use Rattle.shard.specs.Core.{seen, book_of};
-ghost use Rattle.shard.specs.Look.{safe_at};
+ghost use Rattle.desk.specs.Core.{seen, book_of};
+ghost use Rattle.desk.specs.Look.{safe_at};
 
 use crate::held::Held;
 use board::{Told, Viewer};
+use desk::Core;
 use disk::Disk;
 use message::{Input, Outbox};
-use shard::Core;
 use std::alloc::Global;
 use std::sync::{Mutex, Wait};
 use truetime::Reading;

@@ -1,1 +1,2 @@
 pub mod Reports
+pub use Rattle.lives.specs.Fleet

@@ -6,8 +6,8 @@ ghost use Rattle.lives.specs.Runs.{IsRun};
 ghost use Rattle.playing.specs.Reports.{IsNoReport, IsReport, Plays, Reports};
 ghost use Rattle.world.specs.declared.event.Config.{Config};
 
-use bag::Bag;
 use lives::{Finished, Run};
+use message::Bag;
 use record::Record;
 use simdisk::SimDisk;
 use std::alloc::Global;

@@ -10,7 +10,7 @@ use Rattle.world.specs.Headline.{IsExternallyConsistent}
 use Rattle.world.specs.World.{counted_lines, logs_of, run, setup_of}
 use Rattle.world.specs.declared.event.Config.{Config}
 use Rattle.world.specs.declared.event.Event.{Event}
-use Rattle.lives.specs.Fleet.{AreOn}
+use Rattle.playing.specs.Fleet.{AreOn}
 use Rattle.playing.specs.Reports.{IsReport}
 use Rattle.playing.specs.declared.plays.Report.{Report}
 

@@ -1,12 +1,14 @@
-//! The safe time of a shard: the greatest timestamp at which its versions may be read.
+//! The safe time of a shard, the greatest timestamp at which its versions may be read, and its ceilings: served time that its log allows.
 #![tactic(auto)]
 
+mod ceiling;
 mod laws;
 
 ghost use Rattle.std.specs.Prelude.{◌≡◌, ◌<◌, ◌-◌, ◌++◌, ◌∷◌, ◌==◌, [], min, max, length, All, IfOk, IfErr};
 ghost use Rattle.std.specs.List.{position_or_len};
 ghost use Rattle.safetime.specs.Safe.{safe_of, lifted};
 
+pub use ceiling::needed;
 pub use laws::order_does_not_matter;
 use std::alloc::Global;
 use std::marker::Model;

@@ -8,7 +8,6 @@ ghost use Rattle.memory.specs.Kept.{start_of, IsPlanned};
 ghost use Rattle.memory.specs.Standings.{standing_in, PlansGiveUp};
 
 use crate::addressing::is_for;
-use ceiling::needed;
 use coordinator::{give_up, on_ask, on_commit, on_vote, resume_commit, settle};
 use memory::{Standing, State, Step};
 use message::{GiveUp, Input, Message};
@@ -17,6 +16,7 @@ use participant::{
 };
 use record::Record;
 use rows::Row;
+use safetime::needed;
 use std::alloc::Global;
 use truetime::Reading;
 use units::{Fault, Stamp, TxnId};

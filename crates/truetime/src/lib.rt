@@ -1,6 +1,8 @@
-//! The clock: an interval that holds the true time at which it was asked.
+//! Readings of a clock with a known uncertainty, as from TrueTime, and commit wait: a timestamp has surely passed, or it is too early.
 #![tactic(auto)]
 
 mod reading;
+mod waited;
 
 pub use reading::{Clock, Reading};
+pub use waited::{Waited, pass};

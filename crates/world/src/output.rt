@@ -6,9 +6,8 @@ ghost use Rattle.world.specs.Among.{is_among};
 ghost use Rattle.world.specs.Told.{ack_by, ack_in, told_in};
 
 use crate::Reply;
-use bag::Bag;
 use indexmap::IndexSet;
-use message::{Envelope, Message, Outbox};
+use message::{Bag, Envelope, Message, Outbox};
 use std::alloc::Global;
 use units::{Fault, Key, Line, Stamp, TxnId, Value, copy_value};
 

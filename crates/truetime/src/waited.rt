@@ -1,7 +1,7 @@
 ghost use Rattle.std.specs.Prelude.{◌≡◌, ◌<◌, ◌≤◌, MatchResult};
 
+use crate::Reading;
 use std::marker::Model;
-use truetime::Reading;
 use units::{Fault, Stamp};
 
 /// The word that a timestamp has surely passed. Only `pass` makes it, and it has to be spent. Whoever holds one may tell

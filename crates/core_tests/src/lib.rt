@@ -71,6 +71,3 @@ mod verdict;
 mod viewed;
 #[cfg(test)]
 mod without_memory;
-
-// These are tests alone. A program is built sooner than a library (docs/GATE.md).
-fn main() {}

@@ -1,10 +1,8 @@
 //! Every message ever put out, in order.
-#![tactic(auto)]
-
 ghost use Rattle.std.specs.Prelude.{◌≡◌, ◌++◌, ◌∷◌, [], length, slice_get, IfOk, IfErr, OnErr};
 ghost use Rattle.std.specs.Option.{option_copied};
 
-use message::Envelope;
+use crate::Envelope;
 use std::alloc::Global;
 use std::marker::Model;
 use units::Fault;

@@ -1,6 +1,3 @@
-//! The ceilings of a shard: served time that its log allows.
-#![tactic(auto)]
-
 ghost use Rattle.std.specs.Prelude.{◌≡◌, ◌+◌, min, nat_lt, if◌then◌else◌};
 
 use record::Record;

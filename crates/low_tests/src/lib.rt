@@ -80,6 +80,3 @@ mod turned;
 mod verdicts;
 #[cfg(test)]
 mod versioned;
-
-// These are tests alone. A program is built sooner than a library (docs/GATE.md).
-fn main() {}

@@ -17,6 +17,3 @@ mod stops;
 mod store_folders;
 #[cfg(test)]
 mod verdict;
-
-// These are tests alone. A program is built sooner than a library (docs/GATE.md).
-fn main() {}
