@@ -22,5 +22,7 @@ pub use engine::{Engine, Put};
 pub use hints::Hints;
 pub use output::Stream;
 pub use places::place_of;
+pub use script::schedule;
 pub use settings_text::settings;
+pub use showing::stats_files;
 pub use system::{Driven, Files, NoVerdict, System};

@@ -3,4 +3,5 @@
 
 mod plays;
 
+pub use lives::{Life, Run, RunShard};
 pub use plays::{Report, lawful, play};

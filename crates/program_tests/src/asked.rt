@@ -1,8 +1,8 @@
 //! Commands that ask the system for files, and some that do not; in rows of lines that come to the same.
 use crate::files::all_files;
 use crate::given::{AMPLE, Asked, Memory, REFUSED, TAKEN, Writes, comes_to};
+use commands::stats_files;
 use made::WrongRows;
-use showing::stats_files;
 use std::alloc::Global;
 
 // What commits, new logs, verdicts and drives print, also beside a fault.

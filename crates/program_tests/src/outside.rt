@@ -1,8 +1,8 @@
 //! What befalls the core of a shard from outside a run shows in the run: the cores that it plays lie open here.
-use lives::{Life, Run};
+use commands::schedule;
 use made::{WrongRows, stamp};
 use message::Input;
-use script::schedule;
+use playing::{Life, Run};
 use std::alloc::Global;
 use truetime::Reading;
 use units::Fault;

@@ -1,6 +1,6 @@
 //! Schedules that are read, and lines that are refused.
+use commands::schedule;
 use made::WrongRows;
-use script::schedule;
 use std::alloc::Global;
 use units::{Fault, Reason};
 use world::{Act, Event};

@@ -57,6 +57,3 @@ mod unlawful;
 mod verdict;
 #[cfg(test)]
 mod words;
-
-// These are tests alone. A program is built sooner than a library (docs/GATE.md).
-fn main() {}

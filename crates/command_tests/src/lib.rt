@@ -1,0 +1,9 @@
+//! Tests of commands over files of the machine.
+#![tactic(auto)]
+
+#[cfg(test)]
+mod command_lines;
+#[cfg(test)]
+mod compacting;
+#[cfg(test)]
+mod verdict;

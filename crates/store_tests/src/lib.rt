@@ -1,0 +1,29 @@
+//! Tests of whole drives, of stores and their clients, and of the folder that they run over.
+#![tactic(auto)]
+
+#[cfg(test)]
+mod clients;
+#[cfg(test)]
+mod commit_waits;
+#[cfg(test)]
+mod disks;
+#[cfg(test)]
+mod drives;
+#[cfg(test)]
+mod forgetting;
+#[cfg(test)]
+mod gates;
+#[cfg(test)]
+mod kept;
+#[cfg(test)]
+mod machine_clocks;
+#[cfg(test)]
+mod renewing;
+#[cfg(test)]
+mod services;
+#[cfg(test)]
+mod stops;
+#[cfg(test)]
+mod store_folders;
+#[cfg(test)]
+mod verdict;
