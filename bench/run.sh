@@ -7,7 +7,7 @@ here=$(cd "$(dirname "$0")" && pwd)
 top=$(dirname "$here")
 made=$(mktemp -d "${TMPDIR:-/tmp}/bench.XXXXXX")
 
-# The crates that the core of a shard stands on, the lowest first.
+# The crates that the core of a shard stands on, the lowest first. Earlier revisions have `waiting` and `ceiling`.
 crates="units truetime counts waiting disk simdisk record spelling frames gatelog message protocol locks facts versions renewal safetime rows
 ledger memory participant coordinator ceiling recovery book shard inspector growing board"
 
