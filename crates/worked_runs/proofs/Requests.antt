@@ -1,7 +1,7 @@
--- What decisions rest on, in whole runs: what asked for them, remembered until it is decided. A delivery that was refused is none that counts, and
--- a second one, of what is remembered already, is none either.
+-- What decisions rest on, in whole runs: what asked for them, remembered until it is decided. None that counts is a delivery that was refused, one
+-- of what is remembered already, or one that a crash undid.
 use Rattle.std.proofs.Common.{◌⊎◌, ap, arith, inl, inr, sym, subst, ◌∙◌}
-use Rattle.std.specs.Prelude.{ℕ, ◌≡◌, refl, true, List, [], ◌∷◌, ◌++◌, take, drop, Option, Some, None}
+use Rattle.std.specs.Prelude.{ℕ, ◌≡◌, refl, true, List, [], ◌∷◌, ◌++◌, take, drop, slice_get, Option, Some, None}
 use Rattle.units.specs.declared.fault.Fault.TheVariants.{Stopped}
 use Rattle.record.specs.declared.record.Committed.{Committed}
 use Rattle.record.specs.declared.record.Record.{Record}
@@ -187,3 +187,48 @@ pub again_counts_not : RemembersUntil (request_of 0 with_votes 120) (Record.Comm
 unfolding computing
 again_counts_not (inl h) = nothing_came _ _ _ _ _ _ refl refl refl refl refl h.before h.after h.there h.there_now h.appended
 again_counts_not (inr h) = other_row _ _ _ _ refl refl refl refl h.0.shard h.0.memory h.0.row h.0.there h.0.runs h.0.among h.0.same
+
+-- ---- undone by a crash, and delivered again
+
+abbrev pub undone : List Event
+undone = take 5 two_shard.events
+    ++ on 105 (Act.Crash 0) ∷ on 105 (Act.At 0 Doing.Open) ∷ on 105 (Act.Deliver 0 (clock 100 130)) ∷ drop 5 two_shard.events
+
+pub undone_is_lawful : lawful two_shards undone ≡ true
+unfolding computing
+undone_is_lawful = refl
+
+pub undone_log : slice_get (logs_of (run two_shards undone)) 0
+    ≡ Some (Record.Opened 1 ∷ Record.Opened 2 ∷ Record.Commit with_votes ∷ Record.Outcome (txn 2) (Some 200) ∷ [])
+unfolding computing
+undone_log = refl
+
+pub undone_asks : asked_by (run two_shards (take 4 undone)) (Act.Deliver 0 (clock 100 110)) ≡ Some (request_of 0 with_votes 110)
+unfolding computing
+undone_asks = refl
+
+pub undone_counts_not : RemembersUntil (request_of 0 with_votes 110) (Record.Commit with_votes) (run two_shards (take 4 undone)) (drop 4 undone) → ⊥
+unfolding computing
+undone_counts_not (inl h) = nothing_came _ _ _ _ _ _ refl refl refl refl refl h.before h.after h.there h.there_now h.appended
+undone_counts_not (inr (k, inl h)) = nothing_came _ _ _ _ _ _ refl refl refl refl refl h.before h.after h.there h.there_now h.appended
+undone_counts_not (inr (k, inr h)) = down_runs _ _ refl refl h.0.shard h.0.there h.0.memory h.0.runs
+
+pub rests_on_the_next : IsAboveArrival two_shards undone 0 with_votes
+unfolding computing
+rests_on_the_next = record {
+  front = take 7 undone;
+  event = on 105 (Act.Deliver 0 (clock 100 130));
+  back = drop 8 undone;
+  listed = refl;
+  latest = 130;
+  asks = refl;
+  until = inr (
+    record { shard = _; there = refl; memory = _; runs = refl; row = _; among = inl refl; same = refl },
+    inr (
+      record { shard = _; there = refl; memory = _; runs = refl; row = _; among = inl refl; same = refl },
+      inl (record { before = _; there = refl; memory = _; runs = refl; after = _; there_now = refl; appended = inl refl }),
+    ),
+  );
+  honest = omega arith;
+  above = omega arith;
+}
