@@ -33,7 +33,7 @@ use Rattle.law.proofs.Acts.{acts_go, step_of}
 use Rattle.law.proofs.Areas.{IsLeft}
 use Rattle.law.proofs.Members.{among_cases}
 use Rattle.law.proofs.Picked.{some_same}
-use Rattle.law.proofs.Rebased.{Stands}
+use Rattle.law.proofs.Anew.{MayStand}
 
 -- a shard that runs
 abbrev IsUp : ShardNow → Type 0
@@ -80,7 +80,7 @@ module _ (setup : Setup) (bag : List Envelope) (s : ShardNow) (c : Committed) (m
 module _ (w : World) where
   -- each decision that stands in another world stood here, or came
   abbrev Explained : World → Type 0
-  Explained v = (n : ℕ) (c : Committed) → Stands v n (Record.Commit c) → Stands w n (Record.Commit c) ⊎ IsAppended w v n (Record.Commit c)
+  Explained v = (n : ℕ) (c : Committed) → MayStand v n (Record.Commit c) → MayStand w n (Record.Commit c) ⊎ IsAppended w v n (Record.Commit c)
 
   same_shards : (v : World) → v.shards ≡ w.shards → Explained v
   same_shards v same n c h = inl (record { shard = h.shard; there = ap (λ ss. slice_get ss n) (sym same) ∙ h.there; is = h.is })
@@ -98,7 +98,7 @@ module _ (w : World) where
 
     placed : (new : ShardNow) (v : World) → v.shards ≡ replaced w.shards n new → Follows new → Explained v
     placed new v is follows m c h = elim (cases_eq n m) [
-      | inl same ↦ subst (λ k. Stands w k (Record.Commit c) ⊎ IsAppended w v k (Record.Commit c)) same
+      | inl same ↦ subst (λ k. MayStand w k (Record.Commit c) ⊎ IsAppended w v k (Record.Commit c)) same
           (here (subst (λ k. slice_get v.shards k ≡ Some h.shard) (sym same) h.there))
       | inr other ↦ inl (record {
         shard = h.shard;
@@ -110,7 +110,7 @@ module _ (w : World) where
         new_there : slice_get v.shards n ≡ Some new
         new_there = ap (λ ss. slice_get ss n) is ∙ get-replaced_same w.shards n s new there
 
-        here : slice_get v.shards n ≡ Some h.shard → Stands w n (Record.Commit c) ⊎ IsAppended w v n (Record.Commit c)
+        here : slice_get v.shards n ≡ Some h.shard → MayStand w n (Record.Commit c) ⊎ IsAppended w v n (Record.Commit c)
         here e = elim (follows c (subst (λ z. Has z (Record.Commit c)) (some_same h.shard new (sym e ∙ new_there)) h.is)) [
           | inl old ↦ inl (record { shard = s; there = there; is = old })
           | inr came ↦ inr (record {

@@ -21,7 +21,7 @@ use Rattle.world.specs.declared.event.Config.{Config}
 use Rattle.world.specs.declared.event.Doing.{Doing}
 use Rattle.world.specs.declared.event.Event.{Event}
 use Rattle.world.specs.declared.event.Reply.{Reply}
-use Rattle.law.specs.Requests.{Request, asked, asked_by}
+use Rattle.law.specs.Requests.{CommitWanted, act_asks, input_asks}
 use Rattle.law.specs.Evidence.{Scene, RecordEvidence, Holds, ShardEvidence}
 use Rattle.world.specs.Steady.{IsSteady, AlwaysSteady}
 use Rattle.world.proofs.Places.{replicated}
@@ -139,10 +139,10 @@ length_push [] x = refl
 length_push (y ∷ xs) x = ap suc (length_push xs x)
 
 -- a scene at the next event, which asks for more
-abbrev pub ticking : Scene → ℕ → (Request → Type 0) → Scene
+abbrev pub ticking : Scene → ℕ → (CommitWanted → Type 0) → Scene
 ticking sc time more = record sc { times = sc.times ++ time ∷ []; asked = λ r. sc.asked r ⊎ more r; now = time }
 
-module _ (sc : Scene) (time : ℕ) (more : Request → Type 0) (h : Holds sc) (c : Clock sc) (later : sc.now ≤ time) where
+module _ (sc : Scene) (time : ℕ) (more : CommitWanted → Type 0) (h : Holds sc) (c : Clock sc) (later : sc.now ≤ time) where
   -- the next event begins
   tick_grows : Grows sc (ticking sc time more)
   tick_grows = record {
@@ -221,8 +221,8 @@ pub record RunEvidence (w : World) : Type 1 where
   pub clock : Clock scene
 
 -- an event asks a shard for something, at most at the latest time of its reading
-pub record AsksFor (w : World) (e : Event) (r : Request) : Type 0 where
-  pub asks : asked_by w e.act ≡ Some r
+pub record AsksFor (w : World) (e : Event) (r : CommitWanted) : Type 0 where
+  pub asks : act_asks w e.act ≡ Some r
   pub honest : e.time ≤ r.latest
 
 -- an event is under way
@@ -238,12 +238,12 @@ pub asked_now : (sc : Scene) (e : Event) → IsAskedBy (begun_at sc e) e.act
 asked_now sc e n doing is p given_now r asks honest = inr (record {
   asks =
       ap
-      (λ o. elim o as (λ x. Option Request) [
+      (λ o. elim o as (λ x. Option CommitWanted) [
         | None ↦ None
-        | Some q ↦ elim (input_of sc.world.bag q.1) as (λ x. Option Request) [ None ↦ None | Some z ↦ asked q.0 z.0 z.1 ]
+        | Some q ↦ elim (input_of sc.world.bag q.1) as (λ x. Option CommitWanted) [ None ↦ None | Some z ↦ input_asks q.0 z.0 z.1 ]
       ])
       is
-      ∙ ap (λ o. elim o as (λ x. Option Request) [ None ↦ None | Some z ↦ asked n z.0 z.1 ]) given_now
+      ∙ ap (λ o. elim o as (λ x. Option CommitWanted) [ None ↦ None | Some z ↦ input_asks n z.0 z.1 ]) given_now
       ∙ asks;
   honest = honest;
 })

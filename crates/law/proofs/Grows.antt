@@ -13,9 +13,9 @@ use Rattle.message.specs.declared.message.Envelope.{Envelope}
 use Rattle.message.specs.declared.message.Message.{Message}
 use Rattle.protocol.specs.Rows.{Row, Phase, Idle, WaitsRead, WaitsPrepare, WaitsCommit, Collecting, IsPrepared, IsDecided, Voted}
 use Rattle.law.specs.Among.{IsAmong}
-use Rattle.law.specs.Requests.{Request}
+use Rattle.law.specs.Requests.{CommitWanted}
 use Rattle.law.specs.Evidence.{Scene, log_at, ClosedOver, IsOfClosing, BeganBy, PrepareAsked, CommitAsked, VotedYes, HasPromise, HasDecision}
-use Rattle.law.specs.Evidence.{HasOutcome, WasTold, CommitEvidence, RestsOn, RecordEvidence, Remembers, PhaseEvidence, RowsEvidence, Told, SaidBySome}
+use Rattle.law.specs.Evidence.{HasOutcome, WasTold, CommitEvidence, IsAboveWanted, RecordEvidence, Remembers, PhaseEvidence, RowsEvidence, Told, SaidBySome}
 use Rattle.law.specs.Evidence.{MessageEvidence, LineEvidence}
 
 -- each member of the first list is one of the second
@@ -27,7 +27,7 @@ pub record Grows (a b : Scene) : Type 0 where
   pub sent : Within a.world.bag b.world.bag
   pub lines : Within a.world.lines b.world.lines
   pub times : (i time : ℕ) → slice_get a.times i ≡ Some time → slice_get b.times i ≡ Some time
-  pub asked : (r : Request) → a.asked r → b.asked r
+  pub asked : (r : CommitWanted) → a.asked r → b.asked r
   pub decided : (n : ℕ) (c : Committed) → a.decided n c → b.decided n c
   pub now : a.now ≤ b.now
   pub closed : (t : Id) (messages : List Envelope) → ClosedOver a.world t messages → ClosedOver b.world t messages
@@ -96,7 +96,7 @@ module _ (a b : Scene) (g : Grows a b) where
   closing_stays : (t : Id) (e : Envelope) → IsOfClosing a.world t e → IsOfClosing b.world t e
   closing_stays t e h = record { messages = h.messages; over = g.closed t h.messages h.over; among = h.among }
 
-  rests_stays : (n : ℕ) (c : Committed) → a.decided n c ⊎ RestsOn a n c → b.decided n c ⊎ RestsOn b n c
+  rests_stays : (n : ℕ) (c : Committed) → a.decided n c ⊎ IsAboveWanted a n c → b.decided n c ⊎ IsAboveWanted b n c
   rests_stays n c (inl old) = inl (g.decided n c old)
   rests_stays n c (inr r) = inr (record { latest = r.latest; asked = g.asked _ r.asked; above = r.above })
 

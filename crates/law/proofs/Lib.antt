@@ -1,6 +1,7 @@
 pub mod Accepts
 pub mod Acts
 pub mod AllWhole
+pub mod Anew
 pub mod Answering
 pub mod Appended
 pub mod Areas
@@ -38,7 +39,6 @@ pub mod Quiet
 pub mod ReadBefore
 pub mod ReadsEqual
 pub mod ReadsHold
-pub mod Rebased
 pub mod Recorded
 pub mod Resolved
 pub mod Rests

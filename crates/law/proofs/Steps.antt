@@ -18,7 +18,7 @@ use Rattle.protocol.specs.Rows.{Row, standing, standing_by, find_row, claims}
 use Rattle.protocol.specs.Plan.{Before, stands}
 use Rattle.protocol.specs.Cells.{plan_resume, plan_resume_id, plan_resume_row}
 use Rattle.protocol.specs.Step.{is_for, plan_message, plan_input}
-use Rattle.law.specs.Requests.{Request, asked}
+use Rattle.law.specs.Requests.{CommitWanted, input_asks}
 use Rattle.law.specs.Evidence.{Scene, Sent, CommitAsked, BeganBy, PhaseEvidence, RowsEvidence, StatusEvidence}
 use Rattle.law.proofs.Moves.{PlannedEvidence, StandingEvidence, replying, refusing, choosing}
 use Rattle.law.proofs.Table.{reading, preparing, committing, voting, ending_by, giving_up, questioned, going_on, settling, advancing, nudging, forgetting}
@@ -38,7 +38,7 @@ pub record Knows (sc : Scene) (log : List Record) (b : Before) (now : Interval) 
 
 -- what an input asks of a shard counts as asked, where the present is not above its reading
 abbrev pub IsAsked : Scene → ℕ → Interval → Input → Type 0
-IsAsked sc n now i = (r : Request) → asked n now i ≡ Some r → sc.now ≤ r.latest → sc.asked r
+IsAsked sc n now i = (r : CommitWanted) → input_asks n now i ≡ Some r → sc.now ≤ r.latest → sc.asked r
 
 -- what was given to a shard was put out for it, and what it asks counts as asked
 abbrev pub Heard : Scene → ℕ → Interval → Input → Type 0

@@ -21,14 +21,14 @@ use Rattle.session.specs.Sessions.{Client, Stage, IsOpen, closing_messages}
 use Rattle.world.specs.World.{World, ShardNow, State, Runs, Nothing, client_of}
 use Rattle.world.specs.Headline.{IsUnsure}
 use Rattle.law.specs.Among.{IsAmong}
-use Rattle.law.specs.Requests.{Request, request_of}
+use Rattle.law.specs.Requests.{CommitWanted, request_for}
 
 -- a world with the true times of the events so far, the number of the event under way, and the present; with it what counts as asked of shards,
 -- and which decisions need no request
 pub record Scene : Type 1 where
   pub world : World
   pub times : List ℕ
-  pub asked : Request → Type 0
+  pub asked : CommitWanted → Type 0
   pub decided : ℕ → Committed → Type 0
   pub event : ℕ
   pub now : ℕ
@@ -120,9 +120,9 @@ pub record WasTold (w : World) (log : List Record) (n : ℕ) (t : Id) (outcome :
   pub sent : Sent w n (Message.Outcome (record { from = coordinator; txn = t; outcome = outcome }))
 
 -- what was asked is below a decision
-pub record RestsOn (sc : Scene) (n : ℕ) (c : Committed) : Type 0 where
+pub record IsAboveWanted (sc : Scene) (n : ℕ) (c : Committed) : Type 0 where
   pub latest : ℕ
-  pub asked : sc.asked (request_of n c latest)
+  pub asked : sc.asked (request_for n c latest)
   pub above : latest < c.at
 
 -- a decision rests on its request, on the votes of the other parts, and on its transaction's beginning
@@ -132,7 +132,7 @@ pub record CommitEvidence (sc : Scene) (n : ℕ) (c : Committed) : Type 0 where
   pub latest : ℕ
   pub began : BeganBy sc c.txn latest
   pub above : latest < c.at
-  pub rests : sc.decided n c ⊎ RestsOn sc n c
+  pub rests : sc.decided n c ⊎ IsAboveWanted sc n c
 
 -- why a coordinator may abort: it was asked to commit, or how the transaction ended
 pub record WasAsked (w : World) (n : ℕ) (t : Id) : Type 0 where

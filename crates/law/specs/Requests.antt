@@ -17,7 +17,7 @@ use Rattle.world.specs.declared.event.Event.{Event}
 use Rattle.law.specs.Among.{IsAmong}
 
 -- what a shard is asked to commit, with the latest time of the reading with which that came
-pub record Request : Type 0 where
+pub record CommitWanted : Type 0 where
   pub shard : ℕ
   pub txn : Id
   pub latest : ℕ
@@ -28,36 +28,36 @@ pub record Request : Type 0 where
 -- ---- asked
 
 -- what an input asks of a shard
-abbrev pub asked : ℕ → Interval → Input → Option Request
-asked n now (Input.Deliver m) = elim m [
+abbrev pub input_asks : ℕ → Interval → Input → Option CommitWanted
+input_asks n now (Input.Deliver m) = elim m [
   | Message.Commit c ↦ Some (record { shard = n; txn = c.txn; latest = now.latest; parts = c.parts; reads = c.reads.keys; writes = c.writes })
   | _ ↦ None
 ]
-asked n now _ = None
+input_asks n now _ = None
 
 -- what an act asks of the shard at which it is, also where the device fails in it, or a crash strikes
-abbrev pub asked_by : World → Act → Option Request
-asked_by w a = elim (doing_of w a) [ None ↦ None | Some p ↦ elim (input_of w.bag p.1) [ None ↦ None | Some q ↦ asked p.0 q.0 q.1 ] ]
+abbrev pub act_asks : World → Act → Option CommitWanted
+act_asks w a = elim (doing_of w a) [ None ↦ None | Some p ↦ elim (input_of w.bag p.1) [ None ↦ None | Some q ↦ input_asks p.0 q.0 q.1 ] ]
 
 -- ---- remembered
 
 -- what a row of a shard remembers to have been asked, while it waits for its locks, or for votes
-abbrev pub remembered : ℕ → Row → Option Request
-remembered n row = elim row.phase [
+abbrev pub row_remembers : ℕ → Row → Option CommitWanted
+row_remembers n row = elim row.phase [
   | WaitsCommit latest ps rs ws ↦ Some (record { shard = n; txn = row.txn; latest = latest; parts = ps; reads = rs; writes = ws })
   | Collecting latest ps rs ws votes ↦ Some (record { shard = n; txn = row.txn; latest = latest; parts = ps; reads = rs; writes = ws })
   | _ ↦ None
 ]
 
 -- the shard runs, and a row of it remembers the request
-pub record IsRemembered (w : World) (r : Request) : Type 0 where
+pub record IsRemembered (w : World) (r : CommitWanted) : Type 0 where
   pub shard : ShardNow
   pub there : slice_get w.shards r.shard ≡ Some shard
   pub memory : Memory
   pub runs : shard.state ≡ Runs memory
   pub row : Row
   pub among : IsAmong memory.rows row
-  pub same : remembered r.shard row ≡ Some r
+  pub same : row_remembers r.shard row ≡ Some r
 
 -- ---- decided
 
@@ -72,7 +72,7 @@ pub record IsAppended (w v : World) (n : ℕ) (r : Record) : Type 0 where
   pub appended : (after.log ≡ read_log before ++ r ∷ []) ⊎ ((after.log ≡ read_log before) × IsUnsure after.unsure r)
 
 -- at the first of some events the record is appended, or behind it the shard remembers the request, and so on with the next
-abbrev pub RemembersUntil : Request → Record → World → List Event → Type 0
+abbrev pub RemembersUntil : CommitWanted → Record → World → List Event → Type 0
 RemembersUntil r d w [] = ⊥
 RemembersUntil r d w (e ∷ es) =
     let v : World = (happens w e).0 in IsAppended w v r.shard d ⊎ (IsRemembered v r × RemembersUntil r d v es)
@@ -80,8 +80,8 @@ RemembersUntil r d w (e ∷ es) =
 -- ---- what a decision rests on
 
 -- what a decision of a shard was asked for, with a time
-abbrev pub request_of : ℕ → Committed → ℕ → Request
-request_of n c latest = record { shard = n; txn = c.txn; latest = latest; parts = c.parts; reads = c.reads; writes = c.writes }
+abbrev pub request_for : ℕ → Committed → ℕ → CommitWanted
+request_for n c latest = record { shard = n; txn = c.txn; latest = latest; parts = c.parts; reads = c.reads; writes = c.writes }
 
 -- An event asked for a decision. From there on the shard remembered that, with the latest time of the event's reading, at each moment until the
 -- decision was appended. The true time of the event is at most that latest time, and the timestamp of the decision is above it.
@@ -91,7 +91,7 @@ pub record IsAboveArrival (config : Config) (es : List Event) (n : ℕ) (c : Com
   pub back : List Event
   pub listed : es ≡ front ++ event ∷ back
   pub latest : ℕ
-  pub asks : asked_by (run config front) event.act ≡ Some (request_of n c latest)
-  pub until : RemembersUntil (request_of n c latest) (Record.Commit c) (run config front) (event ∷ back)
+  pub asks : act_asks (run config front) event.act ≡ Some (request_for n c latest)
+  pub until : RemembersUntil (request_for n c latest) (Record.Commit c) (run config front) (event ∷ back)
   pub honest : event.time ≤ latest
   pub above : latest < c.at

@@ -16,7 +16,7 @@ use Rattle.world.specs.declared.event.Reply.{Reply}
 use Rattle.world.specs.Computing.{computing}
 use Rattle.protocol.proofs.Samples.{a, one, txn, clock, sets}
 use Rattle.law.specs.Among.{IsAmong}
-use Rattle.law.specs.Requests.{IsAboveArrival, Request, RemembersUntil, asked_by, remembered, request_of}
+use Rattle.law.specs.Requests.{IsAboveArrival, CommitWanted, RemembersUntil, act_asks, request_for, row_remembers}
 use Rattle.worked_runs.proofs.Events.{two_shards, on}
 use Rattle.worked_runs.proofs.OneShardRun as one_shard
 use Rattle.worked_runs.proofs.TwoShardRun as two_shard
@@ -26,11 +26,11 @@ use Rattle.worked_runs.proofs.TwoShardRun as two_shard
 abbrev at_once : Committed
 at_once = record { txn = txn 1; at = 111; parts = 0 ∷ []; reads = []; writes = sets a one ∷ [] }
 
-pub asks : asked_by (run two_shards (take 3 one_shard.events)) (Act.Deliver 0 (clock 100 110)) ≡ Some (request_of 0 at_once 110)
+pub asks : act_asks (run two_shards (take 3 one_shard.events)) (Act.Deliver 0 (clock 100 110)) ≡ Some (request_for 0 at_once 110)
 unfolding computing
 asks = refl
 
-pub chore_asks_nothing : asked_by (run two_shards (take 4 one_shard.events)) (Act.At 0 (Doing.Settle (txn 1) (clock 105 112))) ≡ None
+pub chore_asks_nothing : act_asks (run two_shards (take 4 one_shard.events)) (Act.At 0 (Doing.Settle (txn 1) (clock 105 112))) ≡ None
 unfolding computing
 chore_asks_nothing = refl
 
@@ -101,11 +101,11 @@ unfolding computing
 logs_are = refl
 
 -- both deliveries ask for it
-pub first_asks : asked_by (run two_shards (take 4 events)) (Act.Deliver 0 (clock 100 104)) ≡ Some (request_of 0 at_once 104)
+pub first_asks : act_asks (run two_shards (take 4 events)) (Act.Deliver 0 (clock 100 104)) ≡ Some (request_for 0 at_once 104)
 unfolding computing
 first_asks = refl
 
-pub second_asks : asked_by (run two_shards (take 6 events)) (Act.Deliver 0 (clock 100 110)) ≡ Some (request_of 0 at_once 110)
+pub second_asks : act_asks (run two_shards (take 6 events)) (Act.Deliver 0 (clock 100 110)) ≡ Some (request_for 0 at_once 110)
 unfolding computing
 second_asks = refl
 
@@ -117,7 +117,7 @@ down_runs o d is down s there m runs = apart (d.state) down (subst (λ z. z.stat
     apart st e f = cc
 
 -- and the first is not what the decision rests on
-pub first_counts_not : RemembersUntil (request_of 0 at_once 104) (Record.Commit at_once) (run two_shards (take 4 events)) (drop 4 events) → ⊥
+pub first_counts_not : RemembersUntil (request_for 0 at_once 104) (Record.Commit at_once) (run two_shards (take 4 events)) (drop 4 events) → ⊥
 unfolding computing
 first_counts_not (inl h) = down_runs _ _ refl refl h.before h.there h.memory h.runs
 first_counts_not (inr h) = down_runs _ _ refl refl h.0.shard h.0.there h.0.memory h.0.runs
@@ -149,7 +149,7 @@ pub same_logs : logs_of (run two_shards twice) ≡ two_shard.logs
 unfolding computing
 same_logs = refl
 
-pub again_asks : asked_by (run two_shards (take 5 twice)) (Act.Deliver 0 (clock 100 120)) ≡ Some (request_of 0 with_votes 120)
+pub again_asks : act_asks (run two_shards (take 5 twice)) (Act.Deliver 0 (clock 100 120)) ≡ Some (request_for 0 with_votes 120)
 unfolding computing
 again_asks = refl
 
@@ -167,8 +167,8 @@ nothing_came o p r c q d is short now short_now sure s z there there_now (inr un
 
 -- the one row remembers what asked first
 other_row : (p : Option ShardNow) (d : ShardNow) (m : Memory) (only : Row) → p ≡ Some d → d.state ≡ Runs m → m.rows ≡ only ∷ [] →
-    remembered 0 only ≡ Some (request_of 0 with_votes 110) → (s : ShardNow) (n : Memory) (row : Row) → p ≡ Some s → s.state ≡ Runs n →
-    IsAmong n.rows row → remembered 0 row ≡ Some (request_of 0 with_votes 120) → ⊥
+    row_remembers 0 only ≡ Some (request_for 0 with_votes 110) → (s : ShardNow) (n : Memory) (row : Row) → p ≡ Some s → s.state ≡ Runs n →
+    IsAmong n.rows row → row_remembers 0 row ≡ Some (request_for 0 with_votes 120) → ⊥
 other_row p d m only is runs alone first s n row there runs_now among second =
     by_place (subst (λ l. IsAmong l row) alone (subst (λ x. IsAmong x.rows row) (same_memory n m
     (sym runs_now ∙ subst (λ x. x.state ≡ Runs m) (some_same d s (sym is ∙ there)) runs)) among))
@@ -176,14 +176,14 @@ other_row p d m only is runs alone first s n row there runs_now among second =
     same_memory : (x y : Memory) → Runs x ≡ Runs y → x ≡ y
     same_memory x y e = cc
 
-    apart : Some (request_of 0 with_votes 110) ≡ Some (request_of 0 with_votes 120) → ⊥
-    apart e = let same : 110 ≡ 120 = ap (λ (o : Option Request). elim o as (λ x. ℕ) [ None ↦ 0 | Some x ↦ x.latest ]) e in absurd (omega (arith, same))
+    apart : Some (request_for 0 with_votes 110) ≡ Some (request_for 0 with_votes 120) → ⊥
+    apart e = let same : 110 ≡ 120 = ap (λ (o : Option CommitWanted). elim o as (λ x. ℕ) [ None ↦ 0 | Some x ↦ x.latest ]) e in absurd (omega (arith, same))
 
     by_place : IsAmong (only ∷ []) row → ⊥
-    by_place (inl same) = apart (sym first ∙ ap (remembered 0) same ∙ second)
+    by_place (inl same) = apart (sym first ∙ ap (row_remembers 0) same ∙ second)
     by_place (inr none) = none
 
-pub again_counts_not : RemembersUntil (request_of 0 with_votes 120) (Record.Commit with_votes) (run two_shards (take 5 twice)) (drop 5 twice) → ⊥
+pub again_counts_not : RemembersUntil (request_for 0 with_votes 120) (Record.Commit with_votes) (run two_shards (take 5 twice)) (drop 5 twice) → ⊥
 unfolding computing
 again_counts_not (inl h) = nothing_came _ _ _ _ _ _ refl refl refl refl refl h.before h.after h.there h.there_now h.appended
 again_counts_not (inr h) = other_row _ _ _ _ refl refl refl refl h.0.shard h.0.memory h.0.row h.0.there h.0.runs h.0.among h.0.same
@@ -203,11 +203,11 @@ pub undone_log : slice_get (logs_of (run two_shards undone)) 0
 unfolding computing
 undone_log = refl
 
-pub undone_asks : asked_by (run two_shards (take 4 undone)) (Act.Deliver 0 (clock 100 110)) ≡ Some (request_of 0 with_votes 110)
+pub undone_asks : act_asks (run two_shards (take 4 undone)) (Act.Deliver 0 (clock 100 110)) ≡ Some (request_for 0 with_votes 110)
 unfolding computing
 undone_asks = refl
 
-pub undone_counts_not : RemembersUntil (request_of 0 with_votes 110) (Record.Commit with_votes) (run two_shards (take 4 undone)) (drop 4 undone) → ⊥
+pub undone_counts_not : RemembersUntil (request_for 0 with_votes 110) (Record.Commit with_votes) (run two_shards (take 4 undone)) (drop 4 undone) → ⊥
 unfolding computing
 undone_counts_not (inl h) = nothing_came _ _ _ _ _ _ refl refl refl refl refl h.before h.after h.there h.there_now h.appended
 undone_counts_not (inr (k, inl h)) = nothing_came _ _ _ _ _ _ refl refl refl refl refl h.before h.after h.there h.there_now h.appended
