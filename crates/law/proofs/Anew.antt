@@ -23,6 +23,7 @@ pub record MayStand (w : World) (n : ℕ) (r : Record) : Type 0 where
   pub there : slice_get w.shards n ≡ Some shard
   pub is : IsAmong shard.log r ⊎ IsUnsure shard.unsure r
 
+-- the scene that starts anew
 abbrev pub anew : Scene → Scene
 anew sc = record sc { asked = λ r. IsRemembered sc.world r; decided = λ n c. MayStand sc.world n (Record.Commit c) }
 

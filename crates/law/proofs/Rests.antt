@@ -21,15 +21,16 @@ use Rattle.law.proofs.WholeLaw.{run_on}
 -- ---- one event
 
 -- what is remembered before an event, or asked by it, is below the decision
-record WasAsked (w : World) (e : Event) (n : ℕ) (c : Committed) : Type 0 where
+record WasWanted (w : World) (e : Event) (n : ℕ) (c : Committed) : Type 0 where
   pub latest : ℕ
   pub asked : IsRemembered w (request_for n c latest) ⊎ AsksFor w e (request_for n c latest)
   pub above : latest < c.at
 
+-- what an event leaves remembered was so before, or is asked by it; and what it leaves decided was so before, or is appended by it, and was wanted
 record Explains (w : World) (e : Event) : Type 0 where
   pub remembered : (r : CommitWanted) → IsRemembered (happens w e).0 r → IsRemembered w r ⊎ AsksFor w e r
   pub decided : (n : ℕ) (c : Committed) → MayStand (happens w e).0 n (Record.Commit c) →
-      MayStand w n (Record.Commit c) ⊎ (IsAppended w (happens w e).0 n (Record.Commit c) × WasAsked w e n c)
+      MayStand w n (Record.Commit c) ⊎ (IsAppended w (happens w e).0 n (Record.Commit c) × WasWanted w e n c)
 
 module _ (sc : Scene) (h : Holds sc) (clock : Clock sc) (steady : IsSteady sc.world) (e : Event) (may : may_happen sc.world e ≡ true) where
   after : Holds (next (anew sc) e)
@@ -98,6 +99,7 @@ record IsSince (config : Config) (es : List Event) (r : CommitWanted) : Type 0 w
   pub asks : AsksFor (run config front) event r
   pub through : RemembersThrough r (run config front) (event ∷ back)
 
+-- of all that is remembered and decided behind some events: since when, and what it rests on
 record History (config : Config) (es : List Event) : Type 0 where
   pub remembered : (r : CommitWanted) → IsRemembered (run config es) r → IsSince config es r
   pub decided : (n : ℕ) (c : Committed) → MayStand (run config es) n (Record.Commit c) → IsAboveArrival config es n c
