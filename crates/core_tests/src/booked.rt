@@ -5,7 +5,7 @@ use crate::given::Given;
 use crate::stories::{Exchange, Origin, Part, Shows, disk_of, play};
 use book::Page;
 use made::WrongRows;
-use shard::Core;
+use node::Core;
 use simdisk::SimDisk;
 use std::alloc::Global;
 use std::process::Abort;

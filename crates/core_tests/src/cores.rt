@@ -2,7 +2,7 @@
 use disk::Disk;
 use gatelog::GateLog;
 use made::key;
-use shard::Core;
+use node::Core;
 use simdisk::SimDisk;
 use std::alloc::Global;
 use std::process::Abort;

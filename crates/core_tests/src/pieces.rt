@@ -6,7 +6,7 @@ use crate::verdict::end;
 use disk::Disk;
 use made::{WrongRows, shard};
 use message::Input;
-use shard::Core;
+use node::Core;
 use simdisk::SimDisk;
 use std::alloc::Global;
 use std::process::Abort;

@@ -3,7 +3,7 @@ use crate::answers::{Told, is_told};
 use crate::cores::{Setting, bytes_on, formatted, opened, plain};
 use crate::given::{Given, input_of, reading};
 use made::{WrongRows, stamp, with_slots};
-use shard::Core;
+use node::Core;
 use simdisk::{Choice, SimDisk};
 use std::alloc::Global;
 use std::process::Abort;

@@ -5,3 +5,4 @@ pub mod Kept
 pub mod Renewed
 pub mod Turned
 pub mod Viewers
+pub use Rattle.shard.proofs.Booked

@@ -3,6 +3,7 @@ pub mod InStep
 pub mod Opening
 pub mod Renewed
 pub mod Seen
+pub use Rattle.shard.specs.Booked
 pub use Rattle.shard.specs.Core
 pub use Rattle.shard.specs.Logs
 pub use Rattle.shard.specs.Look

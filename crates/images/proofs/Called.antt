@@ -10,7 +10,7 @@ use Rattle.disk.specs.declared.plan.FailurePlan.{FailurePlan}
 use Rattle.disk.specs.File.{File, surface}
 use Rattle.disk.specs.Image.{MayLeave, after_sync}
 use Rattle.disk.specs.Moments.{LeavesOnly}
-use Rattle.shard.specs.Armed.{HasPlace}
+use Rattle.lives.specs.Armed.{HasPlace}
 use Rattle.gatelog.specs.Frames.{IsFull, end_from, next_gate}
 use Rattle.gatelog.specs.Slots.{begins_in, slot_count}
 use Rattle.gatelog.specs.Log.{log as scanned_log}
@@ -22,13 +22,13 @@ use Rattle.record.specs.Facts.{facts_of}
 use Rattle.record.specs.Records.{epoch_of}
 use Rattle.record.specs.declared.record.Record.{Record}
 use Rattle.record.proofs.LearnAgrees.{accepted_follows}
-use Rattle.renewal.specs.Keeps.{Alike, IsLasting}
-use Rattle.renewal.specs.Turned.{turned}
-use Rattle.renewal.proofs.One.{one-turnover}
-use Rattle.shard.specs.Logs.{BeginsAsBefore, HoldsOldOrWith, and_logged, records_in}
-use Rattle.shard.specs.On.{CoreView, HasStepped, IsCause, IsLogFull, IsTried, StandsAsBefore, gate_behind, record_of}
-use Rattle.shard.specs.Opened.{HasNotOpened, HasOpened, HasRoom, IsReason, IsTaken, LeavesOpening, end_in, is_reason, next_opening, opening_of}
-use Rattle.shard.specs.Turned.{HasNoTurnPlace, HasTurned, HasTurnPlace, IsOldOrTurned, IsTurnCause, turned_to}
+use Rattle.ledger.specs.Keeps.{Alike, IsLasting}
+use Rattle.ledger.specs.Turned.{turned}
+use Rattle.ledger.proofs.One.{one-turnover}
+use Rattle.lives.specs.Logs.{BeginsAsBefore, HoldsOldOrWith, and_logged, records_in}
+use Rattle.lives.specs.On.{CoreView, HasStepped, IsCause, IsLogFull, IsTried, StandsAsBefore, gate_behind, record_of}
+use Rattle.lives.specs.Opened.{HasNotOpened, HasOpened, HasRoom, IsReason, IsTaken, LeavesOpening, end_in, is_reason, next_opening, opening_of}
+use Rattle.lives.specs.Turned.{HasNoTurnPlace, HasTurned, HasTurnPlace, IsOldOrTurned, IsTurnCause, turned_to}
 use Rattle.world.specs.Areas.{MayLeaveArea}
 use Rattle.world.specs.World.{Area, ShardNow, Runs, Nothing, area_behind, crashed, failed_turn, finished, gate_of, new_area, read_area, read_log}
 use Rattle.world.specs.World.{step_of_turnover, where_room, with_records}

@@ -18,9 +18,9 @@ use Rattle.protocol.specs.Step.{Stepped, Does}
 use Rattle.record.specs.Accepted.{followed}
 use Rattle.record.specs.Facts.{facts_of}
 use Rattle.record.specs.declared.record.Record.{Record}
-use Rattle.shard.specs.Logs.{records_in}
-use Rattle.shard.specs.On.{record_of, step_of}
-use Rattle.shard.specs.Opened.{HasRoom}
+use Rattle.lives.specs.Logs.{records_in}
+use Rattle.lives.specs.On.{record_of, step_of}
+use Rattle.lives.specs.Opened.{HasRoom}
 use Rattle.world.specs.Lawful.{is_up, lawful, may_act, may_do, may_happen}
 use Rattle.world.specs.Steady.{HasAreas, IsSteady}
 use Rattle.world.specs.World.{ShardNow, State, Runs, IsStopped, IsDown, Nothing, effect, failed_in, failed_turn, input_of, new_area, read_area}

@@ -10,10 +10,10 @@ use Rattle.disk.proofs.Crashes.{seen_may}
 use Rattle.gatelog.specs.Slots.{begins_in}
 use Rattle.record.specs.Facts.{facts_of}
 use Rattle.record.specs.declared.record.Record.{Record}
-use Rattle.renewal.specs.Keeps.{Alike}
+use Rattle.ledger.specs.Keeps.{Alike}
 use Rattle.protocol.specs.Rows.{Memory}
-use Rattle.shard.specs.Logs.{HoldsOldOrWith, records_in}
-use Rattle.shard.specs.On.{CoreView}
+use Rattle.lives.specs.Logs.{HoldsOldOrWith, records_in}
+use Rattle.lives.specs.On.{CoreView}
 use Rattle.world.specs.Areas.{IsBeside, MayLeaveArea}
 use Rattle.world.specs.World.{Area, ShardNow, State, Runs, IsStopped, IsDown, Nothing, Shown, Hidden, failed_in}
 use Rattle.world.specs.World.{failed_turn, gate_of, left_unsure, new_area, read_area, read_log, shown_area, shown_records, turn_unsure, with_records}

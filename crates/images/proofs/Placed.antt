@@ -19,10 +19,10 @@ use Rattle.protocol.specs.Step.{Stepped, Refuses, Does, step}
 use Rattle.record.specs.Accepted.{followed}
 use Rattle.record.specs.Facts.{facts_of}
 use Rattle.record.specs.declared.record.Record.{Record}
-use Rattle.renewal.specs.Keeps.{Alike, IsLasting}
-use Rattle.renewal.proofs.Steps.{same-step}
-use Rattle.shard.specs.Logs.{records_in}
-use Rattle.shard.specs.On.{CoreView, step_of}
+use Rattle.ledger.specs.Keeps.{Alike, IsLasting}
+use Rattle.ledger.proofs.Steps.{same-step}
+use Rattle.lives.specs.Logs.{records_in}
+use Rattle.lives.specs.On.{CoreView, step_of}
 use Rattle.world.specs.Lawful.{is_up}
 use Rattle.world.specs.World.{ShardNow, State, Runs, IsStopped, IsDown, Nothing, area_behind, crashed, crashed_in}
 use Rattle.world.specs.World.{effect, failed_in, failed_turn, gate_of, input_of, left_by_refused, read_area, read_log}

@@ -17,9 +17,9 @@ use Rattle.protocol.specs.Step.{Stepped, Refuses, Does}
 use Rattle.record.specs.Accepted.{followed}
 use Rattle.record.specs.Facts.{facts_of}
 use Rattle.record.specs.declared.record.Record.{Record}
-use Rattle.renewal.proofs.Alike.{alike-refl}
-use Rattle.shard.specs.Logs.{records_in}
-use Rattle.shard.specs.On.{record_of, step_of}
+use Rattle.ledger.proofs.Alike.{alike-refl}
+use Rattle.lives.specs.Logs.{records_in}
+use Rattle.lives.specs.On.{record_of, step_of}
 use Rattle.world.specs.Areas.{IsBeside, MayBeLeftAt, MayHaveDone, MayLeaveArea}
 use Rattle.world.specs.Headline.{IsUnsure, MayBeLeft, MayHaveLogged, MayLeaveLog, MayLeaveLogs, MayLeaveWithin}
 use Rattle.world.specs.Lawful.{is_up, lawful}

@@ -8,8 +8,8 @@ use Rattle.gatelog.specs.Slots.{slot_count}
 use Rattle.protocol.specs.Rows.{Memory}
 use Rattle.protocol.specs.Step.{Refuses, Does}
 use Rattle.record.specs.Facts.{facts_of}
-use Rattle.renewal.specs.Turned.{turned}
-use Rattle.shard.specs.Turned.{HasNoTurnPlace}
+use Rattle.ledger.specs.Turned.{turned}
+use Rattle.lives.specs.Turned.{HasNoTurnPlace}
 use Rattle.world.specs.World.{ShardNow}
 use Rattle.world.specs.World.{gate_of, new_area, read_area, read_log, step_of_turnover, turns}
 use Rattle.world.specs.declared.event.Doing.{Doing}

@@ -16,15 +16,15 @@ use Rattle.disk.specs.Image.{MayLeave}
 use Rattle.gatelog.specs.Slots.{begins_in}
 use Rattle.record.specs.Facts.{facts_of}
 use Rattle.record.specs.declared.record.Record.{Record}
-use Rattle.renewal.specs.Keeps.{Alike}
+use Rattle.ledger.specs.Keeps.{Alike}
 use Rattle.message.specs.declared.message.Envelope.{Envelope}
 use Rattle.message.specs.declared.message.Input.{Input}
 use Rattle.protocol.specs.Rows.{Memory as Kept}
 use Rattle.protocol.specs.Step.{Stepped, Refuses, Does}
-use Rattle.shard.specs.Logs.{records_in}
-use Rattle.shard.specs.On.{CoreView, HasStepped, step_of}
-use Rattle.shard.specs.Opened.{HasNotOpened, HasOpened}
-use Rattle.shard.specs.Turned.{HasTurned}
+use Rattle.lives.specs.Logs.{records_in}
+use Rattle.lives.specs.On.{CoreView, HasStepped, step_of}
+use Rattle.lives.specs.Opened.{HasNotOpened, HasOpened}
+use Rattle.lives.specs.Turned.{HasTurned}
 use Rattle.world.specs.Areas.{KeepsWhatIsSaid, MayBeLeftAt}
 use Rattle.world.specs.Headline.{IsExternallyConsistent, MayBeLeft, doing_of}
 use Rattle.world.specs.Lawful.{is_down, lawful, may_happen}

@@ -19,8 +19,8 @@ use Rattle.record.specs.Records.{Status, Unrecorded, StandsPrepared, StandsDecid
 use Rattle.record.specs.declared.record.Record.{Record}
 use Rattle.record.specs.declared.record.Record.TheVariants.{Prepare, Commit, Abort, Outcome, Base, Version, Settled, Closed}
 use Rattle.record.proofs.LearnAgrees.{followed_more, learn_agrees}
-use Rattle.renewal.specs.Keeps.{NamesOwn}
-use Rattle.renewal.proofs.Entries.{entry, id_of, with_status-is}
+use Rattle.ledger.specs.Keeps.{NamesOwn}
+use Rattle.ledger.proofs.Entries.{entry, id_of, with_status-is}
 use Rattle.law.proofs.Members.{all_append}
 
 -- a version of a key of the shard

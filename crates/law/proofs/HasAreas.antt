@@ -23,15 +23,15 @@ use Rattle.protocol.specs.Rows.{Memory}
 use Rattle.protocol.specs.Showable.{record_ascends}
 use Rattle.protocol.specs.Step.{Does}
 use Rattle.session.specs.Sessions.{Moved, Denies, Goes}
-use Rattle.renewal.specs.Keeps.{Alike}
-use Rattle.renewal.specs.Rules.{takes}
-use Rattle.renewal.specs.Turned.{turned}
-use Rattle.renewal.proofs.Alike.{alike-keeps, alike-stays}
-use Rattle.renewal.proofs.Belongs.{turned-belongs}
-use Rattle.renewal.proofs.Come.{turned-log-keeps, turned-may_come}
-use Rattle.renewal.proofs.Fits.{turned-fits}
-use Rattle.renewal.proofs.Lasts.{log-is-of-shard, taken-lasts}
-use Rattle.renewal.proofs.Takes.{takes-alike}
+use Rattle.ledger.specs.Keeps.{Alike}
+use Rattle.ledger.specs.Rules.{takes}
+use Rattle.ledger.specs.Turned.{turned}
+use Rattle.ledger.proofs.Alike.{alike-keeps, alike-stays}
+use Rattle.ledger.proofs.Belongs.{turned-belongs}
+use Rattle.ledger.proofs.Come.{turned-log-keeps, turned-may_come}
+use Rattle.ledger.proofs.Fits.{turned-fits}
+use Rattle.ledger.proofs.Lasts.{log-is-of-shard, taken-lasts}
+use Rattle.ledger.proofs.Takes.{takes-alike}
 use Rattle.world.specs.Areas.{AreasKeep, IsBeside, MayHaveDone, MayLeaveArea}
 use Rattle.world.specs.Headline.{doing_of}
 use Rattle.world.specs.Lawful.{lawful, lawful_from, may_act, may_happen}

@@ -12,7 +12,7 @@ use Rattle.units.proofs.ByIdLaws.{AllYounger, later_are_younger}
 use Rattle.record.specs.Facts.{Facts, TxnStatus, or_unrecorded, recorded}
 use Rattle.record.specs.declared.record.Record.{Record}
 use Rattle.record.specs.declared.record.Record.TheVariants.{Base, Version}
-use Rattle.renewal.specs.Turned.{ended_item, standing_item, turned, versions_held}
+use Rattle.ledger.specs.Turned.{ended_item, standing_item, turned, versions_held}
 
 abbrev id_of : TxnStatus → Id
 id_of e = e.txn

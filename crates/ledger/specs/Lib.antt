@@ -1,4 +1,6 @@
+pub mod Turned
+pub mod Keeps
+pub mod Rules
+pub mod Laws
 pub mod Ended
 pub mod Ledger
-pub use Rattle.renewal.specs.Keeps
-pub use Rattle.renewal.specs.Turned

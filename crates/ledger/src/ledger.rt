@@ -8,7 +8,7 @@ ghost use Rattle.facts.specs.Shown.{meant};
 ghost use Rattle.facts.specs.Stages.{follows_head, follows_next, stage_after, stage_of};
 ghost use Rattle.protocol.specs.Sound.{writes_standing};
 ghost use Rattle.versions.specs.Orders.{Orders};
-ghost use Rattle.renewal.specs.Turned.{turned};
+ghost use Rattle.ledger.specs.Turned.{turned};
 ghost use Rattle.ledger.specs.Ledger.{CanInstall};
 
 use crate::renewing::{Recorder, renew};

@@ -10,7 +10,7 @@ ghost use Rattle.versions.specs.Arranged.{arranged};
 ghost use Rattle.versions.specs.Orders.{Orders};
 ghost use Rattle.versions.specs.Pruned.{first_left};
 ghost use Rattle.protocol.specs.Showable.{rises_by_key};
-ghost use Rattle.renewal.specs.Turned.{ended_item, standing_item, turned, versions_held};
+ghost use Rattle.ledger.specs.Turned.{ended_item, standing_item, turned, versions_held};
 
 use facts::{Facts, Status};
 use record::{Committed, Prepared, Record};

@@ -7,8 +7,8 @@ use Rattle.record.specs.Facts.{Facts, installs_at, learn, recorded}
 use Rattle.record.specs.declared.record.Record.{Record}
 use Rattle.protocol.specs.Rows.{rebuilt, standing_row}
 use Rattle.protocol.specs.Step.{facts_after}
-use Rattle.renewal.specs.Keeps.{Alike}
-use Rattle.renewal.proofs.Alike.{alike-stays}
+use Rattle.ledger.specs.Keeps.{Alike}
+use Rattle.ledger.proofs.Alike.{alike-stays}
 
 pub alike_back : (a b : Facts) → Alike a b → Alike b a
 alike_back a b h = record {

@@ -22,8 +22,8 @@ use Rattle.record.specs.Accepted.{Accepted, followed, follows, taken}
 use Rattle.record.specs.Facts.{facts_of}
 use Rattle.record.specs.Installs.{installs_of}
 use Rattle.record.specs.declared.record.Record.{Record}
-use Rattle.renewal.specs.Keeps.{IsLasting}
-use Rattle.renewal.proofs.Alike.{alike-refl}
+use Rattle.ledger.specs.Keeps.{IsLasting}
+use Rattle.ledger.proofs.Alike.{alike-refl}
 use Rattle.shard.specs.Logs.{items_of}
 use Rattle.simdisk.specs.State.{disk_file, disk_plan}
 use Rattle.simdisk.specs.declared.simdisk.SimDisk.{SimDisk}

@@ -22,12 +22,12 @@ use Rattle.record.specs.Records.{epoch_of}
 use Rattle.message.specs.declared.message.Envelope.{Envelope}
 use Rattle.record.specs.declared.record.Record.{Record}
 use Rattle.record.proofs.LearnAgrees.{accepted_follows, learn_agrees}
-use Rattle.recovery.specs.Recovered.{fault_in, items}
+use Rattle.shard.specs.Recovered.{fault_in, items}
 use Rattle.protocol.specs.Plan.{time_limit}
 use Rattle.protocol.specs.Rows.{Memory, rebuilt}
 use Rattle.protocol.specs.Step.{Stepped, Refuses, Does}
-use Rattle.renewal.specs.Keeps.{Alike}
-use Rattle.renewal.proofs.Alike.{alike-stays}
+use Rattle.ledger.specs.Keeps.{Alike}
+use Rattle.ledger.proofs.Alike.{alike-stays}
 use Rattle.shard.specs.Armed.{AreArmed, HasPlace}
 use Rattle.shard.specs.Logs.{KeepsRecords, records_in, and_logged, items_of}
 use Rattle.shard.specs.On.{CoreView}

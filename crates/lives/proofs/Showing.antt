@@ -19,8 +19,8 @@ use Rattle.record.specs.declared.record.Record.{Record}
 use Rattle.message.specs.declared.message.Envelope.{Envelope}
 use Rattle.protocol.specs.Rows.{Memory as Kept, safe}
 use Rattle.protocol.specs.Step.{Stepped, Refuses, Does}
-use Rattle.renewal.specs.Keeps.{Alike}
-use Rattle.renewal.proofs.Alike.{alike-keeps}
+use Rattle.ledger.specs.Keeps.{Alike}
+use Rattle.ledger.proofs.Alike.{alike-keeps}
 use Rattle.shard.specs.Core.{seen}
 use Rattle.shard.specs.Look.{safe_at}
 use Rattle.shard.specs.On.{CoreView}

@@ -25,11 +25,11 @@ use Rattle.message.specs.declared.message.Envelope.{Envelope}
 use Rattle.message.specs.declared.message.Input.{Input}
 use Rattle.protocol.specs.Rows.{Memory}
 use Rattle.protocol.specs.Step.{Stepped, Refuses, Does, step, facts_after}
-use Rattle.renewal.proofs.Steps.{same-step}
+use Rattle.ledger.proofs.Steps.{same-step}
 use Rattle.units.specs.Limits.{most_rows}
 use Rattle.shard.specs.Armed.{AreArmed, FailsIn, GoesPast, HasPlace}
 use Rattle.disk.specs.Moments.{LeavesOnly}
-use Rattle.renewal.specs.Keeps.{Alike}
+use Rattle.ledger.specs.Keeps.{Alike}
 use Rattle.shard.specs.Logs.{BeginsAsBefore, KeepsRecords, records_in, and_logged}
 use Rattle.shard.specs.On.{CoreView, HasStepped, IsCause, StandsAsBefore, IsLogFull, gate_behind, record_of, step_of}
 use Rattle.simdisk.specs.State.{disk_clock, disk_failures, disk_file, disk_plan, LeftSince}

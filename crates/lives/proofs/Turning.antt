@@ -17,9 +17,9 @@ use Rattle.protocol.specs.Rows.{Memory}
 use Rattle.protocol.specs.Step.{Stepped, Refuses, Does}
 use Rattle.record.specs.Facts.{Facts, facts_of}
 use Rattle.record.specs.declared.record.Record.{Record}
-use Rattle.renewal.specs.Keeps.{Alike, IsLasting}
-use Rattle.renewal.specs.Turned.{turned}
-use Rattle.renewal.proofs.One.{one-turnover}
+use Rattle.ledger.specs.Keeps.{Alike, IsLasting}
+use Rattle.ledger.specs.Turned.{turned}
+use Rattle.ledger.proofs.One.{one-turnover}
 use Rattle.shard.specs.Logs.{KeepsRecords}
 use Rattle.shard.specs.On.{CoreView}
 use Rattle.shard.specs.Turned.{AreArmedTurn, HasNoTurnPlace, HasTurned, HasTurnPlace, turned_to}

@@ -14,7 +14,7 @@ use Rattle.message.specs.declared.message.Envelope.{Envelope}
 use Rattle.message.specs.declared.message.Input.{Input}
 use Rattle.protocol.specs.Rows.{Memory as Kept}
 use Rattle.protocol.specs.Step.{Stepped, Refuses, Does, step}
-use Rattle.renewal.specs.Keeps.{Alike, IsLasting}
+use Rattle.ledger.specs.Keeps.{Alike, IsLasting}
 use Rattle.shard.specs.Core.{seen}
 use Rattle.shard.specs.On.{CoreView}
 use Rattle.simdisk.specs.declared.simdisk.SimDisk.{SimDisk}

@@ -8,3 +8,8 @@ pub mod Runs
 pub mod Shows
 pub mod Spots
 pub mod Unopened
+pub use Rattle.shard.specs.Armed
+pub use Rattle.shard.specs.Logs
+pub use Rattle.shard.specs.On
+pub use Rattle.shard.specs.Opened
+pub use Rattle.shard.specs.Turned

@@ -8,7 +8,7 @@ use Rattle.record.specs.Facts.{facts_of}
 use Rattle.record.specs.declared.record.Record.{Record}
 use Rattle.gatelog.specs.Crash.{Begins}
 use Rattle.protocol.specs.Rows.{Memory}
-use Rattle.renewal.specs.Keeps.{Alike}
+use Rattle.ledger.specs.Keeps.{Alike}
 use Rattle.shard.specs.Core.{seen}
 use Rattle.shard.specs.On.{CoreView}
 use Rattle.simdisk.specs.State.{disk_file, disk_plan}

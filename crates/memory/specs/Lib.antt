@@ -5,3 +5,6 @@ pub mod Served
 pub mod ServedLaws
 pub mod Settled
 pub mod Standings
+pub use Rattle.ledger.specs.Ledger
+pub use Rattle.rows.specs.CodeRows
+pub use Rattle.rows.specs.RowTable

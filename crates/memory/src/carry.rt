@@ -15,11 +15,10 @@ ghost use Rattle.memory.specs.Served.{IsHolding, stamp_held};
 
 use crate::plan::{Change, Plan};
 use crate::state::State;
-use gatelog::Logged;
 use ledger::{Ended, Ledger};
 use message::Outbox;
 use record::Record;
-use rows::{Row, Rows};
+use rows::{Logged, Row, Rows};
 use safetime::SafeTime;
 use std::alloc::Global;
 use units::{Fault, Lock, Stamp, TxnId};

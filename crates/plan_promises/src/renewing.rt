@@ -1,6 +1,6 @@
 //! What a shard keeps of its log when it renews it.
 ghost use Rattle.std.specs.Prelude.{◌≡◌, ◌<◌, IfErr, IfOk};
-ghost use Rattle.renewal.specs.Turned.{turned};
+ghost use Rattle.ledger.specs.Turned.{turned};
 
 use ledger::{Ledger, Recorder};
 use record::Record;

@@ -1,1 +1,5 @@
 pub mod Playings
+pub mod Seen
+pub mod SameStatus
+pub mod Plain
+pub mod Consistent

@@ -1,2 +1,3 @@
 pub mod Reports
 pub use Rattle.lives.specs.Fleet
+pub mod Reported

@@ -1,7 +1,9 @@
-//! Whole runs, played over real cores on disks in memory.
+//! Whole runs, played over real cores on disks in memory, and what the law of the store says of a report.
 #![tactic(auto)]
 
+mod laws;
 mod plays;
 
+pub use laws::reports;
 pub use lives::{Life, Run, RunShard};
 pub use plays::{Report, lawful, play};

@@ -22,7 +22,7 @@ use Rattle.protocol.proofs.FitsBeside.{unrecorded_is}
 use Rattle.protocol.proofs.StatusChanges.{by_id-status}
 use Rattle.memory.specs.Carry.{MayDrop}
 use Rattle.memory.specs.Kept.{Kept}
-use Rattle.rows.specs.CodeRows.{may_abort, may_close}
+use Rattle.memory.specs.CodeRows.{may_abort, may_close}
 use Rattle.recovery.specs.Recovered.{IsOwn, IsRecovered}
 use Rattle.recovery.proofs.Beside.{fresh_absent, rows_are}
 use Rattle.recovery.proofs.Locking.{with_locks-append}

@@ -25,7 +25,7 @@ use Rattle.protocol.specs.Rows.{without_rows, Row, claims, find_row, held_stamp,
 use Rattle.protocol.specs.Plan.{is_crowded, opens}
 use Rattle.memory.specs.Carry.{Asks}
 use Rattle.memory.specs.Kept.{Kept, start_of}
-use Rattle.rows.specs.CodeRows.{is_reading}
+use Rattle.memory.specs.CodeRows.{is_reading}
 use Rattle.protocol.specs.Beside.{standing_rows, stands_in}
 use Rattle.recovery.specs.Recovered.{IsRecovered}
 use Rattle.recovery.proofs.Locking.{all_still, locks_free, none_wounded}

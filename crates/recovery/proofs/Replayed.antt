@@ -17,7 +17,7 @@ use Rattle.protocol.specs.Step.{facts_after}
 use Rattle.protocol.proofs.OpenedRows.{by_id-gather}
 use Rattle.memory.specs.Carry.{AdmissionIsUnseen, IsCarriable, IsFit, HasMemoryFor, ReadyIsCarriable, stage_behind}
 use Rattle.memory.specs.Kept.{Kept}
-use Rattle.ledger.specs.Ledger.{CanInstall}
+use Rattle.memory.specs.Ledger.{CanInstall}
 use Rattle.memory.specs.Plans.{plan_of}
 use Rattle.memory.specs.declared.plan.Plan.{Plan}
 use Rattle.memory.specs.declared.plan.Step.{Step}

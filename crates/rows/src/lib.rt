@@ -10,6 +10,7 @@ mod states;
 mod votes;
 mod wait;
 
+pub use gatelog::Logged;
 pub use row::Row;
 pub use rows::Rows;
 pub use states::{RowCollecting, RowDecided, RowPrepared, RowReading};

@@ -1,10 +1,10 @@
 //! Schedules are played, and the reports are judged.
 ghost use Rattle.std.specs.Prelude.{◌≡◌, map, IfOk, IfErr};
 ghost use Rattle.record.specs.Verdict.{verdict};
-ghost use Rattle.reported.specs.Reports.{IsNoReport, IsReport};
+ghost use Rattle.playing.specs.Reports.{IsNoReport, IsReport};
 
 use inspector::inspect;
-use reported::{Report, play, reports};
+use playing::{Report, play, reports};
 use std::alloc::Global;
 use units::{Fault, Verdict};
 use world::{Config, Event};

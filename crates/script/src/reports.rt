@@ -3,7 +3,7 @@ ghost use Rattle.std.specs.Prelude.{◌≡◌, IfErr};
 
 use crate::plays::Played;
 use output::VerdictText;
-use reported::Report;
+use playing::Report;
 use std::alloc::Global;
 use std::fmt;
 use texts::Text;

@@ -10,10 +10,10 @@ use Rattle.record.specs.Facts.{Facts, learn, no_facts}
 use Rattle.record.specs.declared.record.Record.{Record}
 use Rattle.units.specs.declared.fault.Fault.{Fault}
 use Rattle.gatelog.specs.Slots.{begins_in}
-use Rattle.renewal.specs.Keeps.{Alike, IsRegular}
-use Rattle.renewal.specs.Laws.{AlikeStays, TurnedKeeps}
-use Rattle.renewal.specs.Turned.{turned}
-use Rattle.renewal.proofs.Alike.{alike-refl}
+use Rattle.ledger.specs.Keeps.{Alike, IsRegular}
+use Rattle.ledger.specs.Laws.{AlikeStays, TurnedKeeps}
+use Rattle.ledger.specs.Turned.{turned}
+use Rattle.ledger.proofs.Alike.{alike-refl}
 use Rattle.shard.specs.Agrees.{AgreesWithLog, AreHeld}
 use Rattle.shard.specs.Logs.{KeepsRecords, HoldsOldOrWith, and_logged, facts_logged, learned, records_in}
 use Rattle.shard.specs.Turned.{IsOldOrTurned, turned_to}

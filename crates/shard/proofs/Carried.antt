@@ -13,8 +13,8 @@ use Rattle.memory.specs.Kept.{Kept}
 use Rattle.memory.specs.Plans.{plan_of}
 use Rattle.memory.specs.declared.plan.Step.{Step}
 use Rattle.protocol.specs.Showable.{IsShowable}
-use Rattle.renewal.specs.Keeps.{IsLasting}
-use Rattle.renewal.specs.Laws.{LastingFollows}
+use Rattle.ledger.specs.Keeps.{IsLasting}
+use Rattle.ledger.specs.Laws.{LastingFollows}
 use Rattle.shard.specs.Due.{IsDue}
 
 -- what may be renewed may be renewed behind it

@@ -18,7 +18,7 @@ use Rattle.memory.specs.Kept.{Kept}
 use Rattle.memory.specs.Plans.{plan_of}
 use Rattle.memory.specs.declared.plan.Step.{Step}
 use Rattle.protocol.specs.Showable.{IsShowable, rises_by_key}
-use Rattle.renewal.specs.Keeps.{IsLasting}
+use Rattle.ledger.specs.Keeps.{IsLasting}
 use Rattle.shard.specs.Due.{IsDue}
 use Rattle.units.specs.declared.setup.Setup.{Setup}
 use Rattle.disk.specs.File.{File, surface}

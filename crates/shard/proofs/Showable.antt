@@ -19,8 +19,8 @@ use Rattle.memory.specs.Kept.{Kept, start_of}
 use Rattle.memory.specs.Plans.{plan_of}
 use Rattle.memory.specs.declared.plan.Step.{Step}
 use Rattle.recovery.specs.Recovered.{items}
-use Rattle.renewal.specs.Keeps.{IsLasting}
-use Rattle.renewal.specs.Laws.{TakenLasts}
+use Rattle.ledger.specs.Keeps.{IsLasting}
+use Rattle.ledger.specs.Laws.{TakenLasts}
 use Rattle.protocol.specs.Showable.{IsShowable, KeepsShowable, StepKeepsShowable, TakenIsShowable, WritesAscend, record_ascends}
 
 pub as-showable : (facts given : Facts) (memory held : Memory) → facts ≡ given → memory ≡ held → IsShowable given held → IsShowable facts memory

@@ -23,9 +23,9 @@ use Rattle.gatelog.specs.Log.{entries_of, log, scan}
 use Rattle.gatelog.specs.Slots.{begins_in, slot_count}
 use Rattle.frames.proofs.Calls.{no_err, planned_err, planned_ok}
 use Rattle.gatelog.proofs.Fresh.{placed-items}
-use Rattle.renewal.specs.Keeps.{IsRegular}
-use Rattle.renewal.specs.Laws.{TurnedKeeps}
-use Rattle.renewal.specs.Turned.{turned}
+use Rattle.ledger.specs.Keeps.{IsRegular}
+use Rattle.ledger.specs.Laws.{TurnedKeeps}
+use Rattle.ledger.specs.Turned.{turned}
 use Rattle.shard.specs.Agrees.{AgreesWithLog}
 use Rattle.shard.specs.Logs.{items_of, records_in}
 use Rattle.shard.specs.On.{CoreView}

@@ -4,8 +4,8 @@ use Rattle.disk.specs.Image.{Surface, MayLeave}
 use Rattle.record.specs.declared.record.Record.{Record}
 use Rattle.record.specs.Facts.{Facts}
 use Rattle.gatelog.specs.Slots.{Beginning, begins_in}
-use Rattle.renewal.specs.Keeps.{Alike}
-use Rattle.renewal.specs.Turned.{turned}
+use Rattle.ledger.specs.Keeps.{Alike}
+use Rattle.ledger.specs.Turned.{turned}
 use Rattle.shard.specs.Logs.{KeepsRecords, HoldsOldOrWith, learned, records_in}
 
 -- each image holds the old records, or these with one more, which a step logs

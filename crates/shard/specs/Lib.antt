@@ -11,3 +11,4 @@ pub mod Look
 pub mod Opened
 pub mod Taking
 pub mod Turned
+pub use Rattle.recovery.specs.Recovered

@@ -14,8 +14,8 @@ use Rattle.gatelog.specs.ArmedTurn.{is_read_turn, is_left_turn}
 use Rattle.gatelog.specs.Crash.{Begins}
 use Rattle.gatelog.specs.Frames.{end_from}
 use Rattle.gatelog.specs.Slots.{Beginning, slot_count, begins_in}
-use Rattle.renewal.specs.Keeps.{IsRegular}
-use Rattle.renewal.specs.Turned.{turned}
+use Rattle.ledger.specs.Keeps.{IsRegular}
+use Rattle.ledger.specs.Turned.{turned}
 use Rattle.shard.specs.Logs.{records_in, KeepsRecords}
 use Rattle.shard.specs.On.{CoreView}
 

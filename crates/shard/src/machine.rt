@@ -11,7 +11,7 @@ ghost use Rattle.protocol.specs.Step.{Does, plan_input};
 ghost use Rattle.protocol.specs.Sound.{IsSound};
 ghost use Rattle.record.specs.Facts.{facts_of, learn};
 ghost use Rattle.protocol.specs.Showable.{IsShowable};
-ghost use Rattle.renewal.specs.Keeps.{IsLasting};
+ghost use Rattle.ledger.specs.Keeps.{IsLasting};
 ghost use Rattle.shard.specs.Agrees.{AgreesWithLog};
 ghost use Rattle.shard.specs.Armed.{HasPlace};
 ghost use Rattle.shard.specs.Due.{IsDue};

@@ -10,9 +10,9 @@ use crate::logging::{append_staged, stage_record};
 use crate::machine::Machine;
 use disk::Disk;
 use gatelog::Staged;
+use ledger::{alike_stays, lasting_follows};
 use memory::{Plan, Ready, Step, ready_plans_can_be_carried};
 use message::Outbox;
-use renewal::{alike_stays, lasting_follows};
 use std::alloc::Global;
 use units::Fault;
 

@@ -1,14 +1,13 @@
 //! A log that is turned over: its records are made anew of what the core knows.
 ghost use Rattle.std.specs.Prelude.{◌≡◌, IfOk, IfErr};
-ghost use Rattle.renewal.specs.Turned.{turned};
+ghost use Rattle.ledger.specs.Turned.{turned};
 ghost use Rattle.shard.specs.Turned.{HasTurned};
 
 use crate::machine::Machine;
 use disk::Disk;
 use gatelog::Area;
-use ledger::Recorder;
+use ledger::{Recorder, turned_keeps};
 use record::Record;
-use renewal::turned_keeps;
 use std::alloc::Global;
 use units::Fault;
 

@@ -1,5 +1,5 @@
 //! The gate of drives.
-use node::Gate;
+use letters::Gate;
 use std::sync::atomic::{AtomicU64, Ordering};
 use std::time::Duration;
 use std::{thread, time};

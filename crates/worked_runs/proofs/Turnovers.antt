@@ -12,7 +12,7 @@ use Rattle.protocol.specs.Outputs.{decision}
 use Rattle.protocol.specs.Rows.{Memory}
 use Rattle.protocol.specs.Step.{Refuses}
 use Rattle.protocol.proofs.Samples.{a, one, two, txn, clock, sets, done_of, to_session}
-use Rattle.renewal.specs.Turned.{turned}
+use Rattle.ledger.specs.Turned.{turned}
 use Rattle.world.specs.World.{ShardNow, Area, Nothing, Runs, areas_of, effect, gate_of, logs_of, new_area, read_area, replies_of_run, run, setup_of}
 use Rattle.world.specs.Lawful.{lawful}
 use Rattle.world.specs.declared.event.Act.{Act}

@@ -16,7 +16,7 @@ use Rattle.facts.specs.Rules.{follows_facts}
 use Rattle.facts.specs.Stages.{follows_head, follows_next, stage_of}
 use Rattle.protocol.specs.Beside.{fits_facts}
 use Rattle.protocol.proofs.BesideFacts.{beside_is, follows_is}
-use Rattle.renewal.specs.Rules.{AllFit, takes}
+use Rattle.ledger.specs.Rules.{AllFit, takes}
 use Rattle.world.proofs.Openings.{IsNext}
 use Rattle.world.proofs.StepKinds.{is_logged}
 

@@ -7,7 +7,7 @@ use Rattle.record.specs.declared.record.Record.{Record}
 use Rattle.message.specs.declared.message.Envelope.{Envelope}
 use Rattle.protocol.specs.Rows.{Memory}
 use Rattle.protocol.specs.Step.{Does}
-use Rattle.renewal.specs.Keeps.{Keeps}
+use Rattle.ledger.specs.Keeps.{Keeps}
 use Rattle.world.specs.World.{World, ShardNow, Area, Unsure, Nothing, Shown, Hidden, TurnShown, TurnHidden, area_behind, effect, read_log, run}
 use Rattle.world.specs.World.{setup_of, with_records}
 use Rattle.world.specs.Lawful.{lawful}

@@ -6,7 +6,7 @@ use Rattle.record.specs.declared.record.Record.{Record}
 use Rattle.message.specs.declared.message.Envelope.{Envelope}
 use Rattle.protocol.specs.Rows.{Memory}
 use Rattle.protocol.specs.Step.{Does}
-use Rattle.renewal.specs.Keeps.{Alike, IsLasting}
+use Rattle.ledger.specs.Keeps.{Alike, IsLasting}
 use Rattle.world.specs.World.{World, ShardNow, setup_of, effect, read_area, read_log, run}
 use Rattle.world.specs.Lawful.{lawful}
 use Rattle.world.specs.Headline.{MayLeaveLog}

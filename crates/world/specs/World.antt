@@ -24,7 +24,7 @@ use Rattle.record.specs.declared.record.Record.{Record}
 use Rattle.gatelog.specs.Frames.{end_from, next_gate}
 use Rattle.gatelog.specs.Gates.{first_gate, is_left, is_read, opens_gate}
 use Rattle.gatelog.specs.declared.frame.TheConstants.{SLOTS}
-use Rattle.renewal.specs.Turned.{turned}
+use Rattle.ledger.specs.Turned.{turned}
 use Rattle.message.specs.declared.message.Message.{Message}
 use Rattle.message.specs.declared.message.Envelope.{Envelope}
 use Rattle.message.specs.declared.message.Address.TheVariants.{Shard, Session}

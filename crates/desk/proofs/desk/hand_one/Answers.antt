@@ -1,3 +1,4 @@
+use Rattle.std.proofs.Common.{rules}
 use Rattle.std.proofs.Common.{◌≡◌, ◌+◌, ◌++◌, ◌∷◌, [], get_or, ap, sym, ◌∙◌, subst, append_assoc}
 use Rattle.units.specs.declared.writes.Install.{Install}
 use Rattle.board.specs.declared.entry.BoardEntry.TheVariants.{Installed}
@@ -58,3 +59,6 @@ returns-clause-published g c =
 
 pub returns-in_err-install-2-clause-horizon : goal.returns-in_err-install-2-clause-horizon
 returns-in_err-install-2-clause-horizon g c = ap (λ (s : Publishing). horizon_on (s.published ++ s.pending)) c.in_err-install-2.ensures.1
+
+pub returns-in_err-install-clause-horizon : goal.returns-in_err-install-clause-horizon
+returns-in_err-install-clause-horizon g c = search rules

@@ -4,7 +4,7 @@ use Rattle.units.specs.ById.{IsById}
 use Rattle.units.specs.Ids.{Id}
 use Rattle.units.specs.Lists.{gather}
 use Rattle.record.specs.declared.record.Record.{Record}
-use Rattle.renewal.specs.Turned.{ended_item}
+use Rattle.ledger.specs.Turned.{ended_item}
 use Rattle.ledger.proofs.Renewed.{by_ids, known_of, made_of_ids}
 use Rattle.ledger.proofs.renewing.hand_ended.Goals as goal
 

@@ -1,6 +1,6 @@
 use Rattle.std.proofs.Common.{◌≡◌, ◌++◌, drop}
 use Rattle.units.specs.Lists.{gather}
-use Rattle.renewal.specs.Turned.{ended_item}
+use Rattle.ledger.specs.Turned.{ended_item}
 use Rattle.ledger.proofs.Renewed.{known_of}
 use Rattle.ledger.proofs.renewing.hand_ended.Given as goal
 

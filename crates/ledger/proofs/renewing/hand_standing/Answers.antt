@@ -5,7 +5,7 @@ use Rattle.units.specs.Ids.{Id}
 use Rattle.units.specs.Lists.{gather}
 use Rattle.record.specs.Records.{Status}
 use Rattle.record.specs.declared.record.Record.{Record}
-use Rattle.renewal.specs.Turned.{standing_item}
+use Rattle.ledger.specs.Turned.{standing_item}
 use Rattle.ledger.proofs.Renewed.{by_ids, handed_none, handed_one, known_of, made_none, made_of_ids, made_one}
 use Rattle.ledger.proofs.renewing.hand_standing.Goals.{in-Some+in_ok-hand, in_default}
 use Rattle.ledger.proofs.renewing.hand_standing.Goals as goal

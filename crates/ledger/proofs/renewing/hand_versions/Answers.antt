@@ -7,7 +7,7 @@ use Rattle.versions.specs.Arranged.{arranged}
 use Rattle.versions.proofs.Arranged.{length_arranged}
 use Rattle.versions.proofs.Orders.{same_by}
 use Rattle.versions.proofs.Passed.{left_of, left-is-pruned, no_first, one_first}
-use Rattle.renewal.proofs.One.{held-in_order}
+use Rattle.ledger.proofs.One.{held-in_order}
 use Rattle.ledger.proofs.Renewed.{handed_none, handed_one}
 use Rattle.ledger.proofs.renewing.hand_versions.Goals.{in-Some+in_ok-copy+in_ok-hand, in_default}
 use Rattle.ledger.proofs.renewing.hand_versions.Goals as goal

@@ -11,7 +11,7 @@ use Rattle.protocol.specs.Plan.{carried}
 use Rattle.memory.specs.Carry.{Asks, IsFit, MayDrop, MayStand}
 use Rattle.memory.specs.Plans.{plan_of}
 use Rattle.memory.specs.declared.plan.Plan.{Plan}
-use Rattle.rows.specs.RowTable.{phase_by}
+use Rattle.memory.specs.RowTable.{phase_by}
 use Rattle.protocol.specs.Beside.{fits_facts}
 use Rattle.recovery.proofs.Again.{abort_again, absent_before, decision_again, may_abort_again, may_close_again, opens_again, outcome_again}
 use Rattle.recovery.proofs.Again.{forgets_again, promise_again, serves_again}

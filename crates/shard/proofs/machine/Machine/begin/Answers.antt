@@ -7,7 +7,7 @@ use Rattle.gatelog.specs.Shown.{disk_of, gate_at}
 use Rattle.gatelog.specs.Frames.{IsFull}
 use Rattle.shard.specs.Opened.{HasNotAppended}
 use Rattle.shard.proofs.Agrees.{agrees_kept, known-logged}
-use Rattle.renewal.specs.Keeps.{IsLasting}
+use Rattle.ledger.specs.Keeps.{IsLasting}
 use Rattle.shard.proofs.Openings.{first-lasting, first-learnt, first-sound}
 use Rattle.shard.proofs.Showable.{as-showable}
 use Rattle.shard.proofs.machine.Machine.begin.Goals as goal

@@ -5,7 +5,7 @@ use Rattle.frames.specs.Placed.{Placed}
 use Rattle.gatelog.specs.Shown.{disk_of, gate_at}
 use Rattle.record.specs.Facts.{learn}
 use Rattle.record.specs.declared.record.Record.{Record}
-use Rattle.renewal.specs.Keeps.{IsLasting}
+use Rattle.ledger.specs.Keeps.{IsLasting}
 use Rattle.protocol.specs.Plan.{carried}
 use Rattle.protocol.specs.Step.{facts_after}
 use Rattle.memory.specs.Carry.{IsCarriable}

@@ -1,5 +1,5 @@
 use Rattle.std.proofs.Math.Logic.{∥∥₁_elim}
-use Rattle.renewal.proofs.Props.{regular-prop}
+use Rattle.ledger.proofs.Props.{regular-prop}
 use Rattle.shard.proofs.machine.Machine.new_area.Goals as goal
 
 pub renew-requires : goal.renew-requires

@@ -4,7 +4,7 @@ use Rattle.gatelog.specs.Shown.{disk_of}
 use Rattle.record.specs.Facts.{Facts}
 use Rattle.record.specs.declared.record.Record.{Record}
 use Rattle.protocol.specs.Rows.{Memory}
-use Rattle.renewal.specs.Keeps.{IsLasting}
+use Rattle.ledger.specs.Keeps.{IsLasting}
 use Rattle.memory.specs.Carry.{Admits, asker}
 use Rattle.memory.specs.declared.plan.Step.{Step}
 use Rattle.shard.specs.Due.{IsDue}

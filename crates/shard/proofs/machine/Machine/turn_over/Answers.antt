@@ -3,9 +3,9 @@ use Rattle.std.proofs.Math.Logic.{∥∥₁_elim}
 use Rattle.disk.specs.File.{surface}
 use Rattle.gatelog.specs.Areas.{area_bytes}
 use Rattle.gatelog.specs.Shown.{disk_of, gate_at, next_slot, is_stopped}
-use Rattle.renewal.specs.Turned.{turned}
-use Rattle.renewal.proofs.Props.{regular-prop}
-use Rattle.renewal.specs.Keeps.{IsRegular}
+use Rattle.ledger.specs.Turned.{turned}
+use Rattle.ledger.proofs.Props.{regular-prop}
+use Rattle.ledger.specs.Keeps.{IsRegular}
 use Rattle.shard.specs.Core.{seen_machine}
 use Rattle.shard.specs.On.{CoreView}
 use Rattle.shard.specs.Turned.{HasTurnPlace}

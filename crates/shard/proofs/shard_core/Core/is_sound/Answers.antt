@@ -1,5 +1,5 @@
 use Rattle.std.proofs.Math.Logic.{∥∥₁_elim}
-use Rattle.renewal.proofs.Props.{lasting-prop}
+use Rattle.ledger.proofs.Props.{lasting-prop}
 use Rattle.shard.proofs.shard_core.Core.is_sound.Goals as goal
 
 pub returns-clause-lasting : goal.returns-clause-lasting

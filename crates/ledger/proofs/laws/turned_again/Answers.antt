@@ -1,0 +1,5 @@
+use Rattle.ledger.proofs.Again as laws
+use Rattle.ledger.proofs.laws.turned_again.Goals as goal
+
+pub returns : goal.returns
+returns c = laws.turned-again

@@ -1,0 +1,5 @@
+use Rattle.ledger.proofs.Said as laws
+use Rattle.ledger.proofs.laws.turned_keeps.Goals as goal
+
+pub returns : goal.returns
+returns c = laws.turned-keeps

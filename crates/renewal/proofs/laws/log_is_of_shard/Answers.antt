@@ -1,5 +1,0 @@
-use Rattle.renewal.proofs.Lasts as laws
-use Rattle.renewal.proofs.laws.log_is_of_shard.Goals as goal
-
-pub returns : goal.returns
-returns c = laws.log-is-of-shard

@@ -1,4 +1,0 @@
-pub mod Turned
-pub mod Keeps
-pub mod Rules
-pub mod Laws

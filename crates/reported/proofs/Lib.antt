@@ -1,4 +1,0 @@
-pub mod Seen
-pub mod SameStatus
-pub mod Plain
-pub mod Consistent

@@ -1,5 +1,0 @@
-use Rattle.reported.proofs.Consistent.{consistent}
-use Rattle.reported.proofs.laws.reports.Goals as goal
-
-pub returns : goal.returns
-returns c = consistent c.sound_is_yes.ensures

@@ -1,2 +1,0 @@
-pub mod Reported
-pub use Rattle.playing.specs.Reports
