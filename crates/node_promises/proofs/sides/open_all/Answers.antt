@@ -1,5 +1,5 @@
 use Rattle.std.proofs.Common.{rules}
-use Rattle.core_promises.proofs.sides.open_all.Goals as goal
+use Rattle.node_promises.proofs.sides.open_all.Goals as goal
 
 pub returns-clause-each : goal.returns-clause-each
 returns-clause-each g c = search rules
