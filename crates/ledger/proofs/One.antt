@@ -99,11 +99,11 @@ narrower p q more (x ∷ a) m h is = by_tests (p x) (q x) refl refl h (narrower 
 
 -- ---- ascending lists with the same newest versions are one
 
-found-all : (P : Install → Type 0) (test : Install → Bool) (a : List Install) (m : Install) → AllByRecursion P a → newest (filter test a) ≡ Some m → P m
-found-all P test [] m all h = absurd (some-not m h)
-found-all P test (x ∷ a) m all h = by_test (test x) h (found-all P test a m all.1)
+newest-all : (P : Install → Type 0) (a : List Install) (m : Install) → AllByRecursion P a → newest a ≡ Some m → P m
+newest-all P [] m all h = absurd (some-not m h)
+newest-all P (x ∷ a) m all h = by_found (newest a) refl h (newest-all P a m all.1)
   where
-    by_found : (found : Option Install) → newest (filter test a) ≡ found → newer x found ≡ Some m → (newest (filter test a) ≡ Some m → P m) → P m
+    by_found : (found : Option Install) → newest a ≡ found → newer x found ≡ Some m → (newest a ≡ Some m → P m) → P m
     by_found None e f rest = subst P (some-is x m f) all.0
     by_found (Some y) e f rest = by_order (nat_lt x.at y.at) f
       where
@@ -111,9 +111,8 @@ found-all P test (x ∷ a) m all h = by_test (test x) h (found-all P test a m al
         by_order true f = rest (e ∙ f)
         by_order false f = subst P (some-is x m f) all.0
 
-    by_test : (c : Bool) → newest (cond c (x ∷ filter test a) (filter test a)) ≡ Some m → (newest (filter test a) ≡ Some m → P m) → P m
-    by_test true f rest = by_found (newest (filter test a)) refl f rest
-    by_test false f rest = rest f
+found-all : (P : Install → Type 0) (test : Install → Bool) (a : List Install) (m : Install) → AllByRecursion P a → newest (filter test a) ≡ Some m → P m
+found-all P test a m all h = newest-all P (filter test a) m (all-keep P test a all) h
 
 abbrev AllBehind : Install → List Install → Type 0
 AllBehind x a = AllByRecursion (λ y. version_before x y ≡ true) a
@@ -181,18 +180,6 @@ comes-trans x y z h k =
     let b : same_key y.key z.key ≡ true → key_before x.key y.key ≡ key_before x.key z.key = λ e. ap (key_before x.key) (same_key-is y.key z.key e) in
     let c : same_key x.key y.key ≡ true → same_key x.key z.key ≡ same_key y.key z.key = λ e. ap (λ l. same_key l z.key) (same_key-is x.key y.key e) in
     grind (arith, nat_tests, key_before-trans x.key y.key z.key, a, b, c)
-
-newest-all : (P : Install → Type 0) (a : List Install) (m : Install) → AllByRecursion P a → newest a ≡ Some m → P m
-newest-all P [] m all h = absurd (some-not m h)
-newest-all P (x ∷ a) m all h = by_found (newest a) refl h (newest-all P a m all.1)
-  where
-    by_found : (found : Option Install) → newest a ≡ found → newer x found ≡ Some m → (newest a ≡ Some m → P m) → P m
-    by_found None e f rest = subst P (some-is x m f) all.0
-    by_found (Some y) e f rest = by_order (nat_lt x.at y.at) f
-      where
-        by_order : (b : Bool) → cond {A = Option Install} b (Some y) (Some x) ≡ Some m → P m
-        by_order true f = rest (e ∙ f)
-        by_order false f = subst P (some-is x m f) all.0
 
 kept-pass : (test : Install → Bool) (a : List Install) → AllByRecursion (λ z. test z ≡ true) (filter test a)
 kept-pass test [] = tt
