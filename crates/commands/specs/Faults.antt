@@ -9,7 +9,7 @@ use Rattle.client.specs.declared.ended.Ended.{Ended}
 use Rattle.commands.specs.declared.engine.Put.{Put}
 use Rattle.compaction.specs.Compacted.{IsNotCompacted}
 use Rattle.system.specs.declared.asked.NoVerdict.{NoVerdict}
-use Rattle.inspection.specs.Files.{IsNotJudged}
+use Rattle.showing.specs.Files.{IsNotJudged}
 use Rattle.output.specs.declared.failure.Failure.{Failure}
 use Rattle.output.specs.declared.failure.Failure.TheVariants.{Refused, Unwritten}
 use Rattle.script.specs.Refusals.{IsNoSchedule}

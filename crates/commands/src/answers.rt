@@ -26,7 +26,7 @@ use crate::help::help;
 use crate::hints::{Hints, tell_place};
 use crate::inspect::inspect;
 use crate::key_commands::{get, history};
-use crate::play::play;
+use crate::play_command::play;
 use crate::printing::{done, print, print_text};
 use crate::put_command::put;
 use client::Ended;

@@ -1,11 +1,11 @@
 //! The command `inspect`: the verdict on logs in files.
 ghost use Rattle.std.specs.Prelude.{◌≡◌, ◌++◌, IfOk, IfErr, codes, string_bytes};
 ghost use Rattle.units.specs.declared.line.Verdict.{Verdict};
-ghost use Rattle.inspection.specs.Files.{IsNotJudged};
+ghost use Rattle.showing.specs.Files.{IsNotJudged};
 ghost use Rattle.output.specs.Verdicts.{exit_status, text_of};
 
-use inspection::inspect_files;
 use output::{VerdictText, status_of};
+use showing::inspect_files;
 use std::alloc::Global;
 use system::Files;
 use units::Fault;

@@ -1,10 +1,9 @@
 //! Where the fault of a command lies, for whoever looks.
 use crate::store_folder::splits_of;
 use command_line::{Command, command};
-use inspection::inspect_files;
 use script::schedule;
 use settings::Settings;
-use showing::{dump_file, stats_files};
+use showing::{dump_file, inspect_files, stats_files};
 use std::alloc::Global;
 use system::{Files, Note, read_text};
 use units::{Fault, Key, Reason, Splits};

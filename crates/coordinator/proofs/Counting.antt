@@ -13,8 +13,8 @@ use Rattle.units.specs.declared.writes.Write.{Write}
 use Rattle.protocol.specs.Rows.{Row, Voted, Collecting, find_row, with_vote}
 use Rattle.protocol.specs.Plan.{Before, puts}
 use Rattle.protocol.specs.Cells.{other_parts, all_voted, commit_stamp, plan_decide, plan_count}
-use Rattle.rows.specs.States.{voted_of}
-use Rattle.rows.specs.declared.votes.Voted.{Voted as CastVote}
+use Rattle.memory.specs.States.{voted_of}
+use Rattle.memory.specs.votes.Voted.{Voted as CastVote}
 use Rattle.memory.specs.Plans.{counted}
 use Rattle.coordinator.specs.Granted.{decides, more_votes}
 use Rattle.coordinator.proofs.Granting.{decide_late, decide_made}

@@ -15,7 +15,7 @@ use Rattle.protocol.specs.Rows.{Voted}
 use Rattle.protocol.specs.Plan.{time_limit, Before, Planned, opens, in_way, is_crowded, roomed, timed}
 use Rattle.protocol.specs.Cells.{commit_stamp, other_parts, still_stand, plan_abort, plan_decide, plan_commit_fresh, plan_commit_now}
 use Rattle.protocol.specs.Cells.{plan_commit_granted}
-use Rattle.rows.specs.declared.wait.CommitRequest.{CommitRequest}
+use Rattle.memory.specs.wait.CommitRequest.{CommitRequest}
 use Rattle.coordinator.specs.Granted.{decides, collects, granted_by, request_of, waits_commit, IsDecidedAt, IsTooLate}
 
 -- ---- time

@@ -7,9 +7,9 @@ use Rattle.record.specs.declared.record.Record.{Record}
 use Rattle.message.specs.declared.message.Ask.{Ask}
 use Rattle.message.specs.declared.message.Commit.{Commit}
 use Rattle.message.specs.declared.message.Vote.{Vote}
-use Rattle.rows.specs.States.{CollectingState}
-use Rattle.rows.specs.declared.votes.Voted.{Voted as CastVote}
-use Rattle.rows.specs.declared.wait.CommitRequest.{CommitRequest}
+use Rattle.memory.specs.States.{CollectingState}
+use Rattle.memory.specs.votes.Voted.{Voted as CastVote}
+use Rattle.memory.specs.wait.CommitRequest.{CommitRequest}
 use Rattle.protocol.specs.Rows.{Standing, find_row, with_vote}
 use Rattle.protocol.specs.Outputs.{done_to}
 use Rattle.protocol.specs.Plan.{Before, Planned, drops, puts}

@@ -10,10 +10,10 @@ use Rattle.message.specs.declared.message.Commit.{Commit}
 use Rattle.protocol.specs.Rows.{Collecting, IsDecided, Voted, WaitsCommit, with_vote}
 use Rattle.protocol.specs.Outputs.{decision}
 use Rattle.protocol.specs.Plan.{Before, Plan, puts, in_way}
-use Rattle.rows.specs.States.{voted_of}
+use Rattle.memory.specs.States.{voted_of}
 use Rattle.protocol.specs.Cells.{commit_stamp}
-use Rattle.rows.specs.declared.votes.Voted.{Voted as CastVote}
-use Rattle.rows.specs.declared.wait.CommitRequest.{CommitRequest}
+use Rattle.memory.specs.votes.Voted.{Voted as CastVote}
+use Rattle.memory.specs.wait.CommitRequest.{CommitRequest}
 
 -- the decision at a timestamp
 abbrev pub decides : Before → List Id → Id → List Lock → ℕ → List ℕ → List Bytes → List Write → Plan

@@ -11,10 +11,11 @@ ghost use Rattle.memory.specs.Standings.{standing_in, opens_writes, EndsNobody, 
 ghost use Rattle.coordinator.specs.Granted.{request_of, waits_commit, IsDecidedAt, IsTooLate};
 ghost use Rattle.coordinator.specs.ByMessage.{PlansCommit, PlansCommitNow, PlansGranted, MakesCollecting, MakesDecision, MakesGranted};
 
-use memory::{Change, Request, Standing, State, Step, done_to, reads_stand};
+use memory::{
+    Change, CommitRequest, Gathering, Request, Standing, State, Step, Wait, done_to, reads_stand,
+};
 use message::{Commit, Done};
 use record::{Committed, Record};
-use rows::{CommitRequest, Gathering, Wait};
 use std::alloc::Global;
 use truetime::Reading;
 use units::{Fault, Ids, Lock, Parts, Stamp, TxnId};

@@ -2,19 +2,18 @@
 ghost use Rattle.std.specs.Prelude.{◌≡◌, true, IfOk, IfErr};
 ghost use Rattle.protocol.specs.Outputs.{outcome_to};
 ghost use Rattle.protocol.specs.Cells.{plan_abort_for};
-ghost use Rattle.rows.specs.CodeRows.{may_close, phase_of};
-ghost use Rattle.rows.specs.RowTable.{has_phase};
-ghost use Rattle.rows.specs.declared.row.Row.{Row};
+ghost use Rattle.memory.specs.CodeRows.{may_close, phase_of};
+ghost use Rattle.memory.specs.RowTable.{has_phase};
+ghost use Rattle.memory.specs.row.Row.{Row};
 ghost use Rattle.memory.specs.Carry.{IsFit, may_drop};
 ghost use Rattle.memory.specs.Kept.{start_of};
 ghost use Rattle.memory.specs.Standings.{standing_in, HasRowIn, MakesPlan, MakesReply, PlansGiveUp};
 ghost use Rattle.coordinator.specs.ByMessage.{PlansAsk, PlansSettle, MakesSettled};
 
 use crate::parts::is_of_part;
-use memory::{Standing, State, Step, done_to, outcome_to};
+use memory::{RowCollecting, Standing, State, Step, done_to, outcome_to};
 use message::{Ask, Done, Envelope, GiveUp, Outcome};
 use record::Record;
-use rows::RowCollecting;
 use std::alloc::Global;
 use truetime::{Reading, Waited, pass};
 use units::{Fault, Parts, Stamp, TxnId};

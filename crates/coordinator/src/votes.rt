@@ -5,9 +5,9 @@ ghost use Rattle.units.specs.Lists.{greatest};
 ghost use Rattle.units.specs.Masks.{shards_from};
 ghost use Rattle.protocol.specs.Rows.{with_vote};
 ghost use Rattle.protocol.specs.Cells.{all_voted, other_parts, plan_tell};
-ghost use Rattle.rows.specs.CodeRows.{is_collecting, phase_of};
-ghost use Rattle.rows.specs.RowTable.{has_phase};
-ghost use Rattle.rows.specs.declared.row.Row.{Row};
+ghost use Rattle.memory.specs.CodeRows.{is_collecting, phase_of};
+ghost use Rattle.memory.specs.RowTable.{has_phase};
+ghost use Rattle.memory.specs.row.Row.{Row};
 ghost use Rattle.memory.specs.Carry.{IsFit, may_drop};
 ghost use Rattle.memory.specs.Kept.{start_of, IsPlanned};
 ghost use Rattle.coordinator.specs.Granted.{more_votes};
@@ -16,9 +16,10 @@ ghost use Rattle.coordinator.specs.ByMessage.{MakesVoteKept, stamp_with_vote, Pl
 
 use crate::commits::{commit_time, decision_of};
 use crate::parts::is_of_part;
-use memory::{Change, Request, Standing, State, Step, outcome_to};
+use memory::{
+    Change, CommitRequest, Request, RowCollecting, Standing, State, Step, Voted, outcome_to,
+};
 use message::{Outcome, Vote};
-use rows::{CommitRequest, RowCollecting, Voted};
 use std::alloc::Global;
 use units::{Fault, Ids, ShardNo, Stamp, TxnId};
 

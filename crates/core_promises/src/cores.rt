@@ -2,15 +2,15 @@
 ghost use Rattle.std.specs.Prelude.{◌≡◌};
 ghost use Rattle.disk.specs.File.{surface};
 ghost use Rattle.book.specs.Books.{HasBookRoom, IsBookFull};
-ghost use Rattle.desk.specs.Booked.{HasEntered, IsCrowded};
-ghost use Rattle.desk.specs.Core.{seen, book_of};
-ghost use Rattle.desk.specs.Look.{IsLook, safe_at};
-ghost use Rattle.desk.specs.On.{HasStepped, step_of};
-ghost use Rattle.desk.specs.Settled.{IsDurablySettled};
+ghost use Rattle.shard.specs.Booked.{HasEntered, IsCrowded};
+ghost use Rattle.shard.specs.Core.{seen, book_of};
+ghost use Rattle.shard.specs.Look.{IsLook, safe_at};
+ghost use Rattle.shard.specs.On.{HasStepped, step_of};
+ghost use Rattle.shard.specs.Settled.{IsDurablySettled};
 
-use desk::Core;
 use disk::Disk;
 use message::{Input, Outbox};
+use shard::Core;
 use std::alloc::Global;
 use truetime::Reading;
 use units::{Fault, Key, Seen, Stamp};

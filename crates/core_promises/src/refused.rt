@@ -1,10 +1,10 @@
 //! What stands of a core where an input is refused for memory.
 ghost use Rattle.std.specs.Prelude.{◌≡◌, Err};
-ghost use Rattle.desk.specs.Core.{seen, book_of};
+ghost use Rattle.shard.specs.Core.{seen, book_of};
 
-use desk::Core;
 use disk::Disk;
 use message::{Input, Outbox};
+use shard::Core;
 use std::alloc::Global;
 use truetime::Reading;
 use units::Fault;

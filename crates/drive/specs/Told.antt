@@ -11,7 +11,7 @@ use Rattle.workers.specs.Refusals.{IsCutShort}
 use Rattle.workers.specs.Reports.{IsTally}
 use Rattle.workers.specs.declared.summary.Counts.{Counts}
 use Rattle.workers.specs.Summaries.{counts_text, summary_text, tried}
-use Rattle.fleet.specs.Unopened.{IsUnmade}
+use Rattle.node.specs.Unopened.{IsUnmade}
 use Rattle.drive.specs.declared.engine.NoVerdict.{NoVerdict}
 
 -- it is the summary of some counts and a verdict, and the counts are those of the lines of so many transactions in all

@@ -12,9 +12,9 @@ ghost use Rattle.inspection.specs.Judged.{IsJudged};
 
 use crate::watched::Watched;
 use disk::Disk;
-use fleet::{Closes, Opened, SteadyClock, Unopened, open_shards, run_of};
 use inspection::judge;
 use letters::{Gate, Inboxes, Post, Served, Serves, start_in, to_serve};
+use node::{Closes, Opened, SteadyClock, Unopened, open_shards, run_of};
 use progress::Watch;
 use settings::Settings;
 use std::alloc::Global;

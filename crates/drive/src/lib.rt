@@ -7,6 +7,5 @@ mod shards;
 mod watched;
 
 pub use engine::{Driven, clock_of, drive_by};
-pub use fleet::{Opened, SteadyClock, Unopened, UnopenedIn, open_shards, run_of};
 pub use shards::{drive_shards, run};
 pub use system::NoVerdict;

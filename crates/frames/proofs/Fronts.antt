@@ -2,7 +2,7 @@
 use Rattle.std.proofs.Common.{◌≡◌, ℕ, ◌+◌, ◌^◌, ◌<◌, ◌≤◌, List, ◌∷◌, ◌++◌, length, take, drop, Option, Some, None, refl, sym, ap, ◌∙◌, arith}
 use Rattle.std.specs.Int.{w32, from_be_bytes}
 use Rattle.std.proofs.lemmas.List.{length-append, length-take-le, take-append-le, drop-append-le, take-append-drop, drop-drop}
-use Rattle.record.specs.declared.record.Record.{Record}
+use Rattle.spelling.specs.record.Record.{Record}
 use Rattle.spelling.specs.Reading.{read_record}
 use Rattle.frames.specs.Gate.{open_gate}
 use Rattle.frames.specs.Entries.{framed, entries_at, with_entry}

@@ -6,7 +6,7 @@ use Rattle.std.proofs.lemmas.Bool.{cases_Bool, le-leb, leb-true, eqb-true, eq-eq
 use Rattle.std.proofs.lemmas.List.{length-take, length-drop, take-take, drop-take}
 use Rattle.units.specs.declared.fault.Fault.{Fault}
 use Rattle.units.specs.declared.fault.Fault.TheVariants.{Damaged}
-use Rattle.record.specs.declared.record.Record.{Record}
+use Rattle.spelling.specs.record.Record.{Record}
 use Rattle.spelling.specs.Reading.{◌>>=◌, only_if, number_at, text_at, read_record}
 use Rattle.frames.specs.Placed.{Placed}
 use Rattle.frames.specs.Gate.{open_gate}

@@ -3,7 +3,7 @@ use Rattle.std.specs.Prelude.{ℕ, zero, suc, ◌+◌, ◌^◌, ◌&&◌, List, 
 use Rattle.std.specs.Int.{w32}
 use Rattle.units.specs.declared.fault.Fault.{Fault}
 use Rattle.units.specs.declared.fault.Fault.TheVariants.{Damaged}
-use Rattle.record.specs.declared.record.Record.{Record}
+use Rattle.spelling.specs.record.Record.{Record}
 use Rattle.spelling.specs.Reading.{◌>>=◌, number_at, text_at, read_record}
 use Rattle.frames.specs.Placed.{Placed}
 use Rattle.frames.specs.Gate.{open_gate}

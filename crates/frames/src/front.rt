@@ -4,8 +4,7 @@ ghost use Rattle.frames.specs.Front.{IsAtFront};
 
 use crate::gate::OPEN_GATE;
 use byteorder::{BigEndian, ByteOrder};
-use record::Record;
-use spelling::decode;
+use spelling::{Record, decode};
 use std::alloc::Global;
 use units::Fault;
 

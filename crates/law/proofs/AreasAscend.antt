@@ -19,14 +19,15 @@ use Rattle.protocol.specs.Showable.{record_ascends}
 use Rattle.session.proofs.Kept.{ascends_insert, ascends_keep, keyed_others}
 use Rattle.session.specs.Sessions.{Client, IsClosing, Moved, Denies, Goes, asked_keys, begun, buffers, closes, closing_messages, gives_up, hears, is_doomed}
 use Rattle.session.specs.Sessions.{is_none, messages_for, parts_of, prepare_for, reads, unless, was_answered, with_write}
-use Rattle.world.specs.Lawful.{lawful, lawful_from, may_act, may_happen}
+use Rattle.world.specs.Lawful.{lawful, may_act, may_happen}
 use Rattle.world.specs.World.{World, ShardNow, Unsure, Nothing, Shown, acts, begin, happens, look_at_view, look_noted}
-use Rattle.world.specs.World.{look_shard, moved, put_out, read_log, run, run_from, set_client, setup_of, shown_records, start}
+use Rattle.world.specs.World.{look_shard, moved, put_out, read_log, run, set_client, setup_of, shown_records, start}
 use Rattle.world.specs.Headline.{IsUnsure}
 use Rattle.world.specs.declared.event.Act.{Act}
 use Rattle.world.specs.declared.event.Config.{Config}
 use Rattle.world.specs.declared.event.Event.{Event}
 use Rattle.world.specs.declared.event.Reply.{Reply}
+use Rattle.world.proofs.Along.{along}
 use Rattle.law.specs.Among.{IsAmong}
 use Rattle.law.specs.Evidence.{Scene, Holds, IsOfClosing, RecordEvidence}
 use Rattle.law.proofs.Accepts.{WritesOnce}
@@ -161,16 +162,13 @@ module _ (w : World) (all : AllAscend w) where
       (λ n s there k at. noted_ascends k at (look_shard (setup_of w.config n) s k at))
       (λ n s there i k at. noted_ascends k at (look_at_view (setup_of w.config n) (slice_get s.views i) k at))
 
-run_ascends : (w : World) (es : List Event) → lawful_from w es ≡ true → AllAscend w → AllAscend (run_from w es)
+event_ascends : (w : World) (e : Event) → may_happen w e ≡ true → AllAscend w → AllAscend (happens w e).0
 unfolding happens
-run_ascends w [] fair all = all
-run_ascends w (e ∷ es) fair all =
-    let p = and_parts (may_happen w e) (lawful_from ((happens w e).0) es) fair in
-    run_ascends ((happens w e).0) es p.1 (acts_ascend w all e.time e.act (and_parts (nat_le w.time e.time) (may_act w e.time e.act) p.0).1)
+event_ascends w e may all = acts_ascend w all e.time e.act (and_parts (nat_le w.time e.time) (may_act w e.time e.act) may).1
 
 pub always_ascend : (config : Config) (es : List Event) → lawful config es ≡ true → AllAscend (run config es)
 unfolding run lawful start
-always_ascend config es fair = run_ascends (start config) es fair (λ c none. absurd none)
+always_ascend config es fair = along AllAscend event_ascends (start config) es fair (λ c none. absurd none)
 
 -- ---- the records
 

@@ -1,5 +1,5 @@
 -- Every answered look equals the serial run up to its time, in each log that a crash may leave, then and later.
-use Rattle.std.proofs.Common.{◌≡◌, inl, inr, ℕ, suc, ◌≤◌, true, List, [], ◌∷◌, length, Option, Some, slice_get, refl, sym, subst, ◌∙◌}
+use Rattle.std.proofs.Common.{◌≡◌, inl, inr, ℕ, suc, ◌≤◌, true, List, [], length, Option, Some, slice_get, refl, sym, subst, ◌∙◌}
 use Rattle.std.proofs.Common.{nat_le}
 use Rattle.std.proofs.lemmas.Bool.{and_parts}
 use Rattle.units.specs.Keys.{Bytes, shard_of}
@@ -13,6 +13,7 @@ use Rattle.record.specs.declared.record.Record.{Record}
 use Rattle.record.specs.declared.record.Record.TheVariants.{Prepare, Commit}
 use Rattle.record.proofs.LearnAgrees.{accepted_follows}
 use Rattle.protocol.specs.Rows.{rebuilt}
+use Rattle.world.proofs.Along.{along}
 use Rattle.world.proofs.Places.{replicated}
 use Rattle.law.specs.Among.{IsAmong}
 use Rattle.law.specs.Evidence.{Scene, Holds}
@@ -123,19 +124,12 @@ event_keeps config w e may k =
       acks = c.acked k.acks;
     }
 
-run_keeps : (config : Config) (w : World) (es : List Event) → lawful_from w es ≡ true → IsKept config w → IsKept config (run_from w es)
-run_keeps config w [] fair k = k
-run_keeps config w (e ∷ es) fair k =
-    let p = and_parts (may_happen w e) (lawful_from ((happens w e).0) es) fair in
-    run_keeps config ((happens w e).0) es p.1 (event_keeps config w e p.0 k)
-
 -- lines stay
 pub lines_stay : (config : Config) (w : World) (es : List Event) → lawful_from w es ≡ true → IsKept config w → (l : Line) → IsAmong w.lines l →
     IsAmong (run_from w es).lines l
-lines_stay config w [] fair k l h = h
-lines_stay config w (e ∷ es) fair k l h =
-    let p = and_parts (may_happen w e) (lawful_from ((happens w e).0) es) fair in
-    lines_stay config ((happens w e).0) es p.1 (event_keeps config w e p.0 k) l ((changes w e k.well p.0).lines l h)
+lines_stay config w es fair k l h =
+    (along (λ v. IsKept config v × IsAmong v.lines l) (λ v e may is. (event_keeps config v e may is.0, (changes v e is.0.well may).lines l is.1)) w es fair
+    (k, h)).1
 
 -- ---- the beginning
 
@@ -172,7 +166,7 @@ start_kept config = record {
 
 pub always_kept : (config : Config) (es : List Event) → lawful config es ≡ true → IsKept config (run config es)
 unfolding run lawful
-always_kept config es fair = run_keeps config (start config) es fair (start_kept config)
+always_kept config es fair = along (IsKept config) (event_keeps config) (start config) es fair (start_kept config)
 
 -- ---- each transaction writes a key once
 

@@ -4,6 +4,7 @@ use Rattle.std.proofs.Common.{refl, sym, ap, subst, ◌∙◌, option_map}
 use Rattle.std.proofs.lemmas.Bool.{leb-true, eqb-true, and_parts}
 use Rattle.units.specs.Ids.{Id}
 use Rattle.protocol.specs.Plan.{time_limit}
+use Rattle.world.proofs.Along.{along}
 use Rattle.world.proofs.EveryRun.{WellShard, WellWorld, shard_with}
 use Rattle.units.specs.Keys.{Bytes}
 use Rattle.units.specs.Lists.{when}
@@ -93,27 +94,23 @@ spoken_on w v s k = record {
   ];
 }
 
-run_spoken : (config : Config) (w : World) (es : List Event) → lawful_from w es ≡ true → IsKept config w → IsSpoken w → IsSpoken (run_from w es)
-run_spoken config w [] fair k s = s
-run_spoken config w (e ∷ es) fair k s =
-    let p = and_parts (may_happen w e) (lawful_from ((happens w e).0) es) fair in
-    run_spoken config ((happens w e).0) es p.1 (event_keeps config w e p.0 k) (spoken_on w ((happens w e).0) (says w e k.well p.0) s)
-
 start_spoken : (config : Config) → IsSpoken (start config)
 unfolding start
 start_spoken config = record { epochs = λ c none. absurd none; own = λ y z none. absurd none; reads = λ t k x none. absurd none }
 
 pub always_spoken : (config : Config) (es : List Event) → lawful config es ≡ true → IsSpoken (run config es)
 unfolding run lawful
-always_spoken config es fair = run_spoken config (start config) es fair (start_kept config) (start_spoken config)
+always_spoken config es fair =
+    (along (λ w. IsKept config w × IsSpoken w)
+    (λ w e may is. (event_keeps config w e may is.0, spoken_on w ((happens w e).0) (says w e is.0.well may) is.1)) (start config) es fair
+    (start_kept config, start_spoken config)).1
 
 -- messages stay
 bag_stays : (config : Config) (w : World) (es : List Event) → lawful_from w es ≡ true → IsKept config w → (z : Envelope) → IsAmong w.bag z →
     IsAmong (run_from w es).bag z
-bag_stays config w [] fair k z h = h
-bag_stays config w (e ∷ es) fair k z h =
-    let p = and_parts (may_happen w e) (lawful_from ((happens w e).0) es) fair in
-    bag_stays config ((happens w e).0) es p.1 (event_keeps config w e p.0 k) z ((says w e k.well p.0).bag z h)
+bag_stays config w es fair k z h =
+    (along (λ v. IsKept config v × IsAmong v.bag z) (λ v e may is. (event_keeps config v e may is.0, (says v e is.0.well may).bag z is.1)) w es fair
+    (k, h)).1
 
 -- ---- an answer is kept from its moment on
 

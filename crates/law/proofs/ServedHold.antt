@@ -19,13 +19,14 @@ use Rattle.protocol.specs.Plan.{Plan, start_of_step}
 use Rattle.protocol.specs.Rows.{Memory, safe}
 use Rattle.protocol.specs.Step.{plan_input, facts_after, IsInLimit}
 use Rattle.world.specs.Headline.{MayLeaveLog, IsUnsure}
-use Rattle.world.specs.Lawful.{lawful, lawful_from, may_happen}
+use Rattle.world.specs.Lawful.{lawful, may_happen}
 use Rattle.world.specs.World.{World, ShardNow, State, Area, Unsure, View, Runs, IsStopped, IsDown, setup_of, start, run, run_from, happens}
 use Rattle.world.specs.declared.event.Config.{Config}
 use Rattle.world.specs.declared.event.Event.{Event}
+use Rattle.world.proofs.Along.{along}
 use Rattle.world.proofs.EveryRun.{InLimit, WellWorld, in_limit, shard_with}
 use Rattle.world.proofs.Openings.{opening_follows}
-use Rattle.world.proofs.Sounds.{ActAllowed, SoundShard, SoundWorld, acts_sound}
+use Rattle.world.proofs.Sounds.{SoundShard, SoundWorld, acts_sound}
 use Rattle.law.specs.Among.{IsAmong}
 use Rattle.law.specs.Passes.{ComesAbove, IsAboveServed, IsOfItsLog, ServedIsBelow}
 use Rattle.law.proofs.Changed.{Offers}
@@ -190,33 +191,30 @@ module _ (w : World) (n : ℕ) (v : View) (well : WellWorld w) (p : IsPresent w 
 abbrev AllStay : World → Type 0
 AllStay w = (n : ℕ) (v : View) → Offers w n v → (base : List Record) × StaysView n v base w
 
-stays_on : (w : World) (e : Event) (n : ℕ) (v : View) (base : List Record) → ActAllowed InLimit w e.act → StaysView n v base w →
+stays_on : (n : ℕ) (v : View) (base : List Record) (w : World) (e : Event) → may_happen w e ≡ true → StaysView n v base w →
     StaysView n v base (happens w e).0
 unfolding happens
-stays_on w e n v base limit stays = acts_sound InLimit (Serves n v) (Stays n v base) (serves_keeps n v) (serves_opens n v) (stays_follows n v base)
-    (stays_logs n v base) (stays_opens n v base) w stays e.act limit
+stays_on n v base w e may stays = acts_sound InLimit (Serves n v) (Stays n v base) (serves_keeps n v) (serves_opens n v) (stays_follows n v base)
+    (stays_logs n v base) (stays_opens n v base) w stays e.act (in_limit w e may)
 
-run_all_stay : (config : Config) (w : World) (es : List Event) → lawful_from w es ≡ true → IsKept config w → AllStay w → AllStay (run_from w es)
-run_all_stay config w [] fair k all = all
-run_all_stay config w (e ∷ es) fair k all =
-    let p = and_parts (may_happen w e) (lawful_from ((happens w e).0) es) fair in
-    let next = event_keeps config w e p.0 k in
-    run_all_stay config ((happens w e).0) es p.1 next (λ n v o. elim ((changes w e k.well p.0).offered n v o) [
-      | inl old ↦ (let b = all n v old in (b.0, stays_on w e n v b.0 (in_limit w e p.0) b.1))
-      | inr present ↦ (present.shard.log, present_stays ((happens w e).0) n v next.well present)
-    ])
-
-run_stays : (w : World) (es : List Event) (n : ℕ) (v : View) (base : List Record) → lawful_from w es ≡ true → StaysView n v base w →
-    StaysView n v base (run_from w es)
-run_stays w [] n v base fair stays = stays
-run_stays w (e ∷ es) n v base fair stays =
-    let p = and_parts (may_happen w e) (lawful_from ((happens w e).0) es) fair in
-    run_stays ((happens w e).0) es n v base p.1 (stays_on w e n v base (in_limit w e p.0) stays)
+all_stay_on : (config : Config) (w : World) (e : Event) → may_happen w e ≡ true → IsKept config w × AllStay w →
+    IsKept config (happens w e).0 × AllStay (happens w e).0
+all_stay_on config w e may is =
+    let next = event_keeps config w e may is.0 in (
+      next,
+      λ n v o. elim ((changes w e is.0.well may).offered n v o) [
+        | inl old ↦ (let b = is.1 n v old in (b.0, stays_on n v b.0 w e may b.1))
+        | inr present ↦ (present.shard.log, present_stays ((happens w e).0) n v next.well present)
+      ],
+    )
 
 always_all_stay : (config : Config) (es : List Event) → lawful config es ≡ true → AllStay (run config es)
 unfolding run lawful
-always_all_stay config es fair = run_all_stay config (start config) es fair (start_kept config)
-    (λ n v o. let p = start_present config n v o in (p.shard.log, present_stays (start config) n v (start_kept config).well p))
+always_all_stay config es fair =
+    (along (λ w. IsKept config w × AllStay w) (all_stay_on config) (start config) es fair (
+      start_kept config,
+      λ n v o. let p = start_present config n v o in (p.shard.log, present_stays (start config) n v (start_kept config).well p),
+    )).1
 
 -- ---- from the log of any moment on
 
@@ -276,5 +274,5 @@ served_is_below config es later logs fair may n s v there shows log is =
     b = always_all_stay config es front n v offered
 
     at_end : StaysView n v s.log (run_from (run config es) later)
-    at_end = run_stays (run config es) later n v s.log (lawful_on (start config) es later fair)
+    at_end = along (StaysView n v s.log) (stays_on n v s.log) (run config es) later (lawful_on (start config) es later fair)
         (stays_from (run config es) n v b.0 ((always_kept config es front).views n v offered) b.1 s there)

@@ -20,7 +20,7 @@ use Rattle.record.specs.Accepted.{followed}
 use Rattle.record.specs.Facts.{Facts, facts_of}
 use Rattle.record.specs.declared.record.Record.{Record}
 use Rattle.record.proofs.LearnAgrees.{learn_agrees}
-use Rattle.book.specs.Books.{BookView, HasBookRoom}
+use Rattle.shard.specs.Books.{BookView, HasBookRoom}
 use Rattle.message.specs.declared.message.Envelope.{Envelope}
 use Rattle.message.specs.declared.message.Input.{Input}
 use Rattle.protocol.specs.Rows.{Memory}

@@ -9,11 +9,3 @@ mod logs;
 mod reading;
 mod serving;
 mod verdicts;
-
-pub use boards::{install, look};
-pub use forgetting::forget;
-pub use locking::shared_and_exclusive;
-pub use logs::{front_of, more, open_behind};
-pub use reading::decode;
-pub use serving::needed;
-pub use verdicts::inspect;

@@ -10,7 +10,7 @@ use Rattle.units.specs.ById.{IsById, find_member}
 use Rattle.units.specs.Locks.{Claim, is_free, is_waiting, wounded, blockers, ready}
 use Rattle.units.specs.LockLaws.{IsOldestReady}
 use Rattle.units.specs.declared.lock.Lock.{Lock}
-use Rattle.locks.proofs.Oldest.{ready_is_oldest}
+use Rattle.rows.proofs.Oldest.{ready_is_oldest}
 use Rattle.protocol.specs.Rows.{Row, Phase, Collecting, IsPrepared, IsDecided, claim_of, claims, find_row, needs_of}
 use Rattle.protocol.specs.Plan.{Before, is_crowded}
 use Rattle.protocol.proofs.RowTable.{claims-by_id, claims-find_row}

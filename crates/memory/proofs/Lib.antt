@@ -5,3 +5,4 @@ pub mod Fits
 pub mod Logged
 pub mod Served
 pub mod States
+pub use Rattle.rows.proofs.Clashes

@@ -26,7 +26,7 @@ use Rattle.memory.specs.declared.standing.Standing.{Standing as CodeStanding}
 use Rattle.memory.specs.Kept.{Kept, start_of, IsPlanned, IsRefusal}
 use Rattle.memory.specs.Plans.{plan_of}
 use Rattle.memory.specs.declared.plan.Step.{Step}
-use Rattle.locks.proofs.OpensEach.{opens_in, opens-none, opens-more}
+use Rattle.rows.proofs.OpensEach.{opens_in, opens-none, opens-more}
 
 -- ---- how a transaction stands
 

@@ -5,7 +5,7 @@ use Rattle.units.specs.declared.fault.Fault.{Fault}
 use Rattle.units.specs.declared.setup.Setup.{Setup}
 use Rattle.record.specs.Facts.{Facts}
 use Rattle.facts.specs.declared.stage.Stage.{Stage}
-use Rattle.locks.specs.Table.{Token}
+use Rattle.rows.specs.Table.{Token}
 use Rattle.protocol.specs.Rows.{Memory}
 use Rattle.protocol.specs.Plan as protocol
 use Rattle.memory.specs.Plans.{plan_of}

@@ -8,3 +8,7 @@ pub mod Standings
 pub use Rattle.ledger.specs.Ledger
 pub use Rattle.rows.specs.CodeRows
 pub use Rattle.rows.specs.RowTable
+pub use Rattle.rows.specs.declared.wait
+pub use Rattle.rows.specs.States
+pub use Rattle.rows.specs.declared.votes
+pub use Rattle.rows.specs.declared.row

@@ -16,5 +16,9 @@ pub use envelopes::{answer_to, ask_to, done_to, outcome_to, vote_to};
 pub use laws::holds_follow_rows;
 pub use plan::{Change, Plan, Request, Step};
 pub use planning::reads_stand;
+pub use rows::{
+    CommitRequest, Gathering, PrepareRequest, Row, RowCollecting, RowPrepared, Voted, Wait,
+    shared_and_exclusive,
+};
 pub use standing::{PastCommit, Standing};
 pub use state::State;

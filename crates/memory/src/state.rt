@@ -21,9 +21,8 @@ ghost use Rattle.memory.specs.Standings.{standing_in, standing_of, row_by, Allow
 
 use crate::standing::{Standing, by_records, by_row};
 use ledger::{Ended, Ledger, Recorder};
-use locks::exclusive;
 use record::Record;
-use rows::{Row, Rows};
+use rows::{Row, Rows, exclusive};
 use safetime::SafeTime;
 use std::alloc::Global;
 use std::marker::Model;

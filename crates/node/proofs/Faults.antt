@@ -4,9 +4,9 @@ use Rattle.units.specs.declared.fault.Fault.{Fault}
 use Rattle.units.specs.declared.setup.Setup.{Setup}
 use Rattle.disk.specs.declared.plan.FailurePlan.{FailurePlan}
 use Rattle.disk.specs.File.{File}
-use Rattle.desk.specs.InStep.{IsCount, IsNoDesk}
-use Rattle.desk.specs.Opening.{HasNoDesk}
-use Rattle.desk.specs.Opened.{HasNotOpened}
+use Rattle.node.specs.InStep.{IsCount, IsNoDesk}
+use Rattle.node.specs.Opening.{HasNoDesk}
+use Rattle.shard.specs.Opened.{HasNotOpened}
 use Rattle.node.specs.Faults.{RefusesRestart}
 
 no_board : (n : ℕ) (fault : Fault) → IsNoDesk n fault → RefusesRestart n fault

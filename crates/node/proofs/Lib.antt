@@ -1,2 +1,12 @@
+mod DeskFaults
 mod Faults
+mod Follow
+mod InStep
+mod Kept
 mod Lists
+pub mod Outcomes
+pub mod Refusals
+mod Renewed
+mod Together
+mod Turned
+mod Viewers

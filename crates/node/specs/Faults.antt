@@ -3,8 +3,8 @@ use Rattle.std.specs.Prelude.{◌≡◌, ◌⊎◌, ℕ, IsTrue}
 use Rattle.units.specs.declared.fault.Fault.{Fault}
 use Rattle.units.specs.declared.fault.Fault.TheVariants.{Memory as WantsMemory, Device, BadRequest}
 use Rattle.units.specs.declared.fault.Reason.TheVariants.{Again, Many}
-use Rattle.desk.specs.Opened.{is_reason}
-use Rattle.desk.specs.InStep.{IsCount, IsNoCount}
+use Rattle.shard.specs.Opened.{is_reason}
+use Rattle.node.specs.InStep.{IsCount, IsNoCount}
 
 -- A restart with so many viewers: the node is not stopped, or no board has so many; else a growth was refused, the device failed, or its log is
 -- not taken up.

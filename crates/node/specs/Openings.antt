@@ -4,10 +4,10 @@ use Rattle.units.specs.declared.fault.Fault.{Fault}
 use Rattle.units.specs.declared.setup.Setup.{Setup}
 use Rattle.disk.specs.declared.plan.FailurePlan.{FailurePlan}
 use Rattle.disk.specs.File.{File}
-use Rattle.desk.specs.shard_core.Core.{Core}
-use Rattle.desk.specs.Core.{seen, book_of}
-use Rattle.desk.specs.Opened.{HasOpened, HasNotOpened}
-use Rattle.desk.specs.Opening.{IsBegun}
+use Rattle.shard.specs.declared.shard_core.Core.{Core}
+use Rattle.shard.specs.Core.{seen, book_of}
+use Rattle.shard.specs.Opened.{HasOpened, HasNotOpened}
+use Rattle.node.specs.Opening.{IsBegun}
 
 module _ {D : Type 0} (keeps obeys : Type 0) (file : D → File) (clock : D → ℕ) (since : D → ℕ → List ℕ → Type 0) (failures : D → ℕ)
     (plan : D → FailurePlan) where

@@ -6,13 +6,13 @@ use Rattle.units.specs.declared.fault.Reason.TheVariants.{Again}
 use Rattle.units.specs.declared.setup.Setup.{Setup}
 use Rattle.disk.specs.declared.plan.FailurePlan.{FailurePlan}
 use Rattle.disk.specs.File.{File}
-use Rattle.desk.specs.Look.{safe_at}
-use Rattle.desk.specs.Opened.{HasOpened}
+use Rattle.shard.specs.Look.{safe_at}
+use Rattle.shard.specs.Opened.{HasOpened}
 use Rattle.board.specs.declared.entry.BoardEntry.{BoardEntry}
 use Rattle.board.specs.Board.{first_entries}
 use Rattle.board.specs.Views.{Publishing, Viewing}
-use Rattle.desk.specs.InStep.{DeskView, IsCount, IsNewBoard, AreOnBoard}
-use Rattle.desk.specs.Opening.{HasNoDesk, IsBegun}
+use Rattle.node.specs.InStep.{DeskView, IsCount, IsNewBoard, AreOnBoard}
+use Rattle.node.specs.Opening.{HasNoDesk, IsBegun}
 
 -- so many viewers of one new board, which shows these entries, for the keys of the shard
 abbrev pub AreOnNewBoard : ℕ → Setup → List BoardEntry → List Viewing → Type 0

@@ -15,15 +15,15 @@ use Rattle.message.specs.declared.message.Envelope.{Envelope}
 use Rattle.message.specs.declared.message.Input.{Input}
 use Rattle.truetime.specs.Interval.{Interval}
 use Rattle.protocol.specs.Rows.{claims}
-use Rattle.rows.specs.RowTable.{nth_prepared, nth_decided, decided_row, IsEarliest}
-use Rattle.desk.specs.Settled.{IsDurablySettled}
-use Rattle.book.specs.Books.{BookView}
-use Rattle.desk.specs.On.{CoreView}
-use Rattle.desk.specs.Look.{safe_at}
+use Rattle.shard.specs.RowTable.{nth_prepared, nth_decided, decided_row, IsEarliest}
+use Rattle.shard.specs.Settled.{IsDurablySettled}
+use Rattle.shard.specs.Books.{BookView}
+use Rattle.shard.specs.On.{CoreView}
+use Rattle.shard.specs.Look.{safe_at}
 use Rattle.board.specs.Board.{first_entries, safe_on}
 use Rattle.board.specs.Views.{Published, Viewing}
-use Rattle.desk.specs.InStep.{HasTaken, HasAdvanced, HasNotAdvanced, HasKept, IsNewBoard, AreOnBoard}
-use Rattle.desk.specs.Renewed.{HasTurnedOver, HasRenewed}
+use Rattle.node.specs.InStep.{HasTaken, HasAdvanced, HasNotAdvanced, HasKept, IsNewBoard, AreOnBoard}
+use Rattle.node.specs.Renewed.{HasTurnedOver, HasRenewed}
 use Rattle.node.specs.Restart.{PlaceView, Serving, Resting}
 
 -- what the shard is told, and the place

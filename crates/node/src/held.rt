@@ -1,23 +1,24 @@
 //! What lies under a node's lock.
 ghost use Rattle.std.specs.Prelude.{◌≡◌, IfOk, IfErr, OnOk, IfSome, IfNone, IsSome, IsTrue, length, option_map};
 ghost use Rattle.board.specs.Board.{first_entries};
-ghost use Rattle.desk.specs.Faults.{refuses_input, refuses_advance, refuses_horizon, refuses_turnover};
-ghost use Rattle.desk.specs.InStep.{IsCount, IsNoDesk};
+ghost use Rattle.node.specs.DeskFaults.{refuses_input, refuses_advance, refuses_horizon, refuses_turnover};
+ghost use Rattle.node.specs.InStep.{IsCount, IsNoDesk};
 ghost use Rattle.node.specs.Faults.{RefusesRestart};
 ghost use Rattle.node.specs.Restart.{AreOnNewBoard, HasRestarted, HasNotRestarted, is_at_rest, disk_of_place, told_of};
 ghost use Rattle.node.specs.Seen.{seen_place};
 ghost use Rattle.node.specs.Under.{IsDeskOf, IsUnder, IsEarliestIn, Became, HasDelivered, HasAdvancedIn, HasNotAdvancedIn, HasKeptUp, HasNotKeptUp, HasKeptIn};
 ghost use Rattle.node.specs.Under.{HasTurnedIn, HasRenewedIn};
 ghost use Rattle.node.specs.Under.{is_ready_in, due_in, versions_in};
-ghost use Rattle.desk.specs.Core.{seen, book_of};
-ghost use Rattle.desk.specs.Look.{safe_at};
+ghost use Rattle.shard.specs.Core.{seen, book_of};
+ghost use Rattle.shard.specs.Look.{safe_at};
 
+use crate::desk::Desk;
 use crate::place::Place;
 use board::{Told, Viewer, check_viewers};
-use desk::{Core, Desk};
 use disk::Disk;
 use letters::Due;
 use message::{Input, Outbox};
+use shard::Core;
 use std::alloc::Global;
 use std::sync::Wait;
 use truetime::Reading;

@@ -1,18 +1,18 @@
 //! A desk under a lock.
 ghost use Rattle.std.specs.Prelude.{◌≡◌, length, IfOk, IfErr, IsTrue, OnOk};
 ghost use Rattle.board.specs.Board.{first_entries};
-ghost use Rattle.desk.specs.Faults.{refuses_input, refuses_advance, refuses_horizon, refuses_turnover};
-ghost use Rattle.desk.specs.InStep.{IsCount, IsNoDesk};
+ghost use Rattle.node.specs.DeskFaults.{refuses_input, refuses_advance, refuses_horizon, refuses_turnover};
+ghost use Rattle.node.specs.InStep.{IsCount, IsNoDesk};
 ghost use Rattle.node.specs.Faults.{RefusesRestart};
 ghost use Rattle.node.specs.Restart.{AreOnNewBoard};
-ghost use Rattle.desk.specs.Core.{seen, book_of};
-ghost use Rattle.desk.specs.Look.{safe_at};
+ghost use Rattle.shard.specs.Core.{seen, book_of};
+ghost use Rattle.shard.specs.Look.{safe_at};
 
 use crate::held::Held;
 use board::{Told, Viewer};
-use desk::Core;
 use disk::Disk;
 use message::{Input, Outbox};
+use shard::Core;
 use std::alloc::Global;
 use std::sync::{Mutex, Wait};
 use truetime::Reading;

@@ -3,8 +3,8 @@ ghost use Rattle.std.specs.Prelude.{◌≡◌, ◌≤◌, [], length, All, IfOk,
 ghost use Rattle.std.specs.List.{AllZip};
 ghost use Rattle.node.specs.Openings.{IsOpening};
 
-use desk::Core;
 use disk::Disk;
+use shard::Core;
 use std::alloc::Global;
 use std::thread;
 use std::thread::Threads;

@@ -1,10 +1,10 @@
 //! A desk, or the disk of one that was stopped.
 ghost use Rattle.std.specs.Prelude.{◌≡◌, length, IfOk, IfErr, OnOk};
-ghost use Rattle.desk.specs.InStep.{IsCount};
+ghost use Rattle.node.specs.InStep.{IsCount};
 ghost use Rattle.node.specs.Faults.{RefusesRestart};
 
+use crate::desk::Desk;
 use board::Viewer;
-use desk::Desk;
 use disk::Disk;
 use std::alloc::Global;
 use std::sync::Wait;

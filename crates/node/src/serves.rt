@@ -1,6 +1,6 @@
 //! A node as threads serve it.
 ghost use Rattle.std.specs.Prelude.{IfErr, IsTrue};
-ghost use Rattle.desk.specs.Faults.{refuses_horizon};
+ghost use Rattle.node.specs.DeskFaults.{refuses_horizon};
 
 use crate::node::Node;
 use crossbeam_channel::Receiver;

@@ -1,7 +1,6 @@
-//! What openings side by side promise, stated once more over the public call that keeps it. A wrong body of that call is tried here, where
-//! a body is small: what refuses it is the contract of that call.
+//! Promises of a desk, and of openings side by side, each stated once more over the public call that keeps it. Wrong bodies of such a call are
+//! tried here, where a body is small: what refuses them is the contract of that call.
 #![tactic(auto)]
 
+mod desks;
 mod sides;
-
-pub use sides::open_all;

@@ -3,8 +3,8 @@ ghost use Rattle.std.specs.Prelude.{◌≡◌, IfOk, IfErr};
 ghost use Rattle.std.specs.List.{AllZip};
 ghost use Rattle.node.specs.Openings.{IsOpening};
 
-use desk::Core;
 use disk::Disk;
+use node::Core;
 use std::alloc::Global;
 use std::thread::Threads;
 use units::{Fault, Setup};

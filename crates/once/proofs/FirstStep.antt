@@ -16,7 +16,7 @@ use Rattle.protocol.specs.Outputs.{decision, done_to}
 use Rattle.protocol.specs.Plan.{Planned, start_of_step, drops, puts, time_limit, timed}
 use Rattle.protocol.specs.Cells.{commit_stamp}
 use Rattle.protocol.specs.Step.{Stepped, Does, Refuses, step, stepped}
-use Rattle.rows.specs.RowTable.{nth_decided}
+use Rattle.shard.specs.RowTable.{nth_decided}
 use Rattle.shard.specs.Logs.{learned}
 use Rattle.once.specs.Replies.{only_txn}
 use Rattle.once.specs.Shards.{only_setup, only_write, only_commit, new_log, decided_log}

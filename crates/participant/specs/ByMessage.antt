@@ -6,7 +6,7 @@ use Rattle.units.specs.declared.fault.Fault.{Fault}
 use Rattle.message.specs.declared.message.Outcome.{Outcome}
 use Rattle.message.specs.declared.message.Prepare.{Prepare}
 use Rattle.message.specs.declared.message.Read.{Read}
-use Rattle.rows.specs.declared.wait.PrepareRequest.{PrepareRequest}
+use Rattle.memory.specs.wait.PrepareRequest.{PrepareRequest}
 use Rattle.protocol.specs.Rows.{Standing}
 use Rattle.protocol.specs.Cells.{plan_nudge, plan_outcome, plan_prepare, plan_prepare_now, plan_promise, plan_read}
 use Rattle.memory.specs.Kept.{Kept, start_of, IsPlanned}

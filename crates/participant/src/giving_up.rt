@@ -1,7 +1,7 @@
 //! Giving up.
 ghost use Rattle.std.specs.Prelude.{◌≡◌, false, Ok, IfOk};
-ghost use Rattle.rows.specs.CodeRows.{is_collecting};
-ghost use Rattle.rows.specs.RowTable.{has_phase};
+ghost use Rattle.memory.specs.CodeRows.{is_collecting};
+ghost use Rattle.memory.specs.RowTable.{has_phase};
 ghost use Rattle.memory.specs.Carry.{IsFit};
 ghost use Rattle.memory.specs.Standings.{standing_in, PlansGiveUp};
 

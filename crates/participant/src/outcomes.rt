@@ -2,18 +2,17 @@
 ghost use Rattle.std.specs.Prelude.{◌≡◌, [], true, IfOk};
 ghost use Rattle.protocol.specs.Plan.{drops};
 ghost use Rattle.protocol.specs.Cells.{is_outcome_for, raised};
-ghost use Rattle.rows.specs.CodeRows.{may_close};
-ghost use Rattle.rows.specs.RowTable.{has_phase};
+ghost use Rattle.memory.specs.CodeRows.{may_close};
+ghost use Rattle.memory.specs.RowTable.{has_phase};
 ghost use Rattle.memory.specs.Carry.{IsFit};
 ghost use Rattle.memory.specs.Plans.{plan_of};
 ghost use Rattle.memory.specs.Standings.{standing_in};
 ghost use Rattle.participant.specs.ByMessage.{PlansOutcome, PlansNudge};
 
 use crate::prepares::refuse;
-use memory::{Standing, State, Step, ask_to};
+use memory::{RowPrepared, Standing, State, Step, ask_to};
 use message::Outcome;
 use record::Record;
-use rows::RowPrepared;
 use std::alloc::Global;
 use units::{Fault, TxnId};
 

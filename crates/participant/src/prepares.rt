@@ -10,10 +10,9 @@ ghost use Rattle.memory.specs.Kept.{start_of, IsPlanned};
 ghost use Rattle.memory.specs.Standings.{standing_in, opens_writes, EndsNobody, MakesPlan, MakesReply};
 ghost use Rattle.participant.specs.ByMessage.{PlansPrepare, PlansPrepareNow, PlansPromise, MakesPromise};
 
-use memory::{Change, Request, Standing, State, Step, reads_stand, vote_to};
+use memory::{Change, PrepareRequest, Request, Standing, State, Step, Wait, reads_stand, vote_to};
 use message::Prepare;
 use record::{Prepared, Record};
-use rows::{PrepareRequest, Wait};
 use std::alloc::Global;
 use truetime::Reading;
 use units::{Fault, ShardNo, Stamp, TxnId};

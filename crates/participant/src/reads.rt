@@ -9,9 +9,8 @@ ghost use Rattle.memory.specs.Kept.{start_of, IsPlanned};
 ghost use Rattle.memory.specs.Standings.{standing_in, MakesReply};
 ghost use Rattle.participant.specs.ByMessage.{PlansRead, MakesGrantedRead};
 
-use memory::{Change, Request, Standing, State, Step, answer_to};
+use memory::{Change, Request, Standing, State, Step, Wait, answer_to};
 use message::{Answer, Read};
-use rows::Wait;
 use std::alloc::Global;
 use units::{Fault, Ids, Key, Lock, Mode, TxnId};
 

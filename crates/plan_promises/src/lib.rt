@@ -5,7 +5,3 @@
 mod deciding;
 mod renewing;
 mod taking_part;
-
-pub use deciding::{ask, commit, settle, vote};
-pub use renewing::renewed;
-pub use taking_part::{outcome, prepare, read};

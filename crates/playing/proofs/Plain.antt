@@ -19,7 +19,7 @@ use Rattle.record.specs.declared.record.Record.{Record}
 use Rattle.ledger.specs.Turned.{turned}
 use Rattle.session.specs.Sessions.{Moved, Denies, Goes}
 use Rattle.world.specs.Areas.{IsBeside, MayLeaveArea}
-use Rattle.world.specs.Lawful.{lawful, lawful_from, may_act, may_happen}
+use Rattle.world.specs.Lawful.{lawful, may_act, may_happen}
 use Rattle.world.specs.World.{World, ShardNow, Area, Nothing, Shown, Hidden, TurnShown, TurnHidden, acts, area_behind, areas_of, crashed, effect, failed_in}
 use Rattle.world.specs.World.{failed_turn, finished, fresh_log, fresh_shard, happens, logs_of, look_at_view, look_noted, look_shard, moved, new_area, put_out}
 use Rattle.world.specs.World.{read_area, read_log, run, run_from, set_shard, setup_of, start, turns, with_records}
@@ -28,6 +28,7 @@ use Rattle.world.specs.declared.event.Config.{Config}
 use Rattle.world.specs.declared.event.Doing.{Doing}
 use Rattle.world.specs.declared.event.Event.{Event}
 use Rattle.world.specs.declared.event.Reply.{Reply}
+use Rattle.world.proofs.Along.{along}
 use Rattle.world.proofs.Places.{get-replaced_other, get-replaced_same, replicated}
 use Rattle.law.proofs.Acts.{acts_go, step_of}
 use Rattle.law.proofs.Areas.{IsLeft, no_more, read_may_leave}
@@ -160,13 +161,9 @@ module _ (w : World) (plain : ArePlain w) where
       (λ n s there k at. noted_plain k at (look_shard (setup_of w.config n) s k at))
       (λ n s there i k at. noted_plain k at (look_at_view (setup_of w.config n) (slice_get s.views i) k at))
 
-run_plain : (w : World) (es : List Event) → ArePlain w → lawful_from w es ≡ true → ArePlain (run_from w es)
+event_plain : (w : World) (e : Event) → may_happen w e ≡ true → ArePlain w → ArePlain (happens w e).0
 unfolding happens
-run_plain w [] plain fair = plain
-run_plain w (e ∷ es) plain fair =
-    let p = and_parts (may_happen w e) (lawful_from ((happens w e).0) es) fair in
-    run_plain ((happens w e).0) es
-    (acts_plain w plain e.time e.act (and_parts (nat_le w.time e.time) (may_act w e.time e.act) p.0).1) p.1
+event_plain w e may plain = acts_plain w plain e.time e.act (and_parts (nat_le w.time e.time) (may_act w e.time e.act) may).1
 
 start_plain : (config : Config) → ArePlain (start config)
 unfolding start
@@ -181,7 +178,7 @@ start_plain config n s e =
 pub always_plain : (config : Config) (es : List Event) → lawful config es ≡ true → (n : ℕ) (s : ShardNow) → slice_get (run config es).shards n ≡ Some s →
     IsPlain (read_log s) (read_area s)
 unfolding run lawful
-always_plain config es fair n s there = read_plain (run_from (start config) es) (run_plain (start config) es (start_plain config) fair) n s there
+always_plain config es fair = read_plain (run_from (start config) es) (along ArePlain event_plain (start config) es fair (start_plain config))
 
 or_parts : (a b : Bool) → (a || b) ≡ false → (a ≡ false) × (b ≡ false)
 or_parts true b e = absurd (false≢true (sym e))

@@ -5,5 +5,5 @@ mod laws;
 mod plays;
 
 pub use laws::reports;
-pub use lives::{Life, Run, RunShard};
 pub use plays::{Report, lawful, play};
+pub use world::{Act, Config, Doing, Event, Reply};

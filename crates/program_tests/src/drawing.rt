@@ -5,7 +5,7 @@ ghost use Rattle.std.specs.Prelude.{◌<◌, ◌-◌, ◌^◌};
 use crate::sight::{OTHER, Seen, Sent, Sight, push_sent, seen_of};
 use crate::steps::{Does, FIRST, Step, Stop, event};
 use disk::Fate;
-use playing::Run;
+use lives::Run;
 use std::alloc::Global;
 use world::Config;
 

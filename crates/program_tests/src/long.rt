@@ -4,9 +4,9 @@ ghost use Rattle.std.specs.Prelude.{◌<◌, ◌^◌};
 
 use crate::steps::{Does, FIRST, Step, Stop, config, play_steps};
 use crate::verdict::end;
+use commands::Report;
 use disk::Fate;
 use made::WrongRows;
-use playing::Report;
 use record::Record;
 use std::alloc::Global;
 use units::{Fault, Line};

@@ -1,8 +1,8 @@
 //! What befalls the core of a shard from outside a run shows in the run: the cores that it plays lie open here.
 use commands::schedule;
+use lives::{Life, Run};
 use made::{WrongRows, stamp};
 use message::Input;
-use playing::{Life, Run};
 use std::alloc::Global;
 use truetime::Reading;
 use units::Fault;

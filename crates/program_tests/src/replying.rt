@@ -2,7 +2,7 @@
 use crate::sight::{OTHER, sent_of};
 use crate::steps::{Does, Step, Stop};
 use crate::totals::Totals;
-use playing::Report;
+use commands::Report;
 use units::Fault;
 use world::Reply;
 

@@ -1,6 +1,6 @@
 //! What is seen of a run, as plain numbers.
+use lives::{Life, RunShard};
 use message::{Address, Envelope, Message};
-use playing::{Life, RunShard};
 
 /// A message: the shard that it is for, or 255 where it is for a session, and its transaction, where it tells the coordinator
 /// of it, asks a part to promise, or answers a reader, and else 0.

@@ -1,6 +1,6 @@
 //! Steps of a run as plain numbers, and what they come to: transactions of run 1 by their numbers, keys and values of one byte.
+use commands::{Report, play};
 use disk::Fate;
-use playing::{Report, play};
 use std::alloc::Global;
 use truetime::Reading;
 use units::{Fault, Key, ShardNo, Splits, Stamp, Stride, TxnId, Value};

@@ -1,6 +1,6 @@
 //! What a report tells of its transactions, row by row, as plain numbers.
+use commands::Report;
 use message::{Envelope, Message};
-use playing::Report;
 use record::Record;
 use std::alloc::Global;
 use units::{Line, Parts, ShardNo, Stamp, TxnId, Value, Writes};

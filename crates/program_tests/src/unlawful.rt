@@ -1,8 +1,7 @@
 //! Lists of events that may not happen, and some that may.
 use crate::played::{ONE_SHARD, TWO_SHARDS};
-use commands::schedule;
+use commands::{lawful, play, schedule};
 use made::WrongRows;
-use playing::{lawful, play};
 use std::alloc::Global;
 use units::{Fault, Reason};
 use world::{Config, Event};

@@ -10,7 +10,7 @@ use Rattle.units.specs.declared.lock.Lock.{Lock}
 use Rattle.units.specs.declared.writes.Write.{Write}
 use Rattle.units.proofs.ByIdLaws.{first_none}
 use Rattle.units.proofs.ListLaws.{all-keep, all_gives}
-use Rattle.locks.proofs.Clashes.{clash-with_locks, clash_comm}
+use Rattle.memory.proofs.Clashes.{clash-with_locks, clash_comm}
 use Rattle.record.specs.Facts.{TxnStatus, Facts}
 use Rattle.record.specs.Records.{Status, Unrecorded, StandsPrepared, StandsDecided, HasAborted, HasSettled, HasClosed}
 use Rattle.protocol.specs.Rows.{Row, claim_of, claims, find_row, is_firm, needs_of, standing_row}

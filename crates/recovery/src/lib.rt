@@ -7,5 +7,6 @@ mod replaying;
 mod whole;
 
 pub use belonging::owns_all;
+pub use memory::State;
 pub use rebuilding::Rebuild;
 pub use whole::rebuild;

@@ -11,8 +11,7 @@ ghost use Rattle.protocol.specs.Beside.{fits_facts, stands_in};
 ghost use Rattle.recovery.specs.Recovered.{IsRecovered};
 
 use gatelog::Logged;
-use locks::shared_and_exclusive;
-use memory::{Change, Plan, State, ready_plans_can_be_carried};
+use memory::{Change, Plan, State, ready_plans_can_be_carried, shared_and_exclusive};
 use record::Record;
 use std::alloc::Global;
 use units::{Fault, Keys, Stamp, TxnId, Writes};

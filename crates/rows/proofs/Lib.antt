@@ -7,3 +7,6 @@ pub mod Steps
 pub mod Ties
 pub mod Transitions
 pub mod Wounds
+pub use Rattle.locks.proofs.Oldest
+pub use Rattle.locks.proofs.OpensEach
+pub use Rattle.locks.proofs.Clashes

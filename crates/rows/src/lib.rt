@@ -11,6 +11,7 @@ mod votes;
 mod wait;
 
 pub use gatelog::Logged;
+pub use locks::{exclusive, shared_and_exclusive};
 pub use row::Row;
 pub use rows::Rows;
 pub use states::{RowCollecting, RowDecided, RowPrepared, RowReading};

@@ -1,9 +1,9 @@
 //! The events of a schedule, line by line.
 use crate::forms::{FORMS, Happening};
+use playing::{Act, Doing, Event};
 use std::alloc::Global;
 use texts::{NO_WORD, Values, number, value};
 use units::Fault;
-use world::{Act, Doing, Event};
 
 /// The event of a line: its true time, and what happens.
 pub fn event(alloc: Global, words: &[&str]) -> Result<Event, Fault> {

@@ -7,6 +7,7 @@ mod plays;
 mod reader;
 mod reports;
 
+pub use playing::{Report, lawful, play};
 pub use plays::{Played, judged};
 pub use reader::schedule;
 pub use reports::report;

@@ -4,10 +4,9 @@ ghost use Rattle.record.specs.Verdict.{verdict};
 ghost use Rattle.playing.specs.Reports.{IsNoReport, IsReport};
 
 use inspector::inspect;
-use playing::{Report, play, reports};
+use playing::{Config, Event, Report, play, reports};
 use std::alloc::Global;
 use units::{Fault, Verdict};
-use world::{Config, Event};
 
 /// A run that was played and judged: its report and the verdict.
 #[derive(Drop)]

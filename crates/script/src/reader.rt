@@ -4,10 +4,10 @@ ghost use Rattle.script.specs.Refusals.{IsNoSchedule};
 ghost use Rattle.texts.specs.Refusals.{IsNoText};
 
 use crate::events::event;
+use playing::{Config, Event};
 use std::alloc::Global;
 use texts::{Kind, LineReader, NO_WORD, Values};
 use units::{Fault, Key, Splits, Stride};
-use world::{Config, Event};
 
 /// The shards and the events that a text tells. A line outside the grammar is refused with its number, from 1, as `syntax`;
 /// a head that ends early, with the number of the line that it lacks. Splits that do not ascend are refused as `splits`.

@@ -3,12 +3,11 @@ ghost use Rattle.std.specs.Prelude.{◌≡◌, IfErr};
 
 use crate::plays::Played;
 use output::VerdictText;
-use playing::Report;
+use playing::{Reply, Report};
 use std::alloc::Global;
 use std::fmt;
 use texts::Text;
 use units::Fault;
-use world::Reply;
 
 /// The text of a report, with the verdict on it.
 pub fn report(alloc: Global, played: &Played) -> Result<String, Fault>

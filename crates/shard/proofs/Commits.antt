@@ -18,7 +18,7 @@ use Rattle.protocol.specs.Rows.{Idle, Memory, Row, find_row, without_row}
 use Rattle.protocol.specs.Showable.{IsShowable}
 use Rattle.protocol.specs.Sound.{IsSound}
 use Rattle.protocol.specs.Step.{Does}
-use Rattle.rows.specs.RowTable.{put_row}
+use Rattle.memory.specs.RowTable.{put_row}
 use Rattle.memory.specs.Carry.{Admits, HasMemoryFor, admitted_to, asker}
 use Rattle.memory.specs.Kept.{Kept}
 use Rattle.memory.specs.declared.carry.Ready.{Ready}

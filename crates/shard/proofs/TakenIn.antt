@@ -28,9 +28,9 @@ use Rattle.protocol.proofs.FitsBeside.{unrecorded_is}
 use Rattle.protocol.proofs.RowChanges.{row_as, find-with_row_same, find-with_row_other}
 use Rattle.protocol.proofs.RowTable.{claims-with_row, with_row-is}
 use Rattle.protocol.proofs.Serves.{AllOver, Over, safe_last, safe_over, under_safe}
-use Rattle.rows.specs.CodeRows.{phase_of_wait}
-use Rattle.rows.specs.RowTable.{put_row}
-use Rattle.rows.specs.declared.wait.Wait.{Wait}
+use Rattle.memory.specs.CodeRows.{phase_of_wait}
+use Rattle.memory.specs.RowTable.{put_row}
+use Rattle.memory.specs.wait.Wait.{Wait}
 use Rattle.memory.specs.Carry.{FitsRows, MayFollow, MayStand, admitted_to, asker}
 use Rattle.memory.specs.Kept.{Kept}
 use Rattle.memory.specs.Plans.{change_of, collecting, plan_of}

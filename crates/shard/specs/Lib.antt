@@ -12,3 +12,5 @@ pub mod Opened
 pub mod Taking
 pub mod Turned
 pub use Rattle.recovery.specs.Recovered
+pub use Rattle.memory.specs.RowTable
+pub use Rattle.book.specs.Books

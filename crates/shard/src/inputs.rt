@@ -2,20 +2,19 @@
 ghost use Rattle.std.specs.Prelude.{◌≡◌, [], true, Some, IfOk};
 ghost use Rattle.protocol.specs.Cells.{plan_advance, plan_forget, plan_resume, plan_resume_id};
 ghost use Rattle.protocol.specs.Step.{is_for, plan_input, plan_message};
-ghost use Rattle.rows.specs.RowTable.{needs_in};
+ghost use Rattle.memory.specs.RowTable.{needs_in};
 ghost use Rattle.memory.specs.Carry.{Asks, IsFit};
 ghost use Rattle.memory.specs.Kept.{start_of, IsPlanned};
 ghost use Rattle.memory.specs.Standings.{standing_in, PlansGiveUp};
 
 use crate::addressing::is_for;
 use coordinator::{give_up, on_ask, on_commit, on_vote, resume_commit, settle};
-use memory::{Standing, State, Step};
+use memory::{Row, Standing, State, Step};
 use message::{GiveUp, Input, Message};
 use participant::{
     on_give_up, on_nudge, on_outcome, on_prepare, on_read, resume_prepare, resume_read,
 };
 use record::Record;
-use rows::Row;
 use safetime::needed;
 use std::alloc::Global;
 use truetime::Reading;

@@ -11,7 +11,7 @@ ghost use Rattle.memory.specs.Plans.{plan_of};
 ghost use Rattle.protocol.specs.Rows.{claims};
 ghost use Rattle.protocol.specs.Sound.{IsSound};
 ghost use Rattle.protocol.specs.Step.{plan_input};
-ghost use Rattle.rows.specs.RowTable.{nth_prepared, nth_decided, decided_row, IsEarliest};
+ghost use Rattle.memory.specs.RowTable.{nth_prepared, nth_decided, decided_row, IsEarliest};
 ghost use Rattle.units.specs.Lists.{gather};
 ghost use Rattle.protocol.specs.Showable.{IsShowable};
 ghost use Rattle.shard.specs.Agrees.{AgreesWithLog};

@@ -7,7 +7,7 @@ use Rattle.units.specs.declared.setup.Setup.{Setup}
 use Rattle.record.specs.Facts.{facts_of}
 use Rattle.record.specs.Installs.{installs_of}
 use Rattle.record.specs.declared.record.Record.{Record}
-use Rattle.memory.specs.Kept.{Kept}
+use Rattle.recovery.specs.Kept.{Kept}
 use Rattle.recovery.specs.Recovered.{IsRebuilt}
 use Rattle.texts.specs.Numbers.{and_then}
 use Rattle.showing.specs.declared.told.Told.{Told}

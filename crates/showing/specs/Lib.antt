@@ -5,3 +5,4 @@ pub mod HistoryTexts
 pub mod Stats
 pub mod StatsTexts
 pub mod Whose
+pub use Rattle.inspection.specs.Files

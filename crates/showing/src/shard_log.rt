@@ -9,8 +9,7 @@ use crate::learning::learn_all;
 use crate::told::{Told, history};
 use disk::Disk;
 use gatelog::{Entry, GateLog};
-use memory::State;
-use recovery::rebuild;
+use recovery::{State, rebuild};
 use std::alloc::Global;
 use units::{Fault, Key, Setup, Stamp, Value, value_at};
 

@@ -8,4 +8,5 @@ mod writing;
 
 pub use length::encoded_len;
 pub use reading::decode;
+pub use record::Record;
 pub use writing::{encode, encode_into, none_begins_another};

@@ -2,4 +2,4 @@ pub mod Attempts
 pub mod Standing
 pub mod Views
 pub mod Writing
-pub use Rattle.fleet.specs.Unopened
+pub use Rattle.node.specs.Unopened

@@ -2,9 +2,9 @@
 ghost use Rattle.std.specs.Prelude.{◌≡◌, IfErr};
 
 use disk::Disk;
-use fleet::Node;
 use letters::{Due, Serves};
 use message::{Input, Outbox};
+use node::Node;
 use std::alloc::Global;
 use std::sync::Wait;
 use std::sync::atomic::{AtomicU64, Ordering};

@@ -14,7 +14,7 @@ mod view;
 
 pub use client::{Ended, Halt};
 pub use clients::Client;
-pub use fleet::{Unopened, UnopenedIn};
+pub use node::{Unopened, UnopenedIn};
 pub use options::Options;
 pub use store::Store;
 pub use transaction::{Transaction, own_writes_are_seen};

@@ -2,7 +2,7 @@
 ghost use Rattle.std.specs.Prelude.{◌≡◌, ◌+◌, ◌-◌, ◌≤◌, ⊤, ℕ, IfSome};
 
 use crate::Options;
-use fleet::steady_over;
+use node::steady_over;
 use std::alloc::AllocError;
 use std::sync::atomic::AtomicU64;
 use std::time;

@@ -1,6 +1,6 @@
 //! An open store.
 ghost use Rattle.std.specs.Prelude.{◌≡◌, ◌⊎◌, ◌<◌, ◌+◌, All, length, Err, IfErr, IfNone, IfOk, IsOk};
-ghost use Rattle.fleet.specs.Unopened.{IsFirst, IsLastIn, IsRunOver, IsUnmade, unopened_for};
+ghost use Rattle.node.specs.Unopened.{IsFirst, IsLastIn, IsRunOver, IsUnmade, unopened_for};
 ghost use Rattle.host_files.specs.Folders.{IsFolderFault};
 ghost use Rattle.store.specs.Attempts.{IsFresh};
 
@@ -9,8 +9,8 @@ use crate::clients::Client;
 use crate::serving::serve_kept;
 use disk::Disk;
 use filedisk::FileDisk;
-use fleet::{Node, Opened, Unopened, open_shards};
 use host_files::logs_in;
+use node::{Node, Opened, Unopened, open_shards};
 use settings::Settings;
 use std::alloc::Global;
 use std::fs::File;

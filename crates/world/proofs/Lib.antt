@@ -1,3 +1,4 @@
+pub mod Along
 pub mod Decides
 pub mod EveryRun
 pub mod HeldSteps

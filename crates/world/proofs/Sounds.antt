@@ -23,7 +23,7 @@ use Rattle.message.specs.declared.message.Input.{Input}
 use Rattle.protocol.specs.Rows.{Memory, rebuilt}
 use Rattle.protocol.specs.Plan.{time_limit, Plan, Planned, start_of_step, carried}
 use Rattle.protocol.specs.Step.{step_within, Stepped, Refuses, Does, facts_after, plan_input, stepped}
-use Rattle.world.specs.Lawful.{lawful, lawful_from, may_happen, may_act}
+use Rattle.world.specs.Lawful.{lawful, may_happen, may_act}
 use Rattle.session.specs.Sessions.{reads, buffers, closes, gives_up}
 use Rattle.gatelog.specs.Gates.{is_left, is_read, opens_gate}
 use Rattle.world.specs.World.{is_left_turn, is_read_turn}
@@ -33,13 +33,14 @@ use Rattle.world.specs.World.{step_of_opening, input_of, step_with, effect, want
 use Rattle.world.specs.World.{left_of, left_by_refused, step_of_turnover, with_records}
 use Rattle.world.specs.World.{stopped, set_shard, fresh_log, fresh_shard, After, client_of, put_out, refused, if_open}
 use Rattle.world.specs.World.{if_not_over, to_session, refused_doing, did, did_with_failure, at_shard, do_at, deliver_to, look_noted, look_shard}
-use Rattle.world.specs.World.{look_at_view, acts, happens, start, run, run_from}
+use Rattle.world.specs.World.{look_at_view, acts, happens, start, run}
 use Rattle.world.specs.Headline.{IsUnsure, MayLeaveLog}
 use Rattle.world.specs.declared.event.Act.{Act}
 use Rattle.world.specs.declared.event.Config.{Config}
 use Rattle.world.specs.declared.event.Doing.{Doing}
 use Rattle.world.specs.declared.event.Event.{Event}
 use Rattle.world.specs.declared.event.Reply.{Reply}
+use Rattle.world.proofs.Along.{along}
 use Rattle.world.proofs.Untouched.{Kept, if_open_keeps, if_not_over_keeps, to_session_keeps, noted_keeps}
 use Rattle.world.proofs.Places.{get-replaced_same, get-replaced_other, replicated, with_record}
 
@@ -459,12 +460,9 @@ module _ (Allowed : Setup → Input → Type 0) (Sound : Setup → Facts → Mem
 
   module _ (limits : (w : World) (time : ℕ) (a : Act) → may_act w time a ≡ true → ActAllowed Allowed w a)
       (fresh : (setup : Setup) → Sound setup (facts_of fresh_log) (rebuilt (facts_of fresh_log))) (good_fresh : (setup : Setup) → Good setup fresh_log) where
-    run_sound : (w : World) (es : List Event) → lawful_from w es ≡ true → SoundWorld w → SoundWorld (run_from w es)
+    event_sound : (w : World) (e : Event) → may_happen w e ≡ true → SoundWorld w → SoundWorld (happens w e).0
     unfolding happens
-    run_sound w [] fair sound = sound
-    run_sound w (e ∷ es) fair sound =
-        let p = and_parts (may_happen w e) (lawful_from ((happens w e).0) es) fair in
-        run_sound ((happens w e).0) es p.1 (acts_sound w sound e.act (limits w e.time e.act (and_parts (nat_le w.time e.time) (may_act w e.time e.act) p.0).1))
+    event_sound w e may sound = acts_sound w sound e.act (limits w e.time e.act (and_parts (nat_le w.time e.time) (may_act w e.time e.act) may).1)
 
     fresh_sound : (setup : Setup) → SoundShard setup fresh_shard
     fresh_sound setup = record {
@@ -482,4 +480,4 @@ module _ (Allowed : Setup → Input → Type 0) (Sound : Setup → Facts → Mem
     -- each shard is sound at every moment
     pub always_sound : (config : Config) (es : List Event) → lawful config es ≡ true → SoundWorld (run config es)
     unfolding run lawful
-    always_sound config es fair = run_sound (start config) es fair (start_sound config)
+    always_sound config es fair = along SoundWorld event_sound (start config) es fair (start_sound config)

@@ -1,6 +1,6 @@
 use Rattle.std.proofs.Common.{◌∙◌, Err, refl, sym, subst}
 use Rattle.units.specs.declared.fault.Fault.{Fault}
-use Rattle.rows.specs.declared.wait.CommitRequest.{CommitRequest}
+use Rattle.memory.specs.wait.CommitRequest.{CommitRequest}
 use Rattle.memory.specs.Kept.{start_of}
 use Rattle.memory.specs.Standings.{MakesPlan}
 use Rattle.memory.proofs.States.{planned-by, refused-by}

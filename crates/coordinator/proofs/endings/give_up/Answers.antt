@@ -1,8 +1,8 @@
 use Rattle.std.proofs.Common.{Bool, true, Option, None, Some, Ok, ap, subst}
 use Rattle.protocol.specs.Rows.{Row}
 use Rattle.protocol.specs.Cells.{plan_abort, plan_give_up}
-use Rattle.rows.specs.CodeRows.{may_abort}
-use Rattle.rows.specs.declared.wait.CommitRequest.{CommitRequest}
+use Rattle.memory.specs.CodeRows.{may_abort}
+use Rattle.memory.specs.wait.CommitRequest.{CommitRequest}
 use Rattle.memory.specs.Kept.{start_of}
 use Rattle.memory.specs.Standings.{MakesPlan}
 use Rattle.memory.proofs.States.{planned-ok, planned-row}

@@ -3,10 +3,10 @@ use Rattle.units.specs.declared.fault.Fault.{Fault}
 use Rattle.units.specs.declared.fault.Fault.TheVariants.{Memory as WantsMemory, Device}
 use Rattle.disk.specs.File.{File}
 use Rattle.message.specs.declared.message.Envelope.{Envelope}
-use Rattle.desk.specs.Core.{seen, book_of}
-use Rattle.desk.specs.Booked.{HasEntered}
-use Rattle.desk.specs.On.{CoreView, StandsAsBefore, step_of}
-use Rattle.desk.proofs.Booked.{room-or-full, went}
+use Rattle.shard.specs.Core.{seen, book_of}
+use Rattle.shard.specs.Booked.{HasEntered}
+use Rattle.shard.specs.On.{CoreView, StandsAsBefore, step_of}
+use Rattle.shard.proofs.Booked.{room-or-full, went}
 use Rattle.core_promises.proofs.refused.memory_leaves_all.Goals as goal
 
 -- no device failed where memory was refused

@@ -2,7 +2,7 @@ use Rattle.std.proofs.Common.{inr, ℕ, ◌≡◌, ◌≤◌, ◌*◌, refl, sub
 use Rattle.std.specs.Prelude.{IfSome}
 use Rattle.workers.specs.Reports.{IsTally}
 use Rattle.workers.specs.Summaries.{tried}
-use Rattle.fleet.proofs.Outcomes.{on_err, on_ok}
+use Rattle.node.proofs.Outcomes.{on_err, on_ok}
 use Rattle.drive.proofs.engine.drive_by.Goals as goal
 
 pub returns-clause-disks : goal.returns-clause-disks

@@ -4,7 +4,7 @@ use Rattle.units.specs.declared.line.Line.{Line}
 use Rattle.workers.specs.Reports.{IsTally}
 use Rattle.workers.specs.Summaries.{tried}
 use Rattle.workers.specs.declared.summary.Counts.{Counts}
-use Rattle.fleet.proofs.Outcomes.{on_err, on_ok}
+use Rattle.node.proofs.Outcomes.{on_err, on_ok}
 use Rattle.drive.proofs.Outcomes.{both_ok}
 use Rattle.drive.proofs.engine.drive_nodes.Goals as goal
 

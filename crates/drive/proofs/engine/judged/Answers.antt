@@ -1,5 +1,5 @@
 use Rattle.std.proofs.Common.{⊎_elim, inl, inr}
-use Rattle.fleet.proofs.Outcomes.{on_err}
+use Rattle.node.proofs.Outcomes.{on_err}
 use Rattle.drive.proofs.engine.judged.Goals as goal
 
 pub returns-clause-unjudged : goal.returns-clause-unjudged

@@ -3,7 +3,7 @@ use Rattle.std.specs.Prelude.{string_bytes}
 use Rattle.disk.specs.File.{surface}
 use Rattle.simdisk.specs.State.{disk_file}
 use Rattle.simdisk.specs.declared.simdisk.SimDisk.{SimDisk}
-use Rattle.fleet.proofs.Outcomes.{on_err, on_ok}
+use Rattle.node.proofs.Outcomes.{on_err, on_ok}
 use Rattle.drive.specs.Told.{IsToldOf}
 use Rattle.drive.proofs.shards.drive_watched.Goals as goal
 

@@ -3,7 +3,7 @@ use Rattle.std.proofs.lemmas.Bool.{eqb-true}
 use Rattle.std.specs.List.{AllZip}
 use Rattle.units.specs.declared.fault.Fault.{Fault}
 use Rattle.units.specs.declared.setup.Setup.{Setup}
-use Rattle.desk.specs.shard_core.Core.{Core}
+use Rattle.shard.specs.declared.shard_core.Core.{Core}
 use Rattle.node.specs.declared.opening.Opening.{Opening}
 use Rattle.node.specs.Openings.{IsOpening}
 use Rattle.node.proofs.Lists.{nothing_zipped, written, zipped}

@@ -4,7 +4,7 @@ use Rattle.std.specs.Prelude.{IsSome}
 use Rattle.units.specs.Ids.{Id}
 use Rattle.message.specs.declared.message.Input.{Input}
 use Rattle.protocol.specs.Rows.{Memory}
-use Rattle.rows.specs.RowTable.{nth_decided}
+use Rattle.shard.specs.RowTable.{nth_decided}
 use Rattle.units.specs.declared.setup.Setup.{Setup}
 use Rattle.shard.specs.Core.{seen}
 use Rattle.shard.proofs.Booked.{no-book}

@@ -1,7 +1,7 @@
 use Rattle.std.proofs.Common.{◌∙◌, Err, refl, sym, subst}
 use Rattle.units.specs.Locks.{exclusive}
 use Rattle.units.specs.declared.fault.Fault.{Fault}
-use Rattle.rows.specs.declared.wait.PrepareRequest.{PrepareRequest}
+use Rattle.memory.specs.wait.PrepareRequest.{PrepareRequest}
 use Rattle.protocol.specs.Plan.{in_way}
 use Rattle.memory.specs.Kept.{start_of}
 use Rattle.memory.proofs.States.{planned-by, refused-by}

@@ -1,7 +1,7 @@
 use Rattle.std.proofs.Common.{◌∙◌, [], None, Err, refl, sym, subst}
 use Rattle.units.specs.Locks.{exclusive}
 use Rattle.units.specs.declared.fault.Fault.{Fault}
-use Rattle.rows.specs.declared.wait.PrepareRequest.{PrepareRequest}
+use Rattle.memory.specs.wait.PrepareRequest.{PrepareRequest}
 use Rattle.protocol.specs.Rows.{WaitsPrepare}
 use Rattle.protocol.specs.Plan.{in_way, puts}
 use Rattle.memory.specs.Kept.{start_of}

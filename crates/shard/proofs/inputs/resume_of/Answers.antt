@@ -1,7 +1,7 @@
 use Rattle.std.proofs.Common.{true, [], Option, subst, sym}
 use Rattle.protocol.specs.Rows.{Row}
 use Rattle.protocol.specs.Cells.{plan_go_on, plan_resume_row}
-use Rattle.rows.specs.RowTable.{needs_by}
+use Rattle.memory.specs.RowTable.{needs_by}
 use Rattle.memory.specs.Carry.{Asks}
 use Rattle.memory.specs.Kept.{IsPlanned, start_of}
 use Rattle.shard.proofs.inputs.resume_of.Goals as goal

@@ -1,5 +1,5 @@
 use Rattle.std.proofs.Common.{rules, ◌≡◌, subst}
-use Rattle.desk.specs.Opening.{HasNoDesk}
+use Rattle.node.specs.Opening.{HasNoDesk}
 use Rattle.node.proofs.Faults.{no_desk}
 use Rattle.node.proofs.place.Place.restart.Goals as goal
 use Rattle.node.proofs.place.Place.restart.Goals.{in-Serving+else-not-is_stopped, in-Resting}

@@ -1,3 +1,0 @@
-mod Openings
-pub mod Outcomes
-pub mod Refusals

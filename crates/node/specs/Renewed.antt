@@ -1,0 +1,49 @@
+-- What a turnover makes of a desk, and what a renewal does.
+use Rattle.std.specs.Prelude.{◌≡◌, ℕ, ◌-◌, ◌&&◌, nat_lt, nat_le, Bool, true, false, List, Result, Ok, Err, IsOk}
+use Rattle.units.specs.declared.fault.Fault.{Fault}
+use Rattle.disk.specs.declared.plan.FailurePlan.{FailurePlan}
+use Rattle.disk.specs.File.{File}
+use Rattle.truetime.specs.Interval.{Interval}
+use Rattle.shard.specs.Turned.{HasTurned}
+use Rattle.node.specs.declared.measure.Measure.{Measure}
+use Rattle.node.specs.InStep.{DeskView, HasKept}
+
+-- a log that ends at this gate, of which nothing else is known
+abbrev pub unmeasured : ℕ → Measure
+unmeasured gate = record { held = 0; ended = gate }
+
+-- it has grown by so many bytes at least, and by more than it held: behind a turnover, to more than twice its length
+abbrev pub has_grown : Measure → ℕ → ℕ → Bool
+has_grown measure gate least = nat_lt measure.held (gate - measure.ended) && nat_le least (gate - measure.ended)
+
+-- Behind a turnover of a log that ended at a former gate. The new area has what is between that one and its own gate. Where it was refused, what
+-- the log held is not known anew.
+abbrev pub measured : Measure → ℕ → ℕ → Result (Unit {0}) Fault → Measure
+measured measure former gate (Ok done) = record { held = gate - former - 1; ended = gate }
+measured measure former gate (Err fault) = record { held = measure.held; ended = gate }
+
+module _ {D : Type 0} (keeps obeys : Type 0) (file : D → File) (clock : D → ℕ) (since : D → ℕ → List ℕ → Type 0) (failures : D → ℕ)
+    (plan : D → FailurePlan) where
+  -- The core turned its log over, or refused it. The book and the board stay, and the log was measured.
+  pub record HasTurnedOver (old new : DeskView D) (result : Result (Unit {0}) Fault) : Type 0 where
+    pub turned : HasTurned keeps obeys file clock since failures plan old.core new.core result
+    pub book : new.book ≡ old.book
+    pub board : new.board ≡ old.board
+    pub measure : new.measure ≡ measured old.measure old.core.gate new.core.gate result
+
+  -- a log that has grown, or not, is turned over, or not
+  abbrev pub HasTurnedIf : Bool → DeskView D → DeskView D → Result (Unit {0}) Fault → Type 0
+  HasTurnedIf true old new result = HasTurnedOver old new result
+  HasTurnedIf false old new result = (new ≡ old) × IsOk result
+
+  -- where the horizon was refused that is all; else the log is turned over where it has grown
+  abbrev pub GoesOn : Result (Unit {0}) Fault → DeskView D → DeskView D → ℕ → Result (Unit {0}) Fault → Type 0
+  GoesOn (Ok done) old new least result = HasTurnedIf (has_grown old.measure old.core.gate least) old new result
+  GoesOn (Err fault) old new least result = (new ≡ old) × (result ≡ Err fault)
+
+  -- the core was asked for the horizon that keeps so many microseconds, and went on from there
+  pub record HasRenewed (old new : DeskView D) (now : Interval) (micros least : ℕ) (result : Result (Unit {0}) Fault) : Type 0 where
+    pub between : DeskView D
+    pub kept : Result (Unit {0}) Fault
+    pub horizon : HasKept keeps obeys file clock since failures plan old between now micros kept
+    pub goes_on : GoesOn kept between new least result

@@ -1,0 +1,400 @@
+//! The core of a shard, and the publisher of its board.
+ghost use Rattle.std.specs.Prelude.{◌≡◌, ◌<◌, ◌+◌, ◌++◌, true, length, IfOk, IfErr, IsTrue, OnOk};
+ghost use Rattle.board.specs.Board.{first_entries, horizon_on, is_board};
+ghost use Rattle.disk.specs.File.{surface};
+ghost use Rattle.node.specs.DeskFaults.{refuses_input, refuses_advance, refuses_horizon, refuses_turnover};
+ghost use Rattle.node.specs.InStep.{InStep, IsInStep, IsNewBoard, AreOnBoard, IsNoDesk, StillShows, ShowsAll, HasAdvanced, HasNotAdvanced, HasTaken};
+ghost use Rattle.node.specs.InStep.{HasKept, IsCount, horizon_for as horizon_kept};
+ghost use Rattle.node.specs.Opening.{HasNoDesk, IsBegun};
+ghost use Rattle.node.specs.Renewed.{HasTurnedOver, HasRenewed, unmeasured};
+ghost use Rattle.shard.specs.Core.{seen, book_of};
+ghost use Rattle.shard.specs.Look.{safe_at};
+ghost use Rattle.shard.specs.Opened.{HasOpened};
+ghost use Rattle.shard.specs.Settled.{IsDurablySettled};
+
+use crate::measure::Measure;
+use board::{Publisher, Told, Viewer, check_viewers, copy_install, start};
+use disk::Disk;
+use message::{Input, Outbox};
+use protocol::{own_refusals, step_keeps_showable, writes_ascend};
+use shard::Core;
+use std::alloc::Global;
+use std::sync::Wait;
+use truetime::Reading;
+use units::{Fault, Install, Setup, Stamp};
+
+/// A core, the publisher of its board, how many of its versions the board was handed, the first ones, and the horizon that it was
+/// told. The board's served time and its horizon are at most the core's. The handle is for the publisher, which waits for viewers.
+/// The core's log is measured whenever it is turned over.
+pub struct Desk<D: Disk + Drop, R: Wait + Drop> {
+    alloc: Global,
+    core: Core<D>,
+    publisher: Publisher<R>,
+    handed: usize,
+    told: Stamp,
+    measure: Measure,
+    ghost in_step: { IsInStep (seen core) handed publisher },
+    ghost horizon: { horizon_on (publisher.published ++ publisher.pending) ≡ told },
+}
+
+impl<D: Disk + Drop, R: Wait + Drop> Drop for Desk<D, R> {
+    fn drop(self) {
+        drop(self.close());
+    }
+}
+
+impl<D: Disk + Drop, R: Wait + Drop> Desk<D, R> {
+    ghost use Rattle.node.specs.SeenDesk.{seen_desk};
+
+    /// A desk for a core, and so many viewers of its board, which shows the core's versions, its horizon and its served time.
+    pub fn new(
+        rt: R,
+        alloc: Global,
+        core: Core<D>,
+        n: usize,
+    ) -> Result<(Desk<D, R>, Vec<Viewer>), (Fault, Core<D>)>
+        ensures core { IfOk result
+            (λ made. ((seen_desk made.0).core ≡ seen core)
+            × ((seen_desk made.0).book ≡ book_of core)) }
+        ensures board { IfOk result (λ made.
+            IsNewBoard (seen_desk made.0).board
+            (first_entries (seen core).facts.installs (safe_at (seen core))
+            (seen core).facts.horizon)) }
+        ensures viewers { IfOk result
+            (λ made. AreOnBoard n (seen core).setup (seen_desk made.0).board made.1.items) }
+        ensures measure { IfOk result
+            (λ made. (seen_desk made.0).measure ≡ unmeasured (seen core).gate) }
+        ensures count { OnOk result (IsCount n) }
+        ensures refused { IfErr result
+            (λ refused. IsNoDesk n refused.0 × (seen refused.1 ≡ seen core)
+            × (book_of refused.1 ≡ book_of core)) }
+    {
+        core.is_sound();
+        let handed = core.installs().len();
+        let told = core.horizon();
+        let measure = Measure {
+            held: 0,
+            ended: core.gate(),
+        };
+        match board_of(
+            rt,
+            alloc,
+            core.setup(),
+            core.installs(),
+            core.safe(),
+            told,
+            n,
+        ) {
+            Ok((publisher, viewers)) => Ok((
+                Desk {
+                    alloc,
+                    core,
+                    publisher,
+                    handed,
+                    told,
+                    measure,
+                },
+                viewers,
+            )),
+            Err(fault) => Err((fault, core)),
+        }
+    }
+
+    /// A desk for the shard whose log a disk holds, and so many viewers of its board: the log is taken up as the core does, and
+    /// the next opening is logged. The disk is given back where it is refused: as it was where no board has so many viewers, and
+    /// with the opening logged where memory for the board is refused.
+    pub fn open(
+        rt: R,
+        alloc: Global,
+        disk: D,
+        setup: &Setup,
+        n: usize,
+    ) -> Result<(Desk<D, R>, Vec<Viewer>), (Fault, D)>
+        ensures opened { IfOk result
+            (λ made. HasOpened D.keeps_model D.obeys D.file D.clock D.since D.failures D.plan
+            disk setup.now (seen_desk made.0).core) }
+        ensures book { IfOk result
+            (λ made. IsBegun D.keeps_model D.obeys D.file D.clock D.since D.failures D.plan
+            disk setup.now (seen_desk made.0).book) }
+        ensures board { IfOk result (λ made. IsNewBoard (seen_desk made.0).board
+            (first_entries (seen_desk made.0).core.facts.installs
+            (safe_at (seen_desk made.0).core) (seen_desk made.0).core.facts.horizon)) }
+        ensures viewers { IfOk result
+            (λ made. AreOnBoard n setup.now (seen_desk made.0).board made.1.items) }
+        ensures measure { IfOk result (λ made. (seen_desk made.0).measure
+            ≡ unmeasured (seen_desk made.0).core.gate) }
+        ensures count { OnOk result (IsCount n) }
+        ensures refused { IfErr result
+            (λ refused. HasNoDesk D.keeps_model D.obeys D.file D.clock D.since D.failures D.plan
+            disk setup.now n refused.0 refused.1) }
+    {
+        if let Err(fault) = check_viewers(n) {
+            return Err((fault, disk));
+        }
+        let told = match setup.copy(alloc) {
+            Ok(told) => told,
+            Err(fault) => return Err((fault, disk)),
+        };
+        let core = match Core::open(alloc, disk, told) {
+            Ok(core) => core,
+            Err(refused) => return Err(refused),
+        };
+        match Desk::new(rt, alloc, core, n) {
+            Ok(made) => Ok(made),
+            Err((fault, core)) => Err((fault, core.stop())),
+        }
+    }
+
+    /// Exactly the step of the core, with its page where a book is kept. The board stays.
+    pub fn deliver(&mut self, now: &Reading, input: &Input) -> Result<Outbox, Fault>
+        ensures stepped { HasTaken D.keeps_model D.obeys D.file D.clock D.since D.failures D.plan
+            (seen_desk self.old).core (seen_desk self.new).core (seen_desk self.old).book
+            (seen_desk self.new).book now.now input.now result }
+        ensures settled { IsDurablySettled D.keeps_model
+            (surface (D.file (seen_desk self.new).core.disk)) input.now result }
+        ensures board { (seen_desk self.new).board ≡ (seen_desk self.old).board }
+        ensures measure { (seen_desk self.new).measure ≡ (seen_desk self.old).measure }
+        ensures faults { IfErr result (λ fault. IsTrue (refuses_input fault)) }
+    {
+        own_refusals();
+        step_keeps_showable();
+        writes_ascend(input);
+        self.core.is_sound();
+        self.core.on(self.alloc, now, input)
+    }
+
+    /// Asks the core for the horizon that keeps so many microseconds: as far behind the earliest of the reading, and no later than what
+    /// is served. Where that is above the core's horizon the core takes it as an input, and else nothing happens. The board stays: it is
+    /// told by the next advance.
+    pub fn keep_for(&mut self, now: &Reading, micros: u64) -> Result<(), Fault>
+        ensures kept { HasKept D.keeps_model D.obeys D.file D.clock D.since D.failures D.plan
+            (seen_desk self.old) (seen_desk self.new) now.now micros result }
+        ensures faults { IfErr result (λ fault. IsTrue (refuses_horizon fault)) }
+    {
+        let served = self.core.safe();
+        let at = horizon_for(served, now.earliest(), micros);
+        if at <= self.core.horizon() {
+            return Ok(());
+        }
+        let input = Input::Forget(at);
+        let taken = self.deliver(now, &input);
+        drop(input);
+        drop(taken?);
+        Ok(())
+    }
+
+    /// Exactly the core's turnover of its log. The board and the book stay, and the log is measured.
+    pub fn turn_over(&mut self) -> Result<(), Fault>
+        ensures turned { HasTurnedOver D.keeps_model D.obeys D.file D.clock D.since D.failures D.plan
+            (seen_desk self.old) (seen_desk self.new) result }
+        ensures faults { IfErr result (λ fault. IsTrue (refuses_turnover fault)) }
+    {
+        let before = self.core.gate();
+        let turned = self.core.turn_over(self.alloc);
+        self.measure = self.measure.behind(before, self.core.gate(), &turned);
+        turned
+    }
+
+    /// `keep_for`, and where that was not refused a turnover of the log, if this has grown: by so many bytes at least since its turnover was
+    /// tried last, or the desk was made, and by more than it had behind the last turnover of the desk.
+    pub fn renew(&mut self, now: &Reading, micros: u64, least: u64) -> Result<(), Fault>
+        ensures renewed { HasRenewed D.keeps_model D.obeys D.file D.clock D.since D.failures D.plan
+            (seen_desk self.old) (seen_desk self.new) now.now micros least result }
+        ensures faults { IfErr result (λ fault. IsTrue (refuses_horizon fault)) }
+    {
+        self.keep_for(now, micros)?;
+        if !self.measure.has_grown(self.core.gate(), least) {
+            return Ok(());
+        }
+        self.turn_over()
+    }
+
+    /// Advances the core, and publishes its new versions, its horizon where it was raised, and its served time. Where memory for the board
+    /// is refused, the core has advanced, and the board shows what it showed.
+    pub fn advance(&mut self, now: &Reading, to: Stamp) -> Result<Told, Fault>
+        ensures advanced { IfOk result
+            (HasAdvanced D.keeps_model D.obeys D.file D.clock D.since D.failures D.plan
+            (seen_desk self.old) (seen_desk self.new) now.now to) }
+        ensures refused { IfErr result
+            (HasNotAdvanced D.keeps_model D.obeys D.file D.clock D.since D.failures D.plan
+            (seen_desk self.old) (seen_desk self.new) now.now to) }
+        ensures faults { IfErr result (λ fault. IsTrue (refuses_advance fault)) }
+    {
+        let input = Input::Advance(to);
+        let told = self.deliver(now, &input);
+        drop(input);
+        drop(told?);
+        show(
+            self.core.installs(),
+            self.core.safe(),
+            self.core.horizon(),
+            &mut self.publisher,
+            &mut self.handed,
+            &mut self.told,
+            self.alloc,
+        )
+    }
+
+    /// The core, to be read.
+    pub fn core(&self) -> &Core<D>
+        ensures core { seen result.now ≡ (seen_desk self.now).core }
+        ensures book { book_of result.now ≡ (seen_desk self.now).book }
+    {
+        &self.core
+    }
+
+    /// Ends the desk and its board, and gives the disk back as it is.
+    pub fn close(self) -> D
+        ensures { result ≡ (seen_desk self).core.disk }
+    {
+        let Desk {
+            alloc: _,
+            core,
+            publisher,
+            handed: _,
+            told: _,
+            measure: _,
+        } = self;
+        drop(publisher);
+        core.stop()
+    }
+}
+
+// The horizon that keeps so many microseconds, by what is served and the earliest of a reading.
+fn horizon_for(served: Stamp, earliest: Stamp, micros: u64) -> Stamp
+    ensures { result ≡ horizon_kept served earliest micros }
+{
+    match Stamp::new(earliest.micros().saturating_sub(micros)) {
+        Ok(at) if at < served => at,
+        Ok(_) => served,
+        Err(_) => unreachable!(),
+    }
+}
+
+// The board of a shard that is set up so, with its versions, its served time and its horizon, and so many viewers.
+fn board_of<R: Wait + Drop>(
+    rt: R,
+    alloc: Global,
+    setup: &Setup,
+    installs: &[Install],
+    safe: Stamp,
+    horizon: Stamp,
+    n: usize,
+) -> Result<(Publisher<R>, Vec<Viewer>), Fault>
+    requires { is_board (first_entries installs.now safe horizon) ≡ true }
+    ensures board { IfOk result
+        (λ made. IsNewBoard made.0 (first_entries installs.now safe horizon)) }
+    ensures viewers { IfOk result (λ made. AreOnBoard n setup.now made.0 made.1.items) }
+    ensures count { OnOk result (IsCount n) }
+    ensures refused { IfErr result (λ fault. IsNoDesk n fault) }
+{
+    check_viewers(n)?;
+    let splits = setup.splits.copy(alloc)?;
+    start(rt, alloc, installs, safe, horizon, splits, setup.shard, n)
+}
+
+// Hands the board the versions that it lacks, the horizon where it was raised, and the served time, and publishes them.
+fn show<R: Wait + Drop>(
+    installs: &[Install],
+    safe: Stamp,
+    horizon: Stamp,
+    publisher: &mut Publisher<R>,
+    handed: &mut usize,
+    told: &mut Stamp,
+    alloc: Global,
+) -> Result<Told, Fault>
+    requires step { InStep installs.now safe handed.old horizon
+        (publisher.old.published ++ publisher.old.pending) }
+    requires told { horizon_on (publisher.old.published ++ publisher.old.pending) ≡ told.old }
+    ensures step { InStep installs.now safe handed.new horizon
+        (publisher.new.published ++ publisher.new.pending) }
+    ensures told { horizon_on (publisher.new.published ++ publisher.new.pending) ≡ told.new }
+    ensures shown { IfOk result
+        (λ news. ShowsAll installs.now safe horizon publisher.old publisher.new news) }
+    ensures refused { IfErr result
+        (λ fault. (fault ≡ Fault.Memory) × StillShows publisher.old publisher.new) }
+{
+    hand_over(installs, safe, horizon, publisher, handed, alloc)?;
+    hand_horizon(installs, safe, horizon, publisher, *handed, told)?;
+    publisher.safe(safe)?;
+    publisher.publish()
+}
+
+// Hands the versions to the board that it was not handed yet.
+fn hand_over<R: Wait + Drop>(
+    installs: &[Install],
+    safe: Stamp,
+    horizon: Stamp,
+    publisher: &mut Publisher<R>,
+    handed: &mut usize,
+    alloc: Global,
+) -> Result<(), Fault>
+    requires { InStep installs.now safe handed.old horizon
+        (publisher.old.published ++ publisher.old.pending) }
+    ensures step { InStep installs.now safe handed.new horizon
+        (publisher.new.published ++ publisher.new.pending) }
+    ensures horizon { horizon_on (publisher.new.published ++ publisher.new.pending)
+        ≡ horizon_on (publisher.old.published ++ publisher.old.pending) }
+    ensures published { StillShows publisher.old publisher.new }
+    ensures all { OnOk result (handed.new ≡ length installs.now) }
+    ensures memory { IfErr result (λ fault. fault ≡ Fault.Memory) }
+{
+    while *handed < installs.len() {
+        hand_one(installs, safe, horizon, publisher, handed, alloc)?;
+    }
+    Ok(())
+}
+
+// Hands the board the next version.
+fn hand_one<R: Wait + Drop>(
+    installs: &[Install],
+    safe: Stamp,
+    horizon: Stamp,
+    publisher: &mut Publisher<R>,
+    handed: &mut usize,
+    alloc: Global,
+) -> Result<(), Fault>
+    requires step { InStep installs.now safe handed.old horizon
+        (publisher.old.published ++ publisher.old.pending) }
+    requires left { handed.old < length installs.now }
+    ensures step { InStep installs.now safe handed.new horizon
+        (publisher.new.published ++ publisher.new.pending) }
+    ensures horizon { horizon_on (publisher.new.published ++ publisher.new.pending)
+        ≡ horizon_on (publisher.old.published ++ publisher.old.pending) }
+    ensures published { StillShows publisher.old publisher.new }
+    ensures count { OnOk result (handed.new ≡ handed.old + 1) }
+    ensures memory { IfErr result (λ fault. fault ≡ Fault.Memory) }
+{
+    let install = copy_install(&installs[*handed])?;
+    publisher.install(install)?;
+    *handed += 1;
+    Ok(())
+}
+
+// Hands the board, which has all versions, the horizon where it is above the one that the board was told.
+fn hand_horizon<R: Wait + Drop>(
+    installs: &[Install],
+    safe: Stamp,
+    horizon: Stamp,
+    publisher: &mut Publisher<R>,
+    handed: usize,
+    told: &mut Stamp,
+) -> Result<(), Fault>
+    requires step { InStep installs.now safe handed horizon
+        (publisher.old.published ++ publisher.old.pending) }
+    requires all { handed ≡ length installs.now }
+    requires told { horizon_on (publisher.old.published ++ publisher.old.pending) ≡ told.old }
+    ensures step { InStep installs.now safe handed horizon
+        (publisher.new.published ++ publisher.new.pending) }
+    ensures told { horizon_on (publisher.new.published ++ publisher.new.pending) ≡ told.new }
+    ensures published { StillShows publisher.old publisher.new }
+    ensures raised { OnOk result (told.new ≡ horizon) }
+    ensures memory { IfErr result (λ fault. fault ≡ Fault.Memory) }
+{
+    if *told >= horizon {
+        return Ok(());
+    }
+    publisher.horizon(horizon)?;
+    *told = horizon;
+    Ok(())
+}

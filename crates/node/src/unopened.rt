@@ -1,0 +1,62 @@
+//! Why shards are not opened.
+ghost use Rattle.std.specs.Prelude.{◌≡◌};
+
+use std::fmt;
+use units::{Fault, ShardNo};
+
+/// Why the shards of a store are not opened: the fault, and the first shard that is refused. There is no such shard where the fault is of
+/// all of them: the settings are refused, or memory is wanting before any disk is opened.
+#[derive(Clone, Copy, PartialEq, Eq)]
+pub struct Unopened {
+    pub shard: Option<ShardNo>,
+    pub fault: Fault,
+}
+
+impl From<Fault> for Unopened {
+    ghost use Rattle.std.specs.Prelude.{◌≡◌};
+    ghost use Rattle.node.specs.Unopened.{unopened_for};
+
+    ghost from_gives = { λ fault unopened. unopened ≡ unopened_for fault };
+
+    fn from(fault: Fault) -> Unopened {
+        Unopened { shard: None, fault }
+    }
+}
+
+impl fmt::Display for Unopened {
+    ghost use Rattle.std.specs.Prelude.{Some};
+    ghost use Rattle.node.specs.Unopened.{unopened_text};
+
+    ghost output = { λ u. Some (unopened_text u) };
+
+    fn fmt<W: fmt::Write>(&self, f: &mut fmt::Formatter<W>) -> fmt::Result {
+        let fault = self.fault;
+        match self.shard {
+            Some(shard) => write!(f, "shard {shard}: {fault}"),
+            None => write!(f, "{fault}"),
+        }
+    }
+}
+
+/// The same of a store in a folder, to be printed: the folder, or the file of the shard's log in it, and the fault.
+#[derive(Clone, Copy)]
+pub struct UnopenedIn<'a> {
+    pub folder: &'a str,
+    pub unopened: Unopened,
+}
+
+impl fmt::Display for UnopenedIn<'_> {
+    ghost use Rattle.std.specs.Prelude.{Some};
+    ghost use Rattle.node.specs.Unopened.{unopened_in_text};
+
+    ghost output = { λ u. Some (unopened_in_text u.folder.now u.unopened) };
+
+    fn fmt<W: fmt::Write>(&self, f: &mut fmt::Formatter<W>) -> fmt::Result {
+        let UnopenedIn { folder, unopened } = *self;
+        let fault = unopened.fault;
+        match unopened.shard {
+            Some(shard) => write!(f, "{folder}/shard-{shard}.log: {fault}"),
+            None => write!(f, "{folder}: {fault}"),
+        }
+    }
+}
