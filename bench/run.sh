@@ -40,7 +40,7 @@ build_drives() {
         library "$crate" "$here/standins/$crate.rs" "$to"
     done
     for crate in session letters client workers desk node fleet inspection drive; do
-        # Earlier revisions have no client of its own, nor a fleet.
+        # Earlier revisions have no client of its own; desks and openings were crates, and are modules of `node`.
         [ -d "$tree/crates/$crate" ] || continue
         python3 "$here/plain.py" "$tree/crates/$crate/src" "$to/$crate"
         case $crate in
@@ -56,16 +56,22 @@ build_drives() {
         esac
         library "$crate" "$to/$crate/lib.rs" "$to"
     done
+    desks=$tree/crates/desk/src/desk.rt
+    if [ ! -f "$desks" ]; then
+        desks=$tree/crates/node/src/desk.rt
+        echo 'pub use node::Desk;' >"$to/desk.rs"
+        library desk "$to/desk.rs" "$to"
+    fi
     # shellcheck disable=SC2046
     link drives "$to" $(externs "$to") -L "$to" -A warnings
     # shellcheck disable=SC2046
     link holding "$to" $(externs "$to") -L "$to" -A warnings
     # Earlier revisions have no horizon.
-    grep -q 'fn keep_for' "$tree/crates/desk/src/desk.rt" || return 0
+    grep -q 'fn keep_for' "$desks" || return 0
     # shellcheck disable=SC2046
     link forgetting "$to" $(externs "$to") -L "$to" -A warnings
     # Nor are their logs turned over.
-    grep -q 'fn renew' "$tree/crates/desk/src/desk.rt" || return 0
+    grep -q 'fn renew' "$desks" || return 0
     # shellcheck disable=SC2046
     link renewing "$to" $(externs "$to") -L "$to" -A warnings
 }
