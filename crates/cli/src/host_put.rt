@@ -1,5 +1,5 @@
 //! A write to a store in a folder of the machine, on its threads.
-ghost use Rattle.std.specs.Prelude.{IfErr, IfOk, MatchResult};
+ghost use Rattle.std.specs.Prelude.{◌≡◌, None, IfErr, IfOk, MatchResult};
 ghost use Rattle.cli.specs.Written.{IsPut, IsUnwritten, IsWritten, Puts};
 
 use commands::Put;
@@ -10,7 +10,7 @@ use std::sync::Wait;
 use std::thread::Threads;
 use std::{rt, time};
 use store::{Client, Ended, Halt, Options, Store, Transaction};
-use units::{Fault, Key, Reason, Value};
+use units::{Fault, Key, Reason, Splits, Value};
 
 // How often the write is tried: no other client is there, and an abort may be left of what the store was in the midst of when it was closed.
 const TRIES: u32 = 5;
@@ -35,9 +35,7 @@ pub fn put_in_store<R: rt::Files<File = File> + RandomSource + Threads + Wait + 
         key,
         value,
     } = write;
-    let mut options = Options::new(splits.copy(alloc)?, 1);
-    options.patience = PATIENCE;
-    let store = match Store::open_folder(rt, alloc, folder, options) {
+    let store = match Store::open_folder(rt, alloc, folder, options_of(alloc, splits)?) {
         Ok(store) => store,
         Err(unopened) => return Err(unopened.fault),
     };
@@ -48,6 +46,20 @@ pub fn put_in_store<R: rt::Files<File = File> + RandomSource + Threads + Wait + 
     )?;
     drop(disks);
     ended
+}
+
+// One client, who waits that long. Its commit waits for the epsilon of every store, and nothing is forgotten for it.
+fn options_of(alloc: Global, splits: &Splits) -> Result<Options, Fault>
+    ensures splits { IfOk result (λ options. options.splits ≡ splits.now) }
+    ensures times { IfOk result
+        (λ options. (options.epsilon ≡ 1000) × (options.patience ≡ 100)) }
+    ensures all { IfOk result (λ options. (options.clients ≡ 1) × (options.keep ≡ None)
+        × (options.renew ≡ None)) }
+    ensures memory { IfErr result (λ fault. fault ≡ Fault.Memory) }
+{
+    let mut options = Options::new(splits.copy(alloc)?, 1);
+    options.patience = PATIENCE;
+    Ok(options)
 }
 
 // What became of the write, by one of the clients. A store that lends none is refused as `settings`.

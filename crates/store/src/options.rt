@@ -1,5 +1,5 @@
 //! How a store is parted and served.
-ghost use Rattle.std.specs.Prelude.{◌≡◌, ◌⊎◌, ◌<◌, ◌≤◌, Err, IfErr, IfOk, IsOk};
+ghost use Rattle.std.specs.Prelude.{◌≡◌, ◌⊎◌, ◌<◌, ◌≤◌, Err, IfErr, IfOk, IsOk, None};
 
 use settings::Settings;
 use std::alloc::Global;
@@ -36,7 +36,12 @@ const STRIDE: u64 = 100_000;
 impl Options {
     /// So many clients over these shards: a stride of 100,000 microseconds, an epsilon of 1,000, and a patience of 100 milliseconds.
     /// Nothing is forgotten, and no log is turned over.
-    pub fn new(splits: Splits, clients: u64) -> Options {
+    pub fn new(splits: Splits, clients: u64) -> Options
+        ensures splits { result.splits ≡ splits }
+        ensures clients { result.clients ≡ clients }
+        ensures times { (result.stride ≡ 100000) × (result.epsilon ≡ 1000) × (result.patience ≡ 5) }
+        ensures all { (result.keep ≡ None) × (result.renew ≡ None) }
+    {
         let stride = match Stride::new(STRIDE) {
             Some(stride) => stride,
             None => unreachable!(),
