@@ -6,8 +6,8 @@ use crate::nodes::fresh_node;
 use crate::verdict::end;
 use crossbeam_channel::{Receiver, Sender, unbounded};
 use letters::{Letter, Post};
-use made::WrongRows;
-use message::{Address, Envelope};
+use made::{WrongRows, id};
+use message::{Address, Envelope, Message};
 use node::{Gate, Node};
 use simdisk::SimDisk;
 use std::alloc::Global;
@@ -49,6 +49,8 @@ struct Row {
     before: u64,
     // How often the node tells up to when it serves, at most; and what it told last, and the log at the end, where they matter.
     tells: u64,
+    // Whether it asks shard 0 how 1.1 ended.
+    asks: bool,
     end: Option<End>,
 }
 
@@ -81,12 +83,14 @@ impl Clock for Ticking<'_> {
 }
 
 // What was seen of a node: how many messages it posted, which of them was the first to 1.1, 1.2 and 1.3, counted from 1, how many letters it has
-// taken, and how many come first; whether somebody has looked in vain; and how often it told up to when it serves, and what it told last.
+// taken, and how many come first; how often it asked shard 0 how 1.1 ended; whether somebody has looked in vain; and how often it told up to
+// when it serves, and what it told last.
 struct Seen {
     first: u64,
     posted: AtomicU64,
     places: [AtomicU64; 3],
     taken: AtomicU64,
+    asked: AtomicU64,
     looked: AtomicBool,
     tells: AtomicU64,
     served: AtomicU64,
@@ -99,6 +103,7 @@ impl Drop for Seen {
             posted: _,
             places: _,
             taken: _,
+            asked: _,
             looked: _,
             tells: _,
             served: _,
@@ -113,6 +118,7 @@ impl Seen {
             posted: AtomicU64::new(0),
             places: [AtomicU64::new(0), AtomicU64::new(0), AtomicU64::new(0)],
             taken: AtomicU64::new(0),
+            asked: AtomicU64::new(0),
             looked: AtomicBool::new(row.looked),
             tells: AtomicU64::new(0),
             served: AtomicU64::new(0),
@@ -146,10 +152,26 @@ impl Seen {
     }
 }
 
+// Whether it asks shard 0 how 1.1 ended.
+fn is_ask(envelope: &Envelope) -> bool {
+    let asks = match &envelope.message {
+        Message::Ask(ask) => ask.txn == id(1),
+        _ => false,
+    };
+    match envelope.to {
+        Address::Shard(shard) => asks && shard.number() == 0,
+        Address::Session(_) => false,
+    }
+}
+
 impl Post for &Seen {
     fn post(&mut self, envelope: Envelope) {
+        let asks = is_ask(&envelope);
         let to = envelope.to;
         drop(envelope);
+        if asks {
+            self.asked.fetch_add(1, Ordering::SeqCst);
+        }
         let place = self.posted.fetch_add(1, Ordering::SeqCst).saturating_add(1);
         let Address::Session(txn) = to else {
             return;
@@ -278,6 +300,8 @@ fn compare(wrong: &mut WrongRows, alloc: Global, disk: SimDisk, seen: &Seen, row
     wrong.unless_at(answered, row.name, seen.place(0));
     let tells = seen.tells.load(Ordering::SeqCst);
     wrong.unless_at(tells <= row.tells, row.name, tells);
+    let asked = seen.asked.load(Ordering::SeqCst);
+    wrong.unless_at((asked > 0) == row.asks, row.name, asked);
     match &row.end {
         Some(end) => {
             let served = seen.served.load(Ordering::SeqCst);
@@ -309,6 +333,7 @@ static OPEN: [Row; 3] = [
         sessions: 1,
         before: 20_000,
         tells: 20_000,
+        asks: false,
         end: None,
     },
     Row {
@@ -323,6 +348,7 @@ static OPEN: [Row; 3] = [
         sessions: 1,
         before: 1_000,
         tells: 10_000,
+        asks: false,
         end: None,
     },
     Row {
@@ -341,6 +367,7 @@ static OPEN: [Row; 3] = [
         sessions: 3,
         before: 1_000,
         tells: 10_000,
+        asks: false,
         end: None,
     },
 ];
@@ -365,6 +392,7 @@ static SILENT: [Row; 3] = [
         sessions: 0,
         before: 0,
         tells: 0,
+        asks: false,
         end: Some(End {
             served: 0,
             log: &[Line::Opened(1)],
@@ -382,6 +410,7 @@ static SILENT: [Row; 3] = [
         sessions: 0,
         before: 0,
         tells: 1,
+        asks: false,
         end: Some(End {
             served: 1_010,
             log: &[Line::Opened(1), Line::Ceiling(1_010)],
@@ -399,6 +428,7 @@ static SILENT: [Row; 3] = [
         sessions: 0,
         before: 0,
         tells: 1,
+        asks: false,
         end: Some(End {
             served: 1_010,
             log: &[
@@ -414,4 +444,47 @@ static SILENT: [Row; 3] = [
 #[test]
 fn idle_nodes_log(rt: HostRuntime) {
     go_over(&rt, rt.alloc(), &SILENT);
+}
+
+// Shard 0 decides what was promised, and says nothing.
+static PROMISED: [Row; 2] = [
+    Row {
+        name: "a node asks for what it promised 20 milliseconds ago",
+        first: &[Given::Prepare(1, b"z", b"1")],
+        pace: Pace::Steady,
+        letters: 400,
+        reads: false,
+        looked: false,
+        tick: 1_000,
+        later: 20_000,
+        sessions: 0,
+        before: 0,
+        tells: 0,
+        asks: true,
+        end: None,
+    },
+    Row {
+        name: "a node does not ask for what it promised 19 milliseconds ago",
+        first: &[Given::Prepare(1, b"z", b"1")],
+        pace: Pace::Steady,
+        letters: 200,
+        reads: false,
+        looked: false,
+        tick: 0,
+        later: 19_999,
+        sessions: 0,
+        before: 0,
+        tells: 0,
+        asks: false,
+        end: Some(End {
+            served: 0,
+            log: &[Line::Opened(1), Line::Promised(1, 1_000)],
+        }),
+    },
+];
+
+// It fails where a node never asks how what it promised has ended, or asks at once.
+#[test]
+fn promises_are_never_asked_for(rt: HostRuntime) {
+    go_over(&rt, rt.alloc(), &PROMISED);
 }

@@ -48,6 +48,8 @@ mod restarts;
 #[cfg(test)]
 mod served;
 #[cfg(test)]
+mod steady;
+#[cfg(test)]
 mod stories;
 #[cfg(test)]
 mod strained;

@@ -2,7 +2,7 @@
 ghost use Rattle.std.specs.Prelude.{◌≡◌};
 
 use crate::cores::{Setting, plain};
-use crate::given::{Given, Standing, message_of, reading};
+use crate::given::{Given, message_of, reading};
 use crate::nodes::fresh_node;
 use crate::verdict::end;
 use client::{Ended, Halt, Stop, Wire};
@@ -20,6 +20,7 @@ use std::thread::Threads;
 use std::time::{Duration, Instant};
 use std::{thread, time};
 use tickets::{Drawer, Tickets};
+use truetime::{Clock, Reading};
 use units::{Fault, Run, ShardNo, Splits, Value};
 
 // How a transaction ends.
@@ -32,25 +33,28 @@ enum Ends {
 }
 
 // What became of the node of fresh shard 1: its device has failed, in a turnover or else in an advance, and it could not be opened again, so
-// that it holds its disk alone; how many transactions have a row there; and whether the client hears first that a letter of an earlier
-// transaction was refused. How a transaction ends that reads there and is dropped then, and one that only writes, where one does.
+// that it holds its disk alone; whether its clock has no reading; how many transactions have a row there; and whether the client hears first
+// that a letter of an earlier transaction was refused. How a transaction ends that reads there and is dropped then, and one that only writes,
+// where one does.
 struct Row {
     name: &'static str,
     stops: bool,
     turns: bool,
     rests: bool,
+    timeless: bool,
     rows: u16,
     late: bool,
     reads: Ends,
     writes: Option<Ends>,
 }
 
-static ROWS: [Row; 5] = [
+static ROWS: [Row; 6] = [
     Row {
         name: "rows are full",
         stops: false,
         turns: false,
         rests: false,
+        timeless: false,
         rows: 1_024,
         late: false,
         reads: Ends::Refused(Fault::RowsFull),
@@ -61,6 +65,7 @@ static ROWS: [Row; 5] = [
         stops: true,
         turns: false,
         rests: false,
+        timeless: false,
         rows: 0,
         late: false,
         reads: Ends::Refused(Fault::Stopped),
@@ -71,6 +76,7 @@ static ROWS: [Row; 5] = [
         stops: true,
         turns: true,
         rests: false,
+        timeless: false,
         rows: 0,
         late: false,
         reads: Ends::Refused(Fault::Stopped),
@@ -81,22 +87,47 @@ static ROWS: [Row; 5] = [
         stops: true,
         turns: false,
         rests: true,
+        timeless: false,
         rows: 0,
         late: false,
         reads: Ends::Refused(Fault::Stopped),
         writes: Some(Ends::Unknown),
     },
     Row {
+        name: "a clock has no reading",
+        stops: false,
+        turns: false,
+        rests: false,
+        timeless: true,
+        rows: 0,
+        late: false,
+        reads: Ends::Refused(Fault::TimeSpent),
+        writes: None,
+    },
+    Row {
         name: "a refusal comes late",
         stops: false,
         turns: false,
         rests: false,
+        timeless: false,
         rows: 0,
         late: true,
         reads: Ends::Aborted,
         writes: None,
     },
 ];
+
+// A clock that always has this reading, or never one.
+#[derive(Clone, Copy)]
+struct Told {
+    now: Option<Reading>,
+}
+
+impl Clock for Told {
+    fn now(&mut self) -> Option<Reading> {
+        self.now
+    }
+}
 
 // Lets all letters through.
 #[derive(Clone, Copy)]
@@ -223,10 +254,15 @@ fn serve<'r, R: Wait + time::Clock + Abort>(
     node: &Node<SimDisk, &'r R>,
     inbox: &Receiver<Letter>,
     network: &Network,
+    row: &Row,
 ) {
     let mut post = Mail { rt, network };
-    let mut clock = Standing {
-        now: reading(rt, 100, 110),
+    let mut clock = Told {
+        now: if row.timeless {
+            None
+        } else {
+            Some(reading(rt, 100, 110))
+        },
     };
     node.serve(rt, inbox, &mut post, &mut clock, &Through);
 }
@@ -309,7 +345,7 @@ fn go<R: Threads + Wait + time::Clock + Sync + Abort>(
     drop(to_callers);
     let (_, [late, reads, writes]) = thread::join(
         rt,
-        || serve(rt, &node, &to_node, &network),
+        || serve(rt, &node, &to_node, &network, row),
         || call(rt, alloc, &network, to_caller, row),
     );
     drop(to_node);
