@@ -293,7 +293,8 @@ impl Watch for Ends {
     }
 }
 
-// Drives the disks as the row says, and compares what that comes to, and what a watch is told of its turns. The disks behind it, where it is not refused.
+// Drives the disks as the row says, and compares what that comes to, and what a watch is told of its turns. The disks behind it, where it
+// is not refused.
 fn go<R: Threads + Wait + time::Clock + Sync + Abort>(
     wrong: &mut WrongRows,
     rt: &R,
@@ -492,7 +493,7 @@ impl Clock for Stuck<'_> {
 }
 
 // Whether a drive of one worker and one transaction by such a clock counts an abort, where it is to be one, and else an end that nobody
-// knows; and no answered look, since letters are lost, or since what is decided of the key is before the look and not settled.
+// knows, as the watch is told; and no answered look, since letters are lost, or since what is decided of the key is before the look and not settled.
 fn is_untold<R: Threads + Wait + time::Clock + Sync + Abort>(
     rt: &R,
     alloc: Global,
@@ -517,7 +518,8 @@ fn is_untold<R: Threads + Wait + time::Clock + Sync + Abort>(
 }
 
 // It fails where nodes lose every letter, as they do with a clock that has no reading; where an abort is counted as an end that nobody knows,
-// or such an end as an abort; and where a look that nobody answered is told and counted.
+// or such an end as an abort; where the watch is told of another end than is counted; and where a look that nobody answered is told and
+// counted.
 #[test]
 fn lose_every_letter(rt: HostRuntime) {
     let gate = Meeting::new(&rt, false);
