@@ -31,7 +31,12 @@ enum Left {
     NoLog,
     // A log, once it was formatted.
     Log,
+    // 1 MiB and 16 bytes, once they were put there by one write.
+    Long,
 }
+
+// The last 16 bytes of a long file, of which each is another one.
+const MARKS: &[u8] = b"0123456789abcdef";
 
 /// A call in a folder of its own, with the folder `logs` in it, and what is done with the disk.
 pub struct Asked {
@@ -46,7 +51,7 @@ pub struct Asked {
     left: Left,
 }
 
-static ROWS: [Asked; 20] = [
+static ROWS: [Asked; 21] = [
     Asked {
         what: "a new file",
         path: None,
@@ -254,6 +259,15 @@ static ROWS: [Asked; 20] = [
         steps: &[],
         left: Left::NoLog,
     },
+    Asked {
+        what: "one write of 1 MiB and 16 bytes",
+        path: None,
+        there: There::Nothing,
+        call: Call::Create,
+        wanted: Ok(0),
+        steps: &[],
+        left: Left::Long,
+    },
 ];
 
 fn is_put(rt: &HostRuntime, path: &str, there: &There) -> bool {
@@ -314,12 +328,50 @@ pub fn keeps(rt: &HostRuntime, path: &str, bytes: &[u8]) -> bool {
     kept
 }
 
+// The file takes the bytes by one write, and they are read back from the disk.
+fn takes(rt: &HostRuntime, path: &str, bytes: &[u8]) -> bool {
+    let Ok(mut disk) = FileDisk::open(rt, path) else {
+        return false;
+    };
+    let taken = disk.write_at(0, bytes).is_ok()
+        && disk.len() == 1_048_592
+        && read_back(rt.alloc(), &mut disk, bytes).is_ok();
+    drop(disk);
+    taken
+}
+
+// The file is as long as those bytes, and ends with the marks.
+fn ends_so(rt: &HostRuntime, path: &str) -> bool {
+    match fs::read(rt, path) {
+        Ok(found) => {
+            let so = found.len() == 1_048_592 && found.ends_with(MARKS);
+            drop(found);
+            so
+        }
+        Err(_) => false,
+    }
+}
+
+// The file takes 1 MiB of one byte and the marks behind them, and keeps them.
+fn is_long(rt: &HostRuntime, path: &str) -> bool {
+    let Ok(mut bytes) = Vec::from_elem(rt.alloc(), 0x5au8, 1_048_576) else {
+        return false;
+    };
+    let long = bytes.extend_from_slice(MARKS).is_ok()
+        && takes(rt, path, &bytes)
+        && ends_so(rt, path)
+        && keeps(rt, path, &bytes);
+    drop(bytes);
+    long
+}
+
 fn is_left(rt: &HostRuntime, path: &str, left: &Left) -> bool {
     match left {
         Left::Anything => true,
         Left::Bytes(bytes) => keeps(rt, path, bytes),
         Left::NoLog => is_no_log(rt, path),
         Left::Log => is_opened_again(rt, path),
+        Left::Long => is_long(rt, path),
     }
 }
 

@@ -20,9 +20,9 @@ pub fn disks_of(rt: &impl Abort, alloc: Global, logs: u8, blank: bool) -> Vec<Si
     disks
 }
 
-/// Two disks with an empty log, of which that one fails at that call, where it is one of them.
-pub fn failing(rt: &impl Abort, alloc: Global, shard: u8, call: u64) -> Vec<SimDisk> {
-    let mut disks = disks_of(rt, alloc, 2, false);
+/// So many disks with an empty log, of which that one fails at that call, where it is one of them.
+pub fn failing(rt: &impl Abort, alloc: Global, logs: u8, shard: u8, call: u64) -> Vec<SimDisk> {
+    let mut disks = disks_of(rt, alloc, logs, false);
     if let Some(disk) = disks.get_mut(usize::from(shard)) {
         disk.fail_next(call);
     }
@@ -47,4 +47,11 @@ pub fn settings_of(
         keys,
         dir: None,
     }
+}
+
+/// The splits of three shards, which part at `k0003` and `k0006`.
+pub fn three_parts(rt: &impl Abort, alloc: Global) -> Splits {
+    let first = Key::new(b"k0003").expect(rt, "a key");
+    let second = Key::new(b"k0006").expect(rt, "a key");
+    Splits::new(alloc, &[first, second]).expect(rt, "splits")
 }

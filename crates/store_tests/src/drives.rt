@@ -5,7 +5,7 @@ use crate::kept::Kept;
 use crate::verdict::end;
 use drive::{Driven, clock_of, drive_by, run};
 use made::WrongRows;
-use progress::{Ended, NoWatch, Turn, Watch};
+use progress::{Ended, Turn, Watch};
 use simdisk::SimDisk;
 use std::alloc::Global;
 use std::process::Abort;
@@ -15,7 +15,7 @@ use std::thread::Threads;
 use std::time;
 use truetime::{Clock, Reading};
 use units::{Fault, Line, Reason, Stamp, Stride, Verdict};
-use workers::Summary;
+use workers::{Counts, Summary};
 
 // Why a drive is refused; or how many transactions are tried, how many commits and answered looks there are at least, and of
 // which run the ids are. That each transaction is counted once is proved of drives; that the verdict is yes is not. Where no look
@@ -256,7 +256,45 @@ fn is_driven(summary: &Summary, lines: &[Line], comes: Comes) -> bool {
     }
 }
 
-// Drives the disks as the row says, and compares what that comes to. The disks behind it, where it is not refused.
+/// Counts the turns that it is told, by how they ended.
+#[derive(Drop)]
+pub struct Ends {
+    committed: AtomicU64,
+    aborted: AtomicU64,
+    unknown: AtomicU64,
+}
+
+impl Ends {
+    /// It was told nothing so far.
+    pub fn none() -> Ends {
+        Ends {
+            committed: AtomicU64::new(0),
+            aborted: AtomicU64::new(0),
+            unknown: AtomicU64::new(0),
+        }
+    }
+
+    /// Whether it was told as many of each end as a drive counts.
+    pub fn are(&self, counts: Counts) -> bool {
+        self.committed.load(Ordering::SeqCst) == counts.committed
+            && self.aborted.load(Ordering::SeqCst) == counts.aborted
+            && self.unknown.load(Ordering::SeqCst) == counts.unknown
+    }
+}
+
+impl Watch for Ends {
+    fn turned(&self, turn: Turn) {
+        let told = match turn.ended {
+            Ended::Committed => &self.committed,
+            Ended::Aborted => &self.aborted,
+            Ended::Unknown => &self.unknown,
+        };
+        told.fetch_add(1, Ordering::SeqCst);
+    }
+}
+
+// Drives the disks as the row says, and compares what that comes to, and what a watch is told of its turns. The disks behind it, where it
+// is not refused.
 fn go<R: Threads + Wait + time::Clock + Sync + Abort>(
     wrong: &mut WrongRows,
     rt: &R,
@@ -267,7 +305,8 @@ fn go<R: Threads + Wait + time::Clock + Sync + Abort>(
 ) -> Vec<SimDisk> {
     let settings = settings_of(rt, alloc, row.workers, row.transactions, row.keys);
     let clock = clock_of(rt, &settings);
-    let driven = drive_by(rt, alloc, &settings, disks, clock, gate, &NoWatch);
+    let ends = Ends::none();
+    let driven = drive_by(rt, alloc, &settings, disks, clock, gate, &ends);
     drop(settings);
     let (held, disks) = match driven {
         Ok(
@@ -278,6 +317,7 @@ fn go<R: Threads + Wait + time::Clock + Sync + Abort>(
             },
         ) => {
             let held = is_driven(&summary, lines.as_slice(), row.comes)
+                && ends.are(summary.counts)
                 && (row.workers != 1 || are_in_turn(lines.as_slice()));
             drop(lines);
             (held, disks)
@@ -453,7 +493,7 @@ impl Clock for Stuck<'_> {
 }
 
 // Whether a drive of one worker and one transaction by such a clock counts an abort, where it is to be one, and else an end that nobody
-// knows; and no answered look, since letters are lost, or since what is decided of the key is before the look and not settled.
+// knows, as the watch is told; and no answered look, since letters are lost, or since what is decided of the key is before the look and not settled.
 fn is_untold<R: Threads + Wait + time::Clock + Sync + Abort>(
     rt: &R,
     alloc: Global,
@@ -463,11 +503,13 @@ fn is_untold<R: Threads + Wait + time::Clock + Sync + Abort>(
     let settings = settings_of(rt, alloc, 1, 1, 10);
     let gate = Meeting::new(rt, false);
     let disks = disks_of(rt, alloc, 2, false);
-    let driven = drive_by(rt, alloc, &settings, disks, clock, &gate, &NoWatch);
+    let ends = Ends::none();
+    let driven = drive_by(rt, alloc, &settings, disks, clock, &gate, &ends);
     drop(settings);
     let driven = driven.ok().expect(rt, "one transaction");
     let counts = driven.summary.counts;
     let untold = is_sound(&driven.summary, 1)
+        && ends.are(counts)
         && counts.committed == 0
         && counts.aborted == aborted
         && counts.looks == 0;
@@ -476,7 +518,8 @@ fn is_untold<R: Threads + Wait + time::Clock + Sync + Abort>(
 }
 
 // It fails where nodes lose every letter, as they do with a clock that has no reading; where an abort is counted as an end that nobody knows,
-// or such an end as an abort; and where a look that nobody answered is told and counted.
+// or such an end as an abort; where the watch is told of another end than is counted; and where a look that nobody answered is told and
+// counted.
 #[test]
 fn lose_every_letter(rt: HostRuntime) {
     let gate = Meeting::new(&rt, false);

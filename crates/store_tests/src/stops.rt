@@ -1,10 +1,12 @@
-//! Drives over two disks in memory, one of which fails.
-use crate::disks::{failing, settings_of};
+//! Drives over disks in memory, one of which fails.
+use crate::disks::{failing, settings_of, three_parts};
+use crate::drives::Ends;
 use crate::gates::Meeting;
 use crate::verdict::end;
 use drive::{clock_of, drive_by};
 use made::WrongRows;
 use progress::{Turn, Watch};
+use settings::Settings;
 use std::alloc::Global;
 use std::process::Abort;
 use std::sync::Wait;
@@ -13,63 +15,81 @@ use std::thread::Threads;
 use std::time;
 use std::time::{Duration, Instant};
 use units::Fault;
+use workers::Counts;
 
-// Which shard's disk fails, at which of its calls from the opening on, and whether the drive has begun by then.
+// How many shards there are, two or three; which one's disk fails, at which of its calls from the opening on, and whether the drive has
+// begun by then.
 #[derive(Clone, Copy)]
 struct Row {
     name: &'static str,
+    shards: u8,
     shard: u8,
     call: u64,
     begins: bool,
 }
 
-static ROWS: [Row; 8] = [
+static ROWS: [Row; 9] = [
     Row {
         name: "the first call of shard 0",
+        shards: 2,
         shard: 0,
         call: 0,
         begins: false,
     },
     Row {
         name: "the first call of shard 1",
+        shards: 2,
         shard: 1,
         call: 0,
         begins: false,
     },
     Row {
         name: "call 20 of shard 0",
+        shards: 2,
         shard: 0,
         call: 20,
         begins: true,
     },
     Row {
         name: "call 21 of shard 0",
+        shards: 2,
         shard: 0,
         call: 21,
         begins: true,
     },
     Row {
         name: "call 22 of shard 1",
+        shards: 2,
         shard: 1,
         call: 22,
         begins: true,
     },
     Row {
         name: "call 23 of shard 1",
+        shards: 2,
         shard: 1,
         call: 23,
         begins: true,
     },
     Row {
         name: "call 100 of shard 0",
+        shards: 2,
         shard: 0,
         call: 100,
         begins: true,
     },
     Row {
         name: "call 101 of shard 1",
+        shards: 2,
         shard: 1,
         call: 101,
+        begins: true,
+    },
+    Row {
+        name: "call 24 of shard 2, the last of three",
+        shards: 3,
+        shard: 2,
+        call: 24,
         begins: true,
     },
 ];
@@ -78,36 +98,51 @@ const WORKERS: u64 = 4;
 
 const TRANSACTIONS: u64 = 1_000;
 
-// Counts what it is told: turns, and stops of each shard.
+// Counts what it is told: turns, by how they ended, and stops of each shard.
 #[derive(Drop)]
 struct Told {
-    turns: AtomicU64,
-    stops: [AtomicU64; 2],
+    ends: Ends,
+    stops: [AtomicU64; 3],
 }
 
 impl Told {
     fn new() -> Told {
         Told {
-            turns: AtomicU64::new(0),
-            stops: [AtomicU64::new(0), AtomicU64::new(0)],
+            ends: Ends::none(),
+            stops: [AtomicU64::new(0), AtomicU64::new(0), AtomicU64::new(0)],
         }
     }
 
-    // So many turns were told, and of this shard alone one stop, where there is one.
-    fn has(&self, turns: u64, stopped: Option<usize>) -> bool {
+    // One stop was told, of this shard, where there is one.
+    fn has_stop(&self, stopped: Option<usize>) -> bool {
         for (shard, stops) in self.stops.iter().enumerate() {
             let wanted = if stopped == Some(shard) { 1 } else { 0 };
             if stops.load(Ordering::SeqCst) != wanted {
                 return false;
             }
         }
-        self.turns.load(Ordering::SeqCst) == turns
+        true
+    }
+
+    // It was told of each turn that the drive counts, and of the stop; and of nothing, where the drive has not begun, which has no counts.
+    // The turns behind the stop, which are most of them, are aborted, and none of these has a look.
+    fn is_right(&self, row: &Row, counts: Option<Counts>) -> bool {
+        match counts {
+            Some(counts) => {
+                let few = counts.looks < counts.aborted;
+                row.begins
+                    && few
+                    && self.ends.are(counts)
+                    && self.has_stop(Some(usize::from(row.shard)))
+            }
+            None => !row.begins && self.ends.are(Counts::none()) && self.has_stop(None),
+        }
     }
 }
 
 impl Watch for Told {
-    fn turned(&self, _turn: Turn) {
-        self.turns.fetch_add(1, Ordering::SeqCst);
+    fn turned(&self, turn: Turn) {
+        self.ends.turned(turn);
     }
 
     fn stopped(&self, shard: usize) {
@@ -117,13 +152,22 @@ impl Watch for Told {
     }
 }
 
+// The settings of a drive over so many shards.
+fn settings_for(rt: &impl Abort, alloc: Global, shards: u8) -> Settings {
+    let mut settings = settings_of(rt, alloc, WORKERS, TRANSACTIONS, 10);
+    if shards == 3 {
+        settings.splits = three_parts(rt, alloc);
+    }
+    settings
+}
+
 // Whether a drive as the row says is refused as `Device` within ten seconds, though each turn that waits for a shard in vain takes two; and
-// each turn is told, and the stop of the shard. The turns behind the stop, which are most of them, are aborted, and none of these has a look.
+// what is told of it is right.
 fn goes<R: Threads + Wait + time::Clock + Sync + Abort>(rt: &R, alloc: Global, row: &Row) -> bool {
-    let settings = settings_of(rt, alloc, WORKERS, TRANSACTIONS, 10);
+    let settings = settings_for(rt, alloc, row.shards);
     let told = Told::new();
     let start = Instant::now(rt).ok().expect(rt, "a clock");
-    let disks = failing(rt, alloc, row.shard, row.call);
+    let disks = failing(rt, alloc, row.shards, row.shard, row.call);
     let gate = Meeting::new(rt, false);
     let clock = clock_of(rt, &settings);
     let driven = drive_by(rt, alloc, &settings, disks, clock, &gate, &told);
@@ -135,20 +179,9 @@ fn goes<R: Threads + Wait + time::Clock + Sync + Abort>(rt: &R, alloc: Global, r
             drop(driven);
             false
         }
-        Err(none) => {
-            let few = match none.counts {
-                Some(counts) => counts.looks < counts.aborted,
-                None => !row.begins,
-            };
-            none.fault == Fault::Device && few
-        }
+        Err(none) => none.fault == Fault::Device && told.is_right(row, none.counts),
     };
-    let is_told = if row.begins {
-        told.has(WORKERS * TRANSACTIONS, Some(usize::from(row.shard)))
-    } else {
-        told.has(0, None)
-    };
-    is_refused && is_told && took < Duration::from_secs(10)
+    is_refused && took < Duration::from_secs(10)
 }
 
 #[test]

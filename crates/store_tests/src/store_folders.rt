@@ -37,6 +37,25 @@ const OF_OTHER_KEYS: &[u8] =
     b"SPNLOG02\xa5\0\0\0\x09\x01\0\0\0\0\0\0\0\x01\xa5\0\0\0\x25\x04\0\0\0\0\0\0\0\x01\0\0\0\0\0\0\0\x01\
 \0\0\0\0\0\0\0\x6f\0\x01\0\0\0\x01\x01\x7a\x01\0\x01\x31\0";
 
+// Opened 1; Prepare 1.2 of shard 0 at 200, no reads, a=1; a closed gate.
+const OF_LOW_PROMISE: &[u8] =
+    b"SPNLOG02\xa5\0\0\0\x09\x01\0\0\0\0\0\0\0\x01\xa5\0\0\0\x24\x03\0\0\0\0\0\0\0\x01\0\0\0\0\0\0\0\x02\
+\0\0\0\0\0\0\0\0\xc8\0\0\0\x01\x01\x61\x01\0\x01\x31\0";
+
+// Renewed logs: Base 1 111 0; and a version of z at 111, z=1, or 1.1 that is settled at 111 with parts 0, or a promise of 1.1 that is closed,
+// aborted by shard 0; a closed gate.
+const OF_HIGH_VERSION: &[u8] =
+    b"SPNLOG02\xa5\0\0\0\x19\x08\0\0\0\0\0\0\0\x01\0\0\0\0\0\0\0\x6f\0\0\0\0\0\0\0\0\
+\xa5\0\0\0\x0f\x09\x01\x7a\0\0\0\0\0\0\0\x6f\x01\0\x01\x31\0";
+
+const OF_LOW_DECISION: &[u8] =
+    b"SPNLOG02\xa5\0\0\0\x19\x08\0\0\0\0\0\0\0\x01\0\0\0\0\0\0\0\x6f\0\0\0\0\0\0\0\0\
+\xa5\0\0\0\x1b\x0a\0\0\0\0\0\0\0\x01\0\0\0\0\0\0\0\x01\0\0\0\0\0\0\0\x6f\0\x01\0";
+
+const OF_PROMISE_TO_0: &[u8] =
+    b"SPNLOG02\xa5\0\0\0\x19\x08\0\0\0\0\0\0\0\x01\0\0\0\0\0\0\0\x6f\0\0\0\0\0\0\0\0\
+\xa5\0\0\0\x13\x0b\0\0\0\0\0\0\0\x01\0\0\0\0\0\0\0\x01\0\0\0";
+
 const MANIFEST: &[u8] = b"version = 1\nshards = 2\nsplits = [\"m\"]\nname = \"0123456789abcdef\"\n";
 
 const OTHER_SPLITS: &[u8] =
@@ -156,7 +175,7 @@ static STORES: [Scene; 7] = [
 ];
 
 // Logs without a manifest, and records that are out of place.
-static LOGS: [Scene; 5] = [
+static LOGS: [Scene; 6] = [
     Scene {
         what: "a log without a manifest",
         files: &[("shard-0.log", OF_SHARD_0)],
@@ -168,6 +187,14 @@ static LOGS: [Scene; 5] = [
         files: &[("shard-0.log", OF_SHARD_0), ("shard-2.log", EMPTY)],
         refused: SETTINGS,
         left: &[("shard-0.log", OF_SHARD_0), ("shard-2.log", EMPTY)],
+        gone: &["shard-1.log", "shard-1.log.new", "store.toml"],
+        ..TAKEN
+    },
+    Scene {
+        what: "the last log that there may be, beyond the shards",
+        files: &[("shard-0.log", OF_SHARD_0), ("shard-15.log", EMPTY)],
+        refused: SETTINGS,
+        left: &[("shard-0.log", OF_SHARD_0), ("shard-15.log", EMPTY)],
         gone: &["shard-1.log", "shard-1.log.new", "store.toml"],
         ..TAKEN
     },
@@ -198,6 +225,46 @@ static LOGS: [Scene; 5] = [
             offset: FIRST_GATE + 14,
         }),
         left: &[("shard-0.log", EMPTY), ("shard-1.log", OF_SHARD_0)],
+        ..TAKEN
+    },
+];
+
+// Logs without a manifest that hold a promise, or are renewed ones, and belong to the other shard.
+static STRANGERS: [Scene; 4] = [
+    Scene {
+        what: "a promise of a key of the other shard",
+        files: &[("shard-1.log", OF_LOW_PROMISE)],
+        refused: Some(Fault::Stranger),
+        left: &[("shard-1.log", OF_LOW_PROMISE)],
+        gone: &["shard-0.log", "store.toml"],
+        ..TAKEN
+    },
+    Scene {
+        what: "a version of a key of the other shard",
+        files: &[("shard-0.log", OF_HIGH_VERSION)],
+        refused: Some(Fault::Stranger),
+        left: &[("shard-0.log", OF_HIGH_VERSION)],
+        gone: &["shard-1.log", "store.toml"],
+        ..TAKEN
+    },
+    Scene {
+        what: "a settled decision of the other shard",
+        files: &[("shard-1.log", OF_LOW_DECISION)],
+        refused: Some(Fault::Damaged {
+            offset: FIRST_GATE + 30,
+        }),
+        left: &[("shard-1.log", OF_LOW_DECISION)],
+        gone: &["shard-0.log", "store.toml"],
+        ..TAKEN
+    },
+    Scene {
+        what: "a closed promise to the shard itself",
+        files: &[("shard-0.log", OF_PROMISE_TO_0)],
+        refused: Some(Fault::Damaged {
+            offset: FIRST_GATE + 30,
+        }),
+        left: &[("shard-0.log", OF_PROMISE_TO_0)],
+        gone: &["shard-1.log", "store.toml"],
         ..TAKEN
     },
 ];
@@ -517,6 +584,10 @@ fn logs() -> &'static [Scene] {
     &LOGS
 }
 
+fn strangers() -> &'static [Scene] {
+    &STRANGERS
+}
+
 fn emptied() -> &'static [Scene] {
     &EMPTIED
 }
@@ -528,7 +599,7 @@ fn strange() -> &'static [Scene] {
 #[test]
 fn folders(rt: HostRuntime) {
     let mut wrong = WrongRows::none(rt.alloc());
-    for scenes in [stores(), logs(), emptied(), strange()] {
+    for scenes in [stores(), logs(), strangers(), emptied(), strange()] {
         for scene in scenes {
             wrong.unless(goes(&rt, &rt, scene), scene.what);
         }
