@@ -12,13 +12,14 @@ use std::thread::Threads;
 use std::time;
 
 // What is printed: of a drive its counts, whose first three are of so many transactions together, and the verdict yes; of a write that it is
-// committed; of a key its value, or lines of which the last ends so.
+// committed, also so many microseconds behind a whole hundredth of a second; of a key its value, or lines of which the last ends so.
 #[derive(Clone, Copy)]
 pub enum Output {
     Nothing,
     Yes,
     Driven(u64),
     Committed,
+    CommittedBehind(u64),
     Is(&'static str),
     Ends(&'static str),
 }
@@ -206,8 +207,8 @@ static MIGRATIONS: [Step; 9] = [
     },
 ];
 
-// The manifest of a store of two shards.
-const MANIFEST: &[u8] =
+/// The manifest of a store of two shards.
+pub const MANIFEST: &[u8] =
     b"version = 1\nshards = 2\nsplits = [\"k0005\"]\nname = \"0123456789abcdef\"\n";
 
 // Opened 1; Commit 1.1 at 111, parts 0 and 1, no reads, a=1; a closed gate. It is told without its slots.
@@ -215,8 +216,8 @@ const OF_TWO_PARTS: &[u8] =
     b"SPNLOG02\xa5\0\0\0\x09\x01\0\0\0\0\0\0\0\x01\xa5\0\0\0\x25\x04\0\0\0\0\0\0\0\x01\0\0\0\0\0\0\0\x01\
 \0\0\0\0\0\0\0\x6f\0\x03\0\0\0\x01\x01\x61\x01\0\x01\x31\0";
 
-// An empty log, without its slots.
-const EMPTY: &[u8] = b"SPNLOG02\0";
+/// An empty log, without its slots.
+pub const EMPTY: &[u8] = b"SPNLOG02\0";
 
 // A drive over a store of which one shard has lost its part of a commit.
 static TORN: [Step; 2] = [
@@ -271,15 +272,19 @@ fn is_driven(text: &str, tried: u64) -> bool {
     counted == tried && text.lines().count() == 5 && text.ends_with("\nverdict yes\n")
 }
 
-// Whether a timestamp is told.
-fn is_committed(text: &str) -> bool {
-    let Some(at) = text.strip_prefix("committed ") else {
-        return false;
-    };
-    let Some(at) = at.strip_suffix("\n") else {
-        return false;
-    };
-    at.parse::<u64>().is_ok()
+// The timestamp that is told of a write.
+fn committed(text: &str) -> Option<u64> {
+    let at = text.strip_prefix("committed ")?;
+    let at = at.strip_suffix("\n")?;
+    at.parse::<u64>().ok()
+}
+
+// Whether one is told that lies so many microseconds behind a whole hundredth of a second.
+fn is_behind(text: &str, micros: u64) -> bool {
+    match committed(text) {
+        Some(at) => at % 10_000 == micros,
+        None => false,
+    }
 }
 
 fn is_printed(text: &str, output: Output) -> bool {
@@ -287,14 +292,15 @@ fn is_printed(text: &str, output: Output) -> bool {
         Output::Nothing => text.is_empty(),
         Output::Yes => text == "yes\n",
         Output::Driven(tried) => is_driven(text, tried),
-        Output::Committed => is_committed(text),
+        Output::Committed => committed(text).is_some(),
+        Output::CommittedBehind(micros) => is_behind(text, micros),
         Output::Is(right) => text == right,
         Output::Ends(last) => text.ends_with(last),
     }
 }
 
-// The words of a line, with the paths of what they name in the folder.
-fn words_of(rt: &HostRuntime, test: &impl Abort, folder: &Folder, line: &str) -> Vec<String> {
+/// The words of a line, with the paths of what they name in the folder.
+pub fn words_of(rt: &HostRuntime, test: &impl Abort, folder: &Folder, line: &str) -> Vec<String> {
     let mut words = Vec::new(rt.alloc());
     for word in line.split(' ') {
         let whole = match word.strip_prefix("./") {
@@ -307,7 +313,8 @@ fn words_of(rt: &HostRuntime, test: &impl Abort, folder: &Folder, line: &str) ->
     words
 }
 
-fn lent<'w>(test: &impl Abort, alloc: Global, words: &'w [String]) -> Vec<&'w str> {
+/// The same, lent.
+pub fn lent<'w>(test: &impl Abort, alloc: Global, words: &'w [String]) -> Vec<&'w str> {
     let mut lent = Vec::new(alloc);
     for word in words {
         lent.push(word.as_str()).ok().expect(test, "memory");
@@ -323,13 +330,11 @@ fn is_right(out: &[u8], err: &[u8], step: &Step) -> bool {
     is_printed(text, step.output) && err == step.fault.as_bytes()
 }
 
-// Whether the program prints what the step says, and gives its status.
-fn prints<'w, R: Files<File = File> + Eprint + RandomSource + Threads + Wait + time::Clock + Sync>(
-    rt: &R,
-    alloc: Global,
-    words: &'w [&'w str],
-    step: &Step,
-) -> bool {
+/// Whether the program prints what the step says, and gives its status.
+pub fn prints<
+    'w,
+    R: Files<File = File> + Eprint + RandomSource + Threads + Wait + time::Clock + Sync,
+>(rt: &R, alloc: Global, words: &'w [&'w str], step: &Step) -> bool {
     let mut out = Stream::new(Vec::new(alloc));
     let mut err = Stream::new(Vec::new(alloc));
     let status = program(rt, alloc, None, words, &mut out, &mut err);
@@ -371,8 +376,8 @@ fn commands_over_files(rt: HostRuntime) {
     end(&rt, wrong);
 }
 
-// Puts a log into a folder, with its slots.
-fn put_log(rt: &HostRuntime, test: &impl Abort, folder: &Folder, name: &str, bytes: &[u8]) {
+/// Puts a log into a folder, with its slots.
+pub fn put_log(rt: &HostRuntime, test: &impl Abort, folder: &Folder, name: &str, bytes: &[u8]) {
     let whole = with_slots(rt.alloc(), bytes).ok().expect(test, "memory");
     put(rt, test, folder, name, &whole);
     drop(whole);

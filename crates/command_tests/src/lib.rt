@@ -2,8 +2,12 @@
 #![tactic(auto)]
 
 #[cfg(test)]
+mod coarse_clock;
+#[cfg(test)]
 mod command_lines;
 #[cfg(test)]
 mod compacting;
+#[cfg(test)]
+mod many_lines;
 #[cfg(test)]
 mod verdict;

@@ -75,12 +75,12 @@ static JUDGED: [Asked; 11] = [
     },
     Asked {
         lines: &["drive good.settings"],
-        printed: "looks 10\nverdict yes\n",
+        printed: "stride 1000\nepsilon 100\nworkers 4\nlooks 10\nverdict yes\n",
         ..TAKEN
     },
     Asked {
         lines: &["drive torn.settings"],
-        printed: "looks 1\nverdict no torn 1.2\n",
+        printed: "stride 0\nepsilon 0\nworkers 1\nlooks 1\nverdict no torn 1.2\n",
         status: 1,
         ..TAKEN
     },
@@ -446,6 +446,7 @@ static REFUSED_FILES: [Asked; 10] = [
             "inspect empty unopened.log",
             "inspect empty cut.log",
             "inspect empty cut.log empty",
+            "inspect empty opened.log opened.log cut.log",
             "compact cut.log new.log",
             "compact cut.log opened.log",
             "dump cut.log",

@@ -69,7 +69,8 @@ impl Hints for Memory<'_> {
     fn hint(&self, _line: &str) {}
 }
 
-// Drives nothing. What came of it is told by the settings: a drive of one key is torn, and one of two has counts and no verdict.
+// Drives nothing. What came of it is told by the settings, some of which are told too: a drive of one key is torn, and one of two has counts
+// and no verdict.
 fn told(alloc: Global, settings: &Settings) -> Result<Driven, NoVerdict> {
     if settings.keys == 2 {
         return Err(NoVerdict {
@@ -82,7 +83,12 @@ fn told(alloc: Global, settings: &Settings) -> Result<Driven, NoVerdict> {
     } else {
         ("yes", Verdict::Yes)
     };
-    match format!(in alloc; "looks {}\nverdict {says}\n", settings.keys) {
+    let stride = settings.stride.micros();
+    let text = format!(in alloc;
+        "stride {stride}\nepsilon {}\nworkers {}\nlooks {}\nverdict {says}\n",
+        settings.epsilon, settings.workers, settings.keys
+    );
+    match text {
         Ok(text) => Ok(Driven { text, verdict }),
         Err(_) => Err(NoVerdict::from(Fault::Memory)),
     }

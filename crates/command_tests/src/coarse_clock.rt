@@ -1,0 +1,129 @@
+//! A write by a clock that goes on by whole hundredths of a second: its timestamp tells the epsilon.
+use crate::command_lines::{
+    DONE, EMPTY, MANIFEST, Output, Step, furnished, lent, prints, put, put_log, words_of,
+};
+use crate::verdict::end;
+use made::WrongRows;
+use std::alloc::Allocator;
+use std::fmt::Display;
+use std::fs::{Metadata, OpenOptions};
+use std::io;
+use std::random::RandomSource;
+use std::rt::{Clock, Files};
+use std::sync::Wait;
+use std::thread::Threads;
+use std::time::Duration;
+
+// A runtime, but for its clock.
+#[derive(Drop)]
+struct Coarse<'r, R> {
+    rt: &'r R,
+}
+
+impl<R: Clock> Clock for Coarse<'_, R> {
+    fn monotonic(&self) -> io::Result<Duration> {
+        self.rt.monotonic()
+    }
+
+    // The last whole hundredth of a second.
+    fn since_1970(&self) -> io::Result<Duration> {
+        let since = self.rt.since_1970()?;
+        let millis = u64::try_from(since.as_millis()).unwrap_or(0);
+        Ok(Duration::from_millis((millis / 10).saturating_mul(10)))
+    }
+
+    fn sleep(&self, duration: Duration) {
+        self.rt.sleep(duration)
+    }
+}
+
+impl<R: Wait> Wait for Coarse<'_, R> {}
+
+impl<R: Threads> Threads for Coarse<'_, R> {}
+
+impl<R: Eprint> Eprint for Coarse<'_, R> {
+    fn eprint<D: Display + Drop>(&self, value: D) -> io::Result<()> {
+        self.rt.eprint(value)
+    }
+
+    fn eprintln<D: Display + Drop>(&self, value: D) -> io::Result<()> {
+        self.rt.eprintln(value)
+    }
+}
+
+impl<R: RandomSource> RandomSource for Coarse<'_, R> {
+    fn fill_bytes(&self, buf: &mut [u8]) -> io::Result<()> {
+        self.rt.fill_bytes(buf)
+    }
+}
+
+impl<R: Files> Files for Coarse<'_, R> {
+    type File = R::File;
+
+    type Dir = R::Dir;
+
+    fn open_file(&self, how: &OpenOptions, path: &str) -> io::Result<R::File> {
+        self.rt.open_file(how, path)
+    }
+
+    fn open_dir(&self, path: &str) -> io::Result<R::Dir> {
+        self.rt.open_dir(path)
+    }
+
+    fn metadata(&self, path: &str) -> io::Result<Metadata> {
+        self.rt.metadata(path)
+    }
+
+    fn symlink_metadata(&self, path: &str) -> io::Result<Metadata> {
+        self.rt.symlink_metadata(path)
+    }
+
+    fn copy(&self, from: &str, to: &str) -> io::Result<u64> {
+        self.rt.copy(from, to)
+    }
+
+    fn rename(&self, from: &str, to: &str) -> io::Result<()> {
+        self.rt.rename(from, to)
+    }
+
+    fn remove_file(&self, path: &str) -> io::Result<()> {
+        self.rt.remove_file(path)
+    }
+
+    fn create_dir(&self, path: &str) -> io::Result<()> {
+        self.rt.create_dir(path)
+    }
+
+    fn remove_dir(&self, path: &str) -> io::Result<()> {
+        self.rt.remove_dir(path)
+    }
+
+    fn remove_dir_all<B: Allocator>(&self, alloc: B, path: &str) -> io::Result<()> {
+        self.rt.remove_dir_all(alloc, path)
+    }
+}
+
+// By this clock a reading ends an epsilon behind a whole hundredth of a second, and a commit of an empty store is one microsecond later.
+const PUT: Step = Step {
+    output: Output::CommittedBehind(1_001),
+    ..DONE
+};
+
+// It fails where the store that a write is put to has no epsilon, or another one than 1,000 microseconds.
+#[test]
+fn a_put_by_a_coarse_clock(rt: HostRuntime) {
+    let folder = furnished(&rt, &rt);
+    put(&rt, &rt, &folder, "store.toml", MANIFEST);
+    put_log(&rt, &rt, &folder, "shard-0.log", EMPTY);
+    put_log(&rt, &rt, &folder, "shard-1.log", EMPTY);
+    let line = "put ./. k0001 once";
+    let whole = words_of(&rt, &rt, &folder, line);
+    let words = lent(&rt, rt.alloc(), whole.as_slice());
+    let right = prints(&Coarse { rt: &rt }, rt.alloc(), words.as_slice(), &PUT);
+    drop(words);
+    drop(whole);
+    let mut wrong = WrongRows::none(rt.alloc());
+    wrong.unless(right, line);
+    wrong.unless(folder.remove(&rt), "the folder");
+    end(&rt, wrong);
+}
