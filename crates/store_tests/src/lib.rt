@@ -27,3 +27,5 @@ mod stops;
 mod store_folders;
 #[cfg(test)]
 mod verdict;
+#[cfg(test)]
+mod waiting;
