@@ -28,4 +28,6 @@ mod store_folders;
 #[cfg(test)]
 mod verdict;
 #[cfg(test)]
+mod views;
+#[cfg(test)]
 mod waiting;
