@@ -6,8 +6,12 @@ use std::process::Abort;
 use std::sync::Wait;
 use std::thread::Threads;
 use std::time;
+use std::time::{Duration, Instant};
 use store::{Client, Ended, Halt, Options, Store, Transaction, View};
 use units::{Fault, Key, Splits, Stride, Value};
+
+/// A key of shard 0 and one of shard 1.
+pub const KEYS: [&[u8]; 2] = [b"a", b"z"];
 
 /// So many disks with an empty log.
 pub fn disks_of(rt: &impl Abort, alloc: Global, logs: usize) -> Vec<SimDisk> {
@@ -56,10 +60,45 @@ pub fn write<R: Wait + time::Clock>(
     })
 }
 
-/// What a view tells of the key `a`: this value, or why none. Another value is told as `Room`, which no row has.
-pub fn tells<R: Wait + time::Clock>(view: &mut View<'_, '_, R>, value: &[u8]) -> Result<(), Fault> {
-    match view.get(&Key::new(b"a")?)? {
+/// How a transaction that writes 1 to keys ended, where that took less than a second.
+pub fn write_soon<R: Wait + time::Clock>(
+    rt: &R,
+    alloc: Global,
+    client: &mut Client<'_, R>,
+    keys: &[&[u8]],
+) -> Option<Ended> {
+    let start = Instant::now(rt).ok()?;
+    let ended = write(alloc, client, 1, keys, b"1");
+    if start.elapsed(rt).ok()? < Duration::from_secs(1) {
+        ended.ok()
+    } else {
+        None
+    }
+}
+
+/// What a view tells of a key: this value, or why none. Another value is told as `Room`, which no row has.
+pub fn tells<R: Wait + time::Clock>(
+    view: &mut View<'_, '_, R>,
+    key: &[u8],
+    value: &[u8],
+) -> Result<(), Fault> {
+    match view.get(&Key::new(key)?)? {
         Some(found) if found.as_bytes() == value => Ok(()),
         _ => Err(Fault::Room),
     }
+}
+
+/// What a new view of the client tells of each of these keys: that it has this value, or why one has not.
+pub fn sees<R: Wait + time::Clock>(
+    client: &mut Client<'_, R>,
+    keys: &[&[u8]],
+    value: &[u8],
+) -> Result<(), Fault> {
+    let Some(mut view) = client.view() else {
+        return Err(Fault::TimeSpent);
+    };
+    for key in keys {
+        tells(&mut view, key, value)?;
+    }
+    Ok(())
 }

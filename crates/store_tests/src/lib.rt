@@ -27,3 +27,7 @@ mod stops;
 mod store_folders;
 #[cfg(test)]
 mod verdict;
+#[cfg(test)]
+mod views;
+#[cfg(test)]
+mod waiting;

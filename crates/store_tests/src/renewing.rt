@@ -1,5 +1,5 @@
 //! Stores that renew their logs: what the log of a shard begins with, and what is seen once it is opened again.
-use crate::clients::{disks_of, of_one_shard, store_of, tells, write};
+use crate::clients::{disks_of, of_one_shard, sees, store_of, write};
 use crate::verdict::end;
 use gatelog::GateLog;
 use made::WrongRows;
@@ -11,7 +11,7 @@ use std::sync::Wait;
 use std::thread::Threads;
 use std::time::Duration;
 use std::{thread, time};
-use store::{Client, Store};
+use store::{Client, Ended, Store};
 
 // By how many bytes a log has to grow, and whether it was turned over behind a second of commits.
 struct Row {
@@ -51,6 +51,7 @@ fn open<'r, R: Threads + Wait + Sync + Abort>(
     row: &Row,
 ) -> Store<'r, R, SimDisk> {
     let mut options = of_one_shard(rt, alloc, 1);
+    options.patience = 100;
     options.keep = Some(200_000);
     options.renew = row.renew;
     store_of(rt, alloc, disks, options)
@@ -64,7 +65,8 @@ fn write_all<R: Wait + time::Clock>(rt: &R, alloc: Global, clients: Vec<Client<'
     };
     let mut wrote = true;
     for _commit in 0..COMMITS {
-        wrote = wrote && write(alloc, &mut client, 5, &[b"a"], b"1").is_ok();
+        let ended = write(alloc, &mut client, 5, &[b"a"], b"1");
+        wrote = wrote && matches!(ended, Ok(Ended::Committed(_)));
         thread::sleep(rt, Duration::from_millis(PAUSE));
     }
     drop(client);
@@ -73,16 +75,12 @@ fn write_all<R: Wait + time::Clock>(rt: &R, alloc: Global, clients: Vec<Client<'
 }
 
 // Whether a view sees what was written.
-fn sees<R: Wait + time::Clock>(clients: Vec<Client<'_, R>>) -> bool {
+fn is_seen<R: Wait + time::Clock>(clients: Vec<Client<'_, R>>) -> bool {
     let mut clients = clients;
-    let Some(mut client) = clients.pop() else {
-        return false;
-    };
-    let seen = match client.view() {
-        Some(mut view) => tells(&mut view, b"1").is_ok(),
+    let seen = match clients.pop() {
+        Some(mut client) => sees(&mut client, &[b"a"], b"1").is_ok(),
         None => false,
     };
-    drop(client);
     drop(clients);
     seen
 }
@@ -110,7 +108,7 @@ fn goes<R: Threads + Wait + time::Clock + Sync + Abort>(rt: &R, alloc: Global, r
     };
     let (renewed, disks) = is_renewed(rt, alloc, disks);
     let again = open(rt, alloc, disks, row);
-    match again.serve(|clients: Vec<Client<'_, R>>| sees(clients)) {
+    match again.serve(|clients: Vec<Client<'_, R>>| is_seen(clients)) {
         Ok((seen, disks)) => {
             drop(disks);
             wrote && seen && renewed == row.renewed

@@ -1,5 +1,5 @@
 //! Services over disks in memory: what a client is told where a shard's device fails, and what a store goes on from that is opened again.
-use crate::clients::{disks_of, of_two_shards, store_of, write};
+use crate::clients::{KEYS, disks_of, of_two_shards, store_of, write_soon};
 use crate::verdict::end;
 use made::WrongRows;
 use simdisk::SimDisk;
@@ -9,7 +9,7 @@ use std::sync::Wait;
 use std::thread::Threads;
 use std::time;
 use std::time::{Duration, Instant};
-use store::{Client, Ended, Halt, Store, Transaction, Unopened};
+use store::{Client, Ended, Halt, Store, Transaction, Unopened, View};
 use units::{Fault, Key, ShardNo};
 
 // Which shard's disk fails, at which of its calls from the opening on, and how a transaction ends that writes there and on the other shard:
@@ -49,27 +49,8 @@ static ROWS: [Row; 4] = [
     },
 ];
 
-// A key of shard 0 and one of shard 1.
-const KEYS: [&[u8]; 2] = [b"a", b"z"];
-
 // Further ones: what is in doubt holds its locks.
 const FREE: [&[u8]; 2] = [b"b", b"y"];
-
-// A transaction that writes keys, and how it ended, where that took less than a second.
-fn write_soon<R: Wait + time::Clock>(
-    rt: &R,
-    alloc: Global,
-    client: &mut Client<'_, R>,
-    keys: &[&[u8]],
-) -> Option<Ended> {
-    let start = Instant::now(rt).ok()?;
-    let ended = write(alloc, client, 1, keys, b"1");
-    if start.elapsed(rt).ok()? < Duration::from_secs(1) {
-        ended.ok()
-    } else {
-        None
-    }
-}
 
 // Whether a transaction that reads a key is refused as `Stopped`, within a second.
 fn is_refused<R: Wait + time::Clock>(rt: &R, client: &mut Client<'_, R>, key: &[u8]) -> bool {
@@ -83,6 +64,14 @@ fn is_refused<R: Wait + time::Clock>(rt: &R, client: &mut Client<'_, R>, key: &[
     match (ended, start.elapsed(rt)) {
         (Err(fault), Ok(took)) => fault == Fault::Stopped && took < Duration::from_secs(1),
         _ => false,
+    }
+}
+
+// Whether the shard of this number has stopped, as a client tells.
+fn has_stopped<R: Wait + time::Clock>(client: &Client<'_, R>, shard: u8) -> bool {
+    match ShardNo::new(shard) {
+        Some(shard) => client.has_stopped(shard),
+        None => false,
     }
 }
 
@@ -109,20 +98,17 @@ fn goes_on<R: Wait + time::Clock>(
         Some(Ended::Unknown(_)) => !row.commits,
         _ => false,
     };
-    let (failed, other) = if row.shard == 0 {
-        (KEYS[0], FREE[1])
+    let (failed, other, running) = if row.shard == 0 {
+        (KEYS[0], FREE[1], 1)
     } else {
-        (KEYS[1], FREE[0])
+        (KEYS[1], FREE[0], 0)
     };
     let refused = is_refused(rt, &mut client, failed);
     let commits = matches!(
         write_soon(rt, alloc, &mut client, &[other]),
         Some(Ended::Committed(_))
     );
-    let told = match ShardNo::new(row.shard) {
-        Some(shard) => client.has_stopped(shard),
-        None => false,
-    };
+    let told = has_stopped(&client, row.shard) && !has_stopped(&client, running);
     drop(client);
     drop(clients);
     ended && refused && commits && told
@@ -145,7 +131,7 @@ fn goes<R: Threads + Wait + time::Clock + Sync + Abort>(rt: &R, alloc: Global, r
     }
 }
 
-// It fails where a letter that a shard refuses is silence to its client.
+// It fails where a letter that a shard refuses is silence to its client, or all shards have stopped with one.
 #[test]
 fn services_hear_of_stopped_shards(rt: HostRuntime) {
     let mut wrong = WrongRows::none(rt.alloc());
@@ -155,9 +141,21 @@ fn services_hear_of_stopped_shards(rt: HostRuntime) {
     end(&rt, wrong);
 }
 
-// The run of a transaction's id, and the timestamp of a view that was answered.
-fn seen<R: Wait + time::Clock>(clients: Vec<Client<'_, R>>) -> Option<(u64, u64)> {
-    let key = Key::new(KEYS[0]).ok()?;
+// Whether a view answers each of these keys.
+fn answers<R: Wait + time::Clock>(view: &mut View<'_, '_, R>, keys: &[&[u8]]) -> bool {
+    let mut all = true;
+    for key in keys {
+        all = all
+            && match Key::new(key) {
+                Ok(key) => view.get(&key).is_ok(),
+                Err(_) => false,
+            };
+    }
+    all
+}
+
+// The run of a transaction's id, and the timestamp of a view that was answered of these keys.
+fn seen<R: Wait + time::Clock>(clients: Vec<Client<'_, R>>, keys: &[&[u8]]) -> Option<(u64, u64)> {
     let mut clients = clients;
     let mut client = clients.pop()?;
     let mut run = 0;
@@ -167,7 +165,7 @@ fn seen<R: Wait + time::Clock>(clients: Vec<Client<'_, R>>) -> Option<(u64, u64)
     });
     let mut at = 0;
     if let Some(mut view) = client.view() {
-        if view.get(&key).is_ok() {
+        if answers(&mut view, keys) {
             at = view.at().micros();
         }
     }
@@ -184,19 +182,21 @@ fn opened<R: Threads + Wait + time::Clock + Sync + Abort>(
     rt: &R,
     alloc: Global,
     disks: Vec<SimDisk>,
+    keys: &[&[u8]],
 ) -> ((u64, u64), Vec<SimDisk>) {
     let store = store_of(rt, alloc, disks, of_two_shards(rt, alloc, 10_000_000));
-    let served = store.serve(|clients: Vec<Client<'_, R>>| seen(clients));
+    let served = store.serve(|clients: Vec<Client<'_, R>>| seen(clients, keys));
     let (seen, disks) = served.ok().expect(rt, "a service");
     (seen.expect(rt, "a client"), disks)
 }
 
-// It fails where a store's ids begin anew, or its clock does, which the logs are ten seconds ahead of.
+// It fails where a store's ids begin anew, or its clock does, which the log of shard 0 is ten seconds ahead of: that of its clients, or that
+// by which shard 1 is served, which nobody has looked at before.
 #[test]
 fn stores_go_on_from_their_logs(rt: HostRuntime) {
     let disks = disks_of(&rt, rt.alloc(), 2);
-    let ((first, at), disks) = opened(&rt, rt.alloc(), disks);
-    let ((second, later), disks) = opened(&rt, rt.alloc(), disks);
+    let ((first, at), disks) = opened(&rt, rt.alloc(), disks, &KEYS[..1]);
+    let ((second, later), disks) = opened(&rt, rt.alloc(), disks, &KEYS);
     drop(disks);
     let mut wrong = WrongRows::none(rt.alloc());
     wrong.unless((first, second) == (1, 2), "the runs of ids");
