@@ -16,6 +16,8 @@ mod gates;
 #[cfg(test)]
 mod kept;
 #[cfg(test)]
+mod lost_logs;
+#[cfg(test)]
 mod machine_clocks;
 #[cfg(test)]
 mod renewing;
