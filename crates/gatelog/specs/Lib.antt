@@ -10,3 +10,4 @@ pub mod Laid
 pub mod Turns
 pub mod ArmedTurn
 pub mod Areas
+pub mod Groups

@@ -1,6 +1,6 @@
 //! The log. A closed gate stands behind the last frame, on the disk before anything is written behind it. It is opened by
 //! a write of its own, once the frame behind it is on the disk.
-ghost use Rattle.std.specs.Prelude.{◌≡◌, ◌⊎◌, ◌+◌, ◌≤◌, ◌<◌, ◌^◌, [], length, IsTrue, IsFalse, IfOk, IfErr, OnOk, ℕ, nat_lt, map, true, Ok, Err};
+ghost use Rattle.std.specs.Prelude.{◌≡◌, ◌⊎◌, ◌+◌, ◌≤◌, ◌<◌, ◌^◌, [], ◌∷◌, ◌++◌, length, IsTrue, IsFalse, IfOk, IfErr, OnOk, OnErr, ℕ, nat_lt, map, true, Ok, Err};
 ghost use Rattle.disk.specs.Image.{MayLeave, IsSynced, after_sync};
 ghost use Rattle.disk.specs.File.{surface, synced};
 ghost use Rattle.disk.specs.declared.plan.FailurePlan.TheVariants.{Never, AfterWrite};
@@ -13,6 +13,7 @@ ghost use Rattle.gatelog.specs.Crash.{Stands, Begins, IsOldOrWith, IsOldOrNew};
 ghost use Rattle.gatelog.specs.Frames.{IsNearLimit, end_from, next_gate, staged_bytes, IsFull};
 ghost use Rattle.gatelog.specs.Areas.{without_header, area_bytes, placed_from};
 ghost use Rattle.gatelog.specs.Gates.{first_gate};
+ghost use Rattle.gatelog.specs.Groups.{group_bytes, joined, and_entries, IsOldOrWithAll};
 ghost use Rattle.gatelog.specs.Laid.{WasLaid, HasNoneOr};
 ghost use Rattle.gatelog.specs.Slots.{slot_count, begins_in};
 ghost use Rattle.gatelog.specs.Turns.{IsNextOrNone};
@@ -21,6 +22,8 @@ ghost use Rattle.gatelog.specs.Log.{log, scan, and_entry, ends_at, is_no_log};
 use crate::appending::write_frame;
 use crate::area::{Area, StagedArea};
 use crate::frame::{FIRST_GATE, SLOTS};
+use crate::group::{Gathered, Joined};
+use crate::joining::write_group;
 use crate::laying::lay_out;
 use crate::scanning::{Found, Sink, scan_synced};
 use crate::token::{Entry, Logged, Staged};
@@ -264,8 +267,7 @@ impl<D: Disk> GateLog<D> {
         ensures there { IsTrue result → next_gate (gate_at self.now) item.now + 1 ≤ 2 ^ 40 }
         ensures full { IsFalse result → IsFull (gate_at self.now) item.now }
     {
-        let size = encoded_len(item) + 6;
-        self.gate <= 1 << 40 && size <= (1 << 40) - self.gate
+        fits_behind(self.gate, item)
     }
 
     /// The file ends so near its limit of 2^40 bytes that a record may be too long for it.
@@ -395,6 +397,147 @@ impl<D: Disk> GateLog<D> {
                 drop(staged);
                 Err(fault)
             }
+        }
+    }
+
+    /// A group of no record, for the place behind the last record.
+    pub fn group(&self, alloc: Global) -> Gathered
+        ensures { result ≡ record { gate = gate_at self.now; items = [] } }
+    {
+        Gathered::none(alloc, self.gate)
+    }
+
+    /// Adds a record to a group, with all the memory that an append of the group needs, the disk's too. `TimeSpent` where the file
+    /// would grow beyond 2^40 bytes. Refused, the group is as it was.
+    pub fn gather(
+        &mut self,
+        alloc: Global,
+        group: &mut Gathered,
+        item: Record,
+    ) -> Result<Joined, Fault>
+        // No append came between.
+        requires { group.old.gate ≡ gate_at self.old }
+        ensures joined { IfOk result (λ joined. joined ≡ item) }
+        ensures added { OnOk result (group.new ≡
+            record { gate = group.old.gate; items = group.old.items ++ item ∷ [] }) }
+        ensures refused { OnErr result (group.new ≡ group.old) }
+        ensures running { OnOk result
+            (IsFalse (is_stopped self.old)
+            × (next_gate (end_from group.old.gate group.old.items) item + 1 ≤ 2 ^ 40)) }
+        ensures room { OnOk result
+            (D.obeys
+            → D.has_room (disk_of self.new) 4 (length (group_bytes group.new.items) + 1)) }
+        ensures plan { D.plan (disk_of self.new) ≡ D.plan (disk_of self.old) }
+        ensures same { (gate_at self.new ≡ gate_at self.old)
+            × (is_stopped self.new ≡ is_stopped self.old)
+            × (D.file (disk_of self.new) ≡ D.file (disk_of self.old)) }
+        ensures slot { next_slot self.new ≡ next_slot self.old }
+        ensures failures_stay { D.failures (disk_of self.old) ≤ D.failures (disk_of self.new) }
+        ensures time { LeavesOnly D.clock D.since (disk_of self.old) (disk_of self.new)
+            (MayLeave (surface (D.file (disk_of self.old)))) }
+        ensures cause { IfErr result
+            (λ fault. ((fault ≡ Fault.Stopped) × IsTrue (is_stopped self.old))
+            ⊎ (((fault ≡ Fault.TimeSpent) × IsFalse (is_stopped self.old)
+            × IsFull (end_from group.old.gate group.old.items) item)
+            ⊎ ((fault ≡ Fault.Memory) × IsFalse (is_stopped self.old)
+            × (next_gate (end_from group.old.gate group.old.items) item + 1 ≤ 2 ^ 40)))) }
+    {
+        if self.stopped {
+            drop(item);
+            return Err(Fault::Stopped);
+        }
+        if !fits_behind(group.end(), &item) {
+            drop(item);
+            return Err(Fault::TimeSpent);
+        }
+        let all = group.len() + (encoded_len(&item) + 6);
+        if let Err(fault) = self.disk.reserve(all) {
+            drop(item);
+            return Err(fault);
+        }
+        match group.add(alloc, &item) {
+            Ok(()) => Ok(Joined::new(item)),
+            Err(fault) => {
+                drop(item);
+                Err(fault)
+            }
+        }
+    }
+
+    /// Puts a group behind the last record, by the four calls of an append. It takes no memory. After a refusal the log is stopped. Of no
+    /// record, nothing is written.
+    pub fn append_all(&mut self, group: Gathered) -> Result<(), Fault>
+        // No append came between.
+        requires { group.gate ≡ gate_at self.old }
+
+        // A crash at any moment of the call leaves the old log, or the old log with all the records.
+        ensures any_moment { IsFalse (is_stopped self.old) → D.keeps_model →
+            LeavesOnly D.clock D.since (disk_of self.old) (disk_of self.new)
+            (IsOldOrWithAll (log (surface (D.file (disk_of self.old))).seen) (joined group)) }
+
+        // The log begins where it began.
+        ensures begins { IsFalse (is_stopped self.old) → D.keeps_model →
+            LeavesOnly D.clock D.since (disk_of self.old) (disk_of self.new)
+            (λ image. begins_in image ≡ begins_in (surface (D.file (disk_of self.old))).seen) }
+
+        // From then on every crash leaves the log with all of them, and a read gives it.
+        ensures durable { OnOk result (D.keeps_model →
+            Stands (surface (D.file (disk_of self.new)))
+            (and_entries (log (surface (D.file (disk_of self.old))).seen) (joined group))) }
+        ensures read { OnOk result (D.keeps_model →
+            log (surface (D.file (disk_of self.new))).seen ≡ and_entries
+            (log (surface (D.file (disk_of self.old))).seen) (joined group)) }
+
+        // A read gives one of the two in any case.
+        ensures read_either { IsFalse (is_stopped self.old) → D.keeps_model
+            → IsOldOrWithAll (log (surface (D.file (disk_of self.old))).seen) (joined group)
+            (surface (D.file (disk_of self.new))).seen }
+
+        ensures running { OnOk result
+            (IsFalse (is_stopped self.old) × IsFalse (is_stopped self.new)) }
+        ensures gate { OnOk result (gate_at self.new ≡ end_from group.gate group.items) }
+        ensures slot { next_slot self.new ≡ next_slot self.old }
+        ensures failures_stay { D.failures (disk_of self.old) ≤ D.failures (disk_of self.new) }
+        ensures cause { IfErr result
+            (λ fault. ((fault ≡ Fault.Stopped) × IsTrue (is_stopped self.old)
+            × (self.new ≡ self.old))
+            ⊎ ((fault ≡ Fault.Device) × IsFalse (is_stopped self.old)
+            × (D.failures (disk_of self.old) < D.failures (disk_of self.new))
+            × IsTrue (is_stopped self.new))) }
+
+        // With no call armed, none is armed afterwards.
+        ensures never { D.plan (disk_of self.old) ≡ Never → D.plan (disk_of self.new) ≡ Never }
+
+        // It needs no more than was reserved: with it, it fails only by the disk's plan.
+        ensures planned { IsFalse (is_stopped self.old) → 1 ≤ length group.items
+            → D.has_room (disk_of self.old) 4 (length (group_bytes group.items) + 1) →
+            IsAsPlanned (fails_in_append (D.plan (disk_of self.old))) result
+            × (D.file (disk_of self.new) ≡ appended (D.plan (disk_of self.old)) group.gate
+            (group_bytes group.items) (D.file (disk_of self.old))) }
+
+        // Of no record, it does nothing.
+        ensures none { IsFalse (is_stopped self.old) → group.items ≡ [] →
+            OnOk result (self.new ≡ self.old) × IfErr result (λ _. ⊥) }
+    {
+        if self.stopped {
+            group.spend();
+            return Err(Fault::Stopped);
+        }
+        if group.is_none() {
+            group.spend();
+            return Ok(());
+        }
+        let end = group.end();
+        self.stopped = true;
+        let written = write_group(&mut self.disk, &group);
+        group.spend();
+        match written {
+            Ok(()) => {
+                self.gate = end;
+                self.stopped = false;
+                Ok(())
+            }
+            Err(fault) => Err(fault),
         }
     }
 
@@ -551,4 +694,13 @@ impl<D: Disk> GateLog<D> {
         } = self;
         disk
     }
+}
+
+// A record whose gate is there leaves the file no longer than 2^40 bytes.
+fn fits_behind(gate: u64, item: &Record) -> bool
+    ensures there { IsTrue result → next_gate gate item.now + 1 ≤ 2 ^ 40 }
+    ensures full { IsFalse result → IsFull gate item.now }
+{
+    let size = encoded_len(item) + 6;
+    gate <= 1 << 40 && size <= (1 << 40) - gate
 }

@@ -111,7 +111,7 @@ impl Staged {
 }
 
 // What an append of a record writes behind the closed gate.
-fn bytes_for(alloc: Global, item: &Record) -> Result<Vec<u8>, Fault>
+pub(crate) fn bytes_for(alloc: Global, item: &Record) -> Result<Vec<u8>, Fault>
     ensures bytes { IfOk result (λ bytes. bytes.items ≡ staged_bytes item.now) }
     ensures fits { OnOk result (IsRecord item.now) }
     ensures memory { IfErr result (λ fault. fault ≡ Fault.Memory) }
