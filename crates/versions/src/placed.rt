@@ -89,7 +89,8 @@ impl Places {
         (low, self.first_above(low, head))
     }
 
-    // The first head from a place on that is above a number. Mostly it is the first or the second, so these are looked at first.
+    // The first head from a place on that is above a number. Mostly it is near, so steps double from the place on (a galloping search), and are
+    // halved once one of them has gone too far.
     fn first_above(&self, from: usize, head: u64) -> usize
         requires { from ≤ length self.now.places }
         ensures order { from ≤ result }
@@ -101,11 +102,7 @@ impl Places {
         let mut low = from;
         let mut high = self.len();
         while low < high {
-            let middle = if low - from < 2 {
-                low
-            } else {
-                low + (high - low) / 2
-            };
+            let middle = low + ((high - low) / 2).min(low - from);
             if self.head(middle) <= head {
                 low = middle + 1;
             } else {
