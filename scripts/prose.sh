@@ -32,7 +32,7 @@ function characters(text) {
     gsub(/[\200-\277]/, "", text)
     return length(text)
 }
-# The text as it is read: code is one word, of a link or a picture its text stays.
+# The text as it is read: code is one word, and a link its text.
 function shown(text,    ends, lines, word) {
     while (match(text, /`[^`]*`/)) {
         word = substr(text, RSTART, RLENGTH)
@@ -47,8 +47,7 @@ function shown(text,    ends, lines, word) {
         for (; lines > 0; lines--) text = text "\n"
         text = text ends
     }
-    gsub(/\]\([^)]*\)/, "", text)
-    gsub(/!?\[/, "", text)
+    gsub(/\]\([^)]*\)/, "]", text)
     return text
 }
 # Whether a word before it makes a "where" one of place.
@@ -59,7 +58,7 @@ function is_place(word) {
 function sentence_ends(word, next_word) {
     if (word !~ /[.!?][])"*_\047]*$/ || word ~ /\.\.[])"*_\047]*$/) return 0
     if (word ~ /^[(]?(e\.g|i\.e|al|vs|cf|etc)\.$/) return 0
-    sub(/^[("*_\047[]+/, "", next_word)
+    sub(/^[("*_\047]+/, "", next_word)
     return next_word !~ /^[a-z]/
 }
 # Reads a paragraph, a heading, a piece of a list or a cell, which begins at a line.
@@ -105,7 +104,7 @@ function read_row(row, line,    cells, i, cell) {
         if (cell[i] ~ /^:?-+:?$/) continue
         long = cell[i]
         gsub(/\]\([^)]*\)/, "", long)
-        gsub(/[`[]/, "", long)
+        gsub(/[][`]/, "", long)
         if (characters(long) > 200) hit(line, "a cell of " characters(long) " characters")
         read(cell[i], line)
     }
