@@ -12,6 +12,7 @@ mod rule;
 mod snapshot;
 mod told;
 mod viewer;
+mod viewers;
 
 pub use entry::{BoardEntry, copy_install};
 pub use home::Home;
@@ -20,3 +21,4 @@ pub use publisher::Publisher;
 pub use snapshot::Snapshot;
 pub use told::Told;
 pub use viewer::Viewer;
+pub use viewers::Viewers;

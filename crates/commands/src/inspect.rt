@@ -5,12 +5,13 @@ ghost use Rattle.showing.specs.Files.{IsNotJudged};
 ghost use Rattle.output.specs.Verdicts.{exit_status, text_of};
 
 use output::{VerdictText, status_of};
-use showing::inspect_files;
+use showing::{inspect_files, note_refusals};
 use std::alloc::Global;
 use system::Files;
 use units::Fault;
 
-/// The verdict on the logs in some files, and on the lines in another one, as a line, with 0, or 1 where it is a no.
+/// The verdict on the logs in some files, and on the lines in another one, as a line, with 0, or 1 where it is a no. Of each log that an
+/// opening would refuse though it is judged, who wants that told is told.
 pub fn inspect<F: Files>(
     alloc: Global,
     lines: &str,
@@ -22,6 +23,7 @@ pub fn inspect<F: Files>(
     ensures refused { IfErr result IsNotJudged }
 {
     let verdict = inspect_files(alloc, files, lines, logs)?;
+    note_refusals(alloc, files, logs);
     let text = VerdictText(verdict);
     Ok((format!(in alloc; "{text}\n")?, status_of(verdict)))
 }

@@ -5,7 +5,7 @@ use script::schedule;
 use settings::Settings;
 use showing::{dump_file, inspect_files, stats_files};
 use std::alloc::Global;
-use system::{Files, Note, read_text};
+use system::{Files, read_text};
 use units::{Fault, Key, Reason, Splits};
 
 /// Where the fault of a command over files lies: `--> FILE`, or `--> FILE:LINE` where it is one of a line or an event. There is none of words, of
@@ -22,9 +22,7 @@ pub fn place_of<F: Files>(
     let Ok(asked) = command(alloc, words) else {
         return None;
     };
-    let quiet = Quiet { files };
-    let place = place_for(alloc, &quiet, &asked, fault);
-    let Quiet { files: _ } = quiet;
+    let place = place_for(alloc, files, &asked, fault);
     drop(asked);
     place
 }
@@ -190,27 +188,4 @@ fn in_store<F: Files>(alloc: Global, files: &F, dir: &str) -> Option<String> {
         }
         Err(_) => in_manifest(alloc, dir),
     }
-}
-
-// Files that are looked at once more: what is to be noted was noted.
-struct Quiet<'f, F> {
-    files: &'f F,
-}
-
-impl<F: Files> Files for Quiet<'_, F> {
-    type Log = F::Log;
-
-    fn read(&self, alloc: Global, path: &str, most: u64) -> Result<Vec<u8>, Fault> {
-        self.files.read(alloc, path, most)
-    }
-
-    fn create(&self, alloc: Global, path: &str) -> Result<F::Log, Fault> {
-        self.files.create(alloc, path)
-    }
-
-    fn open(&self, alloc: Global, path: &str) -> Result<F::Log, Fault> {
-        self.files.open(alloc, path)
-    }
-
-    fn tell(&self, _note: Note) {}
 }

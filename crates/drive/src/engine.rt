@@ -14,7 +14,7 @@ use crate::watched::Watched;
 use disk::Disk;
 use inspection::judge;
 use letters::{Gate, Inboxes, Post, Served, Serves, start_in, to_serve};
-use node::{Closes, Opened, SteadyClock, Unopened, open_shards, run_of};
+use node::{Closes, MachineClock, Opened, SteadyClock, Unopened, open_shards, run_of};
 use progress::Watch;
 use settings::Settings;
 use std::alloc::Global;
@@ -24,9 +24,7 @@ use std::thread::Threads;
 use std::{thread, time};
 use truetime::Clock;
 use units::{Fault, Line, Reason, Run, Stamp, Verdict};
-use workers::{
-    Counts, Course, MachineClock, Report, Shared, Staff, Summary, Viewers, work_and_close,
-};
+use workers::{Counts, Course, Report, Shared, Staff, Summary, Viewers, work_and_close};
 
 /// What a drive comes to, and what its verdict is on: the lines of all workers, and the disks with the logs of the shards.
 #[derive(Drop)]
@@ -127,7 +125,9 @@ pub fn drive_by<
     ensures undriven { IfErr result (λ none. IsUndriven none.fault) }
 {
     let course = Course::of(settings)?;
-    let opened = open_shards(rt, alloc, settings, disks, course.workers as usize)?;
+    let splits = &settings.splits;
+    let workers = course.workers as usize;
+    let opened = open_shards(rt, alloc, splits, settings.stride, disks, workers)?;
     drive_nodes(rt, alloc, settings, course, opened, clock, gate, watch)
 }
 

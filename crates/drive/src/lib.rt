@@ -7,5 +7,6 @@ mod shards;
 mod watched;
 
 pub use engine::{Driven, clock_of, drive_by};
+pub use node::MachineClock;
 pub use shards::{drive_shards, run};
 pub use system::NoVerdict;

@@ -3,7 +3,6 @@ ghost use Rattle.std.specs.Prelude.{IfErr};
 ghost use Rattle.inspection.specs.Files.{IsNotJudged};
 
 use crate::judging::inspect_disks;
-use crate::noting::note_refusals;
 use std::alloc::Global;
 use system::{Files, open_all, read_text};
 use texts::lines;
@@ -11,7 +10,7 @@ use units::{Fault, Reason, Verdict};
 
 /// The verdict on the logs in the files of shards 0, 1 and so on, 16 at most, and on the lines of a report in another file. That
 /// one is read first, and all logs are opened before the first is read. Bytes that are no text are a fault of line 1. Logs are opened to be
-/// read alone. Of each log that an opening would refuse though it is judged, who wants that told is told.
+/// read alone.
 pub fn inspect_files<F: Files>(
     alloc: Global,
     files: &F,
@@ -27,8 +26,5 @@ pub fn inspect_files<F: Files>(
     let disks = open_all(alloc, files, logs)?;
     let verdict = inspect_disks(alloc, disks, &told);
     drop(told);
-    if verdict.is_ok() {
-        note_refusals(alloc, files, logs);
-    }
     verdict
 }

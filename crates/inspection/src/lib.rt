@@ -5,7 +5,6 @@ mod following;
 mod inspecting;
 mod judged;
 mod judging;
-mod noting;
 
 pub use inspecting::inspect_files;
 pub use judged::judge;

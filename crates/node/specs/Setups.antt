@@ -1,4 +1,4 @@
--- What a shard of a drive is told.
+-- What a shard is told.
 use Rattle.std.specs.Prelude.{◌≡◌, ℕ, List}
 use Rattle.units.specs.Keys.{Bytes}
 use Rattle.units.specs.declared.setup.Book.TheVariants.{Off}

@@ -1,4 +1,4 @@
-//! The nodes of a drive.
+//! Nodes over the disks of all shards.
 ghost use Rattle.std.specs.Prelude.{◌≡◌, ◌≢◌, ◌⊎◌, ◌≤◌, ◌+◌, ◌<◌, length, map, max, Err, Some, IfErr, IfOk, IsOk, OnOk};
 ghost use Rattle.node.specs.Together.{AreSetups, IsCauseOf, IsEarly, IsFirstOf, IsOpenedOver, epoch_in, last_in};
 ghost use Rattle.node.specs.Setups.{IsSetupOf};
@@ -7,17 +7,15 @@ ghost use Rattle.node.specs.Unopened.{IsFirst, IsLastIn, IsRunOver, IsUnmade, un
 use crate::node::Node;
 use crate::opening::open_all;
 use crate::unopened::Unopened;
-use board::Viewer;
+use board::{Viewer, Viewers};
 use disk::Disk;
-use settings::Settings;
 use shard::Core;
 use std::alloc::Global;
 use std::sync::Wait;
 use std::thread::Threads;
-use units::{Book, Epoch, Fault, Reason, Run, Setup, ShardNo, Stamp};
-use workers::Viewers;
+use units::{Book, Epoch, Fault, Reason, Run, Setup, ShardNo, Splits, Stamp, Stride};
 
-/// What a drive asks of nodes besides being served: each gives its disk back.
+/// What is asked of nodes besides being served: each gives its disk back.
 pub trait Closes<D>: Sized {
     /// Ends the node.
     fn close(self) -> D;
@@ -63,7 +61,8 @@ impl<N: Drop> Opened<N> {
 pub fn open_shards<'r, R: Threads + Wait + Sync, D: Disk + Drop + Send>(
     rt: &'r R,
     alloc: Global,
-    settings: &Settings,
+    splits: &Splits,
+    stride: Stride,
     disks: Vec<D>,
     workers: usize,
 ) -> Result<Opened<Node<D, &'r R>>, Unopened>
@@ -74,19 +73,19 @@ pub fn open_shards<'r, R: Threads + Wait + Sync, D: Disk + Drop + Send>(
         IsRunOver D.keeps_model D.file disks.items opened.epoch) }
     ensures last { IfOk result (λ opened.
         IsLastIn D.keeps_model D.file disks.items opened.last) }
-    ensures shards { IsOk result → length disks.items ≡ length settings.now.splits + 1 }
-    ensures refused { length disks.items ≢ length settings.now.splits + 1
+    ensures shards { IsOk result → length disks.items ≡ length splits.now + 1 }
+    ensures refused { length disks.items ≢ length splits.now + 1
         → result ≡ Err (unopened_for (Fault.BadRequest Reason.Settings)) }
     ensures unmade { 0 < workers → workers ≤ 64
         → IfErr result (λ unopened. IsUnmade unopened.fault) }
     ensures first { 0 < workers → workers ≤ 64 → IfErr result
-        (IsFirst D.keeps_model D.file settings.now.splits settings.now.stride disks.items) }
+        (IsFirst D.keeps_model D.file splits.now stride disks.items) }
 {
-    if disks.len() != settings.splits.as_slice().len() + 1 {
+    if disks.len() != splits.as_slice().len() + 1 {
         drop(disks);
         return Err(Unopened::from(Fault::BadRequest(Reason::Settings)));
     }
-    let told = told(alloc, settings, disks)?;
+    let told = told(alloc, splits, stride, disks)?;
     let viewers = match Viewers::none(alloc, workers) {
         Ok(viewers) => viewers,
         Err(fault) => {
@@ -107,18 +106,19 @@ pub fn open_shards<'r, R: Threads + Wait + Sync, D: Disk + Drop + Send>(
 // Each disk, with what its shard is told.
 fn told<D: Drop>(
     alloc: Global,
-    settings: &Settings,
+    splits: &Splits,
+    stride: Stride,
     disks: Vec<D>,
 ) -> Result<Vec<(D, Setup)>, Fault>
     ensures disks { IfOk result (λ told. map (λ one. one.0) told.items ≡ disks.items) }
     ensures setups { IfOk result
-        (λ told. AreSetups settings.now.splits settings.now.stride 0 told.items) }
+        (λ told. AreSetups splits.now stride 0 told.items) }
     ensures few { IfOk result (λ told. length told.items ≤ 16) }
     ensures unmade { IfErr result IsEarly }
 {
     let mut told = Vec::new(alloc);
     for disk in disks {
-        let setup = setup_of(alloc, settings, told.len())?;
+        let setup = setup_of(alloc, splits, stride, told.len())?;
         told.push((disk, setup))?;
     }
     Ok(told)
@@ -222,8 +222,8 @@ fn stop_all<D: Disk + Drop>(cores: Vec<Result<Core<D>, (Fault, D)>>) {
 }
 
 // What the shard of this number is told.
-fn setup_of(alloc: Global, settings: &Settings, number: usize) -> Result<Setup, Fault>
-    ensures setup { IfOk result (IsSetupOf settings.now.splits settings.now.stride number) }
+fn setup_of(alloc: Global, splits: &Splits, stride: Stride, number: usize) -> Result<Setup, Fault>
+    ensures setup { IfOk result (IsSetupOf splits.now stride number) }
     ensures few { IsOk result → number < 16 }
     ensures refused { IfErr result (λ fault. (fault ≡ Fault.Memory)
         ⊎ ((fault ≡ Fault.BadRequest Reason.Settings) × (16 ≤ number))) }
@@ -236,8 +236,8 @@ fn setup_of(alloc: Global, settings: &Settings, number: usize) -> Result<Setup, 
     };
     Ok(Setup {
         shard,
-        splits: settings.splits.copy(alloc)?,
-        stride: settings.stride,
+        splits: splits.copy(alloc)?,
+        stride,
         book: Book::Off,
     })
 }

@@ -5,6 +5,7 @@
 mod desk;
 mod fleet;
 mod held;
+mod machine_clock;
 mod measure;
 mod node;
 mod opening;
@@ -16,6 +17,7 @@ mod unopened;
 pub use desk::Desk;
 pub use fleet::{Closes, Opened, open_shards, run_of};
 pub use letters::{Gate, Letter, Post, Served, start};
+pub use machine_clock::MachineClock;
 pub use node::Node;
 pub use opening::open_all;
 pub use shard::Core;

@@ -5,12 +5,12 @@ ghost use Rattle.store.specs.Attempts.{IsFresh};
 use crate::clients::Client;
 use crate::shared::Shared;
 use crate::steady::StoreClock;
+use board::Viewers;
 use client::Wires;
 use crossbeam_channel::Receiver;
 use letters::Reply;
 use tickets::Drawer;
 use units::Fault;
-use workers::Viewers;
 
 /// What clients are made of, one of each for each client: inboxes by the clients' numbers, drawers, and viewers of each shard.
 #[derive(Drop)]

@@ -1,8 +1,6 @@
 //! How a store is parted and served.
 ghost use Rattle.std.specs.Prelude.{◌≡◌, ◌⊎◌, ◌<◌, ◌≤◌, Err, IfErr, IfOk, IsOk, None};
 
-use settings::Settings;
-use std::alloc::Global;
 use units::{Fault, Reason, Splits, Stride};
 
 /// How a store is parted over shards, and how it is served.
@@ -57,29 +55,18 @@ impl Options {
         }
     }
 
-    // What its shards and clients are opened by. Options beyond their limits are refused as `settings`.
-    pub(crate) fn settings(&self, alloc: Global) -> Result<Settings, Fault>
-        ensures splits { IfOk result (λ settings. settings.splits ≡ self.now.splits) }
-        ensures stride { IfOk result (λ settings. settings.stride ≡ self.now.stride) }
-        ensures clients { IfOk result (λ settings. settings.workers ≡ self.now.clients) }
+    // How many clients there are. Options beyond their limits are refused as `settings`.
+    pub(crate) fn checked_clients(&self) -> Result<usize, Fault>
+        ensures clients { IfOk result (λ clients. clients ≡ self.now.clients) }
         ensures few { IsOk result → (0 < self.now.clients) × (self.now.clients ≤ 64) }
         ensures limits { (1000000 < self.now.epsilon)
             ⊎ ((self.now.clients ≡ 0) ⊎ (64 < self.now.clients))
             → result ≡ Err (Fault.BadRequest Reason.Settings) }
-        ensures refused { IfErr result
-            (λ fault. (fault ≡ Fault.BadRequest Reason.Settings) ⊎ (fault ≡ Fault.Memory)) }
+        ensures refused { IfErr result (λ fault. fault ≡ Fault.BadRequest Reason.Settings) }
     {
         if self.epsilon > 1_000_000 || self.clients == 0 || self.clients > 64 {
             return Err(Fault::BadRequest(Reason::Settings));
         }
-        Ok(Settings {
-            splits: self.splits.copy(alloc)?,
-            stride: self.stride,
-            epsilon: self.epsilon,
-            workers: self.clients,
-            transactions: 1,
-            keys: 1,
-            dir: None,
-        })
+        Ok(self.clients as usize)
     }
 }

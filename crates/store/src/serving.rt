@@ -9,7 +9,7 @@ use crate::crew::{Crew, clients_of};
 use crate::kept::kept_nodes;
 use crate::shared::{Shared, Stopped};
 use crate::steady::StoreClock;
-use board::Viewer;
+use board::Viewers;
 use client::Stop;
 use crossbeam_channel::Receiver;
 use disk::Disk;
@@ -23,7 +23,6 @@ use std::{thread, time};
 use tickets::Tickets;
 use truetime::Clock;
 use units::{Epoch, Fault, Stamp};
-use workers::Viewers;
 
 /// Serves nodes, each on a thread, while `work` goes on with its clients. They keep the past for as long as the options say, and
 /// renew their logs as these say.

@@ -2,13 +2,12 @@
 ghost use Rattle.std.specs.Prelude.{◌≡◌, ◌+◌, ◌-◌, ◌≤◌, ⊤, ℕ, IfSome};
 
 use crate::Options;
-use node::steady_over;
+use node::{MachineClock, steady_over};
 use std::alloc::AllocError;
 use std::sync::atomic::AtomicU64;
 use std::time;
 use truetime::{Clock, Reading};
 use units::Stamp;
-use workers::MachineClock;
 
 /// The machine's clock, but one that does not go back (`SteadyClock`): its copies share the latest microsecond that was reached, and its readings
 /// end at a microsecond from which it goes on, or later.

@@ -11,7 +11,6 @@ use disk::Disk;
 use filedisk::FileDisk;
 use host_files::logs_in;
 use node::{Node, Opened, Unopened, open_shards};
-use settings::Settings;
 use std::alloc::Global;
 use std::fs::File;
 use std::marker::Model;
@@ -79,15 +78,14 @@ impl<'r, R: Threads + Wait + Sync, D: Disk + Drop + Send> Store<'r, R, D> {
         ensures first { IfErr result
             (IsFirst D.keeps_model D.file options.splits options.stride disks.items) }
     {
-        let settings = match options.settings(alloc) {
-            Ok(settings) => settings,
+        let clients = match options.checked_clients() {
+            Ok(clients) => clients,
             Err(fault) => {
                 drop(disks);
                 return Err(Unopened::from(fault));
             }
         };
-        let opened = open_shards(rt, alloc, &settings, disks, settings.workers as usize)?;
-        drop(settings);
+        let opened = open_shards(rt, alloc, &options.splits, options.stride, disks, clients)?;
         Ok(Store {
             rt,
             alloc,

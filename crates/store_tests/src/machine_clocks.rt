@@ -1,8 +1,8 @@
 //! The machine's clock as intervals.
+use drive::MachineClock;
 use std::rt::HostRuntime;
 use std::time;
 use truetime::Clock;
-use workers::MachineClock;
 
 // The machine's clock, in microseconds.
 fn micros<R: time::Clock>(rt: &R) -> Option<u64> {

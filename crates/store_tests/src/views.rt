@@ -1,6 +1,7 @@
 //! Stores over two shards: when a view stands that is opened behind a commit, and what views tell, also once the store is opened again.
 use crate::clients::{KEYS, disks_of, of_two_shards, sees, store_of, write};
 use crate::verdict::end;
+use drive::MachineClock;
 use made::WrongRows;
 use simdisk::SimDisk;
 use std::alloc::Global;
@@ -10,7 +11,6 @@ use std::thread::Threads;
 use std::time;
 use store::{Client, Ended, Options, Store};
 use truetime::Clock;
-use workers::MachineClock;
 
 // What is so of a view behind a commit: it stands no sooner, it stands between two readings of the machine's clock, and a view tells what was
 // written on both shards.

@@ -6,8 +6,8 @@ ghost use Rattle.workers.specs.Staffs.{IsStaffOf};
 
 use crate::course::Course;
 use crate::shared::{Drawers, Shared};
-use crate::viewers::Viewers;
 use crate::worker::{Report, Worker, merged};
+use board::Viewers;
 use client::Wire;
 use crossbeam_channel::Receiver;
 use letters::Reply;

@@ -21,7 +21,7 @@ returns-in-Ok-open_all-clause-nodes g c =
 pub returns-in-Ok-open_all-clause-run : goal.returns-in-Ok-open_all-clause-run
 returns-in-Ok-open_all-clause-run g c =
     let told = c.in_ok-told.told.items in
-    let many : length c.args.disks.items ≡ length c.args.settings.now.splits + 1 = search rules in
+    let many : length c.args.disks.items ≡ length c.args.splits.now + 1 = search rules in
     let long : length told ≡ length c.args.disks.items = sym (as_many told) ∙ ap length c.in_ok-told.ensures.disks in
     let some : 0 < length told = omega (arith, many, long) in
     on_ok _ _ c.nodes_over.result
@@ -38,17 +38,15 @@ returns-in-Ok-open_all-clause-last g c =
 
 pub returns-in-Ok-open_all-clause-first : goal.returns-in-Ok-open_all-clause-first
 returns-in-Ok-open_all-clause-first g c = λ some few.
-    let settings = c.args.settings.now in
     on_err _ _ c.nodes_over.result
-    (λ unopened is. first_over _ _ _ _ _ _ _ settings.splits settings.stride c.in_ok-told.told.items c.args.disks.items c.in-Ok-open_all.cores.items unopened
+    (λ unopened is. first_over _ _ _ _ _ _ _ c.args.splits.now c.args.stride c.in_ok-told.told.items c.args.disks.items c.in-Ok-open_all.cores.items unopened
     c.in-Ok-open_all.ensures.each c.in_ok-told.ensures.disks c.in_ok-told.ensures.setups is)
     (c.nodes_over.ensures.first (omega (arith, some, c.in-Ok.ensures.viewers)) (omega (arith, few, c.in-Ok.ensures.viewers)))
 
 pub returns-in-Ok-open_all-clause-unmade : goal.returns-in-Ok-open_all-clause-unmade
 returns-in-Ok-open_all-clause-unmade g c = λ some few.
-    let settings = c.args.settings.now in
     on_err _ _ c.nodes_over.result
-    (λ unopened is. not_made _ _ settings.splits settings.stride c.args.disks.items unopened
-    (first_over _ _ _ _ _ _ _ settings.splits settings.stride c.in_ok-told.told.items c.args.disks.items c.in-Ok-open_all.cores.items unopened
+    (λ unopened is. not_made _ _ c.args.splits.now c.args.stride c.args.disks.items unopened
+    (first_over _ _ _ _ _ _ _ c.args.splits.now c.args.stride c.in_ok-told.told.items c.args.disks.items c.in-Ok-open_all.cores.items unopened
     c.in-Ok-open_all.ensures.each c.in_ok-told.ensures.disks c.in_ok-told.ensures.setups is))
     (c.nodes_over.ensures.first (omega (arith, some, c.in-Ok.ensures.viewers)) (omega (arith, few, c.in-Ok.ensures.viewers)))

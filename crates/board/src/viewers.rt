@@ -1,11 +1,11 @@
-//! The viewers of the workers.
+//! The viewers of those who look at all shards.
 ghost use Rattle.std.specs.Prelude.{◌≡◌, length, IfErr, IfOk};
 
-use board::Viewer;
+use crate::viewer::Viewer;
 use std::alloc::Global;
 use units::Fault;
 
-/// What the workers look through, by the worker's number: a viewer of each shard, by the shard's number.
+/// What workers look through, by the worker's number: a viewer of each shard, by the shard's number.
 #[derive(Drop)]
 pub struct Viewers {
     pub by_worker: Vec<Vec<Viewer>>,

@@ -1,4 +1,4 @@
-//! What an opening would say of the logs in files, beside the verdict on them.
+//! What an opening would refuse of logs in files.
 use gatelog::GateLog;
 use recovery::rebuild;
 use std::alloc::Global;
