@@ -89,6 +89,7 @@ halts_for f (inr why) = subst (λ (g : Fault). IsReadHalt (halt_for g)) (sym why
     by_reason reason.Splits among = inr (reason.Splits, refl, among)
     by_reason reason.Settings among = inr (reason.Settings, refl, among)
     by_reason reason.Command among = inr (reason.Command, refl, among)
+    by_reason reason.State among = inr (reason.State, refl, among)
     by_reason (reason.Syntax n) among = inr (reason.Syntax n, refl, among)
     by_reason (reason.Unlawful n) among = inr (reason.Unlawful n, refl, among)
 
