@@ -40,7 +40,7 @@ if command -v cargo >/dev/null; then
     CARGO_TARGET_DIR=${CARGO_TARGET_DIR:-$room/target}
     export CARGO_TARGET_DIR
     cd "$root/clients/rust"
-    tried Rust cargo test --offline --locked -- --nocapture
+    tried Rust cargo test --offline -- --nocapture
 else
     echo "clients: Rust: NOT RUN, since there is no cargo"
 fi
