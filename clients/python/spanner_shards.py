@@ -1,0 +1,250 @@
+"""A store of Spanner shards, which its program holds open and serves over lines. Standard library alone; README.md shows its use.
+
+Keys and values are bytes. Threads may share a store: each call takes one of its clients, and waits while all are in use."""
+
+import collections
+import contextlib
+import os
+import queue
+import random
+import re
+import subprocess
+import threading
+import time
+
+_NOT_PLAIN = re.compile(rb"[^!-\[\]-~]")
+_SPELLED = re.compile(rb"\\x([0-9a-fA-F]{2})")
+_OVER = {b"committed", b"unknown", b"aborted", b"ended", b"ended:"}  # after these answers nothing is open
+
+# A transaction stands at the timestamp `at`, in microseconds. `result` is what its code returned.
+Committed = collections.namedtuple("Committed", "at id result", defaults=[None])
+
+
+class Refused(Exception):
+    """The store refused what was asked: the number and the words of a fault. `ended` says whether the transaction or view is over."""
+
+    def __init__(self, words, ended=False):
+        super().__init__(words)
+        self.number, self.ended = int(re.match("[0-9]*", words).group() or 0), ended
+
+
+class Aborted(Exception):
+    """The transaction stands nowhere: it was aborted, at each try."""
+
+
+class Unknown(Exception):
+    """Nobody said how the transaction ended: it stands whole at one timestamp, or nowhere. `id` is its id, if that was told."""
+    id = property(lambda self: self.args[0])
+
+
+class Closed(Exception):
+    """The store is closed, or its program has ended, and what was asked for changed nothing."""
+
+
+def spelled(data):
+    """The word that spells some bytes."""
+    return _NOT_PLAIN.sub(lambda found: b"\\x%02x" % found.group()[0], data)
+
+
+def unspelled(word):
+    """The bytes that a word spells."""
+    return _SPELLED.sub(lambda found: bytes([int(found.group(1), 16)]), word)
+
+
+def _program(program):
+    """The words that start the program: as told, as SHARDS_PROGRAM says, or `run` of the repository that has this file."""
+    program = program or os.environ.get("SHARDS_PROGRAM") or os.path.join(os.path.realpath(__file__ + "/../../.."), "run")
+    return [program] if isinstance(program, (str, os.PathLike)) else list(program)
+
+
+def _read(answer):
+    """What an answer tells, or raises."""
+    first, *words = answer.split(b" ")
+    if first.startswith(b"=") or first == b"none":
+        return [unspelled(word[1:]) if word.startswith(b"=") else None for word in [first, *words]]
+    if first in (b"fault:", b"ended:"):
+        raise Refused(answer.partition(b"fault: ")[2].decode("ascii", "replace"), first == b"ended:")
+    if first == b"aborted":
+        raise Aborted("aborted")
+    if first == b"unknown":
+        raise Unknown(words[0].decode())
+    if first == b"committed":
+        return Committed(int(words[0]), words[1].decode())
+    return words[0].decode() if words else None
+
+
+class _Client:
+    """One client of the program. Each of its lines gets one answer, in order. It is one call's at a time."""
+
+    def __init__(self, store, number):
+        self.store, self.number = store, b"%d " % number
+        self.waiting = collections.deque()  # for each line without an answer, where the answer goes
+        self.end = self.id = None  # the line that ends what may be open, and the id of a transaction
+
+    def ask(self, verb, *data):
+        """Asks for a line, and waits for its answer, also beside one that nobody waits for any more."""
+        place = queue.SimpleQueue()
+        self.store._send(self, b" ".join([verb, *map(spelled, data)]), place)
+        answer = place.get()
+        if answer is None:
+            is_commit = verb == b"commit" or verb in (b"put", b"erase") and not self.end
+            raise Unknown(self.id) if is_commit else Closed(self.store.folder)
+        if answer.partition(b" ")[0] in _OVER:
+            self.end = self.id = None
+        return _read(answer)
+
+    def close(self):
+        """Ends what may be open. If nothing is, the program answers the same."""
+        if self.end:
+            with contextlib.suppress(Aborted, Closed, Refused):
+                self.ask(self.end)
+
+
+class _Reads:
+    def get(self, key):
+        """The value of a key, or `None`."""
+        return self.get_all(key)[0]
+
+    def get_all(self, *keys):
+        """The values of some keys, asked for at once: `None` for each that has none."""
+        return self._ask(b"get", *keys)
+
+
+class _Writes(_Reads):
+    def put(self, key, value):
+        """Puts a value. Outside of a transaction this commits one, and tells it as `Committed`."""
+        return self._ask(b"put", key, value)
+
+    def erase(self, key):
+        """Takes the value away, as `put`."""
+        return self._ask(b"erase", key)
+
+
+class _Open(contextlib.AbstractContextManager):
+    """A transaction or a view, until it is over. Then no line is sent: the program would serve it by itself."""
+
+    def __init__(self, client):
+        self._client, self._over, client.end = client, None, self._end
+        self.id = client.id = client.ask(self._begin)
+
+    def _ask(self, *words):
+        if self._over:
+            raise self._over
+        try:
+            return self._client.ask(*words)
+        except (Aborted, Refused) as error:
+            self._over = error if getattr(error, "ended", True) else None
+            raise
+
+    def __exit__(self, *_):
+        self._over = self._over or RuntimeError("this transaction or view is over")
+
+
+class Transaction(_Open, _Writes):
+    """A transaction that is open. `id` is its id. It sees what it has put."""
+    _begin, _end = b"begin", b"abort"
+
+
+class View(_Open, _Reads):
+    """What stood at one timestamp, `at`, in microseconds."""
+    _begin, _end = b"view", b"end"
+    at = property(lambda self: int(self.id))
+
+
+class Store(_Writes, contextlib.AbstractContextManager):
+    """A store in a folder, open for so many clients (1 to 64). `options` are further words of the program, as ("--idle", "5000")."""
+
+    def __init__(self, folder, clients=64, options=(), program=None):
+        self.folder, self._lock, self._is_closed, self._free = os.fspath(folder), threading.Lock(), False, queue.SimpleQueue()
+        words = [*_program(program), "serve", self.folder, "--clients", str(clients), *options]
+        # In a session of its own the program is not ended by a key that interrupts this one.
+        self.process = subprocess.Popen(words, stdin=subprocess.PIPE, stdout=subprocess.PIPE, start_new_session=True)
+        if not self.process.stdout.readline().startswith(b"ready"):
+            self.process.communicate()
+            raise Closed(f"{self.folder} was not opened (status {self.process.returncode}): standard error has the reason")
+        self._clients = [_Client(self, number) for number in range(clients)]
+        for client in self._clients:
+            self._free.put(client)
+        threading.Thread(target=self._hear, daemon=True).start()
+
+    @staticmethod
+    def make(folder, *splits, program=None):
+        """Makes an empty store, of one shard more than there are splits. If there is one already, that is refused."""
+        words = [*_program(program), "make", os.fspath(folder), *map(spelled, splits)]
+        made = subprocess.run(words, stdin=subprocess.DEVNULL, capture_output=True)
+        if made.returncode:
+            raise Refused(made.stderr.decode("utf8", "replace").strip().rpartition("fault: ")[2])
+
+    def _send(self, client, line, place):
+        # A program that has ended answers no more. An interrupt within leaves the store closed, since lines and answers may not match then.
+        with self._lock, contextlib.suppress(OSError):
+            if self._is_closed:
+                raise Closed(self.folder)
+            self._is_closed = True
+            client.waiting.append(place)
+            self.process.stdin.write(client.number + line + b"\n")
+            self.process.stdin.flush()
+            self._is_closed = False
+
+    def _hear(self):
+        """Puts each answer where it is waited for, until there are no more. A line that was cut off is none."""
+        try:
+            for line in self.process.stdout:
+                number, _, answer = line.partition(b" ")
+                if answer.endswith(b"\n"):
+                    self._clients[int(number)].waiting.popleft().put(answer[:-1])
+        finally:
+            with self._lock, self.process.stdout:
+                self._is_closed = True
+                for place in [place for client in self._clients for place in client.waiting]:
+                    place.put(None)
+
+    @contextlib.contextmanager
+    def _client(self):
+        client = self._free.get()
+        try:
+            client.close()
+            yield client
+        finally:
+            try:
+                client.close()
+            finally:
+                self._free.put(client)
+
+    def _ask(self, *words):
+        with self._client() as client:
+            return client.ask(*words)
+
+    def transact(self, fn, tries=50):
+        """Runs `fn(tx)` and commits what it did; up to `tries` times, while that is aborted. What `fn` raises aborts it, and is raised."""
+        with self._client() as client:
+            for attempt in range(tries):
+                with Transaction(client) as tx:
+                    try:
+                        result = fn(tx)
+                        return tx._ask(b"commit")._replace(result=result)
+                    except Aborted as aborted:
+                        if aborted is not tx._over:
+                            raise
+                time.sleep(random.random() * min(attempt, 20) / 1000)
+            raise Aborted(f"aborted at each of {tries} tries")
+
+    @contextlib.contextmanager
+    def view(self, at=None):
+        """A view of the present: all that it answers stood at its timestamp."""
+        if at is not None:
+            raise NotImplementedError("a view of the past is not served yet: call view() for the present")
+        with self._client() as client, View(client) as view:
+            yield view
+
+    def close(self):
+        """Ends the program, which first answers what was asked, and gives up what is open. Returns its exit status."""
+        with contextlib.suppress(Closed):
+            self._send(self._clients[0], b"quit", queue.SimpleQueue())
+        with self._lock, contextlib.suppress(OSError):
+            self._is_closed = True
+            self.process.stdin.close()
+        return self.process.wait()
+
+    def __exit__(self, *_):
+        self.close()

@@ -1,0 +1,368 @@
+"""The client beside answers that a program seldom gives. They are told to the model, so that no program is needed."""
+
+import os
+import signal
+import threading
+import time
+import unittest
+
+from served import FAKE, Folder
+from spanner_shards import Aborted, Closed, Refused, Store, Unknown, spelled, unspelled
+
+
+def add_one(tx):
+    tx.put(b"a", b"%d" % (int(tx.get(b"a") or b"0") + 1))
+
+
+class Told(Folder):
+    """A store of the model, which is told some answers."""
+
+    def told(self, *lines, clients=2, **given):
+        self.make()
+        path = os.path.join(self.room, "told")
+        with open(path, "w", encoding="ascii") as told:
+            told.write("".join(line + "\n" for line in lines))
+        return self.open(clients, options=["--told", path, *given.pop("options", [])], **given)
+
+
+class Spelling(unittest.TestCase):
+    ROWS = [
+        (b"plain-09~!", b"plain-09~!"),
+        (b"", b""),
+        (b"a b", b"a\\x20b"),
+        (b"\\", b"\\x5c"),
+        (b"=none\n\x00\x7f\xff", b"=none\\x0a\\x00\\x7f\\xff"),
+    ]
+
+    def test_rows(self):
+        for data, word in self.ROWS:
+            with self.subTest(data):
+                self.assertEqual(spelled(data), word)
+                self.assertEqual(unspelled(word), data)
+
+    def test_digits_of_either_case(self):
+        self.assertEqual(unspelled(b"\\x5C\\xfF"), b"\\\xff")
+
+    def test_every_byte(self):
+        data = bytes(range(256)) * 2
+        self.assertEqual(unspelled(spelled(data)), data)
+        self.assertRegex(spelled(data), rb"\A[!-~]+\Z")
+
+
+class Ends(Told):
+    def test_committed_tells_timestamp_id_and_result(self):
+        store = self.told("commit committed 17 3.5")
+        self.assertEqual(store.transact(lambda tx: "done"), (17, "3.5", "done"))
+
+    def test_aborted_is_run_again(self):
+        store = self.told("commit aborted", "get aborted", "put aborted")
+        runs = []
+        store.transact(lambda tx: (runs.append(tx.id), add_one(tx)))
+        self.assertEqual(len(set(runs)), 4)
+        self.assertEqual(store.get(b"a"), b"1")
+
+    def test_aborted_each_time(self):
+        store = self.told(*["commit aborted"] * 3)
+        runs = []
+        with self.assertRaises(Aborted):
+            store.transact(runs.append, tries=3)
+        self.assertEqual(len(runs), 3)
+        store.transact(runs.append, tries=1)
+
+    def test_unknown_has_the_id_and_is_not_run_again(self):
+        store = self.told("commit unknown 3.5", "put unknown 3.6")
+        runs = []
+        with self.assertRaises(Unknown) as unknown:
+            store.transact(runs.append)
+        self.assertEqual((unknown.exception.id, len(runs)), ("3.5", 1))
+        with self.assertRaises(Unknown) as unknown:
+            store.put(b"a", b"1")
+        self.assertEqual(unknown.exception.id, "3.6")
+
+    def test_put_outside_aborted(self):
+        store = self.told("put aborted", "erase aborted")
+        for write in (lambda: store.put(b"a", b"1"), lambda: store.erase(b"a")):
+            with self.assertRaises(Aborted):
+                write()
+        self.assertIsNone(store.get(b"a"))
+
+    def test_what_the_code_raises_aborts(self):
+        store = self.told(clients=1)
+        with self.assertRaises(KeyError):
+            store.transact(lambda tx: (tx.put(b"a", b"1"), {}["none"]))
+        self.assertIsNone(store.get(b"a"))
+        store.transact(add_one)
+
+    def test_an_abort_of_another_is_raised(self):
+        """What aborts a write outside of the transaction does not have the transaction run again."""
+        store = self.told("put aborted")
+        runs = []
+        with self.assertRaises(Aborted):
+            store.transact(lambda tx: (runs.append(tx), store.put(b"a", b"1")))
+        self.assertEqual(len(runs), 1)
+
+
+class Over(Told):
+    """Once a transaction or a view is over, no line of it is sent: it would be served by itself."""
+
+    def test_code_that_goes_on_after_an_abort(self):
+        store = self.told("get aborted")
+
+        def stubborn(tx):
+            try:
+                tx.get(b"a")
+            except Aborted:
+                pass
+            for write in (lambda: tx.put(b"b", b"1"), lambda: tx.erase(b"b")):
+                try:
+                    write()
+                except Aborted:
+                    pass
+
+        with self.assertRaises(Aborted):
+            store.transact(stubborn, tries=1)
+        self.assertIsNone(store.get(b"b"))
+
+    def test_code_that_goes_on_after_a_refusal_that_ended_it(self):
+        store = self.told("get ended: fault: 3 Stopped")
+
+        def stubborn(tx):
+            try:
+                tx.get(b"a")
+            except Refused:
+                pass
+            try:
+                tx.put(b"b", b"1")
+            except Refused:
+                pass
+
+        with self.assertRaises(Refused) as refused:
+            store.transact(stubborn)
+        self.assertEqual((refused.exception.number, refused.exception.ended, str(refused.exception)), (3, True, "3 Stopped"))
+        self.assertIsNone(store.get(b"b"))
+
+    def test_a_refusal_that_leaves_it_open(self):
+        store = self.told("get fault: 1 Memory")
+
+        def again(tx):
+            try:
+                tx.get(b"a")
+            except Refused as refused:
+                self.assertEqual((refused.number, refused.ended), (1, False))
+            tx.put(b"a", b"1")
+
+        store.transact(again)
+        self.assertEqual(store.get(b"a"), b"1")
+
+    def test_a_refused_commit_gives_up(self):
+        for fault in ("fault: 1 Memory", "ended: fault: 3 Stopped"):
+            with self.subTest(fault):
+                self.setUp()
+                store = self.told("commit " + fault, clients=1)
+                with self.assertRaises(Refused):
+                    store.transact(add_one)
+                self.assertIsNone(store.get(b"a"))
+                store.transact(add_one)
+
+    def test_a_transaction_kept_beyond_its_end(self):
+        store = self.told(clients=1)
+        kept = []
+        store.transact(kept.append)
+        for use in (lambda: kept[0].put(b"a", b"1"), lambda: kept[0].get(b"a"), lambda: kept[0].erase(b"a")):
+            with self.assertRaises(RuntimeError):
+                use()
+        self.assertIsNone(store.get(b"a"))
+
+    def test_a_view_that_ended(self):
+        store = self.told("get ended: fault: 3 Stopped", clients=1)
+        with store.view() as view:
+            with self.assertRaises(Refused):
+                view.get(b"a")
+            with self.assertRaises(Refused):
+                view.get(b"a")
+        with self.assertRaises(Refused):
+            view.get(b"a")
+        with store.view() as view:
+            self.assertIsNone(view.get(b"a"))
+        with self.assertRaises(RuntimeError):
+            view.get(b"a")
+
+    def test_a_view_that_is_refused(self):
+        store = self.told("view fault: 8 Early", clients=1)
+        with self.assertRaises(Refused) as refused:
+            with store.view():
+                self.fail("it was refused")
+        self.assertEqual(refused.exception.number, 8)
+        self.assertIsNone(store.get(b"a"))
+
+    def test_an_idle_transaction(self):
+        store = self.told(options=["--idle", "50"], clients=1)
+        waits = [0.2, 0]
+        runs = []
+        store.transact(lambda tx: (runs.append(tx), time.sleep(waits.pop(0)), add_one(tx)))
+        self.assertEqual(len(runs), 2)
+        self.assertEqual(store.get(b"a"), b"1")
+
+
+class Past(Told):
+    def test_a_view_of_the_past_is_refused_in_plain_words(self):
+        store = self.told()
+        with self.assertRaisesRegex(NotImplementedError, "a view of the past is not served yet"):
+            with store.view(at=17):
+                self.fail("it was refused")
+        self.assertIsNone(store.get(b"a"))
+
+
+class Answers(Told):
+    """Each answer reaches the call that asked, in whatever order answers come."""
+
+    def test_a_late_answer_of_another_client(self):
+        store = self.told("get late 0.4", clients=2)
+        store.put(b"a", b"1")
+        store.put(b"b", b"2")
+        slow = []
+        thread = threading.Thread(target=lambda: slow.append(store.get(b"a")))
+        thread.start()
+        time.sleep(0.1)
+        self.assertEqual(store.get(b"b"), b"2")
+        self.assertEqual(slow, [])
+        thread.join()
+        self.assertEqual(slow, [b"1"])
+
+    def test_more_threads_than_clients(self):
+        store = self.told(clients=3)
+
+        def work(number):
+            for turn in range(50):
+                key = b"%d-%d" % (number, turn)
+                store.put(key, key)
+                wrong.extend([] if store.get(key) == key else [key])
+                store.transact(add_one, tries=1000)
+
+        wrong = []
+        threads = [threading.Thread(target=work, args=(number,)) for number in range(8)]
+        for thread in threads:
+            thread.start()
+        for thread in threads:
+            thread.join()
+        self.assertEqual(wrong, [])
+        self.assertEqual(store.get(b"a"), b"400")
+
+    def interrupted(self, store, call):
+        """An alarm interrupts a call that waits for its answer."""
+        def stop(*_):
+            raise InterruptedError
+
+        before = signal.signal(signal.SIGALRM, stop)
+        try:
+            signal.setitimer(signal.ITIMER_REAL, 0.1)
+            with self.assertRaises(InterruptedError):
+                call()
+        finally:
+            signal.setitimer(signal.ITIMER_REAL, 0)
+            signal.signal(signal.SIGALRM, before)
+
+    def test_an_interrupted_call_leaves_its_answer_to_nobody(self):
+        store = self.told("get late 0.3", "put late 0.3", clients=1)
+        store.transact(lambda tx: tx.erase(b"a"))
+        self.interrupted(store, lambda: store.get(b"a"))
+        self.interrupted(store, lambda: store.put(b"a", b"1"))
+        self.assertEqual(store.get_all(b"a", b"b"), [b"1", None])
+
+    def test_an_interrupted_transaction_is_given_up(self):
+        store = self.told("get late 0.3", clients=1)
+        self.interrupted(store, lambda: store.transact(lambda tx: (tx.put(b"b", b"1"), tx.get(b"a"))))
+        self.assertIsNone(store.get(b"b"))
+        store.transact(add_one)
+
+
+class Closes(Told):
+    def test_a_kill_while_calls_wait(self):
+        store = self.told("get late 60", clients=4)
+        found = []
+
+        def wait():
+            try:
+                store.get(b"a")
+            except Closed as closed:
+                found.append(closed)
+
+        thread = threading.Thread(target=wait)
+        thread.start()
+        time.sleep(0.1)
+        store.process.kill()
+        thread.join(10)
+        self.assertEqual(len(found), 1)
+        with self.assertRaises(Closed):
+            store.get(b"a")
+        with self.assertRaises(Closed):
+            store.put(b"a", b"1")
+        self.assertEqual(store.close(), -9)
+
+    def test_a_kill_while_a_commit_is_asked_for(self):
+        """Nobody said how it ended."""
+        store = self.told("commit die")
+        ids = []
+        with self.assertRaises(Unknown) as unknown:
+            store.transact(lambda tx: ids.append(tx.id))
+        self.assertEqual([unknown.exception.id], ids)
+
+    def test_a_kill_while_a_write_is_asked_for(self):
+        store = self.told("put die")
+        with self.assertRaises(Unknown) as unknown:
+            store.put(b"a", b"1")
+        self.assertIsNone(unknown.exception.id)
+        with self.assertRaises(Closed):
+            store.put(b"a", b"1")
+
+    def test_a_kill_within_a_transaction(self):
+        store = self.told("put die")
+        with self.assertRaises(Closed):
+            store.transact(lambda tx: tx.put(b"a", b"1"))
+
+    def test_an_answer_that_was_cut_off(self):
+        """The front of `committed 1700 1.2` is no timestamp."""
+        store = self.told("commit cut committed 17", "get cut =valu")
+        with self.assertRaises(Unknown):
+            store.transact(lambda tx: tx.put(b"a", b"1"))
+        store = self.open(1)
+        self.assertIsNone(store.get(b"a"))
+
+    def test_close_and_again(self):
+        store = self.told()
+        self.assertEqual(store.close(), 0)
+        self.assertEqual(store.close(), 0)
+        with self.assertRaises(Closed):
+            store.transact(add_one)
+
+    def test_no_program(self):
+        self.make()
+        with self.assertRaises(OSError):
+            Store(self.logs, program=os.path.join(self.room, "nothing"))
+
+    def test_a_program_that_is_not_ready(self):
+        for words, status in ((["true"], 0), (["false"], 1), (["sh", "-c", "echo 'fault: 2 Device'; exit 2"], 2)):
+            with self.subTest(words):
+                with self.assertRaisesRegex(Closed, f"was not opened .status {status}."):
+                    Store(self.logs, program=words)
+
+    def test_a_program_by_the_environment(self):
+        path = os.path.join(self.room, "named")
+        with open(path, "w", encoding="utf8") as named:
+            named.write("#!/bin/sh\nexec '%s' '%s' \"$@\"\n" % tuple(FAKE))
+        os.chmod(path, 0o755)
+        before = os.environ.get("SHARDS_PROGRAM")
+        os.environ["SHARDS_PROGRAM"] = path
+        try:
+            Store.make(self.logs, b"m")
+            with Store(self.logs) as store:
+                self.assertIsNone(store.get(b"a"))
+            store.process.stdout.close()
+        finally:
+            del os.environ["SHARDS_PROGRAM"]
+            if before:
+                os.environ["SHARDS_PROGRAM"] = before
+
+
+if __name__ == "__main__":
+    unittest.main()

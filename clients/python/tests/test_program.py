@@ -1,0 +1,382 @@
+"""Tests over a program that serves: each runs against the model, so that the model keeps to the rows, and against the built program."""
+
+import os
+import random
+import re
+import signal
+import subprocess
+import sys
+import threading
+import time
+import unittest
+
+from served import FAKE, HERE, Folder, Pipe, program
+from bank import ACCOUNTS, WHOLE, Bank
+from spanner_shards import Closed, Refused, Store
+
+# What is asked by lines, and what is answered. AT1 is a timestamp and ID1 the id of a transaction, the same wherever they stand in a row. R is
+# the reason of a refusal.
+CONVERSATIONS = {
+    "a transaction": [
+        ("begin", "0 begun ID1"),
+        ("put a 1", "0 ok"),
+        ("get a b", "0 =1 none"),
+        ("erase a", "0 ok"),
+        ("get a", "0 none"),
+        ("put a 2", "0 ok"),
+        ("commit", "0 committed AT1 ID1"),
+        ("get a b", "0 =2 none"),
+    ],
+    "outside of a transaction": [
+        ("get a z", "0 none none"),
+        ("put a 1", "0 committed AT1 ID1"),
+        ("1 put z 2", "1 committed AT2 ID2"),
+        ("2 get z a", "2 =2 =1"),
+        ("erase a", "0 committed AT3 ID3"),
+        ("2 get z a", "2 =2 none"),
+    ],
+    "an abort": [
+        ("3 begin", "3 begun ID1"),
+        ("3 put a 1", "3 ok"),
+        ("3 abort", "3 aborted"),
+        ("3 get a", "3 none"),
+    ],
+    "a view stays where it is": [
+        ("put a 1", "0 committed AT1 ID1"),
+        ("view", "0 at AT2"),
+        ("1 put a 2", "1 committed AT3 ID2"),
+        ("get a", "0 =1"),
+        ("get b a", "0 none =1"),
+        ("end", "0 ended"),
+        ("get a", "0 =2"),
+    ],
+    "nothing is open": [
+        ("abort", "0 aborted"),
+        ("end", "0 ended"),
+        ("commit", "0 fault: 7 BadRequest(state)"),
+        ("get a", "0 none"),
+    ],
+    "out of place in a transaction": [
+        ("begin", "0 begun ID1"),
+        ("begin", "0 fault: 7 BadRequest(state)"),
+        ("view", "0 fault: 7 BadRequest(state)"),
+        ("end", "0 fault: 7 BadRequest(state)"),
+        ("put a 1", "0 ok"),
+        ("commit", "0 committed AT1 ID1"),
+    ],
+    "out of place in a view": [
+        ("view", "0 at AT1"),
+        ("put a 1", "0 fault: 7 BadRequest(state)"),
+        ("erase a", "0 fault: 7 BadRequest(state)"),
+        ("begin", "0 fault: 7 BadRequest(state)"),
+        ("commit", "0 fault: 7 BadRequest(state)"),
+        ("get a", "0 none"),
+        ("end", "0 ended"),
+    ],
+    "no request": [
+        ("", "0 fault: 7 BadRequest(R)"),
+        ("nothing", "0 fault: 7 BadRequest(R)"),
+        ("get", "0 fault: 7 BadRequest(R)"),
+        ("get  a", "0 fault: 7 BadRequest(R)"),
+        ("put a", "0 fault: 7 BadRequest(R)"),
+        ("put a 1 2", "0 fault: 7 BadRequest(R)"),
+        ("erase", "0 fault: 7 BadRequest(R)"),
+        ("begin now", "0 fault: 7 BadRequest(R)"),
+        ("2 commit now", "2 fault: 7 BadRequest(R)"),
+        ("get a", "0 none"),
+    ],
+    "no request, in a transaction that stays open": [
+        ("begin", "0 begun ID1"),
+        ("put a 1", "0 ok"),
+        ("nothing", "0 fault: 7 BadRequest(R)"),
+        ("put a", "0 fault: 7 BadRequest(R)"),
+        ("commit", "0 committed AT1 ID1"),
+        ("get a", "0 =1"),
+    ],
+    "spelled": [
+        ("put \\x00\\xfF \\x20\\x5C\\x41=", "0 committed AT1 ID1"),
+        ("get \\x00\\xff", "0 =\\x20\\x5cA="),
+        ("put a ", "0 committed AT2 ID2"),
+        ("get a", "0 ="),
+        ("put b none", "0 committed AT3 ID3"),
+        ("get b", "0 =none"),
+        ("get \\q", "0 fault: 7 BadRequest(R)"),
+        ("get \\x4", "0 fault: 7 BadRequest(R)"),
+        ("get \\x4g", "0 fault: 7 BadRequest(R)"),
+        ("put a \\", "0 fault: 7 BadRequest(R)"),
+    ],
+    "limits": [
+        ("get " + "k" * 64, "0 none"),
+        ("get " + "k" * 65, "0 fault: 7 BadRequest(key)"),
+        ("get " + "\\x20" * 64, "0 none"),
+        ("put a " + "\\x00" * 4096, "0 committed AT1 ID1"),
+        ("put a " + "v" * 4097, "0 fault: 7 BadRequest(value)"),
+        ("get a", "0 =" + "\\x00" * 4096),
+        ("get" + " a" * 129, "0 fault: 7 BadRequest(many)"),
+        ("get" + " b" * 128, "0" + " none" * 128),
+    ],
+    "a line that is too long is refused in its place": [
+        ("1 put a " + "v" * 70000, "1 fault: 7 BadRequest(R)"),
+        ("1 get a", "1 none"),
+    ],
+}
+
+
+def pattern(answers):
+    """The regular expression of some lines of answers."""
+    seen = set()
+
+    def place(found):
+        name = found.group()
+        if name in seen:
+            return f"(?P={name})"
+        seen.add(name)
+        return f"(?P<{name}>[0-9]+)" if name.startswith("AT") else rf"(?P<{name}>[0-9]+\.[0-9]+)"
+
+    text = re.sub(r"\b(?:AT|ID)[0-9]\b", place, re.escape("\n".join(answers)))
+    return text.replace(r"BadRequest\(R\)", r"BadRequest\([a-z]+\)")
+
+
+def add_one(tx):
+    tx.put(b"a", b"%d" % (int(tx.get(b"a") or b"0") + 1))
+
+
+class OverPipes:
+    """What is said over the program's own pipes."""
+
+    def test_conversations(self):
+        for name, lines in CONVERSATIONS.items():
+            with self.subTest(name):
+                self.setUp()
+                self.make()
+                pipe = Pipe(self.words, self.logs, 4)
+                self.assertRegex(pipe.ready, rb"\Aready [0-9]+\n\Z")
+                told = [pipe.ask(asked.encode()).decode() for asked, _ in lines]
+                found = re.fullmatch(pattern([answer for _, answer in lines]), "\n".join(told))
+                self.assertTrue(found, f"{told}, where this was wanted: {lines}")
+                times = [int(at) for name, at in sorted(found.groupdict().items()) if name.startswith("AT")]
+                self.assertEqual(times, sorted(set(times)))
+                self.assertEqual(pipe.end(), (b"", 0))
+
+    def test_lines_at_once(self):
+        """Each line of a burst is answered, in the order of its client."""
+        self.make()
+        pipe = Pipe(self.words, self.logs, 4)
+        lines = [b"%d get %d\n" % (client, turn) if turn % 2 else b"%d put %d %d\n" % (client, turn, client) for turn in range(20)
+                 for client in range(4)]
+        pipe.send(b"".join(lines))
+        rest, status = pipe.end()
+        for client in range(4):
+            told = [line.split(b" ")[1] for line in rest.splitlines() if line.startswith(b"%d " % client)]
+            self.assertEqual(told, [b"committed", b"none"] * 10)
+        self.assertEqual((len(rest.splitlines()), status), (80, 0))
+
+    def test_the_end_of_input_within_a_line(self):
+        """A last line without line feed is answered, and what is open is given up."""
+        self.make()
+        pipe = Pipe(self.words, self.logs, 4)
+        pipe.send(b"1 begin\n1 put b 1\n2 put a 1")
+        rest, status = pipe.end()
+        self.assertEqual(sorted(line.split(b" ")[:2] for line in rest.splitlines()), [[b"1", b"begun"], [b"1", b"ok"], [b"2", b"committed"]])
+        self.assertEqual(status, 0)
+        self.assertEqual(self.open().get_all(b"a", b"b"), [b"1", None])
+
+    def test_quit(self):
+        """It is answered last. What comes behind it is not read."""
+        self.make()
+        pipe = Pipe(self.words, self.logs, 4)
+        pipe.send(b"put a 1\n1 begin\n1 put b 1\n2 quit\nput a 2\n")
+        rest, status = pipe.end()
+        self.assertEqual(status, 0)
+        self.assertEqual(len(rest.splitlines()), 4)
+        self.assertEqual(rest.splitlines()[-1], b"2 closed")
+        self.assertEqual(self.open().get_all(b"a", b"b"), [b"1", None])
+
+    def test_clients_do_not_wait_for_each_other(self):
+        """While one transaction is open, others come and go."""
+        self.make()
+        pipe = Pipe(self.words, self.logs, 4)
+        self.assertRegex(pipe.ask(b"begin"), b"0 begun")
+        self.assertRegex(pipe.ask(b"put a 1"), b"0 ok")
+        self.assertRegex(pipe.ask(b"1 put z 2"), b"1 committed")
+        self.assertEqual(pipe.ask(b"2 get a z"), b"2 none =2")
+        self.assertRegex(pipe.ask(b"commit"), b"0 committed")
+        self.assertEqual(pipe.end(), (b"", 0))
+
+    def test_an_idle_transaction_lets_its_locks_go(self):
+        """A `put` beside it commits within its two seconds, and the next line of the idle one is answered `aborted`."""
+        self.make()
+        pipe = Pipe(self.words, self.logs, 4, "--idle", "1000")
+        self.assertRegex(pipe.ask(b"begin"), b"0 begun")
+        self.assertEqual(pipe.ask(b"get a"), b"0 none")
+        time.sleep(1.2)
+        self.assertRegex(pipe.ask(b"1 put a 1"), b"1 committed")
+        self.assertEqual(pipe.ask(b"put a 2"), b"0 aborted")
+        self.assertEqual(pipe.ask(b"get a"), b"0 =1")
+        self.assertEqual(pipe.end(), (b"", 0))
+
+
+class OverStores:
+    """What the client does with a program."""
+
+    def test_made_once(self):
+        self.make()
+        store = self.open()
+        store.put(b"a", b"1")
+        store.close()
+        with self.assertRaises(Refused) as refused:
+            Store.make(self.logs, b"m", program=self.words)
+        self.assertEqual(refused.exception.number, 2)
+        self.assertEqual(self.open().get(b"a"), b"1")
+
+    def test_no_store(self):
+        with self.assertRaisesRegex(Closed, "was not opened .status 2."):
+            Store(self.logs, program=self.words)
+
+    def test_all_bytes(self):
+        self.make()
+        store = self.open()
+        draw = random.Random(17)
+        rows = {bytes(draw.randrange(256) for _ in range(draw.randint(1, 64))): draw.randbytes(draw.choice([0, 1, 17, 4096])) for _ in range(20)}
+        store.transact(lambda tx: [tx.put(key, value) for key, value in rows.items()])
+        self.assertEqual(store.get_all(*rows), list(rows.values()))
+        self.assertEqual(store.close(), 0)
+        with self.open().view() as view:
+            self.assertEqual(view.get_all(*rows), list(rows.values()))
+
+    def test_refused(self):
+        self.make()
+        store = self.open()
+        rows = [
+            lambda tx: tx.get(b""),
+            lambda tx: tx.put(b"k" * 65, b"1"),
+            lambda tx: tx.put(b"k", b"v" * 4097),
+            lambda tx: tx.get_all(),
+            lambda tx: tx.put(b"k", b"v" * 70000),
+        ]
+
+        def code(tx):
+            for row in rows:
+                with self.assertRaises(Refused) as refused:
+                    row(tx)
+                self.assertEqual((refused.exception.number, refused.exception.ended), (7, False))
+            tx.put(b"k", b"kept")
+
+        for row in rows:
+            with self.assertRaises(Refused):
+                row(store)
+        store.transact(code)
+        self.assertEqual(store.get(b"k"), b"kept")
+
+    def test_timestamps_follow_one_another(self):
+        self.make()
+        store = self.open()
+        times = [store.put(b"a", b"1").at, store.transact(add_one).at, store.erase(b"a").at]
+        with store.view() as view:
+            times.append(view.at)
+        self.assertEqual(times, sorted(set(times)))
+
+    def test_a_view_in_a_transaction(self):
+        """It is another client's, and sees what is committed."""
+        self.make()
+        store = self.open()
+        store.put(b"b", b"1")
+        seen = []
+        store.transact(lambda tx: (tx.put(b"c", b"2"), seen.append(store.get_all(b"b", b"c"))))
+        self.assertEqual(seen[-1], [b"1", None])
+
+    def test_threads_add(self):
+        self.make()
+        store = self.open(clients=8)
+
+        def work():
+            for _ in range(10):
+                store.transact(add_one, tries=1000)
+
+        threads = [threading.Thread(target=work) for _ in range(8)]
+        for thread in threads:
+            thread.start()
+        for thread in threads:
+            thread.join()
+        self.assertEqual(store.get(b"a"), b"80")
+
+    def test_a_second_opening(self):
+        """It is refused after a second, and taken once the first is closed."""
+        self.make()
+        store = self.open()
+        with self.assertRaisesRegex(Closed, "was not opened .status 2."):
+            Store(self.logs, program=self.words)
+        store.put(b"a", b"1")
+        store.close()
+        self.assertEqual(self.open().get(b"a"), b"1")
+
+    def test_a_parent_that_is_killed(self):
+        """Its program ends by the end of its input, and lets the folder go."""
+        self.make()
+        code = f"""
+import sys, time
+sys.path[:0] = {[os.path.dirname(HERE)]!r}
+from spanner_shards import Store
+store = Store({self.logs!r}, clients=2, program={self.words!r})
+store.put(b"a", b"1")
+print("put", flush=True)
+store.transact(lambda tx: (tx.put(b"a", b"2"), time.sleep(60)))
+"""
+        parent = subprocess.Popen([sys.executable, "-c", code], stdout=subprocess.PIPE)
+        self.assertEqual(parent.stdout.readline(), b"put\n")
+        parent.kill()
+        parent.communicate()
+        self.assertEqual(self.open().get(b"a"), b"1")
+
+    def test_an_interrupt_of_the_parent_leaves_the_program(self):
+        """A key that interrupts a terminal's processes reaches the parent alone."""
+        self.make()
+        store = self.open()
+        self.assertNotEqual(os.getpgid(store.process.pid), os.getpgid(0))
+        with self.assertRaises(KeyboardInterrupt):
+            os.kill(os.getpid(), signal.SIGINT)
+            time.sleep(10)
+        store.put(b"a", b"1")
+
+    def test_ten_kills(self):
+        """All money is there after each, and each move that was told."""
+        self.make()
+        bank = Bank(self.logs, clients=8, program=self.words)
+        for kill in range(10):
+            bank.serve_until_killed(random.Random(kill).random())
+        bank.close()
+        print(f"{type(self).__name__}: {bank}", file=sys.stderr)
+        self.assertEqual((bank.kills, bank.wrong), (10, 0))
+        self.assertGreater(bank.moves, 0)
+        self.assertGreaterEqual(bank.audits, 21)
+        self.assertEqual(sum(map(int, self.open().get_all(*ACCOUNTS))), WHOLE)
+
+
+class Model(OverPipes, OverStores, Folder):
+    words = FAKE
+
+
+@unittest.skipUnless(program(), "the program is not built")
+class Program(OverPipes, OverStores, Folder):
+    words = program()
+
+    def test_a_reader_that_went_away(self):
+        """The program ends with the next line, or the one after it."""
+        self.make()
+        pipe = Pipe(self.words, self.logs, 4)
+        pipe.process.stdout.close()
+        for _ in range(50):
+            try:
+                pipe.send(b"put a 1\n")
+            except BrokenPipeError:
+                break
+            time.sleep(0.1)
+        try:
+            pipe.process.stdin.close()
+        except BrokenPipeError:
+            pass
+        self.assertEqual(pipe.process.wait(10), 2)
+
+
+if __name__ == "__main__":
+    unittest.main()

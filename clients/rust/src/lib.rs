@@ -1,0 +1,340 @@
+#![doc = include_str!("../README.md")]
+
+use std::collections::hash_map::RandomState;
+use std::hash::{BuildHasher, Hasher};
+use std::io::{self, BufRead, BufReader, Write};
+use std::os::unix::process::CommandExt;
+use std::path::Path;
+use std::process::{Child, ChildStdin, ChildStdout, Command, ExitStatus, Stdio};
+use std::sync::mpsc::{channel, Receiver, Sender};
+use std::sync::{Condvar, Mutex, MutexGuard, PoisonError};
+use std::time::Duration;
+use std::{env, fmt, thread};
+
+/// Why a call did not do what was asked.
+#[derive(Debug, Clone, PartialEq, Eq)]
+pub enum Failed {
+    /// The transaction stands nowhere: it was aborted, at each try.
+    Aborted,
+    /// Nobody said how the transaction ended: it stands whole at one timestamp, or nowhere. Its id, if that was told.
+    Unknown(Option<String>),
+    /// The store refused it: the number and the words of a fault, and whether the transaction or view is over.
+    Refused { words: String, ended: bool },
+    /// The store is closed, or its program has ended, and what was asked for changed nothing.
+    Closed,
+}
+
+impl fmt::Display for Failed {
+    fn fmt(&self, f: &mut fmt::Formatter<'_>) -> fmt::Result {
+        match self {
+            Failed::Aborted => write!(f, "aborted"),
+            Failed::Unknown(id) => write!(f, "unknown {}", id.as_deref().unwrap_or("")),
+            Failed::Refused { words, .. } => write!(f, "fault: {words}"),
+            Failed::Closed => write!(f, "the store is closed"),
+        }
+    }
+}
+
+impl std::error::Error for Failed {}
+
+/// A transaction stands at the timestamp `at`, in microseconds. `value` is what its code gave.
+#[derive(Debug, Clone, PartialEq, Eq)]
+pub struct Committed<T> {
+    pub at: u64,
+    pub id: String,
+    pub value: T,
+}
+
+/// A store that is open. Threads may share it: each call takes one of its clients, and waits while all are in use.
+pub struct Store {
+    child: Mutex<Child>,
+    input: Mutex<Option<ChildStdin>>,
+    free: Mutex<Vec<Client>>,
+    freed: Condvar,
+}
+
+impl Store {
+    /// Opens the store in a folder for 64 clients, by the program that the environment names as `SHARDS_PROGRAM`, or by `run` in the
+    /// repository that has this crate.
+    pub fn open(folder: impl AsRef<Path>) -> io::Result<Store> {
+        let run = || Path::new(env!("CARGO_MANIFEST_DIR")).join("../../run").into();
+        let mut command = Command::new(env::var_os("SHARDS_PROGRAM").unwrap_or_else(run));
+        command.arg("serve").arg(folder.as_ref()).args(["--clients", "64"]);
+        Store::start(command, 64)
+    }
+
+    /// Opens a store by a command of one's own, which serves so many clients, 1 to 64.
+    pub fn start(mut command: Command, clients: usize) -> io::Result<Store> {
+        // In a group of its own the program is not ended by a key that interrupts this one.
+        let mut child = command.stdin(Stdio::piped()).stdout(Stdio::piped()).process_group(0).spawn()?;
+        let (Some(input), Some(output)) = (child.stdin.take(), child.stdout.take()) else { unreachable!("both are piped") };
+        let (mut output, mut ready) = (BufReader::with_capacity(65536, output), Vec::new());
+        if output.read_until(b'\n', &mut ready).is_err() || !ready.starts_with(b"ready") {
+            drop(input);
+            return Err(io::Error::other(format!("the store was not opened: {}; standard error has the reason", child.wait()?)));
+        }
+        let (senders, mut free): (Vec<_>, Vec<_>) = (0..clients).map(Client::new).unzip();
+        free.reverse();
+        thread::spawn(move || hear(output, &senders));
+        Ok(Store { child: Mutex::new(child), input: Mutex::new(Some(input)), free: Mutex::new(free), freed: Condvar::new() })
+    }
+
+    /// Runs the code of a transaction and commits what it did; up to `tries` times, while that is aborted. If the code fails otherwise, the
+    /// transaction is aborted.
+    pub fn transact<T, E, F>(&self, tries: u32, mut code: F) -> Result<Committed<T>, E>
+    where
+        E: From<Failed>,
+        F: FnMut(&mut Transaction<'_, '_>) -> Result<T, E>,
+    {
+        let mut lease = self.lease();
+        for attempt in 0..tries {
+            let id = lease.begin("begin", "abort")?;
+            let ran = code(&mut Transaction { lease: &mut lease, id: &id });
+            let ended = match ran {
+                Ok(value) => lease.commit("commit", &[], Some(id), value),
+                Err(_) if lease.over == Some(Failed::Aborted) => Err(Failed::Aborted),
+                Err(failed) => return Err(failed),
+            };
+            if !matches!(ended, Err(Failed::Aborted)) {
+                return Ok(ended?);
+            }
+            let random = RandomState::new().build_hasher().finish();
+            thread::sleep(Duration::from_micros(random % (1 + 1000 * u64::from(attempt.min(20)))));
+        }
+        Err(Failed::Aborted.into())
+    }
+
+    /// A view of the present: all that it answers stood at its timestamp.
+    pub fn view(&self) -> Result<View<'_>, Failed> {
+        let mut lease = self.lease();
+        let at = lease.begin("view", "end")?.parse().map_err(|_| Failed::Closed)?;
+        Ok(View { lease, at })
+    }
+
+    /// The value of a key at the present.
+    pub fn get(&self, key: &[u8]) -> Result<Option<Vec<u8>>, Failed> {
+        Ok(self.lease().get_all(&[key])?.pop().flatten())
+    }
+
+    /// Commits one write. If it is aborted the program tries again, for two seconds.
+    pub fn put(&self, key: &[u8], value: &[u8]) -> Result<Committed<()>, Failed> {
+        self.lease().commit("put", &[key, value], None, ())
+    }
+
+    /// Kills the program. What was answered stays.
+    pub fn kill(&self) -> io::Result<()> {
+        locked(&self.child).kill()
+    }
+
+    /// Ends the program, which first answers what was asked, and gives up what is open. So does dropping the store.
+    pub fn close(&self) -> io::Result<ExitStatus> {
+        if let Some(mut input) = locked(&self.input).take() {
+            let _ = input.write_all(b"quit\n");
+        }
+        locked(&self.child).wait()
+    }
+
+    fn lease(&self) -> Lease<'_> {
+        let free = self.freed.wait_while(locked(&self.free), |free| free.is_empty());
+        Lease { store: self, client: free.unwrap_or_else(PoisonError::into_inner).pop(), over: None }
+    }
+}
+
+impl Drop for Store {
+    fn drop(&mut self) {
+        let _ = self.close();
+    }
+}
+
+fn locked<T>(mutex: &Mutex<T>) -> MutexGuard<'_, T> {
+    mutex.lock().unwrap_or_else(PoisonError::into_inner)
+}
+
+// Sends each answer to the client that waits for it, until there are no more. A line that was cut off is none.
+fn hear(mut output: BufReader<ChildStdout>, senders: &[Sender<Vec<u8>>]) {
+    let mut line = Vec::new();
+    while output.read_until(b'\n', &mut line).unwrap_or(0) > 0 && line.pop() == Some(b'\n') {
+        let (number, answer) = parted(&line);
+        let Some(sender) = text(number).parse().ok().and_then(|number: usize| senders.get(number)) else { return };
+        let _ = sender.send(answer.to_vec());
+        line.clear();
+    }
+}
+
+// One client of the program. Each of its lines gets one answer, in order. It is one call's at a time.
+struct Client {
+    number: usize,
+    answers: Receiver<Vec<u8>>,
+    // The line that ends what may be open.
+    end: Option<&'static str>,
+}
+
+impl Client {
+    fn new(number: usize) -> (Sender<Vec<u8>>, Client) {
+        let (sender, answers) = channel();
+        (sender, Client { number, answers, end: None })
+    }
+}
+
+// A client in use. What it has open is ended when it is given back.
+struct Lease<'s> {
+    store: &'s Store,
+    client: Option<Client>,
+    // Why the transaction or view is over. Then no line of it is sent: the program would serve it by itself.
+    over: Option<Failed>,
+}
+
+impl Lease<'_> {
+    // Asks for a line, and waits for its answer. It failed as `lost` says if no answer comes.
+    fn ask(&mut self, verb: &str, data: &[&[u8]], lost: Failed) -> Result<Vec<u8>, Failed> {
+        if let Some(over) = &self.over {
+            return Err(over.clone());
+        }
+        let client = self.client.as_mut().ok_or(Failed::Closed)?;
+        send(&self.store.input, client.number, verb, data)?;
+        let answer = client.answers.recv().map_err(|_| lost)?;
+        let told = told(&answer);
+        if matches!(parted(&answer).0, b"committed" | b"unknown" | b"aborted" | b"ended" | b"ended:") {
+            client.end = None;
+            self.over = told.clone().err();
+        }
+        told.map(|()| answer)
+    }
+
+    // Begins a transaction or a view, and gives its id or timestamp.
+    fn begin(&mut self, verb: &str, end: &'static str) -> Result<String, Failed> {
+        self.over = None;
+        self.client.as_mut().ok_or(Failed::Closed)?.end = Some(end);
+        self.ask(verb, &[], Failed::Closed).map(|answer| text(parted(&answer).1))
+    }
+
+    fn get_all(&mut self, keys: &[&[u8]]) -> Result<Vec<Option<Vec<u8>>>, Failed> {
+        let answer = self.ask("get", keys, Failed::Closed)?;
+        Ok(answer.split(|byte| *byte == b' ').map(|word| word.strip_prefix(b"=").map(unspelled)).collect())
+    }
+
+    // Asks for a line that commits.
+    fn commit<T>(&mut self, verb: &str, data: &[&[u8]], id: Option<String>, value: T) -> Result<Committed<T>, Failed> {
+        let answer = self.ask(verb, data, Failed::Unknown(id.clone()))?;
+        let (at, told) = parted(parted(&answer).1);
+        Ok(Committed { at: text(at).parse().map_err(|_| Failed::Unknown(id))?, id: text(told), value })
+    }
+}
+
+impl Drop for Lease<'_> {
+    fn drop(&mut self) {
+        if let Some(end) = self.client.as_ref().and_then(|client| client.end) {
+            let _ = self.ask(end, &[], Failed::Closed);
+        }
+        locked(&self.store.free).extend(self.client.take());
+        self.store.freed.notify_one();
+    }
+}
+
+/// A transaction that is open. It sees what it has put.
+pub struct Transaction<'t, 's> {
+    lease: &'t mut Lease<'s>,
+    /// Its id.
+    pub id: &'t str,
+}
+
+impl Transaction<'_, '_> {
+    /// The value of a key.
+    pub fn get(&mut self, key: &[u8]) -> Result<Option<Vec<u8>>, Failed> {
+        Ok(self.get_all(&[key])?.pop().flatten())
+    }
+
+    /// The values of some keys, asked for at once.
+    pub fn get_all(&mut self, keys: &[&[u8]]) -> Result<Vec<Option<Vec<u8>>>, Failed> {
+        self.lease.get_all(keys)
+    }
+
+    /// Puts a value.
+    pub fn put(&mut self, key: &[u8], value: &[u8]) -> Result<(), Failed> {
+        self.lease.ask("put", &[key, value], Failed::Closed).map(drop)
+    }
+
+    /// Takes the value of a key away.
+    pub fn erase(&mut self, key: &[u8]) -> Result<(), Failed> {
+        self.lease.ask("erase", &[key], Failed::Closed).map(drop)
+    }
+}
+
+/// What stood at one timestamp.
+pub struct View<'s> {
+    lease: Lease<'s>,
+    /// The timestamp, in microseconds.
+    pub at: u64,
+}
+
+impl View<'_> {
+    /// The value of a key there.
+    pub fn get(&mut self, key: &[u8]) -> Result<Option<Vec<u8>>, Failed> {
+        Ok(self.get_all(&[key])?.pop().flatten())
+    }
+
+    /// The values of some keys there, asked for at once.
+    pub fn get_all(&mut self, keys: &[&[u8]]) -> Result<Vec<Option<Vec<u8>>>, Failed> {
+        self.lease.get_all(keys)
+    }
+}
+
+/// The word that spells some bytes: printable ASCII but the blank and the backslash stands for itself, and each other byte is `\xHH`.
+pub fn spelled(bytes: &[u8]) -> Vec<u8> {
+    let mut word = Vec::with_capacity(bytes.len());
+    for byte in bytes {
+        match byte {
+            b'!'..=b'~' if *byte != b'\\' => word.push(*byte),
+            _ => word.extend(format!("\\x{byte:02x}").as_bytes()),
+        }
+    }
+    word
+}
+
+/// The bytes that a word spells.
+pub fn unspelled(mut word: &[u8]) -> Vec<u8> {
+    let digit = |byte: &u8| char::from(*byte).to_digit(16).map_or(0, |digit| digit as u8);
+    let mut bytes = Vec::with_capacity(word.len());
+    while let [first, rest @ ..] = word {
+        let (byte, rest) = match word {
+            [b'\\', b'x', high, low, rest @ ..] => (16 * digit(high) + digit(low), rest),
+            _ => (*first, rest),
+        };
+        bytes.push(byte);
+        word = rest;
+    }
+    bytes
+}
+
+// Sends a line to the program. No answer comes of one that was not written whole, and no other follows it.
+fn send(input: &Mutex<Option<ChildStdin>>, number: usize, verb: &str, data: &[&[u8]]) -> Result<(), Failed> {
+    let words = data.iter().map(|bytes| [b" ".to_vec(), spelled(bytes)].concat());
+    let line = [format!("{number} {verb}").into_bytes(), words.collect::<Vec<_>>().concat(), b"\n".to_vec()].concat();
+    let mut input = locked(input);
+    if input.as_mut().ok_or(Failed::Closed)?.write_all(&line).is_err() {
+        *input = None;
+    }
+    Ok(())
+}
+
+// What an answer tells that something failed.
+fn told(answer: &[u8]) -> Result<(), Failed> {
+    let (first, rest) = parted(answer);
+    match first {
+        b"aborted" => Err(Failed::Aborted),
+        b"unknown" => Err(Failed::Unknown(Some(text(rest)))),
+        b"fault:" => Err(Failed::Refused { words: text(rest), ended: false }),
+        b"ended:" => Err(Failed::Refused { words: text(parted(rest).1), ended: true }),
+        _ => Ok(()),
+    }
+}
+
+// The first word of a line, and what stands behind it.
+fn parted(line: &[u8]) -> (&[u8], &[u8]) {
+    let mut parts = line.splitn(2, |byte| *byte == b' ');
+    (parts.next().unwrap_or(b""), parts.next().unwrap_or(b""))
+}
+
+fn text(bytes: &[u8]) -> String {
+    String::from_utf8_lossy(bytes).into_owned()
+}

@@ -1,0 +1,46 @@
+#!/bin/sh
+# Runs the tests of the clients in Python and Rust: over a model of the program, and over the program that SHARDS_PROGRAM names, or that was
+# built here. It says what was not run: without `python3` nothing is, without `cargo` the client in Rust, and without the program what starts
+# it. Its exit status is 1 if a test failed.
+set -eu
+root=$(dirname "$(dirname "$(readlink -f "$0")")")
+program=${SHARDS_PROGRAM:-$root/crates/shards/out/shards}
+room=$(mktemp -d)
+trap 'rm -rf "$room"' EXIT
+
+if ! command -v python3 >/dev/null; then
+    echo "clients: NOT RUN, since there is no python3"
+    exit
+fi
+if [ -x "$program" ]; then
+    export SHARDS_PROGRAM="$program"
+elif [ -n "${SHARDS_PROGRAM:-}" ]; then
+    echo "clients: FAILED: SHARDS_PROGRAM names no program: $program" >&2
+    exit 1
+else
+    echo "clients: the program is NOT BUILT (./run --build builds it): the tests run over the model alone"
+fi
+
+# Runs the tests of a client, and says how many there were: tried NAME COMMAND..
+tried() {
+    name=$1
+    shift
+    if ! "$@" >"$room/said" 2>&1; then
+        cat "$room/said" >&2
+        echo "clients: FAILED: the client in $name" >&2
+        exit 1
+    fi
+    grep -h 'kills [0-9]* moves' "$room/said" | sed "s/^/clients: $name: /" || true
+    echo "clients: $name: $(awk '/^Ran [0-9]+ tests/ { n += $2 } /^test result: ok/ { n += $4 } END { print n + 0 }' "$room/said") tests passed or skipped"
+}
+
+export PYTHONDONTWRITEBYTECODE=1
+tried Python python3 -W error -m unittest discover -s "$root/clients/python/tests"
+if command -v cargo >/dev/null; then
+    CARGO_TARGET_DIR=${CARGO_TARGET_DIR:-$room/target}
+    export CARGO_TARGET_DIR
+    cd "$root/clients/rust"
+    tried Rust cargo test --offline -- --nocapture
+else
+    echo "clients: Rust: NOT RUN, since there is no cargo"
+fi
