@@ -5,17 +5,13 @@
 #     tests     until the tests of the last crate were proved
 #     edits     from the first crate whose wrong bodies were tried, until the last of them was refused
 #     runs      of the programs and the tests, once nothing is left to prove
-# The first three go beside one another. Behind a gate that passed, the programs that it built run with each growth of their memory refused.
-# What the gate prints passes through, and its exit status is passed on. Where a misuse is not refused, or a program does not end as it should
-# where memory is refused, that is the last line, and the status is 1.
+# The first three go beside one another. After a gate that passed, the programs that it built run with each growth of their memory refused, and
+# the wrong bodies are tried of the crates whose contracts are others than at the parent of HEAD, or at the commit BASE.
+# What the gate prints passes through, and its exit status is passed on. If a misuse or a wrong body is not refused, or a program does not end
+# as it should where memory is refused, that is the last line, and the status is 1.
 set -u
-# The gate counts the memory of a check from the lines below its crate, up to 10 GB, and holds checks back by that. Most take under 3 GB,
-# and the tests of the low crates 5. So it is told how many checks may go beside one another: one a processor, where there are 4 GB for each.
-if [ -z "${RT_JOBS:-}" ]; then
-    fit=$(awk '/^MemAvailable/ { print int($2 / 4000000) }' /proc/meminfo)
-    [ "$fit" -lt "$(nproc)" ] || RT_JOBS=$(nproc)
-fi
-export RT_JOBS="${RT_JOBS:-}"
+RT_JOBS=$(scripts/jobs.sh)
+export RT_JOBS
 
 room=$(mktemp -d)
 trap 'rm -rf "$room"' EXIT
@@ -70,6 +66,7 @@ if [ -n "$misuse" ]; then
 fi
 if [ "$status" -eq 0 ]; then
     scripts/refused_memory.sh </dev/null 2>&1 || unended=yes
+    scripts/wrong_bodies.sh --changed ${BASE:+"$BASE"} </dev/null 2>&1 || passed_on=yes
 fi
 
 whole=$(now)
@@ -85,6 +82,10 @@ if [ -n "${misused:-}" ]; then
 fi
 if [ -n "${unended:-}" ]; then
     echo 'refused_memory: FAILED'
+    exit 1
+fi
+if [ -n "${passed_on:-}" ]; then
+    echo 'wrong_bodies: FAILED'
     exit 1
 fi
 exit "$status"

@@ -1,45 +1,62 @@
 #!/bin/sh
-# Tries the wrong bodies of wrong-bodies/CRATE/*.edit, on a copy of the repository in which they stand in the place of the gate's: the
-# prover must refuse each of them. To be run when a crate's contracts change. With names of crates, as `scripts/wrong_bodies.sh units memory`,
-# only theirs are tried; as many checks at a time as there are processors, or JOBS, where the kit's gate takes names. Libraries that a check of
-# this clone has kept, or the gate on this machine, where the kit keeps that, are not proved again; so all of them take 15 to 20 minutes on four
-# processors.
+# Tries wrong bodies of wrong-bodies/CRATE/*.edit: the prover must refuse each of them.
+#     scripts/wrong_bodies.sh                     all of them, in 15 to 20 minutes on four processors
+#     scripts/wrong_bodies.sh CRATE...            those of some crates: when a crate's contracts change
+#     scripts/wrong_bodies.sh CRATE/NAME...       these
+#     scripts/wrong_bodies.sh --changed [COMMIT]  those of the crates whose contracts are others than at a commit (scripts/changed_contracts.sh)
+# They stand in the place of the gate's, in a room of these crates and of those below, so that the gate's own command tries them there. Libraries
+# that the gate proved on this machine are not proved again, where the kit keeps that. As many checks go at a time as there are processors, or JOBS.
 set -eu
 root=$(dirname "$(dirname "$(readlink -f "$0")")")
-export RT_JOBS="${JOBS:-$(nproc)}"
-copy=$(mktemp -d)
-trap 'rm -rf "$copy"' EXIT
-
-if [ $# -eq 0 ]; then
-    set -- $(cd "$root/wrong-bodies" && ls)
+cd "$root"
+if [ "${1:-}" = --changed ]; then
+    shift
+    changed=$(scripts/changed_contracts.sh "$@")
+    set -- $changed
+    if [ $# -eq 0 ]; then
+        echo "wrong bodies: none to try"
+        exit 0
+    fi
+    echo "wrong bodies: of $*"
+elif [ $# -eq 0 ]; then
+    set -- $(cd wrong-bodies && ls)
 fi
-(cd "$root" && tar -cf - --exclude='crates/*/out' --exclude='crates/*/must-fail' crates crates.txt HANDLES) | tar -xf - -C "$copy"
-# What this clone's own checks kept of libraries goes along: the kit goes by the sums of their sources, and proves anew what has changed.
-for kept in "$root"/crates/*/out/rlib; do
-    [ -d "$kept" ] || continue
-    to=$copy/crates/$(basename "$(dirname "$(dirname "$kept")")")/out
-    mkdir -p "$to"
-    cp -al "$kept" "$to" 2>/dev/null || cp -a "$kept" "$to"
-done
+
+room=$(mktemp -d)
+trap 'rm -rf "$room" "$room.edits"' EXIT
 for name; do
-    if ! ls "$root/wrong-bodies/$name"/*.edit >/dev/null 2>&1; then
-        echo "wrong bodies: there are none of a crate '$name'" >&2
+    found=$(ls "wrong-bodies/$name.edit" 2>/dev/null || ls "wrong-bodies/$name"/*.edit 2>/dev/null || true)
+    if [ -z "$found" ]; then
+        echo "wrong bodies: there are none of '$name'" >&2
         exit 2
     fi
-    cp -r "$root/wrong-bodies/$name" "$copy/crates/$name/must-fail"
-done
+    echo "$found"
+done >"$room.edits"
+crates=$(sed 's|wrong-bodies/\([^/]*\)/.*|\1|' "$room.edits" | sort -u)
+scripts/room.sh "$room" $crates
+while IFS= read -r edit; do
+    to=$room/crates/$(basename "$(dirname "$edit")")/must-fail
+    mkdir -p "$to"
+    cp "$edit" "$to"
+done <"$room.edits"
 
-# Kits whose gate takes the names of crates try them over the libraries that the gate built.
-cd "$copy"
-tried_by='must-fail'
+RT_JOBS=${JOBS:-$(nproc)}
+export RT_JOBS
 if rt help 2>&1 | grep -q '^  rt ci NAME'; then
-    tried_by='ci'
+    (cd "$room" && rt ci) >"$room/said" 2>&1 || true
+else
+    # Such a kit begins with what this clone's own checks kept of libraries, by the sums of their sources.
+    for kept in crates/*/out/rlib; do
+        [ -d "$kept" ] && [ -d "$room/${kept%/out/rlib}" ] || continue
+        mkdir -p "$room/${kept%/rlib}"
+        cp -al "$kept" "$room/${kept%/rlib}" 2>/dev/null || cp -a "$kept" "$room/${kept%/rlib}"
+    done
+    (cd "$room" && rt must-fail $crates) >"$room/said" 2>&1 || true
 fi
-rt "$tried_by" "$@" >said 2>&1 || true
 
 # Says of each that it was refused, and why, or that it was not.
-grep '^rt: must-fail \|error\|NOT PROVED\|rt: stopped' said || true
-wanted=$(ls crates/*/must-fail/*.edit | wc -l)
-refused=$(grep -c '^rt: must-fail .*: refused, as it must be' said || true)
+grep '^rt: must-fail \|error\|NOT PROVED\|BAD EDIT\|rt: stopped' "$room/said" | sort -u || true
+wanted=$(wc -l <"$room.edits")
+refused=$(grep -c '^rt: must-fail .*: refused, as it must be' "$room/said" || true)
 echo "wrong bodies: $refused refused, $((wanted - refused)) not"
 [ "$refused" -eq "$wanted" ]
