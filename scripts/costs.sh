@@ -4,8 +4,14 @@
 #     scripts/costs.sh CRATE          the crate
 #     scripts/costs.sh CRATE --test   its tests
 # With SHOWN, so many functions are shown, and else 20.
+#     scripts/costs.sh --touch [CRATE]
+# proves nothing: it says what the longest chain of crates is, and what the gate proves anew after a touch of each crate, or of one.
 set -eu
 root=$(dirname "$(dirname "$(readlink -f "$0")")")
+if [ "${1:-}" = --touch ]; then
+    shift
+    exec "$root/scripts/touch_costs.py" "$@"
+fi
 cd "$root/crates/$1"
 kept=out/incremental
 rm -rf "$kept"

@@ -27,6 +27,8 @@ mod file_logs;
 #[cfg(test)]
 mod files;
 #[cfg(test)]
+mod grouped;
+#[cfg(test)]
 mod handed;
 #[cfg(test)]
 mod horizons;

@@ -1,9 +1,10 @@
 //! The tests, each of some areas. A body that names several tables costs much to prove, so most tables have a function of their own.
 use crate::checks::{end, go_over};
 use crate::{
-    clocks, crowd, devices, disks, documents, drawers, drive_lines, figures, files, handed,
-    horizons, known, ledgers, left, limits, looks, messages, migrated, plain, records, refusals,
-    renewed, screens, seated, sessions, spellings, tables, terminals, turned, verdicts, versioned,
+    clocks, crowd, devices, disks, documents, drawers, drive_lines, figures, files, grouped,
+    handed, horizons, known, ledgers, left, limits, looks, messages, migrated, plain, records,
+    refusals, renewed, screens, seated, sessions, spellings, tables, terminals, turned, verdicts,
+    versioned,
 };
 use made::WrongRows;
 
@@ -62,6 +63,7 @@ fn disks_and_logs(rt: HostRuntime) {
     spellings::tell_read(&mut wrong, &rt);
     files::tell_cases(&mut wrong, &rt);
     files::tell_files(&mut wrong, &rt);
+    grouped::tell_groups(&mut wrong, &rt);
     end(&rt, wrong);
 }
 
