@@ -1,5 +1,5 @@
 //! How a store is parted and served.
-ghost use Rattle.std.specs.Prelude.{◌≡◌, ◌⊎◌, ◌<◌, ◌≤◌, Err, IfErr, IfOk, IsOk, None};
+ghost use Rattle.std.specs.Prelude.{◌≡◌, ◌⊎◌, ◌<◌, ◌≤◌, Err, IfErr, IfOk, None};
 
 use units::{Fault, Reason, Splits, Stride};
 
@@ -58,7 +58,7 @@ impl Options {
     // How many clients there are. Options beyond their limits are refused as `settings`.
     pub(crate) fn checked_clients(&self) -> Result<usize, Fault>
         ensures clients { IfOk result (λ clients. clients ≡ self.now.clients) }
-        ensures few { IsOk result → (0 < self.now.clients) × (self.now.clients ≤ 64) }
+        ensures few { IfOk result (λ clients. (0 < clients) × (clients ≤ 64)) }
         ensures limits { (1000000 < self.now.epsilon)
             ⊎ ((self.now.clients ≡ 0) ⊎ (64 < self.now.clients))
             → result ≡ Err (Fault.BadRequest Reason.Settings) }
