@@ -48,7 +48,7 @@ static GROUPS: [Group; 5] = [
             (FIRST_GATE, OPENED),
             (FIRST_GATE + 14, COMMIT),
             (FIRST_GATE + 56, OUTCOME),
-            (FIRST_GATE + 86, CEILING),
+            (FIRST_GATE + 87, CEILING),
         ],
         bytes: None,
     },
@@ -59,8 +59,8 @@ static GROUPS: [Group; 5] = [
             (FIRST_GATE, OPENED),
             (FIRST_GATE + 14, COMMIT),
             (FIRST_GATE + 56, OUTCOME),
-            (FIRST_GATE + 86, CEILING),
-            (FIRST_GATE + 100, HIGHER),
+            (FIRST_GATE + 87, CEILING),
+            (FIRST_GATE + 101, HIGHER),
         ],
         bytes: None,
     },
@@ -73,7 +73,7 @@ static GROUPS: [Group; 5] = [
             (FIRST_GATE + 28, HIGHER),
             (FIRST_GATE + 42, COMMIT),
             (FIRST_GATE + 84, OUTCOME),
-            (FIRST_GATE + 114, HIGHER),
+            (FIRST_GATE + 115, HIGHER),
         ],
         bytes: None,
     },
@@ -179,6 +179,7 @@ impl Group {
         };
         let opened = put_lines(alloc, &mut log, "opened 1");
         let answered = join(alloc, &mut log, self.lines, stop.call) == stop.answer;
+        log.arm(None);
         let stopped = log.is_stopped() == stop.answer.is_err();
         let mut disk = log.into_disk();
         if let Some(fate) = fate {
