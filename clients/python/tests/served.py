@@ -44,6 +44,14 @@ class Folder(unittest.TestCase):
         self.addCleanup(store.close)
         return store
 
+    def pipe(self, *options):
+        """The store, talked to line by line by 4 clients. The program is killed behind the test, if it has not ended."""
+        pipe = Pipe(self.words, self.logs, 4, *options)
+        self.addCleanup(pipe.process.wait)
+        self.addCleanup(pipe.process.stdout.close)
+        self.addCleanup(pipe.process.kill)
+        return pipe
+
 
 class Pipe:
     """A program that serves, talked to line by line."""

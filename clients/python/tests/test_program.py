@@ -10,7 +10,7 @@ import threading
 import time
 import unittest
 
-from served import FAKE, HERE, Folder, Pipe, program
+from served import FAKE, HERE, Folder, program
 from bank import ACCOUNTS, WHOLE, Bank
 from spanner_shards import Closed, Refused, Store
 
@@ -149,7 +149,7 @@ class OverPipes:
             with self.subTest(name):
                 self.setUp()
                 self.make()
-                pipe = Pipe(self.words, self.logs, 4)
+                pipe = self.pipe()
                 self.assertRegex(pipe.ready, rb"\Aready [0-9]+\n\Z")
                 told = [pipe.ask(asked.encode()).decode() for asked, _ in lines]
                 found = re.fullmatch(pattern([answer for _, answer in lines]), "\n".join(told))
@@ -161,7 +161,7 @@ class OverPipes:
     def test_lines_at_once(self):
         """Each line of a burst is answered, in the order of its client."""
         self.make()
-        pipe = Pipe(self.words, self.logs, 4)
+        pipe = self.pipe()
         lines = [b"%d get %d\n" % (client, turn) if turn % 2 else b"%d put %d %d\n" % (client, turn, client) for turn in range(20)
                  for client in range(4)]
         pipe.send(b"".join(lines))
@@ -174,7 +174,7 @@ class OverPipes:
     def test_the_end_of_input_within_a_line(self):
         """A last line without line feed is answered, and what is open is given up."""
         self.make()
-        pipe = Pipe(self.words, self.logs, 4)
+        pipe = self.pipe()
         pipe.send(b"1 begin\n1 put b 1\n2 put a 1")
         rest, status = pipe.end()
         self.assertEqual(sorted(line.split(b" ")[:2] for line in rest.splitlines()), [[b"1", b"begun"], [b"1", b"ok"], [b"2", b"committed"]])
@@ -184,7 +184,7 @@ class OverPipes:
     def test_quit(self):
         """It is answered last. What comes behind it is not read."""
         self.make()
-        pipe = Pipe(self.words, self.logs, 4)
+        pipe = self.pipe()
         pipe.send(b"put a 1\n1 begin\n1 put b 1\n2 quit\nput a 2\n")
         rest, status = pipe.end()
         self.assertEqual(status, 0)
@@ -195,7 +195,7 @@ class OverPipes:
     def test_clients_do_not_wait_for_each_other(self):
         """While one transaction is open, others come and go."""
         self.make()
-        pipe = Pipe(self.words, self.logs, 4)
+        pipe = self.pipe()
         self.assertRegex(pipe.ask(b"begin"), b"0 begun")
         self.assertRegex(pipe.ask(b"put a 1"), b"0 ok")
         self.assertRegex(pipe.ask(b"1 put z 2"), b"1 committed")
@@ -206,7 +206,7 @@ class OverPipes:
     def test_an_idle_transaction_lets_its_locks_go(self):
         """A `put` beside it commits within its two seconds, and the next line of the idle one is answered `aborted`."""
         self.make()
-        pipe = Pipe(self.words, self.logs, 4, "--idle", "1000")
+        pipe = self.pipe("--idle", "1000")
         self.assertRegex(pipe.ask(b"begin"), b"0 begun")
         self.assertEqual(pipe.ask(b"get a"), b"0 none")
         time.sleep(1.2)
@@ -363,7 +363,7 @@ class Program(OverPipes, OverStores, Folder):
     def test_a_reader_that_went_away(self):
         """The program ends with the next line, or the one after it."""
         self.make()
-        pipe = Pipe(self.words, self.logs, 4)
+        pipe = self.pipe()
         pipe.process.stdout.close()
         for _ in range(50):
             try:
