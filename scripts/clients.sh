@@ -12,13 +12,17 @@ if ! command -v python3 >/dev/null; then
     echo "clients: NOT RUN, since there is no python3"
     exit
 fi
-if [ -x "$program" ]; then
-    export SHARDS_PROGRAM="$program"
-elif [ -n "${SHARDS_PROGRAM:-}" ]; then
-    echo "clients: FAILED: SHARDS_PROGRAM names no program: $program" >&2
-    exit 1
-else
+if [ -n "${SHARDS_PROGRAM:-}" ]; then
+    if [ ! -x "$program" ]; then
+        echo "clients: FAILED: SHARDS_PROGRAM names no program: $program" >&2
+        exit 1
+    fi
+elif [ ! -x "$program" ]; then
     echo "clients: the program is NOT BUILT (./run --build builds it): the tests run over the model alone"
+elif ! "$program" --help | grep -q 'serve '; then
+    echo "clients: the program that is built has NO serve: the tests run over the model alone"
+else
+    export SHARDS_PROGRAM="$program"
 fi
 
 # Runs the tests of a client, and says how many there were: tried NAME COMMAND..
@@ -30,8 +34,12 @@ tried() {
         echo "clients: FAILED: the client in $name" >&2
         exit 1
     fi
-    grep -h 'kills [0-9]* moves' "$room/said" | sed "s/^/clients: $name: /" || true
-    echo "clients: $name: $(awk '/^Ran [0-9]+ tests/ { n += $2 } /^test result: ok/ { n += $4 } END { print n + 0 }' "$room/said") tests passed or skipped"
+    sed -n "s/.*\(the \(model\|program\): kills [0-9]* moves.*\)/clients: $name: \1/p" "$room/said"
+    awk -v name="$name" '
+        /^Ran [0-9]+ tests/ { passed += $2 }
+        /^OK .skipped=/ { skipped = $2; gsub(/[^0-9]/, "", skipped); passed -= skipped }
+        /^test result: ok/ { passed += $4 }
+        END { print "clients: " name ": " passed + 0 " tests passed, " skipped + 0 " were not run" }' "$room/said"
 }
 
 export PYTHONDONTWRITEBYTECODE=1

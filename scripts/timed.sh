@@ -5,10 +5,10 @@
 #     tests     until the tests of the last crate were proved
 #     edits     from the first crate whose wrong bodies were tried, until the last of them was refused
 #     runs      of the programs and the tests, once nothing is left to prove
-# The first three go beside one another. After a gate that passed, the programs that it built run with each growth of their memory refused, and
-# the wrong bodies are tried of the crates whose contracts are others than at the parent of HEAD, or at the commit BASE.
-# What the gate prints passes through, and its exit status is passed on. If a misuse or a wrong body is not refused, or a program does not end
-# as it should where memory is refused, that is the last line, and the status is 1.
+# The first three go beside one another. After a gate that passed, the programs that it built run with each growth of their memory refused, the
+# tests of the clients run over the program, and the wrong bodies are tried of the crates whose contracts are others than at the parent of HEAD,
+# or at the commit BASE. What the gate prints passes through, and its exit status is passed on. If a misuse or a wrong body is not refused, a
+# program does not end as it should when memory is refused, or a client's test fails, that is the last line, and the status is 1.
 set -u
 RT_JOBS=$(scripts/jobs.sh)
 export RT_JOBS
@@ -66,6 +66,7 @@ if [ -n "$misuse" ]; then
 fi
 if [ "$status" -eq 0 ]; then
     scripts/refused_memory.sh </dev/null 2>&1 || unended=yes
+    scripts/clients.sh </dev/null 2>&1 || unserved=yes
     scripts/wrong_bodies.sh --changed ${BASE:+"$BASE"} </dev/null 2>&1 || passed_on=yes
 fi
 
@@ -86,6 +87,10 @@ if [ -n "${unended:-}" ]; then
 fi
 if [ -n "${passed_on:-}" ]; then
     echo 'wrong_bodies: FAILED'
+    exit 1
+fi
+if [ -n "${unserved:-}" ]; then
+    echo 'clients: FAILED'
     exit 1
 fi
 exit "$status"

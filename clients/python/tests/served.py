@@ -14,11 +14,12 @@ BUILT = os.path.realpath(os.path.join(HERE, "../../../crates/shards/out/shards")
 
 
 def program():
-    """The program that SHARDS_PROGRAM names, or the one that was built here, if there is one."""
+    """The program that SHARDS_PROGRAM names, or the one that was built here, if there is one that serves."""
     named = os.environ.get("SHARDS_PROGRAM")
     if named:
         return [named]
-    return [BUILT] if os.access(BUILT, os.X_OK) else None
+    serves = os.access(BUILT, os.X_OK) and b"serve " in subprocess.run([BUILT, "--help"], stdout=subprocess.PIPE).stdout
+    return [BUILT] if serves else None
 
 
 class Folder(unittest.TestCase):

@@ -345,7 +345,7 @@ store.transact(lambda tx: (tx.put(b"a", b"2"), time.sleep(60)))
         for kill in range(10):
             bank.serve_until_killed(random.Random(kill).random())
         bank.close()
-        print(f"{type(self).__name__}: {bank}", file=sys.stderr)
+        print(f"\nthe {type(self).__name__.lower()}: {bank}", file=sys.stderr)
         self.assertEqual((bank.kills, bank.wrong), (10, 0))
         self.assertGreater(bank.moves, 0)
         self.assertGreaterEqual(bank.audits, 21)

@@ -1,7 +1,7 @@
 //! Tests over programs that serve: the model, and the built program, where there is one.
-mod served;
 #[path = "../examples/bank.rs"]
 mod bank;
+mod served;
 
 use bank::{total, Bank};
 use served::{programs, Logs};
@@ -116,7 +116,7 @@ fn ten_kills() {
         }
         let store = logs.open(8, &[]);
         bank.check(&store).unwrap();
-        println!("{program:?}: kills {} moves {} audits {} wrong {}", bank.kills, bank.moves, bank.audits, bank.wrong);
+        println!("{program}: kills {} moves {} audits {} wrong {}", bank.kills, bank.moves, bank.audits, bank.wrong);
         assert_eq!((bank.kills, bank.wrong, total(&store)), (10, 0, Ok(16_000)));
         assert!(bank.moves > 0 && bank.audits >= 21);
     }

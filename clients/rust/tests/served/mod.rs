@@ -5,21 +5,29 @@ use spanner_shards::Store;
 use std::path::{Path, PathBuf};
 use std::process::{Command, Stdio};
 use std::sync::atomic::{AtomicU64, Ordering};
-use std::{env, fs, process};
+use std::{env, fmt, fs, process};
 
 /// The words that start a program.
 #[derive(Clone, Debug)]
 pub struct Program(Vec<PathBuf>);
+
+impl fmt::Display for Program {
+    fn fmt(&self, f: &mut fmt::Formatter<'_>) -> fmt::Result {
+        write!(f, "the {}", if self.0.len() > 1 { "model" } else { "program" })
+    }
+}
 
 /// The model. It wants `python3`.
 pub fn model() -> Program {
     Program(vec!["python3".into(), top().join("clients/python/tests/fake_serve.py")])
 }
 
-/// The model, and the program that SHARDS_PROGRAM names, or the one that was built here, if there is one.
+/// The model, and the program that SHARDS_PROGRAM names, or the one that was built here, if there is one that serves.
 pub fn programs() -> Vec<Program> {
     let built = top().join("crates/shards/out/shards");
-    let program = env::var_os("SHARDS_PROGRAM").map(PathBuf::from).or(built.is_file().then_some(built));
+    let help = Command::new(&built).arg("--help").output();
+    let serves = help.is_ok_and(|help| String::from_utf8_lossy(&help.stdout).contains("serve "));
+    let program = env::var_os("SHARDS_PROGRAM").map(PathBuf::from).or(serves.then_some(built));
     if program.is_none() {
         eprintln!("the program is not built: the model alone is tried");
     }
