@@ -26,7 +26,7 @@ def crates():
 
 def main():
     needs = crates()
-    seconds = {name: [float(it) for it in rest] for name, *rest in map(str.split, lines_of("docs/gate-seconds.txt"))}
+    seconds = {name.lstrip("~"): [float(it) for it in rest] for name, *rest in map(str.split, lines_of("docs/gate-seconds.txt"))}
     unknown = sorted(name for name in needs if name not in seconds)
     if unknown:
         print(f"not measured, so taken as nothing: {' '.join(unknown)}")
