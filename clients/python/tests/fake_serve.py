@@ -304,4 +304,7 @@ def make(folder, *_splits):
 
 
 if __name__ == "__main__":
-    sys.exit({"make": make, "serve": serve}[sys.argv[1]](*sys.argv[2:]))
+    try:
+        sys.exit({"make": make, "serve": serve}[sys.argv[1]](*sys.argv[2:]))
+    except BrokenPipeError:  # its reader went away
+        sys.exit(2)

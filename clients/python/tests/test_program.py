@@ -83,6 +83,7 @@ CONVERSATIONS = {
         ("erase", "0 fault: 7 BadRequest(R)"),
         ("begin now", "0 fault: 7 BadRequest(R)"),
         ("2 commit now", "2 fault: 7 BadRequest(R)"),
+        ("4 get a", "4 fault: 7 BadRequest(R)"),
         ("get a", "0 none"),
     ],
     "no request, in a transaction that stays open": [
@@ -159,17 +160,16 @@ class OverPipes:
                 self.assertEqual(pipe.end(), (b"", 0))
 
     def test_lines_at_once(self):
-        """Each line of a burst is answered, in the order of its client."""
+        """Each line of a burst is answered to its client, in the order of that, also if more than 64 of a client wait."""
         self.make()
         pipe = self.pipe()
-        lines = [b"%d get %d\n" % (client, turn) if turn % 2 else b"%d put %d %d\n" % (client, turn, client) for turn in range(20)
-                 for client in range(4)]
+        lines = [b"%d put %d v%d.%d\n%d get %d\n" % (client, client, client, turn, client, client) for turn in range(50) for client in range(4)]
         pipe.send(b"".join(lines))
         rest, status = pipe.end()
         for client in range(4):
             told = [line.split(b" ")[1] for line in rest.splitlines() if line.startswith(b"%d " % client)]
-            self.assertEqual(told, [b"committed", b"none"] * 10)
-        self.assertEqual((len(rest.splitlines()), status), (80, 0))
+            self.assertEqual(told, [word for turn in range(50) for word in (b"committed", b"=v%d.%d" % (client, turn))])
+        self.assertEqual((len(rest.splitlines()), status), (400, 0))
 
     def test_the_end_of_input_within_a_line(self):
         """A last line without line feed is answered, and what is open is given up."""
@@ -214,6 +214,23 @@ class OverPipes:
         self.assertEqual(pipe.ask(b"put a 2"), b"0 aborted")
         self.assertEqual(pipe.ask(b"get a"), b"0 =1")
         self.assertEqual(pipe.end(), (b"", 0))
+
+    def test_a_reader_that_went_away(self):
+        """The program ends with the next line, or the one after it."""
+        self.make()
+        pipe = self.pipe()
+        pipe.process.stdout.close()
+        for _ in range(50):
+            try:
+                pipe.send(b"put a 1\n")
+            except BrokenPipeError:
+                break
+            time.sleep(0.1)
+        try:
+            pipe.process.stdin.close()
+        except BrokenPipeError:
+            pass
+        self.assertEqual(pipe.process.wait(10), 2)
 
 
 class OverStores:
@@ -359,23 +376,6 @@ class Model(OverPipes, OverStores, Folder):
 @unittest.skipUnless(program(), "the program is not built")
 class Program(OverPipes, OverStores, Folder):
     words = program()
-
-    def test_a_reader_that_went_away(self):
-        """The program ends with the next line, or the one after it."""
-        self.make()
-        pipe = self.pipe()
-        pipe.process.stdout.close()
-        for _ in range(50):
-            try:
-                pipe.send(b"put a 1\n")
-            except BrokenPipeError:
-                break
-            time.sleep(0.1)
-        try:
-            pipe.process.stdin.close()
-        except BrokenPipeError:
-            pass
-        self.assertEqual(pipe.process.wait(10), 2)
 
 
 if __name__ == "__main__":
