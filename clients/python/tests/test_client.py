@@ -2,6 +2,7 @@
 
 import os
 import signal
+import subprocess
 import threading
 import time
 import unittest
@@ -334,6 +335,15 @@ class Closes(Told):
         self.assertEqual(store.close(), 0)
         with self.assertRaises(Closed):
             store.transact(add_one)
+
+    def test_close_while_another_process_holds_the_pipe(self):
+        """A process that was forked meanwhile may have the pipe, so that the program hears of no end of it."""
+        store = self.told()
+        holder = subprocess.Popen(["sleep", "30"], pass_fds=[store.process.stdin.fileno()])
+        self.addCleanup(holder.wait)
+        self.addCleanup(holder.kill)
+        self.assertEqual(store.close(), 0)
+        self.assertIsNone(holder.poll())
 
     def test_no_program(self):
         self.make()
