@@ -163,7 +163,7 @@ pub mod crossbeam_channel {
     struct Line<T> {
         waiting: VecDeque<T>,
         senders: usize,
-        receiver: bool,
+        receivers: usize,
         // Whether the receiver sleeps.
         sleeps: bool,
     }
@@ -185,7 +185,7 @@ pub mod crossbeam_channel {
     }
 
     pub fn unbounded<T>(_: Global) -> Result<(Sender<T>, Receiver<T>), AllocError> {
-        let line = Mutex::new(Line { waiting: VecDeque::new(), senders: 1, receiver: true, sleeps: false });
+        let line = Mutex::new(Line { waiting: VecDeque::new(), senders: 1, receivers: 1, sleeps: false });
         let channel = Arc::new(Channel { line, came: Condvar::new() });
         Ok((Sender(channel.clone()), Receiver(channel)))
     }
@@ -193,7 +193,7 @@ pub mod crossbeam_channel {
     impl<T> Sender<T> {
         pub fn send<R>(&self, _: &R, x: T) -> Result<(), SendError<T>> {
             let mut line = self.0.line.lock().unwrap();
-            if !line.receiver {
+            if line.receivers == 0 {
                 return Err(SendError(x));
             }
             line.waiting.push_back(x);
@@ -207,6 +207,10 @@ pub mod crossbeam_channel {
     }
 
     impl<T> Receiver<T> {
+        pub fn clone(&self) -> Result<Self, AllocError> {
+            self.0.line.lock().unwrap().receivers += 1;
+            Ok(Receiver(self.0.clone()))
+        }
         pub fn is_empty(&self) -> bool {
             self.0.line.lock().unwrap().waiting.is_empty()
         }
@@ -239,7 +243,7 @@ pub mod crossbeam_channel {
     }
     impl<T> Drop for Receiver<T> {
         fn drop(&mut self) {
-            self.0.line.lock().unwrap().receiver = false;
+            self.0.line.lock().unwrap().receivers -= 1;
         }
     }
 }

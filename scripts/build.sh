@@ -31,6 +31,8 @@ total=$#
 tell() {
     ended=$((ended + 1))
     echo "$2 $1; $((total - ended)) left, $((($(date +%s) - began) / 60)) minutes gone"
+    # It is checked, and compiled by two compilers, one after another, and each of these loads all that it reaches.
+    [ $((total - ended)) != 1 ] || echo "build: the program itself is left, which takes one processor some 3 minutes"
 }
 
 tell_failed() {
@@ -58,6 +60,7 @@ read_lines() {
         case $line in
         '== '*)
             name=${line#== }
+            name=${name%%:*}
             mkdir -p "crates/$name/out"
             log=crates/$name/out/build.log
             : >"$log"
@@ -87,7 +90,7 @@ read_lines() {
 side_by_side() {
     scripts/room.sh "$room" "$top"
     mkfifo "$room.lines"
-    RT_JOBS=$(scripts/jobs.sh)
+    RT_JOBS=$(scripts/jobs.sh 20)
     export RT_JOBS
     # All but a few wait for the first crate, so it gets all processors.
     (cd "$room" && exec env -u RT_JOBS rt ci "$1") >/dev/null 2>&1 &
@@ -138,21 +141,26 @@ in_turn() {
     echo "build: nothing of it is kept for ./test, which proves these crates once more"
 }
 
-way=${BUILD:-}
-if ! can_keep; then
-    echo "build: this kit's gate keeps nothing of what it proves"
-    way=turn
-elif [ -z "$way" ]; then
-    way=side
-    ! has_work "$@" || way=turn
-fi
-case $way in
-side) side_by_side "$@" ;;
-turn) in_turn "$@" ;;
-*)
-    echo "build: BUILD is side or turn" >&2
-    exit 2
-    ;;
-esac
-# A source that was edited meanwhile is newer than the program.
-touch -r "$room.began" "$program"
+main() {
+    way=${BUILD:-}
+    if ! can_keep; then
+        echo "build: this kit's gate keeps nothing of what it proves"
+        way=turn
+    elif [ -z "$way" ]; then
+        way=side
+        ! has_work "$@" || way=turn
+    fi
+    case $way in
+    side) side_by_side "$@" ;;
+    turn) in_turn "$@" ;;
+    *)
+        echo "build: BUILD is side or turn" >&2
+        exit 2
+        ;;
+    esac
+    # A source that was edited meanwhile is newer than the program.
+    touch -r "$room.began" "$program"
+}
+
+# (on one line, so that the shell reads nothing of this file after a build in which it was edited)
+main "$@"; exit

@@ -8,7 +8,7 @@ program=${SHARDS_PROGRAM:-$root/crates/shards/out/shards}
 room=$(mktemp -d)
 trap 'rm -rf "$room"' EXIT
 
-if ! command -v python3 >/dev/null; then
+if ! python3 --version >/dev/null 2>&1; then
     echo "clients: NOT RUN, since there is no python3"
     exit
 fi
@@ -44,7 +44,7 @@ tried() {
 
 export PYTHONDONTWRITEBYTECODE=1
 tried Python python3 -W error -m unittest discover -s "$root/clients/python/tests"
-if command -v cargo >/dev/null; then
+if cargo --version >/dev/null 2>&1; then
     CARGO_TARGET_DIR=${CARGO_TARGET_DIR:-$room/target}
     export CARGO_TARGET_DIR
     cd "$root/clients/rust"

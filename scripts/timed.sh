@@ -10,7 +10,7 @@
 # or at the commit BASE. What the gate prints passes through, and its exit status is passed on. If a misuse or a wrong body is not refused, a
 # program does not end as it should when memory is refused, or a client's test fails, that is the last line, and the status is 1.
 set -u
-RT_JOBS=$(scripts/jobs.sh)
+RT_JOBS=$(scripts/jobs.sh 40)
 export RT_JOBS
 
 room=$(mktemp -d)

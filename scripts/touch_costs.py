@@ -3,6 +3,7 @@
 touch of a crate costs: that crate and all that stand on it are proved anew, with their tests and wrong bodies.
     scripts/costs.sh --touch [CRATE]"""
 import os
+import signal
 import sys
 
 ROOT = os.path.dirname(os.path.dirname(os.path.realpath(__file__)))
@@ -70,4 +71,6 @@ def main():
 
 
 if __name__ == "__main__":
+    # Whoever reads the first lines alone has enough.
+    signal.signal(signal.SIGPIPE, signal.SIG_DFL)
     main()

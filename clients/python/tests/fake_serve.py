@@ -112,6 +112,8 @@ class Transaction:
         return self.log.value(key, self.since)
 
     def commit(self):
+        if not self.reads and not self.writes:
+            return b"ended: fault: 7 BadRequest(nothing)"
         if any(self.log.changed(key, self.since) for key in self.reads):
             return b"aborted"
         return b"committed %d %s" % (self.log.commit(self.id, list(self.writes.items())), self.id)

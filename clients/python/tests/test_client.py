@@ -68,7 +68,7 @@ class Ends(Told):
         with self.assertRaises(Aborted):
             store.transact(runs.append, tries=3)
         self.assertEqual(len(runs), 3)
-        store.transact(runs.append, tries=1)
+        store.transact(add_one, tries=1)
 
     def test_unknown_has_the_id_and_is_not_run_again(self):
         store = self.told("commit unknown 3.5", "put unknown 3.6")
@@ -168,7 +168,7 @@ class Over(Told):
     def test_a_transaction_kept_beyond_its_end(self):
         store = self.told(clients=1)
         kept = []
-        store.transact(kept.append)
+        store.transact(lambda tx: (kept.append(tx), tx.get(b"a")))
         for use in (lambda: kept[0].put(b"a", b"1"), lambda: kept[0].get(b"a"), lambda: kept[0].erase(b"a")):
             with self.assertRaises(RuntimeError):
                 use()

@@ -27,6 +27,13 @@ CONVERSATIONS = {
         ("commit", "0 committed AT1 ID1"),
         ("get a b", "0 =2 none"),
     ],
+    "a transaction of nothing": [
+        ("begin", "0 begun ID1"),
+        ("commit", "0 ended: fault: 7 BadRequest(nothing)"),
+        ("begin", "0 begun ID2"),
+        ("get a", "0 none"),
+        ("commit", "0 committed AT1 ID2"),
+    ],
     "outside of a transaction": [
         ("get a z", "0 none none"),
         ("put a 1", "0 committed AT1 ID1"),

@@ -4,8 +4,8 @@ mod served;
 use served::{model, Logs};
 use spanner_shards::{spelled, unspelled, Failed, Transaction};
 use std::panic::{catch_unwind, AssertUnwindSafe};
-use std::thread;
 use std::time::Duration;
+use std::{fs, process, thread};
 
 fn add_one(tx: &mut Transaction<'_, '_>) -> Result<(), Failed> {
     let value = tx.get(b"a")?.map_or(0, |value| String::from_utf8(value).unwrap().parse::<u64>().unwrap());
@@ -271,4 +271,30 @@ fn closed() {
     assert!(store.close().unwrap().success());
     assert_eq!(store.transact(50, add_one), Err(Failed::Closed));
     assert_eq!(store.put(b"a", b"1"), Err(Failed::Closed));
+}
+
+// The parent and the process group of a process, by its number or `self`.
+fn parent_and_group(process: &str) -> Option<(u32, u32)> {
+    let stat = fs::read_to_string(format!("/proc/{process}/stat")).ok()?;
+    let mut words = stat.rsplit(')').next()?.split_whitespace().skip(1);
+    Some((words.next()?.parse().ok()?, words.next()?.parse().ok()?))
+}
+
+#[test]
+fn a_program_is_in_a_group_of_its_own() {
+    let logs = logs();
+    let _store = logs.open(1, &[]);
+    let own = parent_and_group("self").unwrap().1;
+    let processes = fs::read_dir("/proc").unwrap().filter_map(|entry| entry.ok()?.file_name().into_string().ok());
+    // Threads of other tests start programs too, of which one that makes a store is in this group.
+    let serving = processes.filter(|process| {
+        let words = fs::read(format!("/proc/{process}/cmdline")).unwrap_or_default();
+        words.split(|byte| *byte == 0).any(|word| word == b"serve")
+    });
+    let groups: Vec<u32> = serving
+        .filter_map(|process| parent_and_group(&process))
+        .filter(|(parent, _)| *parent == process::id())
+        .map(|(_, group)| group)
+        .collect();
+    assert!(!groups.is_empty() && !groups.contains(&own), "{groups:?} and {own}");
 }

@@ -3,10 +3,7 @@ ghost use Rattle.std.specs.Prelude.{◌≡◌, ◌≢◌, ◌⊎◌, ◌<◌, �
 ghost use Rattle.std.specs.Io.KnownBytes.{Appends};
 ghost use Rattle.units.specs.declared.fault.Fault.{Fault};
 ghost use Rattle.units.specs.declared.fault.Fault.TheVariants.{Memory};
-ghost use Rattle.command_line.specs.Commands.{command_of};
-ghost use Rattle.command_line.specs.declared.commands.Command.TheVariants.{Help};
-ghost use Rattle.command_line.specs.declared.usage.TheConstants.{USAGE};
-ghost use Rattle.command_line.specs.Lines.{are_plain, asks_help};
+ghost use Rattle.command_line.specs.Commands.{are_covered, command_of};
 ghost use Rattle.output.specs.Replies.{Is};
 ghost use Rattle.commands.specs.Faults.{MayRefuseTo};
 ghost use Rattle.cli.specs.Ends.{IsDriven};
@@ -27,7 +24,7 @@ use settings::Settings;
 use simdisk::SimDisk;
 use std::alloc::Global;
 use std::fs::File;
-use std::io::{Stderr, Write};
+use std::io::{Input, Stderr, Write};
 use std::random::RandomSource;
 use std::sync::Wait;
 use std::thread::Threads;
@@ -36,10 +33,10 @@ use units::Fault;
 
 /// Carries a command line out, with the files and threads of the machine, over standard output and standard error. Gives the
 /// status: 0, 1 for a verdict of no or for early, 2 for a fault. A fault is printed on standard error, except that after a failed
-/// write nothing more is printed. Where standard error is a terminal, a drive shows how far it is there, and behind the line of a fault
-/// one tells the file in which it lies, where that is known.
+/// write nothing more is printed. After the line of a fault one tells the file in which it lies, or what is wrong with the words, if that is
+/// known. If standard error is a terminal, a drive shows how far it is there.
 pub fn program<
-    R: rt::Files<File = File> + Eprint + RandomSource + Threads + Wait + time::Clock + Sync,
+    R: rt::Files<File = File> + Eprint + Input + RandomSource + Threads + Wait + time::Clock + Sync,
     O: Write,
     E: Write,
 >(
@@ -51,24 +48,21 @@ pub fn program<
     err: &mut Stream<E>,
 ) -> u8
     ensures status { (result ≡ 0) ⊎ (result ≡ 1) ⊎ (result ≡ 2) }
-    ensures printed { are_plain (map (λ w. w.now) words.entry.now) ≡ true → result ≢ 2
+    ensures printed { are_covered (map (λ w. w.now) words.entry.now) ≡ true → result ≢ 2
         → (text : List ℕ) × Is (reply_to (map (λ w. w.now) words.entry.now)) (Ok (text, result))
         × Appends (O.contents (writer_of out.old)) (O.contents (writer_of out.new)) text }
-    ensures refused { are_plain (map (λ w. w.now) words.entry.now) ≡ true → (fault : Fault)
+    ensures refused { are_covered (map (λ w. w.now) words.entry.now) ≡ true → (fault : Fault)
         → reply_to (map (λ w. w.now) words.entry.now) ≡ Some (Err fault) → (result ≡ 2)
         × (out.new ≡ out.old) }
-    ensures helped { asks_help (map (λ w. w.now) words.entry.now) ≡ true → result ≢ 2
-        → (result ≡ 0)
-        × Appends (O.contents (writer_of out.old)) (O.contents (writer_of out.new)) USAGE.now }
     // What files tell: a format and a migration print nothing, an inspection a verdict, which its status goes with, and a dump lines of records.
     // What becomes of a write is what the attempts to put it came to.
-    ensures tells { are_plain (map (λ w. w.now) words.entry.now) ≡ true → result ≢ 2
+    ensures tells { are_covered (map (λ w. w.now) words.entry.now) ≡ true → result ≢ 2
         → (text : List ℕ) × TellsTo IsDriven IsWritten
         (command_of (map (λ w. w.now) words.entry.now)) result text
         × Appends (O.contents (writer_of out.old)) (O.contents (writer_of out.new)) text }
     ensures quiet { result ≢ 2 → err.new ≡ err.old }
     // A status of 2 has a reason: a write to standard output that failed, or a fault, whose line is on standard error.
-    ensures told { are_plain (map (λ w. w.now) words.entry.now) ≡ true → result ≡ 2
+    ensures told { are_covered (map (λ w. w.now) words.entry.now) ≡ true → result ≡ 2
         → (failures_of out.old < failures_of out.new)
         ⊎ ((fault : Fault) × ((fault ≡ Memory)
         ⊎ Is (reply_to (map (λ w. w.now) words.entry.now)) (Err fault))
@@ -76,7 +70,7 @@ pub fn program<
         ⊎ Appends (E.contents (writer_of err.old)) (E.contents (writer_of err.new))
         (fault_line fault))) }
     // The fault of a command over files is one of its own, and so are that of a drive and that of a put.
-    ensures numbered { are_plain (map (λ w. w.now) words.entry.now) ≡ true → result ≡ 2
+    ensures numbered { are_covered (map (λ w. w.now) words.entry.now) ≡ true → result ≡ 2
         → (failures_of out.old < failures_of out.new)
         ⊎ ((fault : Fault) × MayRefuseTo HasNoVerdict IsUnwritten
         (command_of (map (λ w. w.now) words.entry.now)) fault
@@ -96,10 +90,7 @@ pub fn program<
             (string_bytes driven.text) driven.verdict) }
         ensures refused { IfErr result (λ none. HasNoVerdict none.fault) }
     { drive_shards(rt, alloc, settings, terminal) };
-    let files = HostFiles {
-        rt,
-        is_watched: terminal.is_some(),
-    };
+    let files = HostFiles::new(rt, terminal.is_some());
     let put = |alloc: Global, write: Put<'_>| -> Result<Ended, Fault>
         ensures written { IfOk result (IsWritten write.entry.folder.now write.entry.key.now
             write.entry.value.now) }
@@ -135,24 +126,21 @@ fn answer_by<
     requires unwritten { (write : Put) (fault : Fault) → P.post engine.put alloc write (Err fault)
         → IsUnwritten fault }
     ensures status { (result ≡ 0) ⊎ (result ≡ 1) ⊎ (result ≡ 2) }
-    ensures printed { are_plain (map (λ w. w.now) words.entry.now) ≡ true → result ≢ 2
+    ensures printed { are_covered (map (λ w. w.now) words.entry.now) ≡ true → result ≢ 2
         → (text : List ℕ) × Is (reply_to (map (λ w. w.now) words.entry.now)) (Ok (text, result))
         × Appends (O.contents (writer_of out.old)) (O.contents (writer_of out.new)) text }
-    ensures refused { are_plain (map (λ w. w.now) words.entry.now) ≡ true → (fault : Fault)
+    ensures refused { are_covered (map (λ w. w.now) words.entry.now) ≡ true → (fault : Fault)
         → reply_to (map (λ w. w.now) words.entry.now) ≡ Some (Err fault) → (result ≡ 2)
         × (out.new ≡ out.old) }
-    ensures helped { asks_help (map (λ w. w.now) words.entry.now) ≡ true → result ≢ 2
-        → (result ≡ 0)
-        × Appends (O.contents (writer_of out.old)) (O.contents (writer_of out.new)) USAGE.now }
     // What files tell: a format and a migration print nothing, an inspection a verdict, which its status goes with, and a dump lines of records.
     // What becomes of a write is what the attempts to put it came to.
-    ensures tells { are_plain (map (λ w. w.now) words.entry.now) ≡ true → result ≢ 2
+    ensures tells { are_covered (map (λ w. w.now) words.entry.now) ≡ true → result ≢ 2
         → (text : List ℕ) × TellsTo IsDriven IsWritten
         (command_of (map (λ w. w.now) words.entry.now)) result text
         × Appends (O.contents (writer_of out.old)) (O.contents (writer_of out.new)) text }
     ensures quiet { result ≢ 2 → err.new ≡ err.old }
     // A status of 2 has a reason: a write to standard output that failed, or a fault, whose line is on standard error.
-    ensures told { are_plain (map (λ w. w.now) words.entry.now) ≡ true → result ≡ 2
+    ensures told { are_covered (map (λ w. w.now) words.entry.now) ≡ true → result ≡ 2
         → (failures_of out.old < failures_of out.new)
         ⊎ ((fault : Fault) × ((fault ≡ Memory)
         ⊎ Is (reply_to (map (λ w. w.now) words.entry.now)) (Err fault))
@@ -160,7 +148,7 @@ fn answer_by<
         ⊎ Appends (E.contents (writer_of err.old)) (E.contents (writer_of err.new))
         (fault_line fault))) }
     // The fault of a command over files is one of its own, and so are that of a drive and that of a put.
-    ensures numbered { are_plain (map (λ w. w.now) words.entry.now) ≡ true → result ≡ 2
+    ensures numbered { are_covered (map (λ w. w.now) words.entry.now) ≡ true → result ≡ 2
         → (failures_of out.old < failures_of out.new)
         ⊎ ((fault : Fault) × MayRefuseTo HasNoVerdict IsUnwritten
         (command_of (map (λ w. w.now) words.entry.now)) fault

@@ -5,8 +5,8 @@ mod host;
 mod host_put;
 
 pub use commands::{
-    Command, Driven, Ended, Engine, Files, Hints, NoVerdict, Put, Stream, System, answer, command,
-    place_of, settings,
+    Command, Driven, Ended, Engine, Files, Hints, NoVerdict, Put, Source, Stream, System, Words,
+    answer, place_of, settings,
 };
 pub use drive::run;
 pub use host::program;

@@ -56,7 +56,7 @@ impl<'s, R: Wait + time::Clock> Wire<'_, 's, R> {
     {
         match tx.close(self.alloc) {
             Ok((tx, outbox)) => {
-                self.send_all(outbox);
+                self.send_all(outbox, false);
                 Ok(self.end(tx))
             }
             Err((fault, tx)) => {
@@ -98,8 +98,8 @@ impl<'s, R: Wait + time::Clock> Wire<'_, 's, R> {
         }
         match tx.quit(self.alloc) {
             Ok((tx, outbox)) => {
-                self.send_all(outbox);
-                self.listen_anew();
+                self.send_all(outbox, false);
+                self.insist();
                 match self.await_end(&tx) {
                     Some(done) => end_of(tx, &done),
                     None => {
@@ -137,6 +137,7 @@ impl<'s, R: Wait + time::Clock> Wire<'_, 's, R> {
                     }
                 }
                 Hearing::Enough => return None,
+                Hearing::UnderWay => {}
                 Hearing::Heard(message) => drop(message),
             }
         }
@@ -172,7 +173,7 @@ impl<'s, R: Wait + time::Clock> Wire<'_, 's, R> {
         ensures heard { self.new.heard ≡ self.old.heard }
     {
         if let Ok(outbox) = tx.again(self.alloc) {
-            self.send_all(outbox);
+            self.send_all(outbox, true);
         }
     }
 
@@ -188,7 +189,7 @@ impl<'s, R: Wait + time::Clock> Wire<'_, 's, R> {
                 if self.stop.is_told() {
                     drop(outbox);
                 } else {
-                    self.send_all(outbox);
+                    self.send_all(outbox, false);
                 }
                 Ok(())
             }

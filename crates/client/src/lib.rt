@@ -4,6 +4,7 @@
 mod ended;
 mod ending;
 mod hearing;
+mod patience;
 mod reading;
 mod stop;
 mod wire;

@@ -82,7 +82,7 @@ impl<'s, R: Wait + time::Clock> Wire<'_, 's, R> {
         if self.stop.is_told() {
             return Err(Halt::Again);
         }
-        self.send_awaited(tx);
+        self.send_awaited(tx, false);
         for _heard in self.rt.forever() {
             self.await_one(tx)?;
             if tx.awaited().is_empty() {
@@ -104,12 +104,26 @@ impl<'s, R: Wait + time::Clock> Wire<'_, 's, R> {
                 taken
             }
             Hearing::Silence => {
-                self.send_awaited(tx);
+                self.send_awaited(tx, true);
                 Ok(())
             }
             Hearing::Refused(refused) => unserved(tx, &refused),
-            Hearing::Enough => Err(Halt::Again),
-            Hearing::End(_) => Ok(()),
+            Hearing::Enough => Err(self.why_enough()),
+            Hearing::End(_) | Hearing::UnderWay => Ok(()),
+        }
+    }
+
+    // Why the code of a transaction waits no longer: what it waits for may be in doubt for good, where a shard has stopped; or it is to be
+    // run again.
+    fn why_enough(&self) -> Halt
+        ensures { IsReadHalt result }
+    {
+        match self.network.stopped_shard() {
+            Some(shard) => Halt::Unserved {
+                shard,
+                fault: Fault::Stopped,
+            },
+            None => Halt::Again,
         }
     }
 
@@ -132,14 +146,14 @@ impl<'s, R: Wait + time::Clock> Wire<'_, 's, R> {
         Ok(())
     }
 
-    // Sends each read whose answer is awaited.
-    fn send_awaited(&mut self, tx: &Tx<'s, Open>)
+    // Sends each read whose answer is awaited, for the first time or again.
+    fn send_awaited(&mut self, tx: &Tx<'s, Open>, again: bool)
         ensures sent { (sent : List Envelope) × (self.new.sent ≡ self.old.sent ++ sent)
             × AreReads tx.now.client.txn sent }
         ensures heard { self.new.heard ≡ self.old.heard }
     {
         for key in tx.awaited() {
-            self.send(read_of(tx, key));
+            self.send(read_of(tx, key), again);
         }
     }
 
@@ -164,7 +178,7 @@ impl<'s, R: Wait + time::Clock> Wire<'_, 's, R> {
         ensures heard { self.new.heard ≡ self.old.heard }
     {
         if tx.splits().shard_of(key) == shard {
-            self.send(read_of(tx, key));
+            self.send(read_of(tx, key), false);
         }
     }
 }

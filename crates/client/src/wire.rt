@@ -6,10 +6,11 @@ ghost use Rattle.client.specs.Ends.{end_heard};
 
 use crate::Stop;
 use crate::hearing::Hearing;
+use crate::patience::Patience;
 use crossbeam_channel::Receiver;
 use growing::Growing;
-use letters::{Network, Reply};
-use message::{Done, Envelope, Message, Outbox};
+use letters::{Network, Reply, UnderWay};
+use message::{Address, Answer, Done, Envelope, Message, Outbox};
 use session::{Open, Tx};
 use std::alloc::Global;
 use std::marker::Model;
@@ -17,7 +18,7 @@ use std::sync::Wait;
 use std::time;
 use std::time::Duration;
 use tickets::{Drawer, Tickets};
-use units::{Fault, Run, Splits};
+use units::{Fault, Run, Splits, TxnId};
 
 /// What a client sends and hears with. Contracts see all messages that it has put out, and all ends that it has heard; both are kept in
 /// proofs alone.
@@ -29,8 +30,9 @@ pub struct Wire<'r, 's, R> {
     pub(crate) stop: &'s Stop,
     pub(crate) inbox: Receiver<Reply>,
     number: usize,
-    patience: u32,
-    silences: u32,
+    patience: Patience,
+    txn: Option<TxnId>,
+    closes: bool,
     sent: Growing<Envelope>,
     heard: Growing<Done>,
 }
@@ -42,9 +44,6 @@ impl<'r, 's, R> Model for Wire<'r, 's, R> {
 
     ghost view = { λ w. record { sent = w.sent.entries; heard = w.heard.entries } };
 }
-
-// So many milliseconds a client waits before it sends again what is not answered.
-const PAUSE: u64 = 20;
 
 impl<'r, 's, R> Wire<'r, 's, R> {
     /// The wire of the client with this number in the network. In each transaction it waits 20 milliseconds in silence so often as
@@ -69,18 +68,37 @@ impl<'r, 's, R> Wire<'r, 's, R> {
             stop,
             inbox,
             number,
-            patience,
-            silences: 0,
+            patience: Patience::new(patience, None),
+            txn: None,
+            closes: false,
             sent,
             heard,
         }
     }
 
+    /// The same wire, whose patience goes by progress: it counts only rounds of asking in which all shards say that the transaction waits
+    /// for others, 20 milliseconds at least each. An answer, or the word that it is decided, begins it anew. A shard that says nothing is
+    /// waited for, until so many milliseconds have passed in silence; and so is the end of a transaction that is given up while it closes.
+    pub fn by_progress(self, give_up: u64) -> Wire<'r, 's, R>
+        ensures { result ≡ self.entry }
+    {
+        let mut wire = self;
+        wire.patience = Patience::new(wire.patience.most, Some(give_up));
+        wire
+    }
+
     // Its patience begins anew.
-    pub(crate) fn listen_anew(&mut self)
+    fn listen_anew(&mut self)
         ensures { self.new ≡ self.old }
     {
-        self.silences = 0;
+        self.patience = self.patience.anew();
+    }
+
+    // Its patience begins anew, and by progress it waits for the end for as long as any shard says anything.
+    pub(crate) fn insist(&mut self)
+        ensures { self.new ≡ self.old }
+    {
+        self.patience = self.patience.insistent();
     }
 
     // Nothing was heard.
@@ -88,12 +106,42 @@ impl<'r, 's, R> Wire<'r, 's, R> {
         ensures wire { self.new ≡ self.old }
         ensures end { end_heard result ≡ [] }
     {
-        self.silences = self.silences.saturating_add(1);
-        if stops || self.silences >= self.patience {
+        if self.patience.is_over() || stops {
             Hearing::Enough
         } else {
             Hearing::Silence
         }
+    }
+
+    // A shard keeps what was sent again: of this transaction, or else of an earlier one.
+    fn be_assured(&mut self, under_way: UnderWay) -> Hearing
+        ensures wire { self.new ≡ self.old }
+        ensures end { end_heard result ≡ [] }
+    {
+        if self.txn == Some(under_way.txn) {
+            self.patience.assured(&under_way);
+        }
+        Hearing::UnderWay
+    }
+
+    // A message that is no end was heard. By progress patience begins anew with an answer to the transaction; and where one that closes is told
+    // that it has ended at a shard, it asks there at once.
+    fn listen(&mut self, message: Message) -> Hearing
+        ensures wire { self.new ≡ self.old }
+        ensures end { end_heard result ≡ [] }
+    {
+        let refused = match &message {
+            Message::ReadAnswer(answer) if self.txn == Some(answer.txn) => {
+                self.patience = self.patience.answered();
+                matches!(answer.answer, Answer::Refused)
+            }
+            _ => false,
+        };
+        if refused && self.closes && self.patience.give_up.is_some() {
+            drop(message);
+            return Hearing::Silence;
+        }
+        Hearing::Heard(message)
     }
 
     // A message was heard.
@@ -111,7 +159,7 @@ impl<'r, 's, R> Wire<'r, 's, R> {
                 self.heard.add(&done);
                 Hearing::End(done)
             }
-            None => Hearing::Heard(message),
+            None => self.listen(message),
         }
     }
 }
@@ -138,6 +186,7 @@ impl<'s, R: Wait + time::Clock> Wire<'_, 's, R> {
     {
         let tx = Tx::begin_drawn(self.alloc, run, splits, tickets, drawer)?;
         self.network.run(self.rt, self.number, tx.txn());
+        self.txn = Some(tx.txn());
         self.listen_anew();
         Ok(tx)
     }
@@ -148,30 +197,39 @@ impl<'s, R: Wait + time::Clock> Wire<'_, 's, R> {
         ensures heard { self.new.heard ≡ self.old.heard ++ end_heard result }
     {
         let stops = self.stop.is_told();
-        let pause = Duration::from_millis(if stops { 0 } else { PAUSE });
+        let pause = Duration::from_millis(if stops { 0 } else { self.patience.pause });
         match self.inbox.recv_timeout(self.rt, pause) {
             Ok(Reply::Carry(message)) => self.sort(message),
             Ok(Reply::Refused(refused)) => Hearing::Refused(refused),
+            Ok(Reply::UnderWay(under_way)) => self.be_assured(under_way),
             Err(_) => self.silence(stops),
         }
     }
 
-    // Sends a message.
-    pub(crate) fn send(&mut self, envelope: Envelope)
+    // Sends a message, for the first time or again.
+    pub(crate) fn send(&mut self, envelope: Envelope, again: bool)
         ensures sent { self.new.sent ≡ self.old.sent ++ envelope ∷ [] }
         ensures heard { self.new.heard ≡ self.old.heard }
     {
         self.sent.add(&envelope);
-        self.network.send(self.rt, envelope);
+        self.closes = !matches!(&envelope.message, Message::Read(_));
+        let round = match (again, envelope.to) {
+            (true, Address::Shard(shard)) => self.patience.asks(shard),
+            _ => None,
+        };
+        match round {
+            Some(round) => self.network.send_again(self.rt, envelope, round),
+            None => self.network.send(self.rt, envelope),
+        }
     }
 
-    // Sends each message of an outbox.
-    pub(crate) fn send_all(&mut self, outbox: Outbox)
+    // Sends each message of an outbox, for the first time or again.
+    pub(crate) fn send_all(&mut self, outbox: Outbox, again: bool)
         ensures sent { self.new.sent ≡ self.old.sent ++ outbox }
         ensures heard { self.new.heard ≡ self.old.heard }
     {
         for envelope in outbox.into_vec() {
-            self.send(envelope);
+            self.send(envelope, again);
         }
     }
 }

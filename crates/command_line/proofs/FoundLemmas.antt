@@ -16,6 +16,7 @@ use Rattle.command_line.specs.Lines.{CommandLine, Word, once, format, play, insp
 use Rattle.command_line.specs.Parser.{entry_of}
 use Rattle.command_line.specs.Views.{Answers}
 use Rattle.command_line.specs.declared.commands.Command.{Command}
+use Rattle.command_line.specs.declared.marks.Marks.{Marks}
 
 -- the name beside the rows is the name
 names_same : {Z : Type 0} (o : Option (Box SubCommand Z))
@@ -173,8 +174,10 @@ module _ (line : CommandLine) (inner : Found) where
       cc
 
 -- a line that is another one is answered as that one
-pub answered_as : {answer : Result Asked Fault} (line other : CommandLine) → other ≡ line → command_of_line other ≡ answer → command_of_line line ≡ answer
-answered_as line other same is = sym (ap command_of_line same) ∙ is
+pub answered_as : {answer : Result Asked Fault} (marks : Marks) (line other : CommandLine) → other ≡ line → command_of_line marks other ≡ answer
+    → command_of_line marks line ≡ answer
+answered_as marks line other same is = sym (ap (command_of_line marks) same) ∙ is
 
-pub refused_as : (answer : Result Command Fault) (line other : CommandLine) → other ≡ line → Answers (Some other) answer → Answers (Some line) answer
-refused_as answer line other same so = subst (λ l. Answers (Some l) answer) same so
+pub refused_as : (answer : Result Command Fault) (marks : Marks) (line other : CommandLine) → other ≡ line → Answers marks other answer
+    → Answers marks line answer
+refused_as answer marks line other same so = subst (λ l. Answers marks l answer) same so

@@ -1,6 +1,6 @@
 pub mod FoundLemmas
-pub mod HelpLemmas
 pub mod LineLemmas
 pub mod ManyLemmas
+pub mod MarkLemmas
 pub mod ParserLemmas
 pub mod ProgramLemmas

@@ -1,7 +1,7 @@
 -- The parser's walk over the words of one command.
 use Rattle.std.proofs.Common.{◌≡◌, ◌∙◌, ◌&&◌, ℕ, suc, true, false, refl, sym, ap, ap₂, subst, List, [], ◌∷◌, ◌++◌, Option, Some, None, codes}
 use Rattle.std.proofs.Common.{true≢false, append-nil, append_assoc}
-use Rattle.std.specs.Prelude.{fold, if◌then◌else◌, option_and_then}
+use Rattle.std.specs.Prelude.{◌==◌, Bool, fold, if◌then◌else◌, option_and_then}
 use Rattle.std.specs.Option.{option_map_or}
 use Rattle.std.specs.Str.{bytes_eq}
 use Rattle.clap.specs.Lexer.{long_of, long_of_rest, short_of, short_of_rest, strip_byte}
@@ -20,19 +20,34 @@ use Rattle.command_line.specs.Parser.{bare_app, entry_of, file_app, get_app, his
 
 -- ---- one word that is no flag
 
-no_hyphen : (word : Word) → is_plain word ≡ true → strip_byte 45 word ≡ None
-no_hyphen [] e = refl
-no_hyphen (x ∷ xs) e = ap (λ b. if b then Some xs else None) (is_false _ e)
+-- what a hyphen alone, or another byte, has behind it
+one_long : (b : Bool) → option_and_then long_of_rest (option_and_then (strip_byte 45) (if b then Some [] else None)) ≡ None
+one_long true = refl
+one_long false = refl
+
+one_short : (b : Bool) → option_and_then short_of_rest (if b then Some [] else None) ≡ None
+one_short true = refl
+one_short false = refl
+
+one_dash : (b : Bool) → (b && false) ≡ false
+one_dash true = refl
+one_dash false = refl
 
 pub no_long : (word : Word) → is_plain word ≡ true → long_of word ≡ None
-no_long word e = ap (λ o. option_and_then long_of_rest (option_and_then (strip_byte 45) o)) (no_hyphen word e)
+no_long [] e = refl
+no_long (c ∷ []) e = one_long (c == 45)
+no_long (c ∷ d ∷ cs) e =
+    ap (λ b. option_and_then long_of_rest (option_and_then (strip_byte 45) (if b then Some (d ∷ cs) else None))) (is_false _ e)
 
 pub no_short : (word : Word) → is_plain word ≡ true → short_of word ≡ None
-no_short word e = ap (option_and_then short_of_rest) (no_hyphen word e)
+no_short [] e = refl
+no_short (c ∷ []) e = one_short (c == 45)
+no_short (c ∷ d ∷ cs) e = ap (λ b. option_and_then short_of_rest (if b then Some (d ∷ cs) else None)) (is_false _ e)
 
 pub no_dashes : (word : Word) → is_plain word ≡ true → bytes_eq word (45 ∷ 45 ∷ []) ≡ false
 no_dashes [] e = refl
-no_dashes (x ∷ xs) e = ap (λ b. b && bytes_eq xs (45 ∷ [])) (is_false _ e)
+no_dashes (c ∷ []) e = one_dash (c == 45)
+no_dashes (c ∷ d ∷ cs) e = ap (λ b. b && bytes_eq (d ∷ cs) (45 ∷ [])) (is_false _ e)
 
 -- such a word goes to a positional
 pub word_is_value : (c : List Rule) (names : Names) (p : ℕ) (word : Word) (h : Held) → is_plain word ≡ true

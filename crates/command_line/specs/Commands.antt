@@ -1,20 +1,30 @@
 -- The commands that the words of a command line ask for.
-use Rattle.std.specs.Prelude.{◌&&◌, ℕ, List, Option, Some, None, Result, Ok, Err, length, if◌then◌else◌, nat_le}
+use Rattle.std.specs.Prelude.{◌&&◌, ◌||◌, ℕ, Bool, not, List, Option, Some, None, Result, Ok, Err, codes, is_some, length, if◌then◌else◌, nat_le}
+use Rattle.std.specs.Str.{bytes_eq}
 use Rattle.units.specs.declared.fault.Fault.{Fault}
 use Rattle.units.specs.declared.fault.Fault.TheVariants.{BadRequest}
 use Rattle.units.specs.declared.fault.Reason.TheVariants as reason
 use Rattle.truetime.specs.Interval.{Interval}
-use Rattle.command_line.specs.Lines.{CommandLine, Word, asks_help, line_of, once, format, play, inspect, drive, dump, history, get, put, stats}
+use Rattle.command_line.specs.Lines.{CommandLine, Word, are_plain, line_of, marks_of, unmarked, once, format, play, inspect, drive, dump, history, get, put, stats}
 use Rattle.command_line.specs.Lines.{migrate, compact}
+use Rattle.command_line.specs.Help.{told_of}
+use Rattle.command_line.specs.Parser.{entry_of}
+use Rattle.command_line.specs.declared.marks.Marks.{Marks}
 use Rattle.texts.specs.Numbers.{and_then, interval_of, stamp_of}
 
--- what words may ask for: the usage; a write of a value to a key at the readings of its commit and of its settling; a new log
+-- where the value of a write comes from: a word is the value, a word spells it, or standard input has it
+pub data Given : Type 0 where
+  word_given : Word → Given
+  spelled_given : Word → Given
+  input_given : Given
+
+-- what words may ask for: a text, which is printed; a write of a value to a key at the readings of its commit and of its settling; a new log
 -- file; the report of a schedule in a file; the verdict on a file of lines and some logs; a drive by settings in a file; what a
--- log in a file holds; what the log of a store in a folder says of a key; the value of a key there, at a timestamp or the latest;
+-- log in a file holds; what the log of a store in a folder says of a key; the value of a key there, at a timestamp or the latest, as a line or alone;
 -- a write of a value to a key there; what some logs hold in figures; a new file with the log of a file of version 1;
 -- a new file with the records of a log alone
 pub data Asked : Type 0 where
-  help : Asked
+  told_asked : List ℕ → Asked
   once_asked : Word → Word → Interval → Interval → Asked
   format_asked : Word → Asked
   play_asked : Word → Asked
@@ -22,8 +32,8 @@ pub data Asked : Type 0 where
   drive_asked : Word → Asked
   dump_asked : Word → Asked
   history_asked : Word → Word → Asked
-  get_asked : Word → Word → Option ℕ → Asked
-  put_asked : Word → Word → Word → Asked
+  get_asked : Word → Word → Option ℕ → Bool → Asked
+  put_asked : Word → Word → Given → Asked
   stats_asked : List Word → Asked
   migrate_asked : Word → Word → Asked
   compact_asked : Word → Word → Asked
@@ -52,33 +62,52 @@ abbrev pub history_of_words : Word → Word → Result Asked Fault
 history_of_words dir key = and_then (key_of key) (λ k. Ok (history_asked dir k))
 
 -- the words of `get`: a folder, a key and a timestamp
-abbrev pub get_of_words : Word → Word → Option Word → Result Asked Fault
-get_of_words dir key at = and_then (key_of key) (λ k. and_then (at_of at) (λ s. Ok (get_asked dir k s)))
+abbrev pub get_of_words : Bool → Word → Word → Option Word → Result Asked Fault
+get_of_words raw dir key at = and_then (key_of key) (λ k. and_then (at_of at) (λ s. Ok (get_asked dir k s raw)))
+
+-- where the word of a value has it come from, which may be spelled
+abbrev pub given_of : Bool → Word → Result Given Fault
+given_of spelled word = if bytes_eq word (codes "-") then Ok input_given
+    else (if spelled then Ok (spelled_given word) else and_then (value_of word) (λ v. Ok (word_given v)))
 
 -- the words of `put`: a folder, a key and a value
-abbrev pub put_of_words : Word → Word → Word → Result Asked Fault
-put_of_words dir key value = and_then (key_of key) (λ k. and_then (value_of value) (λ v. Ok (put_asked dir k v)))
+abbrev pub put_of_words : Bool → Word → Word → Word → Result Asked Fault
+put_of_words spelled dir key value = and_then (key_of key) (λ k. and_then (given_of spelled value) (λ v. Ok (put_asked dir k v)))
+
+-- a command takes these options
+abbrev pub takes : Marks → Word → Bool
+takes marks name = (not marks.raw || bytes_eq name (codes "get")) && (not marks.bytes || bytes_eq name (codes "put"))
 
 -- the command of a line
-abbrev pub command_of_line : CommandLine → Result Asked Fault
-command_of_line (once key value e1 l1 e2 l2) = once_of_words key value e1 l1 e2 l2
-command_of_line (format file) = Ok (format_asked file)
-command_of_line (play file) = Ok (play_asked file)
-command_of_line (inspect lines logs) = Ok (inspect_asked lines logs)
-command_of_line (drive file) = Ok (drive_asked file)
-command_of_line (dump file) = Ok (dump_asked file)
-command_of_line (history dir key) = history_of_words dir key
-command_of_line (get dir key at) = get_of_words dir key at
-command_of_line (put dir key value) = put_of_words dir key value
-command_of_line (stats logs) = Ok (stats_asked logs)
-command_of_line (migrate old new) = Ok (migrate_asked old new)
-command_of_line (compact old new) = Ok (compact_asked old new)
+abbrev pub command_of_line : Marks → CommandLine → Result Asked Fault
+command_of_line marks (once key value e1 l1 e2 l2) = once_of_words key value e1 l1 e2 l2
+command_of_line marks (format file) = Ok (format_asked file)
+command_of_line marks (play file) = Ok (play_asked file)
+command_of_line marks (inspect lines logs) = Ok (inspect_asked lines logs)
+command_of_line marks (drive file) = Ok (drive_asked file)
+command_of_line marks (dump file) = Ok (dump_asked file)
+command_of_line marks (history dir key) = history_of_words dir key
+command_of_line marks (get dir key at) = get_of_words marks.raw dir key at
+command_of_line marks (put dir key value) = put_of_words marks.bytes dir key value
+command_of_line marks (stats logs) = Ok (stats_asked logs)
+command_of_line marks (migrate old new) = Ok (migrate_asked old new)
+command_of_line marks (compact old new) = Ok (compact_asked old new)
 
--- and what is no line is refused
-abbrev pub command_or_refusal : Option CommandLine → Result Asked Fault
-command_or_refusal None = Err (BadRequest reason.Command)
-command_or_refusal (Some line) = command_of_line line
+-- and what is no line, or has an option that its command does not take, is refused
+abbrev pub command_or_refusal : Marks → Option CommandLine → Result Asked Fault
+command_or_refusal marks None = Err (BadRequest reason.Command)
+command_or_refusal marks (Some line) =
+    if takes marks (entry_of line).0 then command_of_line marks line else Err (BadRequest reason.Command)
+
+-- a text is printed, where there is one, and else the command is carried out
+abbrev pub told_or : Option (List ℕ) → Result Asked Fault → Result Asked Fault
+told_or (Some text) asked = Ok (told_asked text)
+told_or None asked = asked
 
 -- the command that the words ask for
 abbrev pub command_of : List Word → Result Asked Fault
-command_of words = if asks_help words then Ok help else command_or_refusal (line_of words)
+command_of words = told_or (told_of words) (command_or_refusal (marks_of words) (line_of (unmarked words)))
+
+-- the words of which it is said what they ask for: beside their options none begins with `-`, or they ask for a text
+abbrev pub are_covered : List Word → Bool
+are_covered words = are_plain (unmarked words) || is_some (told_of words)

@@ -1,4 +1,5 @@
 pub mod Commands
+pub mod Help
 pub mod Lines
 pub mod Parser
 pub mod Views

@@ -1,8 +1,9 @@
 -- The command lines of the program, as lists of words.
-use Rattle.std.specs.Prelude.{ℕ, Bool, true, not, ◌==◌, ◌||◌, List, [], ◌∷◌, Option, Some, None}
+use Rattle.std.specs.Prelude.{ℕ, Bool, true, false, not, ◌==◌, ◌||◌, List, [], ◌∷◌, Option, Some, None}
 use Rattle.std.specs.Prelude.{codes, if◌then◌else◌, length, nat_lt}
 use Rattle.std.specs.List.{list_all, list_any, take_while}
 use Rattle.std.specs.Str.{bytes_eq}
+use Rattle.command_line.specs.declared.marks.Marks.{Marks}
 
 -- the bytes of a word
 abbrev pub Word : Type 0
@@ -23,30 +24,42 @@ pub data CommandLine : Type 0 where
   migrate : Word → Word → CommandLine
   compact : Word → Word → CommandLine
 
--- the word does not begin with `-` (45)
+-- the word does not begin with `-` (45), or is no more than that
 abbrev pub is_plain : Word → Bool
 is_plain [] = true
-is_plain (c ∷ cs) = not (c == 45)
+is_plain (c ∷ []) = true
+is_plain (c ∷ d ∷ cs) = not (c == 45)
 
 -- no word begins with `-`
 abbrev pub are_plain : List Word → Bool
 are_plain = list_all is_plain
 
--- `-h` or `--help`
-abbrev pub is_help : Word → Bool
-is_help word = bytes_eq word (codes "-h") || bytes_eq word (codes "--help")
-
 -- it is not the word that ends the flags
 abbrev pub is_ahead : Word → Bool
 is_ahead word = not (bytes_eq word (codes "--"))
 
--- one of the words, before any `--`, is `-h` or `--help`
-abbrev pub asks_help : List Word → Bool
-asks_help words = list_any is_help (take_while is_ahead words)
+-- the word is an option
+abbrev pub is_mark : Word → Bool
+is_mark word = bytes_eq word (codes "--raw") || bytes_eq word (codes "--bytes")
 
--- the words of which it is said what they are: no word begins with `-`, or they ask for help
-abbrev pub are_covered : List Word → Bool
-are_covered words = are_plain words || asks_help words
+-- an option is there, before any `--`
+abbrev pub has_mark : Word → List Word → Bool
+has_mark mark words = list_any (λ word. bytes_eq word mark) (take_while is_ahead words)
+
+-- the options that are there
+abbrev pub marks_of : List Word → Marks
+marks_of words = record { raw = has_mark (codes "--raw") words; bytes = has_mark (codes "--bytes") words }
+
+-- the words without the options before any `--`, where one was read or not
+unfoldable pub unmarked_from : Bool → List Word → List Word
+unmarked_from ended [] = []
+unmarked_from ended (word ∷ words) =
+    if ended || bytes_eq word (codes "--") then word ∷ unmarked_from true words
+    else (if is_mark word then unmarked_from false words else word ∷ unmarked_from false words)
+
+-- the words without the options
+abbrev pub unmarked : List Word → List Word
+unmarked words = unmarked_from false words
 
 -- KEY VALUE E1 L1 E2 L2
 abbrev pub once_of : List Word → Option CommandLine

@@ -2,11 +2,24 @@
 use truetime::Reading;
 use units::{Key, Stamp, Value};
 
+/// Where the value of a write comes from.
+#[derive(Drop)]
+pub enum Source<'a> {
+    /// The bytes of a word are the value.
+    Word(Value),
+    /// A word spells it: `\xHH` is a byte.
+    Spelled(&'a str),
+    /// Standard input has it, to its end.
+    Input,
+}
+
 /// A command.
 #[derive(Drop)]
 pub enum Command<'a> {
-    /// The usage is printed.
-    Help,
+    /// A text is printed: the page, what is told of a command, or the version.
+    Told {
+        text: &'static str,
+    },
     /// One shard commits the write of a value at the first reading, and settles it at the second.
     Once {
         key: Key,
@@ -50,17 +63,18 @@ pub enum Command<'a> {
         dir: &'a str,
         key: Key,
     },
-    /// The value of a key in the store in a folder is told, at a timestamp or by the latest version.
+    /// The value of a key in the store in a folder is told, at a timestamp or by the latest version: its bytes alone, if `raw`.
     Get {
         dir: &'a str,
         key: Key,
         at: Option<Stamp>,
+        raw: bool,
     },
     /// The write of a value to a key is committed in the store in a folder.
     Put {
         dir: &'a str,
         key: Key,
-        value: Value,
+        value: Source<'a>,
     },
     /// What the logs in some files hold is told in figures.
     Stats {

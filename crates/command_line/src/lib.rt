@@ -2,10 +2,13 @@
 #![tactic(auto)]
 
 mod commands;
+mod explaining;
+mod marks;
 mod parsing;
 mod usage;
 mod words;
 
-pub use commands::Command;
-pub use usage::USAGE;
-pub use words::command;
+pub use commands::{Command, Source};
+pub use explaining::explanation;
+pub use marks::{Marks, Words};
+pub use usage::{PAGE, VERSION, paragraph};

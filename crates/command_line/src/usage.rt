@@ -1,15 +1,131 @@
-//! Words that ask for help, and what is printed then.
-ghost use Rattle.std.specs.Prelude.{◌≡◌, map};
-ghost use Rattle.command_line.specs.Lines.{asks_help};
+//! What is printed to whoever asks for help or for the version. `run`, at the top of the repository, takes these texts from this file.
+ghost use Rattle.std.specs.Prelude.{◌≡◌};
+ghost use Rattle.command_line.specs.Help.{paragraph_of};
 
-/// The usage of the program: its commands, and what each word is. `run`, at the top of the
-/// repository, takes it from these lines, so there are no escapes in it.
-pub const USAGE: &str = "\
+/// The program's version, and that of the logs that it writes.
+pub const VERSION: &str = "\
+shards 1.0
+logs of version 2 (SPNLOG02)
+";
+
+/// The page: how a command line begins, and what each command is for.
+pub const PAGE: &str = "\
 usage: shards COMMAND WORD..
-       shards --help
+       shards help COMMAND, or shards COMMAND --help
+       shards --version
 
-A store of keys and timestamped values. Times are whole microseconds, below 2^62.
+A store of keys and timestamped values. Timestamps are whole microseconds since
+the year 1970, below 2^62: 'date -d @SECONDS' reads them.
 
+    make     makes an empty store in a folder
+    serve    holds a store open, and answers lines of standard input
+    get      prints the value of a key
+    put      commits a write of one key
+    history  prints all versions of a key
+    stats    counts what logs hold
+    dump     prints the records of a log
+    inspect  judges the logs of a store: yes, or the first fault
+    drive    runs shards and workers by a file of settings, and judges the logs
+    format   makes the file of a new log
+    migrate  writes a log of version 1 into a new file, as one of version 2
+    compact  writes a log into a new file, without what was renewed
+    play     plays a schedule over shards in memory, and reports it
+    once     commits one write on a disk in memory
+
+A word that begins with '-' and is no option goes after '--', as in
+'shards put -- DIR KEY -5'. Keys have 1 to 64 bytes, values at most 4096.
+
+status: 0, or 1 if it was too early, the verdict is no or a write does not
+surely stand, or 2 at a fault, which is one line on standard error. After a
+write that fails nothing more is printed (2).
+";
+
+pub const GET: &str = "\
+get [--raw] DIR KEY [AT]
+    Prints the value of KEY at the timestamp AT, or by the latest version, as
+    '=' and the value, or 'none'. A byte that is not printable ASCII, and the
+    backslash, stand as '\\xHH'. It writes to no file.
+    --raw  prints the bytes of the value and nothing else; of no value nothing,
+           and the status is 1
+";
+
+pub const PUT: &str = "\
+put [--bytes] DIR KEY VALUE
+    Commits the write of VALUE to KEY in the store in DIR, as a transaction of
+    its own, and prints what became of it: 'committed' and the timestamp; or
+    'aborted', if it stands nowhere, or 'unknown' and the transaction, if the
+    store did not say in time whether it stands (1). No store is made.
+    VALUE    at most 4096 bytes; '-' takes the value from standard input
+    --bytes  '\\xHH' in VALUE is the byte HH, in hexadecimal digits
+";
+
+pub const HISTORY: &str = "\
+history DIR KEY
+    Prints each version of KEY in the store whose logs are in DIR: its timestamp,
+    its transaction, and '=' with its value, or 'none' where it was erased. A
+    write behind which 'decided' or 'in doubt' stands is no version: its
+    transaction has no outcome in the log. It writes to no file.
+";
+
+pub const STATS: &str = "\
+stats LOG..
+    Prints what each log holds, 1 to 16 files, as numbers: bytes, records by kind,
+    keys, versions, the last epoch, the floor, and the transactions in doubt,
+    which were promised or decided and have no outcome; for several logs also
+    the sums. It writes to no file.
+";
+
+pub const DUMP: &str = "\
+dump LOG
+    Prints each record of a log, after the offset of its gate in the file, and
+    last 'closed at' with the offset of the closed gate; or 'torn at', if bytes
+    of a record that was not finished stand there. A byte of a key or a value
+    that is no letter, digit or underline stands as '\\xHH'. It writes to no
+    file.
+";
+
+pub const INSPECT: &str = "\
+inspect LINES LOG..
+    Judges the logs of shards 0, 1 and so on, 1 to 16 files, and the lines in
+    LINES, as 'play' prints them; an empty file has none. Prints the verdict:
+    yes, or the first fault, as 'no torn 1.2'. It writes to no file.
+";
+
+pub const DRIVE: &str = "\
+drive FILE
+    Runs shards and workers in threads, by the settings in FILE: a TOML text
+    with the keys shards, splits, stride, epsilon, workers, transactions, keys
+    and, for logs in files, dir (docs/example.settings tells what each is).
+    Prints how many transactions were committed, were aborted and are unknown,
+    how many looks were answered, and the verdict on the logs.
+";
+
+pub const FORMAT: &str = "\
+format FILE
+    Makes FILE, which must not exist, as the file of a new log. Prints nothing.
+";
+
+pub const MIGRATE: &str = "\
+migrate OLD NEW
+    Makes NEW, which must not exist, as a log file of version 2 with the records
+    of OLD, a log file of version 1, which stays as it is. Prints nothing.
+";
+
+pub const COMPACT: &str = "\
+compact OLD NEW
+    Makes NEW, which must not exist, as a log file with the records of OLD's log,
+    and without what was renewed; OLD stays as it is. Prints nothing.
+";
+
+pub const PLAY: &str = "\
+play FILE
+    Plays the schedule in FILE: sessions, messages and steps of shards on disks
+    in memory, at the times that it tells, with crashes, failing calls and
+    openings. Prints the report: the reply to each event, the messages, the
+    logs, the lines, and the verdict on them.
+";
+
+pub const ONCE: &str = "\
 once KEY VALUE E1 L1 E2 L2
     Makes a new shard on a disk in memory, commits the write of VALUE to KEY,
     settles it, and prints the timestamp.
@@ -20,79 +136,50 @@ once KEY VALUE E1 L1 E2 L2
            timestamp, else it is too early
     A key or a value that begins with '-' goes after '--', as in
     shards once -- -5 1 100 110 112 121
-
-play FILE
-    Plays the schedule in FILE: sessions, messages and steps of shards on disks
-    in memory, at the times that it tells, with crashes, failing calls and
-    openings. Prints the report: the reply to each event, the messages, the
-    logs, the lines, and the verdict on them.
-
-format FILE
-    Makes FILE, which must not exist, as the file of a new log. Prints nothing.
-
-migrate OLD NEW
-    Makes NEW, which must not exist, as a log file of version 2 with the records
-    of OLD, a log file of version 1, which stays as it is. Prints nothing.
-
-compact OLD NEW
-    Makes NEW, which must not exist, as a log file with the records of OLD's log,
-    and without what was renewed; OLD stays as it is. Prints nothing.
-
-inspect LINES LOG..
-    Judges the logs of shards 0, 1 and so on, 1 to 16 files, and the lines in
-    LINES, as 'play' prints them; an empty file has none. Prints the verdict:
-    yes, or the first fault, as 'no torn 1.2'. It writes to no file.
-
-drive FILE
-    Runs shards and workers in threads, by the settings in FILE: a TOML text
-    with the keys shards, splits, stride, epsilon, workers, transactions, keys
-    and, for logs in files, dir (docs/example.settings tells what each is).
-    Prints how many transactions were committed, were aborted and are unknown,
-    how many looks were answered, and the verdict on the logs.
-
-dump LOG
-    Prints each record of a log, behind the offset of its gate in the file, and
-    last 'closed at' with the offset of the closed gate; or 'torn at', where
-    bytes of a record that was not finished stand there. It writes to no file.
-
-history DIR KEY
-    Prints each version of KEY in the store whose logs are in DIR: its timestamp,
-    its transaction, and '=' with its value, or 'none' where it was erased. A
-    write behind which 'decided' or 'in doubt' stands is no version: its
-    transaction has no outcome in the log. It writes to no file.
-
-get DIR KEY [AT]
-    Prints the value of KEY at the timestamp AT, or by the latest version, as
-    '=' and the value, or 'none'. It writes to no file.
-
-put DIR KEY VALUE
-    Commits the write of VALUE to KEY in the store in DIR, as a transaction of
-    its own, and prints what became of it: 'committed' and the timestamp; or
-    'aborted', where it stands nowhere, or 'unknown' and the transaction, where
-    the store did not say in time whether it stands (1). No store is made.
-
-stats LOG..
-    Prints what each log holds, 1 to 16 files, as numbers: bytes, records by kind,
-    keys, versions, the last epoch, the floor, and the transactions in doubt,
-    which were promised or decided and have no outcome; for several logs also
-    the sums. It writes to no file.
-
-status: 0, or 1 where it was too early, the verdict is no or a write does not
-surely stand, or 2 at a fault, which is one line on standard error. After a
-write that fails nothing more is printed (2).
 ";
 
-/// Whether one of the words, before any `--`, is `-h` or `--help`.
-pub fn asks_help(words: &[&str]) -> bool
-    ensures { result ≡ asks_help (map (λ w. w.now) words.now) }
+pub const MAKE: &str = "\
+make DIR [SPLIT..]
+    Makes an empty store in DIR; if DIR is not there, it makes that too. Each
+    SPLIT is a key at which the shards part: at most 15, in ascending order.
+    If there is a store in DIR, that is refused. Prints nothing.
+";
+
+pub const SERVE: &str = "\
+serve DIR [OPTION..]
+    Opens the store in DIR, prints 'ready' and the run of its ids, and answers
+    each line of standard input by one on standard output, until its end or
+    'quit'. The line 'help' tells what may be asked.
+    --clients N         how many clients work side by side: 1 to 64, and 64 if
+                        nothing is said
+    --epsilon MICROS    how far the clock may be from true time
+    --stride MICROS     how far ahead of the served time a ceiling is logged
+    --keep MICROS       how long views of the past are answered
+    --renew BYTES       how much a log grows before it is turned over
+    --patience MILLIS   how long a transaction waits for another one
+    --idle MILLIS       how long an open transaction waits for its next line:
+                        1000 to 3600000, and 10000 if nothing is said
+";
+
+/// What is told of a command, or the page where the word is none.
+pub fn paragraph(name: &str) -> &'static str
+    ensures { result.now ≡ paragraph_of name.now }
 {
-    for word in words {
-        if *word == "--" {
-            return false;
-        }
-        if *word == "-h" || *word == "--help" {
-            return true;
-        }
+    match name {
+        "get" => GET,
+        "put" => PUT,
+        "history" => HISTORY,
+        "stats" => STATS,
+        "dump" => DUMP,
+        "inspect" => INSPECT,
+        "drive" => DRIVE,
+        "format" => FORMAT,
+        "migrate" => MIGRATE,
+        "compact" => COMPACT,
+        "play" => PLAY,
+        "once" => ONCE,
+        "make" => MAKE,
+        "serve" => SERVE,
+        _ => PAGE,
     }
-    false
 }

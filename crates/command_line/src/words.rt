@@ -2,43 +2,40 @@
 ghost use Rattle.std.specs.Prelude.{◌≡◌, ◌⊎◌, List, Some, Ok, Err, IfOk, MatchResult, codes, map, option_map, true};
 ghost use Rattle.clap.specs.Words.{all_of, first_value, found_of, rows_of, subcommand_rows_of};
 ghost use Rattle.units.specs.declared.fault.Fault.TheVariants.{Memory};
-ghost use Rattle.command_line.specs.Lines.{CommandLine, Word, are_covered, are_plain, asks_help, line_of};
-ghost use Rattle.command_line.specs.declared.commands.Command.TheVariants.{Help};
-ghost use Rattle.command_line.specs.Commands.{at_of, command_of, key_of, value_of};
+ghost use Rattle.command_line.specs.Lines.{CommandLine, Word, are_plain, line_of};
+ghost use Rattle.command_line.specs.Commands.{at_of, command_or_refusal, given_of, key_of, takes, value_of};
 ghost use Rattle.command_line.specs.Parser.{entry_of};
-ghost use Rattle.command_line.specs.Views.{Answers, asked_for};
+ghost use Rattle.command_line.specs.Views.{Answers, AnswersAs, asked_by, given_by, is_covered};
 
-use crate::Command;
+use crate::commands::{Command, Source};
+use crate::marks::{Marks, Words};
 use crate::parsing::shards;
-use crate::usage::asks_help;
 use clap::ArgMatches;
 use clap::error::ErrorKind;
 use std::alloc::{AllocError, Global};
 use texts::{reading, stamp};
 use units::{Fault, Key, Reason, Stamp, Value};
 
-/// The command that the words ask for: help, where they do, and else the first bad word counts. A
-/// key, a value or a timestamp out of its limits is refused by its name, and all else that is no
-/// command line as `command`. Other words that begin with `-` are read as `clap` does it.
-pub fn command<'a>(alloc: Global, words: &'a [&'a str]) -> Result<Command<'a>, Fault>
-    ensures exact { are_covered (map (λ w. w.now) words.entry.now) ≡ true → MatchResult result
-        (λ c. command_of (map (λ w. w.now) words.entry.now) ≡ Ok (asked_for c))
-        (λ f. (f ≡ Memory) ⊎ (command_of (map (λ w. w.now) words.entry.now) ≡ Err f)) }
-    ensures help { asks_help (map (λ w. w.now) words.entry.now) ≡ true → result ≡ Ok Help }
-{
-    if asks_help(words) {
-        return Ok(Command::Help);
+impl Words<'_> {
+    /// The command that the words ask for: the first bad word counts. A key, a value or a timestamp out of its limits is refused by its name, and
+    /// all else that is no command line as `command`. Other words that begin with `-` are read as `clap` does it.
+    pub fn command(&self, alloc: Global) -> Result<Command<'_>, Fault>
+        ensures { is_covered self.now ≡ true → AnswersAs (asked_by self.now) result }
+    {
+        match self.told {
+            Some(text) => Ok(Command::Told { text }),
+            None => read_command(alloc, self.marks, self.plain.as_slice()),
+        }
     }
-    read_command(alloc, words)
 }
 
-// Of words that do not ask for help. `clap` tells which is which.
-fn read_command<'a>(alloc: Global, words: &'a [&'a str]) -> Result<Command<'a>, Fault>
+// Of words that ask for no text. `clap` tells which is which.
+fn read_command<'a>(alloc: Global, marks: Marks, words: &'a [&'a str]) -> Result<Command<'a>, Fault>
     ensures { are_plain (map (λ w. w.now) words.entry.now) ≡ true
-        → Answers (line_of (map (λ w. w.now) words.entry.now)) result }
+        → AnswersAs (command_or_refusal marks (line_of (map (λ w. w.now) words.entry.now))) result }
 {
     match shards(alloc)?.try_get_matches_from(words) {
-        Ok(matches) => found_command(alloc, &matches),
+        Ok(matches) => found_command(alloc, marks, &matches),
         Err(error) => match error.kind() {
             ErrorKind::OutOfMemory => Err(Fault::Memory),
             _ => Err(Fault::BadRequest(Reason::Command)),
@@ -47,24 +44,54 @@ fn read_command<'a>(alloc: Global, words: &'a [&'a str]) -> Result<Command<'a>, 
 }
 
 // The command that the parser found.
-fn found_command<'a>(alloc: Global, matches: &ArgMatches<'a>) -> Result<Command<'a>, Fault>
+fn found_command<'a>(
+    alloc: Global,
+    marks: Marks,
+    matches: &ArgMatches<'a>,
+) -> Result<Command<'a>, Fault>
     ensures { (line : CommandLine) → subcommand_rows_of matches.now ≡ Some (entry_of line)
-        → Answers (Some line) result }
+        → AnswersAs (command_or_refusal marks (Some line)) result }
 {
     match matches.subcommand() {
-        Some((name, given)) => named_command(alloc, name, given),
+        Some((name, given)) => taken_command(alloc, marks, name, given),
         None => Err(Fault::BadRequest(Reason::Command)),
     }
+}
+
+// The command of this name, where it takes the options.
+fn taken_command<'a>(
+    alloc: Global,
+    marks: Marks,
+    name: &str,
+    given: &ArgMatches<'a>,
+) -> Result<Command<'a>, Fault>
+    ensures { (line : CommandLine) → (entry_of line).0 ≡ name.now
+        → rows_of (found_of given.now) ≡ (entry_of line).1
+        → AnswersAs (command_or_refusal marks (Some line)) result }
+{
+    if takes(marks, name) {
+        named_command(alloc, marks, name, given)
+    } else {
+        Err(Fault::BadRequest(Reason::Command))
+    }
+}
+
+// The command takes these options.
+fn takes(marks: Marks, name: &str) -> bool
+    ensures { result ≡ takes marks name.now }
+{
+    (!marks.raw || name == "get") && (!marks.bytes || name == "put")
 }
 
 // The command of this name, by its words.
 fn named_command<'a>(
     alloc: Global,
+    marks: Marks,
     name: &str,
     given: &ArgMatches<'a>,
 ) -> Result<Command<'a>, Fault>
     ensures { (line : CommandLine) → (entry_of line).0 ≡ name.now
-        → rows_of (found_of given.now) ≡ (entry_of line).1 → Answers (Some line) result }
+        → rows_of (found_of given.now) ≡ (entry_of line).1 → Answers marks line result }
 {
     match name {
         "once" => read_once(alloc, given),
@@ -82,8 +109,8 @@ fn named_command<'a>(
             file: word(given, "file"),
         }),
         "history" => read_history(given),
-        "get" => read_get(given),
-        "put" => read_put(alloc, given),
+        "get" => read_get(marks.raw, given),
+        "put" => read_put(alloc, marks.bytes, given),
         "stats" => read_stats(alloc, given),
         "migrate" => {
             let old = word(given, "old");
@@ -102,7 +129,8 @@ fn named_command<'a>(
 // The words of `inspect`.
 fn read_inspect<'a>(alloc: Global, given: &ArgMatches<'a>) -> Result<Command<'a>, Fault>
     ensures { (line : CommandLine) → (entry_of line).0 ≡ codes "inspect"
-        → rows_of (found_of given.now) ≡ (entry_of line).1 → Answers (Some line) result }
+        → rows_of (found_of given.now) ≡ (entry_of line).1
+        → (marks : Marks) → Answers marks line result }
 {
     let lines = word(given, "lines");
     let logs = words_of(alloc, given, "logs")?;
@@ -112,7 +140,8 @@ fn read_inspect<'a>(alloc: Global, given: &ArgMatches<'a>) -> Result<Command<'a>
 // The words of `stats`.
 fn read_stats<'a>(alloc: Global, given: &ArgMatches<'a>) -> Result<Command<'a>, Fault>
     ensures { (line : CommandLine) → (entry_of line).0 ≡ codes "stats"
-        → rows_of (found_of given.now) ≡ (entry_of line).1 → Answers (Some line) result }
+        → rows_of (found_of given.now) ≡ (entry_of line).1
+        → (marks : Marks) → Answers marks line result }
 {
     let logs = words_of(alloc, given, "logs")?;
     Ok(Command::Stats { logs })
@@ -147,7 +176,8 @@ fn words_of<'a>(
 // The words of `once`, each reading as two words.
 fn read_once<'a>(alloc: Global, given: &ArgMatches<'a>) -> Result<Command<'a>, Fault>
     ensures { (line : CommandLine) → (entry_of line).0 ≡ codes "once"
-        → rows_of (found_of given.now) ≡ (entry_of line).1 → Answers (Some line) result }
+        → rows_of (found_of given.now) ≡ (entry_of line).1
+        → (marks : Marks) → Answers marks line result }
 {
     let key = word(given, "key");
     let value = word(given, "value");
@@ -168,7 +198,8 @@ fn read_once<'a>(alloc: Global, given: &ArgMatches<'a>) -> Result<Command<'a>, F
 // The words of `history`.
 fn read_history<'a>(given: &ArgMatches<'a>) -> Result<Command<'a>, Fault>
     ensures { (line : CommandLine) → (entry_of line).0 ≡ codes "history"
-        → rows_of (found_of given.now) ≡ (entry_of line).1 → Answers (Some line) result }
+        → rows_of (found_of given.now) ≡ (entry_of line).1
+        → (marks : Marks) → Answers marks line result }
 {
     let dir = word(given, "dir");
     let key = read_key(word(given, "key"))?;
@@ -176,29 +207,45 @@ fn read_history<'a>(given: &ArgMatches<'a>) -> Result<Command<'a>, Fault>
 }
 
 // The words of `get`.
-fn read_get<'a>(given: &ArgMatches<'a>) -> Result<Command<'a>, Fault>
+fn read_get<'a>(raw: bool, given: &ArgMatches<'a>) -> Result<Command<'a>, Fault>
     ensures { (line : CommandLine) → (entry_of line).0 ≡ codes "get"
-        → rows_of (found_of given.now) ≡ (entry_of line).1 → Answers (Some line) result }
+        → rows_of (found_of given.now) ≡ (entry_of line).1
+        → (marks : Marks) → marks.raw ≡ raw → Answers marks line result }
 {
     let dir = word(given, "dir");
     let key = word(given, "key");
     let at = given.get_str("at");
     let key = read_key(key)?;
     let at = read_at(at)?;
-    Ok(Command::Get { dir, key, at })
+    Ok(Command::Get { dir, key, at, raw })
 }
 
 // The words of `put`.
-fn read_put<'a>(alloc: Global, given: &ArgMatches<'a>) -> Result<Command<'a>, Fault>
+fn read_put<'a>(alloc: Global, spelled: bool, given: &ArgMatches<'a>) -> Result<Command<'a>, Fault>
     ensures { (line : CommandLine) → (entry_of line).0 ≡ codes "put"
-        → rows_of (found_of given.now) ≡ (entry_of line).1 → Answers (Some line) result }
+        → rows_of (found_of given.now) ≡ (entry_of line).1
+        → (marks : Marks) → marks.bytes ≡ spelled → Answers marks line result }
 {
     let dir = word(given, "dir");
     let key = word(given, "key");
     let value = word(given, "value");
     let key = read_key(key)?;
-    let value = read_value(alloc, value)?;
+    let value = read_source(alloc, spelled, value)?;
     Ok(Command::Put { dir, key, value })
+}
+
+// Where the word of a value has it come from.
+fn read_source<'a>(alloc: Global, spelled: bool, word: &'a str) -> Result<Source<'a>, Fault>
+    ensures { MatchResult result (λ s. given_of spelled word.now ≡ Ok (given_by s))
+        (λ f. (f ≡ Memory) ⊎ (given_of spelled word.now ≡ Err f)) }
+{
+    if word == "-" {
+        Ok(Source::Input)
+    } else if spelled {
+        Ok(Source::Spelled(word))
+    } else {
+        Ok(Source::Word(read_value(alloc, word)?))
+    }
 }
 
 // A timestamp, where there is a word for it.

@@ -8,6 +8,7 @@ use std::alloc::Allocator;
 use std::fmt::Display;
 use std::fs::{Metadata, OpenOptions};
 use std::io;
+use std::io::{Input, Lines};
 use std::random::RandomSource;
 use std::rt::{Clock, Files};
 use std::sync::Wait;
@@ -48,6 +49,22 @@ impl<R: Eprint> Eprint for Coarse<'_, R> {
 
     fn eprintln<D: Display + Drop>(&self, value: D) -> io::Result<()> {
         self.rt.eprintln(value)
+    }
+}
+
+impl<R: Input> Input for Coarse<'_, R> {
+    type Reader = R::Reader;
+
+    fn read_line<A: Allocator + Clone>(&self, buf: &mut String<A>) -> io::Result<usize> {
+        self.rt.read_line(buf)
+    }
+
+    fn lines<A: Allocator>(&self, alloc: A) -> Lines<R::Reader, A> {
+        self.rt.lines(alloc)
+    }
+
+    fn reader(&self) -> R::Reader {
+        self.rt.reader()
     }
 }
 

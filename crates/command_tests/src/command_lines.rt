@@ -4,6 +4,7 @@ use cli::{Stream, program};
 use made::{Folder, ONE_COMMIT, WrongRows, in_version_1, with_slots};
 use std::alloc::Global;
 use std::fs::File;
+use std::io::Input;
 use std::process::Abort;
 use std::random::RandomSource;
 use std::rt::Files;
@@ -333,7 +334,7 @@ fn is_right(out: &[u8], err: &[u8], step: &Step) -> bool {
 /// Whether the program prints what the step says, and gives its status.
 pub fn prints<
     'w,
-    R: Files<File = File> + Eprint + RandomSource + Threads + Wait + time::Clock + Sync,
+    R: Files<File = File> + Eprint + Input + RandomSource + Threads + Wait + time::Clock + Sync,
 >(rt: &R, alloc: Global, words: &'w [&'w str], step: &Step) -> bool {
     let mut out = Stream::new(Vec::new(alloc));
     let mut err = Stream::new(Vec::new(alloc));
@@ -347,7 +348,15 @@ pub fn prints<
 
 /// Goes over some commands, one after another, as the program carries them out. Each is named by its line and its place among them.
 pub fn go_over<
-    T: Files<File = File> + Eprint + RandomSource + Threads + Wait + time::Clock + Sync + Abort,
+    T: Files<File = File>
+        + Eprint
+        + Input
+        + RandomSource
+        + Threads
+        + Wait
+        + time::Clock
+        + Sync
+        + Abort,
 >(wrong: &mut WrongRows, rt: &HostRuntime, test: &T, folder: &Folder, steps: &[Step]) {
     let mut place = 0u64;
     for step in steps {

@@ -3,9 +3,11 @@ use Rattle.std.proofs.Common.{◌≡◌, ◌⊎◌, ℕ, List, inl, inr, Result,
 use Rattle.std.specs.Prelude.{IfErr, IfOk, MatchResult}
 use Rattle.units.specs.declared.fault.Fault.{Fault}
 use Rattle.units.specs.declared.fault.Fault.TheVariants.{Memory}
+use Rattle.output.specs.Failures.{FailsFor}
+use Rattle.output.specs.Replies.{Expected}
 use Rattle.output.specs.declared.failure.Failure.{Failure}
 use Rattle.output.specs.declared.failure.Failure.TheVariants.{Refused, Unwritten}
-use Rattle.command_line.specs.Commands.{Asked, help, once_asked, format_asked, play_asked, inspect_asked, drive_asked, dump_asked, history_asked}
+use Rattle.command_line.specs.Commands.{Asked, told_asked, once_asked, format_asked, play_asked, inspect_asked, drive_asked, dump_asked, history_asked}
 use Rattle.command_line.specs.Commands.{get_asked, put_asked, stats_asked, migrate_asked, compact_asked}
 use Rattle.system.specs.declared.asked.Driven.{Driven}
 use Rattle.system.specs.declared.asked.NoVerdict.{NoVerdict}
@@ -32,7 +34,7 @@ driven_by call settings (Err none) is = tt
 -- what a call that puts a write is refused for
 pub unput_by : (call : Put → Result Ended Fault → Type 0) (write : Put) (r : Result Ended Fault) → call write r → IfErr r (IsNotPut (IsUnputBy call))
 unput_by call write (Ok ended) is = tt
-unput_by call write (Err fault) is = inr (write, is)
+unput_by call write (Err fault) is = inr (inr (write, is))
 
 -- where an answer is refused for less
 pub refused_more : {T : Type 0} {less more : Fault → Type 0} (r : Result T Fault) → ((fault : Fault) → less fault → more fault) → IfErr r less → IfErr r more
@@ -48,7 +50,7 @@ module _ (drives puts : Fault → Type 0) where
   -- for less a command may be refused too
   of_asked : (drives' puts' : Fault → Type 0) (asked : Asked) (fault : Fault) → (drives fault → drives' fault) → (puts fault → puts' fault)
       → MayRefuse drives puts asked fault → MayRefuse drives' puts' asked fault
-  of_asked drives' puts' help fault more some is = tt
+  of_asked drives' puts' (told_asked words) fault more some is = tt
   of_asked drives' puts' (once_asked key value first second) fault more some is = tt
   of_asked drives' puts' (format_asked file) fault more some is = is
   of_asked drives' puts' (play_asked file) fault more some is = is
@@ -58,9 +60,10 @@ module _ (drives puts : Fault → Type 0) where
   of_asked drives' puts' (drive_asked file) fault more some (inr (inr why)) = inr (inr (more why))
   of_asked drives' puts' (dump_asked file) fault more some is = is
   of_asked drives' puts' (history_asked dir key) fault more some is = is
-  of_asked drives' puts' (get_asked dir key at) fault more some is = is
-  of_asked drives' puts' (put_asked dir key value) fault more some (inl unread) = inl unread
-  of_asked drives' puts' (put_asked dir key value) fault more some (inr why) = inr (some why)
+  of_asked drives' puts' (get_asked dir key at raw) fault more some is = is
+  of_asked drives' puts' (put_asked dir key given) fault more some (inl none) = inl none
+  of_asked drives' puts' (put_asked dir key given) fault more some (inr (inl unread)) = inr (inl unread)
+  of_asked drives' puts' (put_asked dir key given) fault more some (inr (inr why)) = inr (inr (some why))
   of_asked drives' puts' (stats_asked logs) fault more some is = is
   of_asked drives' puts' (migrate_asked old new) fault more some is = is
   of_asked drives' puts' (compact_asked old new) fault more some is = is
@@ -77,7 +80,7 @@ module _ (drives puts : Fault → Type 0) where
 
   -- memory may be wanting for any command
   any_asked : (asked : Asked) → MayRefuse drives puts asked Memory
-  any_asked help = tt
+  any_asked (told_asked words) = tt
   any_asked (once_asked key value first second) = tt
   any_asked (format_asked file) = inl refl
   any_asked (play_asked file) = inl (inl refl)
@@ -85,8 +88,8 @@ module _ (drives puts : Fault → Type 0) where
   any_asked (drive_asked file) = inl (inl refl)
   any_asked (dump_asked file) = inl refl
   any_asked (history_asked dir key) = inl refl
-  any_asked (get_asked dir key at) = inl refl
-  any_asked (put_asked dir key value) = inl (inl refl)
+  any_asked (get_asked dir key at raw) = inl refl
+  any_asked (put_asked dir key given) = inl (inl (inl refl))
   any_asked (stats_asked logs) = inl refl
   any_asked (migrate_asked old new) = inl refl
   any_asked (compact_asked old new) = inl refl
@@ -101,6 +104,11 @@ module _ (drives puts : Fault → Type 0) where
   -- words that are no command may be refused for anything
   pub none_of : (asked : Result Asked Fault) (fault why : Fault) → asked ≡ Err why → MayRefuseTo drives puts asked fault
   none_of asked fault why is = subst (λ (r : Result Asked Fault). MayRefuseTo drives puts r fault) (sym is) tt
+
+-- what fails for what is expected fails for the same otherwise told
+pub fails_as : {T : Type 0} (x : Result T Failure) (failed : Type 0) {a b : Expected} → a ≡ b → IfErr x (λ failure. FailsFor failed failure a)
+    → IfErr x (λ failure. FailsFor failed failure b)
+fails_as x failed e h = subst (λ (expected : Expected). IfErr x (λ failure. FailsFor failed failure expected)) e h
 
 -- what holds of a text that was printed, by what holds of it
 pub of_printed : {T : Type 0} (Holds : T → Type 0) (Goal : ℕ → Type 0) (Printed : T → ℕ → Type 0) (failed same : Type 0) (told : Result T Fault)
@@ -130,26 +138,26 @@ fails_by drives (Err failure) none why (inr refused) = inr (none.fault, refused,
 
 module _ (drives drives' : Driving) (puts puts' : Said) where
   -- by what more may come of a drive and become of a write, no less is told
-  told_asked : (asked : Asked) (status : ℕ) (text : List ℕ) → ((text : List ℕ) (verdict : Verdict) → drives text verdict → drives' text verdict)
+  tells_more : (asked : Asked) (status : ℕ) (text : List ℕ) → ((text : List ℕ) (verdict : Verdict) → drives text verdict → drives' text verdict)
       → ((folder key value : List ℕ) (ended : Ended) → puts folder key value ended → puts' folder key value ended)
       → Tells drives puts asked status text → Tells drives' puts' asked status text
-  told_asked help status text more some is = tt
-  told_asked (once_asked key value first second) status text more some is = tt
-  told_asked (format_asked file) status text more some is = is
-  told_asked (play_asked file) status text more some is = is
-  told_asked (inspect_asked lines logs) status text more some is = is
-  told_asked (drive_asked file) status text more some is = (is.0, more text is.0 is.1, is.2)
-  told_asked (dump_asked file) status text more some is = is
-  told_asked (history_asked dir key) status text more some is = is
-  told_asked (get_asked dir key at) status text more some is = is
-  told_asked (put_asked dir key value) status text more some is = (is.0, some dir key value is.0 is.1, is.2, is.3)
-  told_asked (stats_asked logs) status text more some is = is
-  told_asked (migrate_asked old new) status text more some is = is
-  told_asked (compact_asked old new) status text more some is = is
+  tells_more (told_asked words) status text more some is = tt
+  tells_more (once_asked key value first second) status text more some is = tt
+  tells_more (format_asked file) status text more some is = is
+  tells_more (play_asked file) status text more some is = is
+  tells_more (inspect_asked lines logs) status text more some is = is
+  tells_more (drive_asked file) status text more some is = (is.0, more text is.0 is.1, is.2)
+  tells_more (dump_asked file) status text more some is = is
+  tells_more (history_asked dir key) status text more some is = is
+  tells_more (get_asked dir key at raw) status text more some is = is
+  tells_more (put_asked dir key given) status text more some is = (is.0, is.1, is.2, some dir key is.0 is.1 is.3, is.4, is.5)
+  tells_more (stats_asked logs) status text more some is = is
+  tells_more (migrate_asked old new) status text more some is = is
+  tells_more (compact_asked old new) status text more some is = is
 
   pub told_to : (asked : Result Asked Fault) (status : ℕ) (text : List ℕ)
       → ((text : List ℕ) (verdict : Verdict) → drives text verdict → drives' text verdict)
       → ((folder key value : List ℕ) (ended : Ended) → puts folder key value ended → puts' folder key value ended)
       → TellsTo drives puts asked status text → TellsTo drives' puts' asked status text
-  told_to (Ok asked) status text more some is = told_asked asked status text more some is
+  told_to (Ok asked) status text more some is = tells_more asked status text more some is
   told_to (Err why) status text more some is = is

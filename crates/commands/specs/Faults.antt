@@ -3,7 +3,8 @@ use Rattle.std.specs.Prelude.{◌≡◌, ◌⊎◌, ℕ, Result, Ok, Err}
 use Rattle.units.specs.declared.fault.Fault.{Fault}
 use Rattle.units.specs.declared.fault.Fault.TheVariants.{BadRequest, Device, Memory}
 use Rattle.units.specs.declared.fault.Reason.TheVariants.{Settings, Unlawful}
-use Rattle.command_line.specs.Commands.{Asked, help, once_asked, format_asked, play_asked, inspect_asked, drive_asked, dump_asked, history_asked}
+use Rattle.units.specs.declared.fault.Reason.TheVariants as reason
+use Rattle.command_line.specs.Commands.{Asked, told_asked, once_asked, format_asked, play_asked, inspect_asked, drive_asked, dump_asked, history_asked}
 use Rattle.command_line.specs.Commands.{get_asked, put_asked, stats_asked, migrate_asked, compact_asked}
 use Rattle.client.specs.declared.ended.Ended.{Ended}
 use Rattle.commands.specs.declared.engine.Put.{Put}
@@ -42,9 +43,13 @@ IsNotDriven drives fault = IsNotMade fault ⊎ ((fault ≡ BadRequest Settings) 
 abbrev pub IsRefusedBy : {S : Type 0} → (S → Result Driven NoVerdict → Type 0) → Fault → Type 0
 IsRefusedBy {S} call fault = (settings : S) × (none : NoVerdict) × call settings (Err none) × (none.fault ≡ fault)
 
--- the folder of a store is not read, or what puts a write refuses for this
+-- no value is had: besides, where it is too long or its word spells none
+abbrev pub IsNoValue : Fault → Type 0
+IsNoValue fault = IsNotMade fault ⊎ ((fault ≡ BadRequest reason.Value) ⊎ (fault ≡ BadRequest reason.Command))
+
+-- no value is had, the folder of a store is not read, or what puts a write refuses for this
 abbrev pub IsNotPut : (Fault → Type 0) → Fault → Type 0
-IsNotPut puts fault = IsUnreadStore fault ⊎ puts fault
+IsNotPut puts fault = IsNoValue fault ⊎ (IsUnreadStore fault ⊎ puts fault)
 
 -- a call that is to put some write may be refused for this
 abbrev pub IsUnputBy : (Put → Result Ended Fault → Type 0) → Fault → Type 0
@@ -52,7 +57,7 @@ IsUnputBy call fault = (write : Put) × call write (Err fault)
 
 -- what a command may be refused for, where its words do not tell it, by what a drive and what a write are refused for
 abbrev pub MayRefuse : (Fault → Type 0) → (Fault → Type 0) → Asked → Fault → Type 0
-MayRefuse drives puts help fault = Unit {0}
+MayRefuse drives puts (told_asked words) fault = Unit {0}
 MayRefuse drives puts (once_asked key value first second) fault = Unit {0}
 MayRefuse drives puts (format_asked file) fault = IsNotMade fault
 MayRefuse drives puts (play_asked file) fault = IsNotPlayed fault
@@ -60,7 +65,7 @@ MayRefuse drives puts (inspect_asked lines logs) fault = IsNotJudged fault
 MayRefuse drives puts (drive_asked file) fault = IsNotDriven drives fault
 MayRefuse drives puts (dump_asked file) fault = IsNotShown fault
 MayRefuse drives puts (history_asked dir key) fault = IsNotTold fault
-MayRefuse drives puts (get_asked dir key at) fault = IsNotTold fault
+MayRefuse drives puts (get_asked dir key at raw) fault = IsNotTold fault
 MayRefuse drives puts (put_asked dir key value) fault = IsNotPut puts fault
 MayRefuse drives puts (stats_asked logs) fault = IsNotShown fault
 MayRefuse drives puts (migrate_asked old new) fault = IsNotMigrated fault

@@ -5,32 +5,29 @@ ghost use Rattle.units.specs.declared.fault.Fault.{Fault};
 ghost use Rattle.units.specs.declared.fault.Fault.TheVariants.{Memory};
 ghost use Rattle.disk.specs.declared.plan.FailurePlan.TheVariants.{Never};
 ghost use Rattle.simdisk.specs.State.{disk_plan};
-ghost use Rattle.command_line.specs.Commands.{command_of};
-ghost use Rattle.command_line.specs.Views.{asked_for};
-ghost use Rattle.command_line.specs.declared.commands.Command.TheVariants.{Help};
-ghost use Rattle.command_line.specs.declared.usage.TheConstants.{USAGE};
+ghost use Rattle.command_line.specs.Commands.{are_covered, command_of};
+ghost use Rattle.command_line.specs.Views.{asked_by, asked_for, is_covered};
 ghost use Rattle.output.specs.Failures.{FailsFor};
 ghost use Rattle.output.specs.declared.failure.Failure.TheVariants.{Refused, Unwritten};
-ghost use Rattle.command_line.specs.Lines.{are_plain, asks_help};
 ghost use Rattle.output.specs.Replies.{Is};
 ghost use Rattle.commands.specs.Disks.{LogsCommand, LogsTo};
 ghost use Rattle.commands.specs.Drives.{IsDrivenBy};
 ghost use Rattle.commands.specs.Faults.{FailsAs, IsRefusedBy, IsUnputBy, MayRefuse, MayRefuseTo};
 ghost use Rattle.commands.specs.Puts.{IsPutBy};
-ghost use Rattle.commands.specs.Replies.{Tells, TellsTo, reply_of, reply_to};
+ghost use Rattle.commands.specs.Replies.{Tells, TellsTo, reply_of, reply_or_refusal, reply_to};
 ghost use Rattle.output.specs.Streams.{failures_of, fault_line, writer_of};
 
 use crate::drive_command::run_drive;
 use crate::engine::{Engine, Put};
-use crate::help::help;
+use crate::help::tell;
 use crate::hints::{Hints, tell_place};
 use crate::inspect::inspect;
-use crate::key_commands::{get, history};
+use crate::key_commands::{history, run_get};
 use crate::play_command::play;
 use crate::printing::{done, print, print_text};
 use crate::put_command::put;
 use client::Ended;
-use command_line::{Command, command};
+use command_line::{Command, Words};
 use compaction::compact_file;
 use once::once;
 use output::{Failure, Stream};
@@ -39,7 +36,7 @@ use showing::{dump_file, stats_files};
 use simdisk::SimDisk;
 use std::alloc::Global;
 use std::io::Write;
-use system::{Driven, Files, NoVerdict, System, format_file, migrate_file};
+use system::{Driven, NoVerdict, System, format_file, migrate_file};
 use units::Fault;
 
 /// Carries a command line out, with what it asks of the system, on an empty disk and over standard output and standard error.
@@ -65,26 +62,23 @@ pub fn answer<
     requires drives { D.IsAlwaysCallable system.now.drive.run }
     requires puts { P.IsAlwaysCallable system.now.drive.put }
     ensures status { (result.0 ≡ 0) ⊎ (result.0 ≡ 1) ⊎ (result.0 ≡ 2) }
-    ensures printed { are_plain (map (λ w. w.now) words.entry.now) ≡ true → result.0 ≢ 2
+    ensures printed { are_covered (map (λ w. w.now) words.entry.now) ≡ true → result.0 ≢ 2
         → (text : List ℕ) × Is (reply_to (map (λ w. w.now) words.entry.now)) (Ok (text, result.0))
         × Appends (O.contents (writer_of out.old)) (O.contents (writer_of out.new)) text }
-    ensures logged { are_plain (map (λ w. w.now) words.entry.now) ≡ true → result.0 ≢ 2
+    ensures logged { are_covered (map (λ w. w.now) words.entry.now) ≡ true → result.0 ≢ 2
         → LogsTo (command_of (map (λ w. w.now) words.entry.now)) result.0 result.1 }
-    ensures refused { are_plain (map (λ w. w.now) words.entry.now) ≡ true → (fault : Fault)
+    ensures refused { are_covered (map (λ w. w.now) words.entry.now) ≡ true → (fault : Fault)
         → reply_to (map (λ w. w.now) words.entry.now) ≡ Some (Err fault) → (result.0 ≡ 2)
         × (out.new ≡ out.old) }
-    ensures helped { asks_help (map (λ w. w.now) words.entry.now) ≡ true → result.0 ≢ 2
-        → (result.0 ≡ 0)
-        × Appends (O.contents (writer_of out.old)) (O.contents (writer_of out.new)) USAGE.now }
     // What files tell: a format, a migration and a compaction print nothing, an inspection a verdict, which its status goes with, and a dump lines of records.
-    ensures tells { are_plain (map (λ w. w.now) words.entry.now) ≡ true → result.0 ≢ 2
+    ensures tells { are_covered (map (λ w. w.now) words.entry.now) ≡ true → result.0 ≢ 2
         → (text : List ℕ) × TellsTo (IsDrivenBy (D.post system.now.drive.run alloc))
         (IsPutBy (P.post system.now.drive.put alloc))
         (command_of (map (λ w. w.now) words.entry.now)) result.0 text
         × Appends (O.contents (writer_of out.old)) (O.contents (writer_of out.new)) text }
     ensures quiet { result.0 ≢ 2 → err.new ≡ err.old }
     // A status of 2 has a reason: a write to standard output that failed, or a fault, whose line is on standard error.
-    ensures told { are_plain (map (λ w. w.now) words.entry.now) ≡ true → result.0 ≡ 2
+    ensures told { are_covered (map (λ w. w.now) words.entry.now) ≡ true → result.0 ≡ 2
         → (failures_of out.old < failures_of out.new)
         ⊎ ((fault : Fault) × ((fault ≡ Memory)
         ⊎ Is (reply_to (map (λ w. w.now) words.entry.now)) (Err fault))
@@ -92,7 +86,7 @@ pub fn answer<
         ⊎ Appends (E.contents (writer_of err.old)) (E.contents (writer_of err.new))
         (fault_line fault))) }
     // The fault of a command over files is one of its own; that of a drive is one of its settings, or one for which what drives refuses.
-    ensures numbered { are_plain (map (λ w. w.now) words.entry.now) ≡ true → result.0 ≡ 2
+    ensures numbered { are_covered (map (λ w. w.now) words.entry.now) ≡ true → result.0 ≡ 2
         → (failures_of out.old < failures_of out.new)
         ⊎ ((fault : Fault) × MayRefuseTo (IsRefusedBy (D.post system.now.drive.run alloc))
         (IsUnputBy (P.post system.now.drive.put alloc))
@@ -121,7 +115,7 @@ pub fn answer<
 
 fn carry_out<
     'a,
-    F: Files,
+    F: Hints,
     D: Fn(Global, &Settings) -> Result<Driven, NoVerdict>,
     P: Fn(Global, Put<'_>) -> Result<Ended, Fault>,
     O: Write,
@@ -136,28 +130,25 @@ fn carry_out<
     requires drives { D.IsAlwaysCallable system.now.drive.run }
     requires puts { P.IsAlwaysCallable system.now.drive.put }
     ensures status { IfOk result.0 (λ status. (status ≡ 0) ⊎ (status ≡ 1)) }
-    ensures printed { are_plain (map (λ w. w.now) words.entry.now) ≡ true
+    ensures printed { are_covered (map (λ w. w.now) words.entry.now) ≡ true
         → IfOk result.0 (λ status. (text : List ℕ)
         × Is (reply_to (map (λ w. w.now) words.entry.now)) (Ok (text, status))
         × Appends (O.contents (writer_of out.old)) (O.contents (writer_of out.new)) text) }
-    ensures tells { are_plain (map (λ w. w.now) words.entry.now) ≡ true
+    ensures tells { are_covered (map (λ w. w.now) words.entry.now) ≡ true
         → IfOk result.0 (λ status. (text : List ℕ)
         × TellsTo (IsDrivenBy (D.post system.now.drive.run alloc))
         (IsPutBy (P.post system.now.drive.put alloc))
         (command_of (map (λ w. w.now) words.entry.now)) status text
         × Appends (O.contents (writer_of out.old)) (O.contents (writer_of out.new)) text) }
-    ensures logged { are_plain (map (λ w. w.now) words.entry.now) ≡ true → IfOk result.0 (λ status.
+    ensures logged { are_covered (map (λ w. w.now) words.entry.now) ≡ true → IfOk result.0 (λ status.
         LogsTo (command_of (map (λ w. w.now) words.entry.now)) status result.1) }
-    ensures refused { are_plain (map (λ w. w.now) words.entry.now) ≡ true → (fault : Fault)
+    ensures refused { are_covered (map (λ w. w.now) words.entry.now) ≡ true → (fault : Fault)
         → reply_to (map (λ w. w.now) words.entry.now) ≡ Some (Err fault) → out.new ≡ out.old }
-    ensures helped { asks_help (map (λ w. w.now) words.entry.now) ≡ true
-        → IfOk result.0 (λ status. (status ≡ 0)
-        × Appends (O.contents (writer_of out.old)) (O.contents (writer_of out.new)) USAGE.now) }
-    ensures failures { are_plain (map (λ w. w.now) words.entry.now) ≡ true
+    ensures failures { are_covered (map (λ w. w.now) words.entry.now) ≡ true
         → IfErr result.0 (λ failure.
         FailsFor (failures_of out.old < failures_of out.new) failure
         (reply_to (map (λ w. w.now) words.entry.now))) }
-    ensures numbered { are_plain (map (λ w. w.now) words.entry.now) ≡ true → IfErr result.0
+    ensures numbered { are_covered (map (λ w. w.now) words.entry.now) ≡ true → IfErr result.0
         (FailsAs (MayRefuseTo (IsRefusedBy (D.post system.now.drive.run alloc))
         (IsUnputBy (P.post system.now.drive.put alloc))
         (command_of (map (λ w. w.now) words.entry.now)))) }
@@ -165,7 +156,56 @@ fn carry_out<
     ensures counted { (fault : Fault) → result.0 ≡ Err (Refused fault)
         → failures_of out.new ≡ failures_of out.old }
 {
-    match command(alloc, words) {
+    match Words::new(alloc, words) {
+        Ok(read) => carry_read(alloc, read, system, disk, out),
+        Err(_) => (Err(Failure::Refused(Fault::Memory)), disk),
+    }
+}
+
+// The same, of words that were read.
+fn carry_read<
+    F: Hints,
+    D: Fn(Global, &Settings) -> Result<Driven, NoVerdict>,
+    P: Fn(Global, Put<'_>) -> Result<Ended, Fault>,
+    O: Write,
+>(
+    alloc: Global,
+    read: Words<'_>,
+    system: &System<F, Engine<D, P>>,
+    disk: SimDisk,
+    out: &mut Stream<O>,
+) -> (Result<u8, Failure>, SimDisk)
+    requires disk { disk_plan disk ≡ Never }
+    requires drives { D.IsAlwaysCallable system.now.drive.run }
+    requires puts { P.IsAlwaysCallable system.now.drive.put }
+    ensures status { IfOk result.0 (λ status. (status ≡ 0) ⊎ (status ≡ 1)) }
+    ensures printed { is_covered read.entry ≡ true
+        → IfOk result.0 (λ status. (text : List ℕ)
+        × Is (reply_or_refusal (asked_by read.entry)) (Ok (text, status))
+        × Appends (O.contents (writer_of out.old)) (O.contents (writer_of out.new)) text) }
+    ensures tells { is_covered read.entry ≡ true
+        → IfOk result.0 (λ status. (text : List ℕ)
+        × TellsTo (IsDrivenBy (D.post system.now.drive.run alloc))
+        (IsPutBy (P.post system.now.drive.put alloc))
+        (asked_by read.entry) status text
+        × Appends (O.contents (writer_of out.old)) (O.contents (writer_of out.new)) text) }
+    ensures logged { is_covered read.entry ≡ true → IfOk result.0 (λ status.
+        LogsTo (asked_by read.entry) status result.1) }
+    ensures refused { is_covered read.entry ≡ true → (fault : Fault)
+        → reply_or_refusal (asked_by read.entry) ≡ Some (Err fault) → out.new ≡ out.old }
+    ensures failures { is_covered read.entry ≡ true
+        → IfErr result.0 (λ failure.
+        FailsFor (failures_of out.old < failures_of out.new) failure
+        (reply_or_refusal (asked_by read.entry))) }
+    ensures numbered { is_covered read.entry ≡ true → IfErr result.0
+        (FailsAs (MayRefuseTo (IsRefusedBy (D.post system.now.drive.run alloc))
+        (IsUnputBy (P.post system.now.drive.put alloc))
+        (asked_by read.entry))) }
+    ensures unwritten { result.0 ≡ Err Unwritten → failures_of out.old < failures_of out.new }
+    ensures counted { (fault : Fault) → result.0 ≡ Err (Refused fault)
+        → failures_of out.new ≡ failures_of out.old }
+{
+    match read.command(alloc) {
         Ok(asked) => run(alloc, asked, system, disk, out),
         Err(fault) => (Err(Failure::Refused(fault)), disk),
     }
@@ -173,7 +213,7 @@ fn carry_out<
 
 // Carries one command out.
 fn run<
-    F: Files,
+    F: Hints,
     D: Fn(Global, &Settings) -> Result<Driven, NoVerdict>,
     P: Fn(Global, Put<'_>) -> Result<Ended, Fault>,
     O: Write,
@@ -197,8 +237,6 @@ fn run<
         (asked_for asked.entry) status text
         × Appends (O.contents (writer_of out.old)) (O.contents (writer_of out.new)) text) }
     ensures logged { IfOk result.0 (λ status. LogsCommand (asked_for asked.entry) status result.1) }
-    ensures helped { asked.entry ≡ Help → IfOk result.0 (λ status. (status ≡ 0)
-        × Appends (O.contents (writer_of out.old)) (O.contents (writer_of out.new)) USAGE.now) }
     ensures refused { (fault : Fault) → reply_of (asked_for asked.entry) ≡ Some (Err fault)
         → out.new ≡ out.old }
     ensures failures { IfErr result.0 (λ failure.
@@ -213,7 +251,7 @@ fn run<
 {
     let files = &system.files;
     match asked {
-        Command::Help => (help(out), disk),
+        Command::Told { text } => (tell(text, out), disk),
         Command::Once {
             key,
             value,
@@ -228,11 +266,11 @@ fn run<
         Command::Drive { file } => (run_drive(alloc, file, system, out), disk),
         Command::Dump { file } => (print_text(dump_file(alloc, files, file), out), disk),
         Command::History { dir, key } => (print_text(history(alloc, dir, &key, files), out), disk),
-        Command::Get { dir, key, at } => {
-            (print_text(get(alloc, dir, &key, at, files), out), disk)
+        Command::Get { dir, key, at, raw } => {
+            (run_get(alloc, dir, &key, at, raw, files, out), disk)
         }
         Command::Put { dir, key, value } => {
-            (print(put(alloc, dir, &key, &value, system), out), disk)
+            (print(put(alloc, dir, &key, value, system), out), disk)
         }
         Command::Stats { logs } => (print_text(stats_files(alloc, files, &logs), out), disk),
         Command::Migrate { old, new } => (done(migrate_file(alloc, files, old, new)), disk),

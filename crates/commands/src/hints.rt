@@ -1,31 +1,52 @@
 //! Who is told where a fault lies.
+ghost use Rattle.std.specs.Prelude.{◌≡◌, ◌⊎◌, IfErr};
+ghost use Rattle.units.specs.declared.fault.Fault.TheVariants.{Device, Memory};
+
 use crate::places::place_of;
 use host_files::HostFiles;
 use std::alloc::Global;
 use std::fs::File;
+use std::io::{Error, ErrorKind, Input, Read};
 use std::rt;
 use system::Files;
 use units::Fault;
 
-/// Files behind which somebody may be told a line that goes beside what a command prints.
+/// Files, with the standard streams beside what a command prints: one is told lines on, and one gives a value.
 pub trait Hints: Files {
     /// Tells a line.
     fn hint(&self, line: &str);
+
+    /// The bytes of standard input, so many at most, which may be waited for. What the system refuses is `Device`.
+    fn input(&self, alloc: Global, most: u64) -> Result<Vec<u8>, Fault>
+        ensures { IfErr result (λ fault. (fault ≡ Memory) ⊎ (fault ≡ Device)) };
 }
 
-impl<R: rt::Files<File = File> + Eprint> Hints for HostFiles<'_, R> {
+impl<R: rt::Files<File = File> + Eprint + Input> Hints for HostFiles<'_, R> {
     fn hint(&self, line: &str) {
-        if self.is_watched {
-            let _told = self.rt.eprintln(line);
+        let _told = self.rt.eprintln(line);
+    }
+
+    fn input(&self, alloc: Global, most: u64) -> Result<Vec<u8>, Fault> {
+        let mut bytes = Vec::new(alloc);
+        match self.rt.reader().take(most).read_to_end(&mut bytes) {
+            Ok(_) => Ok(bytes),
+            Err(error) => Err(fault_of(&error)),
         }
     }
 }
 
-/// Tells where the fault of a command lies, where somebody is there and that is known.
-pub fn tell_place<F: Hints>(alloc: Global, files: &F, words: &[&str], fault: Fault) {
-    if !files.wants_notes() {
-        return;
+// Why standard input was not read.
+fn fault_of(error: &Error) -> Fault
+    ensures { (result ≡ Memory) ⊎ (result ≡ Device) }
+{
+    match error.kind() {
+        ErrorKind::OutOfMemory => Fault::Memory,
+        _ => Fault::Device,
     }
+}
+
+/// Tells where the fault of a command lies, or what is wrong with its words, if that is known.
+pub fn tell_place<F: Hints>(alloc: Global, files: &F, words: &[&str], fault: Fault) {
     if let Some(place) = place_of(alloc, files, words, fault) {
         files.hint(&place);
     }

@@ -17,7 +17,7 @@ mod store_folder;
 
 pub use answers::answer;
 pub use client::Ended;
-pub use command_line::{Command, command};
+pub use command_line::{Command, Source, Words};
 pub use engine::{Engine, Put};
 pub use hints::Hints;
 pub use output::Stream;
@@ -25,4 +25,5 @@ pub use places::place_of;
 pub use script::{Report, lawful, play, schedule};
 pub use settings_text::settings;
 pub use showing::stats_files;
+pub use store_folder::splits_of;
 pub use system::{Driven, Files, NoVerdict, System};

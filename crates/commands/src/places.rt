@@ -1,15 +1,16 @@
 //! Where the fault of a command lies, for whoever looks.
 use crate::store_folder::splits_of;
-use command_line::{Command, command};
+use command_line::{Command, Words, explanation};
 use script::schedule;
-use settings::Settings;
+use settings::{Settings, Unread};
 use showing::{dump_file, inspect_files, stats_files};
 use std::alloc::Global;
 use system::{Files, read_text};
 use units::{Fault, Key, Reason, Splits};
 
-/// Where the fault of a command over files lies: `--> FILE`, or `--> FILE:LINE` where it is one of a line or an event. There is none of words, of
-/// want of memory, and where nobody can say. The files are looked at once more, so what has changed meanwhile is told as it is then.
+/// Where the fault of a command over files lies: `--> FILE`, or `--> FILE:LINE` where it is one of a line or an event, and of settings also what is
+/// wrong with them. Of words it is what is wrong with these, and how their command is called. There is none of want of memory, and where nobody can
+/// say. The files are looked at once more, so what has changed meanwhile is told as it is then.
 pub fn place_of<F: Files>(
     alloc: Global,
     files: &F,
@@ -19,11 +20,16 @@ pub fn place_of<F: Files>(
     if fault == Fault::Memory {
         return None;
     }
-    let Ok(asked) = command(alloc, words) else {
-        return None;
+    let read = Words::new(alloc, words).ok()?;
+    let place = match read.command(alloc) {
+        Ok(asked) => {
+            let place = place_for(alloc, files, &asked, fault);
+            drop(asked);
+            place
+        }
+        Err(_) => explanation(alloc, words, fault).ok(),
     };
-    let place = place_for(alloc, files, &asked, fault);
-    drop(asked);
+    drop(read);
     place
 }
 
@@ -34,15 +40,16 @@ fn place_for<F: Files>(
     fault: Fault,
 ) -> Option<String> {
     match asked {
-        Command::Help | Command::Once { .. } => None,
-        Command::Format { file } | Command::Dump { file } => at(alloc, file),
+        Command::Told { .. } | Command::Once { .. } => None,
+        Command::Format { file } => at_new(alloc, files, file),
+        Command::Dump { file } => at(alloc, files, file),
         Command::Play { file } => in_schedule(alloc, files, file, fault),
         Command::Inspect { lines, logs } => in_inspected(alloc, files, lines, logs, fault),
         Command::Drive { file } => in_settings(alloc, files, file, fault),
         Command::History { dir, key } | Command::Get { dir, key, .. } => {
             in_log_of(alloc, files, dir, key)
         }
-        Command::Put { dir, .. } => in_store(alloc, files, dir),
+        Command::Put { dir, .. } => in_write(alloc, files, dir, fault),
         Command::Stats { logs } => in_logs(alloc, files, logs, fault),
         Command::Migrate { old, new } | Command::Compact { old, new } => {
             in_copied(alloc, files, old, new, fault)
@@ -50,12 +57,44 @@ fn place_for<F: Files>(
     }
 }
 
-fn at(alloc: Global, file: &str) -> Option<String> {
-    format!(in alloc; "--> {file}").ok()
+// At a file, and what is wrong with it, if that is known.
+fn at<F: Files>(alloc: Global, files: &F, file: &str) -> Option<String> {
+    with_why(alloc, file, files.why(alloc, file))
+}
+
+// At a file that was to be made.
+fn at_new<F: Files>(alloc: Global, files: &F, file: &str) -> Option<String> {
+    with_why(alloc, file, files.why_unmade(alloc))
+}
+
+fn with_why(alloc: Global, file: &str, why: Option<String>) -> Option<String> {
+    match why {
+        Some(why) => format!(in alloc; "--> {file}: {why}").ok(),
+        None => format!(in alloc; "--> {file}").ok(),
+    }
+}
+
+// In the store in a folder, if that is refused now.
+fn in_refused<F: Files>(alloc: Global, files: &F, dir: &str, splits: &Splits) -> Option<String> {
+    let told = files.why_unopened(alloc, dir, splits)?;
+    format!(in alloc; "--> {told}").ok()
 }
 
 fn at_line(alloc: Global, file: &str, line: u64) -> Option<String> {
     format!(in alloc; "--> {file}:{line}").ok()
+}
+
+// In the value of a write, or in its store.
+fn in_write<F: Files>(alloc: Global, files: &F, dir: &str, fault: Fault) -> Option<String> {
+    match fault {
+        Fault::BadRequest(Reason::Command) => {
+            format!(in alloc; "--> VALUE has a '\\x' without two hexadecimal digits").ok()
+        }
+        Fault::BadRequest(Reason::Value) => {
+            format!(in alloc; "--> VALUE has at most 4096 bytes").ok()
+        }
+        _ => in_store(alloc, files, dir),
+    }
 }
 
 // In a schedule an event is a line, behind those of the shards, the splits and the stride.
@@ -66,7 +105,7 @@ fn in_schedule<F: Files>(alloc: Global, files: &F, file: &str, fault: Fault) -> 
             let first = first_event(alloc, files, file)?;
             at_line(alloc, file, first.saturating_add(event))
         }
-        _ => at(alloc, file),
+        _ => at(alloc, files, file),
     }
 }
 
@@ -90,11 +129,11 @@ fn in_inspected<F: Files>(
         return at_line(alloc, lines, line);
     }
     if read_text(alloc, files, lines, Reason::Syntax(1)).is_err() {
-        return at(alloc, lines);
+        return at(alloc, files, lines);
     }
     for last in 0..logs.len() {
         if inspect_files(alloc, files, lines, &logs[..last + 1]).err() == Some(fault) {
-            return at(alloc, logs[last]);
+            return at(alloc, files, logs[last]);
         }
     }
     None
@@ -104,7 +143,7 @@ fn in_inspected<F: Files>(
 fn in_logs<F: Files>(alloc: Global, files: &F, logs: &[&str], fault: Fault) -> Option<String> {
     for log in logs {
         if stats_files(alloc, files, &[*log]).err() == Some(fault) {
-            return at(alloc, log);
+            return at(alloc, files, log);
         }
     }
     None
@@ -119,26 +158,32 @@ fn in_copied<F: Files>(
     fault: Fault,
 ) -> Option<String> {
     if fault == Fault::Device && files.open(alloc, old).is_ok() {
-        at(alloc, new)
+        at_new(alloc, files, new)
     } else {
-        at(alloc, old)
+        at(alloc, files, old)
     }
 }
 
 // In the settings, or in the folder that they name.
 fn in_settings<F: Files>(alloc: Global, files: &F, file: &str, fault: Fault) -> Option<String> {
     let Ok(text) = read_text(alloc, files, file, Reason::Settings) else {
-        return at(alloc, file);
+        return at(alloc, files, file);
     };
-    let Ok(settings) = Settings::read(alloc, &text) else {
-        return at(alloc, file);
-    };
-    let place = match &settings.dir {
-        Some(dir) => in_folder(alloc, files, dir, &settings.splits, fault),
-        None => None,
-    };
-    drop(settings);
-    place
+    match Settings::read_or_tell(alloc, &text) {
+        Ok(settings) => {
+            let place = match &settings.dir {
+                Some(dir) => in_folder(alloc, files, dir, &settings.splits, fault),
+                None => None,
+            };
+            drop(settings);
+            place
+        }
+        Err(Unread::Wrong(wrong)) => {
+            let told = wrong.told(alloc, &text).ok()?;
+            format!(in alloc; "--> {file}:{told}").ok()
+        }
+        Err(Unread::Memory) => None,
+    }
 }
 
 // In the manifest, where the settings tell of another store; in the first log that is refused like that; or somewhere in the folder.
@@ -149,22 +194,30 @@ fn in_folder<F: Files>(
     splits: &Splits,
     fault: Fault,
 ) -> Option<String> {
+    if let Some(place) = in_refused(alloc, files, dir, splits) {
+        return Some(place);
+    }
     match fault {
-        Fault::BadRequest(_) => return in_manifest(alloc, dir),
-        Fault::Device => return at(alloc, dir),
+        Fault::BadRequest(_) => return in_manifest(alloc, files, dir),
+        Fault::Device => return plain_at(alloc, dir),
         _ => {}
     }
     for shard in 0..splits.as_slice().len() + 1 {
         let log = format!(in alloc; "{dir}/shard-{shard}.log").ok()?;
         if dump_file(alloc, files, &log).err() == Some(fault) {
-            return at(alloc, &log);
+            return at(alloc, files, &log);
         }
     }
-    at(alloc, dir)
+    plain_at(alloc, dir)
 }
 
-fn in_manifest(alloc: Global, dir: &str) -> Option<String> {
-    format!(in alloc; "--> {dir}/store.toml").ok()
+fn plain_at(alloc: Global, file: &str) -> Option<String> {
+    with_why(alloc, file, None)
+}
+
+fn in_manifest<F: Files>(alloc: Global, files: &F, dir: &str) -> Option<String> {
+    let manifest = format!(in alloc; "{dir}/store.toml").ok()?;
+    at(alloc, files, &manifest)
 }
 
 // In the manifest of a store, or in the log of the shard of a key.
@@ -173,9 +226,10 @@ fn in_log_of<F: Files>(alloc: Global, files: &F, dir: &str, key: &Key) -> Option
         Ok(splits) => {
             let shard = splits.shard_of(key);
             drop(splits);
-            format!(in alloc; "--> {dir}/shard-{shard}.log").ok()
+            let log = format!(in alloc; "{dir}/shard-{shard}.log").ok()?;
+            at(alloc, files, &log)
         }
-        Err(_) => in_manifest(alloc, dir),
+        Err(_) => in_manifest(alloc, files, dir),
     }
 }
 
@@ -183,9 +237,13 @@ fn in_log_of<F: Files>(alloc: Global, files: &F, dir: &str, key: &Key) -> Option
 fn in_store<F: Files>(alloc: Global, files: &F, dir: &str) -> Option<String> {
     match splits_of(alloc, files, dir) {
         Ok(splits) => {
+            let place = in_refused(alloc, files, dir, &splits);
             drop(splits);
-            at(alloc, dir)
+            match place {
+                Some(place) => Some(place),
+                None => plain_at(alloc, dir),
+            }
         }
-        Err(_) => in_manifest(alloc, dir),
+        Err(_) => in_manifest(alloc, files, dir),
     }
 }

@@ -1,19 +1,58 @@
 //! The command `put`: a write to the store in a folder.
-ghost use Rattle.std.specs.Prelude.{◌≡◌, IfOk, IfErr, string_bytes};
-ghost use Rattle.commands.specs.Faults.{IsNotPut, IsUnputBy};
-ghost use Rattle.commands.specs.Puts.{IsPutBy, put_status, put_text};
+ghost use Rattle.std.specs.Prelude.{◌≡◌, IfOk, IfErr, List, ℕ, string_bytes};
+ghost use Rattle.command_line.specs.Views.{given_by};
+ghost use Rattle.commands.specs.Faults.{IsNoValue, IsNotPut, IsUnputBy};
+ghost use Rattle.commands.specs.Puts.{IsGiven, IsPutBy, put_status, put_text};
 ghost use Rattle.client.specs.declared.ended.Ended.{Ended};
 
 use crate::engine::{Engine, Put};
+use crate::hints::Hints;
 use crate::store_folder::splits_of;
 use client::Ended;
+use command_line::Source;
 use std::alloc::Global;
 use system::{Files, System};
+use texts::unspelled;
 use units::{Fault, Key, Value};
 
+// A byte more than a value has.
+const MOST_INPUT: u64 = 4097;
+
 /// Commits the write of a value to a key, as a transaction of its own, in the store in a folder. Gives what became of it, as text, and 0 where
-/// it is committed, and else 1. A folder without the manifest of a store is refused, and nothing is made there.
-pub fn put<F: Files, D, P: Fn(Global, Put<'_>) -> Result<Ended, Fault>>(
+/// it is committed, and else 1. A folder without the manifest of a store is refused, and nothing is made there. The value is had first: one of
+/// more than 4,096 bytes is refused as `value`, and a word that spells none as `command`.
+pub fn put<F: Hints, D, P: Fn(Global, Put<'_>) -> Result<Ended, Fault>>(
+    alloc: Global,
+    dir: &str,
+    key: &Key,
+    source: Source<'_>,
+    system: &System<F, Engine<D, P>>,
+) -> Result<(String, u8), Fault>
+    requires { P.IsAlwaysCallable system.now.drive.put }
+    ensures put { IfOk result (λ told. (value : List ℕ) × (ended : Ended)
+        × IsGiven (given_by source.entry) value
+        × IsPutBy (P.post system.now.drive.put alloc) dir.now key.now value ended
+        × (told.1 ≡ put_status ended) × (string_bytes told.0 ≡ put_text ended)) }
+    ensures refused { IfErr result (IsNotPut (IsUnputBy (P.post system.now.drive.put alloc))) }
+{
+    let value = value_of(alloc, source, &system.files)?;
+    put_value(alloc, dir, key, &value, system)
+}
+
+// The value that a source has.
+fn value_of<F: Hints>(alloc: Global, source: Source<'_>, files: &F) -> Result<Value, Fault>
+    ensures given { IfOk result (IsGiven (given_by source.entry)) }
+    ensures refused { IfErr result IsNoValue }
+{
+    match source {
+        Source::Word(value) => Ok(value),
+        Source::Spelled(word) => Ok(Value::new(alloc, &unspelled(alloc, word)?)?),
+        Source::Input => Ok(Value::new(alloc, &files.input(alloc, MOST_INPUT)?)?),
+    }
+}
+
+// A value of the store in a folder.
+fn put_value<F: Files, D, P: Fn(Global, Put<'_>) -> Result<Ended, Fault>>(
     alloc: Global,
     dir: &str,
     key: &Key,

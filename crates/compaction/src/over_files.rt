@@ -26,6 +26,12 @@ pub fn compact_file<F: Files>(alloc: Global, files: &F, old: &str, new: &str) ->
     };
     match compact(from, to) {
         Ok(_) => Ok(()),
-        Err((fault, _, _)) => Err(fault),
+        Err((fault, _, made)) => {
+            files.give_back(match made {
+                Ok(log) => log.into_disk(),
+                Err(disk) => disk,
+            });
+            Err(fault)
+        }
     }
 }

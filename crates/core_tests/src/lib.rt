@@ -73,3 +73,5 @@ mod verdict;
 mod viewed;
 #[cfg(test)]
 mod without_memory;
+#[cfg(test)]
+mod wounded;

@@ -106,8 +106,10 @@ fn drive_watched<
 {
     match &settings.dir {
         Some(folder) => {
-            let logs = logs_in(rt, alloc, folder, &settings.splits)?;
-            drive_over(rt, alloc, settings, logs, gate, watch)
+            match logs_in(rt, alloc, folder, &settings.splits) {
+                Ok(logs) => drive_over(rt, alloc, settings, logs, gate, watch),
+                Err(refused) => Err(NoVerdict::from(refused.fault)),
+            }
         }
         None => {
             let logs = logs_in_memory(alloc, settings.splits.as_slice().len() + 1)?;

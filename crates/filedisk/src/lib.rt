@@ -3,12 +3,14 @@
 
 ghost use Rattle.std.specs.Prelude.{◌≡◌, ◌+◌, IfOk, IfErr, OnOk, IsTrue, false, length, max};
 
+mod cause;
 mod names;
 
+pub use cause::{Cause, cause_in, cause_of};
 use counts::Count;
 use disk::Disk;
-use names::{locked, or_device, plain, sync_folder};
-use std::fs::{File, OpenOptions};
+use names::{is_same, locked, or_cause, plain, sync_folder};
+use std::fs::{self, File, OpenOptions};
 use std::os::unix::fs::FileExt;
 use std::rt::Files;
 use units::Fault;
@@ -28,36 +30,36 @@ pub struct FileDisk {
     // It was asked for a write or a cut.
     changed: bool,
     failures: Count,
+    // Why the last call failed that did.
+    cause: Option<Cause>,
 }
 
 impl FileDisk {
-    ghost use Rattle.filedisk.specs.State.{file_length, file_failures, file_is_torn, file_is_changed};
+    ghost use Rattle.filedisk.specs.State.{Counts, file_length, file_failures, file_is_torn, file_is_changed};
 
     /// Makes a new file, which is empty. Its name is on the device when this returns: the folder that it stands in is synced
-    /// (`fsync`). `Device` where there is something of that name, also a link, or where the system refuses; a file that was made
+    /// (`fsync`). It is refused if there is something of that name, also a link, or if the system refuses; a file that was made
     /// before the system refused is left.
-    pub fn create<R: Files<File = File>>(rt: &R, path: &str) -> Result<FileDisk, Fault>
+    pub fn create<R: Files<File = File>>(rt: &R, path: &str) -> Result<FileDisk, Cause>
         ensures length { IfOk result (λ disk. file_length disk ≡ 0) }
         ensures failures { IfOk result (λ disk. file_failures disk ≡ 0) }
         ensures whole { IfOk result (λ disk. file_is_torn disk ≡ false) }
         ensures unchanged { IfOk result (λ disk. file_is_changed disk ≡ false) }
-        ensures cause { IfErr result (λ fault. fault ≡ Fault.Device) }
     {
         let file = locked(rt, path, File::create_new(rt, path))?;
         sync_folder(rt, path)?;
         Ok(FileDisk::over(file, 0, false))
     }
 
-    /// Opens a file that is there, for reads and writes. `Device` where there is none of that name, it is no plain file but a link, a
+    /// Opens a file that is there, for reads and writes. It is refused if there is none of that name, it is no plain file but a link, a
     /// folder or a device, another `FileDisk` has it open for writes, or the system refuses. Once it has the lock, the file is still
     /// the one of that name.
-    pub fn open<R: Files<File = File>>(rt: &R, path: &str) -> Result<FileDisk, Fault>
+    pub fn open<R: Files<File = File>>(rt: &R, path: &str) -> Result<FileDisk, Cause>
         ensures failures { IfOk result (λ disk. file_failures disk ≡ 0) }
         ensures whole { IfOk result (λ disk. file_is_torn disk ≡ false) }
         ensures unchanged { IfOk result (λ disk. file_is_changed disk ≡ false) }
-        ensures cause { IfErr result (λ fault. fault ≡ Fault.Device) }
     {
-        plain(rt, path)?;
+        plain(fs::symlink_metadata(rt, path))?;
         let opened = OpenOptions::new().read(true).write(true).open(rt, path);
         let file = locked(rt, path, opened)?;
         let len = plain_len(&file)?;
@@ -65,17 +67,44 @@ impl FileDisk {
     }
 
     /// Opens a file that is there for reads alone: it needs no right to write, and neither takes the lock nor asks who has it. What is
-    /// read while somebody writes may be no one moment's. A link is followed. `Device` where there is no plain file of that name, or the
-    /// system refuses. Each write and each cut is refused, and a sync has nothing to do.
-    pub fn open_to_read<R: Files<File = File>>(rt: &R, path: &str) -> Result<FileDisk, Fault>
+    /// read while somebody writes may be no one moment's. A link is followed. It is refused if there is no plain file of that name, which
+    /// is asked before it is opened, so no pipe is waited for; or if the system refuses. Each write and each cut is refused, and a sync
+    /// has nothing to do.
+    pub fn open_to_read<R: Files<File = File>>(rt: &R, path: &str) -> Result<FileDisk, Cause>
         ensures failures { IfOk result (λ disk. file_failures disk ≡ 0) }
         ensures whole { IfOk result (λ disk. file_is_torn disk ≡ false) }
         ensures unchanged { IfOk result (λ disk. file_is_changed disk ≡ false) }
-        ensures cause { IfErr result (λ fault. fault ≡ Fault.Device) }
     {
-        let file = or_device(File::open(rt, path))?;
+        plain(fs::metadata(rt, path))?;
+        let file = or_cause(File::open(rt, path))?;
         let len = plain_len(&file)?;
         Ok(FileDisk::over(file, len, true))
+    }
+
+    /// Takes the length anew: somebody else may have written to a file that was opened for reads alone.
+    pub fn measure(&mut self) -> Result<u64, Fault>
+        ensures length { IfOk result (λ len. file_length self.new ≡ len) }
+        ensures cause { Counts (file_failures self.old) (file_failures self.new) result }
+        ensures torn { file_is_torn self.new ≡ file_is_torn self.old }
+        ensures changed { file_is_changed self.new ≡ file_is_changed self.old }
+    {
+        match self.file.metadata() {
+            Ok(metadata) => {
+                self.len = metadata.len();
+                Ok(self.len)
+            }
+            Err(error) => Err(self.refused(cause_of(&error))),
+        }
+    }
+
+    /// Why the last of its calls failed that did.
+    pub fn cause(&self) -> Option<Cause> {
+        self.cause
+    }
+
+    /// Whether a name, or the link of that name, leads to this file.
+    pub fn has_name<R: Files>(&self, rt: &R, path: &str) -> bool {
+        is_same(&self.file, fs::metadata(rt, path))
     }
 
     // No call has failed yet.
@@ -92,17 +121,19 @@ impl FileDisk {
             torn: false,
             changed: false,
             failures: Count::none(),
+            cause: None,
         }
     }
 
     // The call was refused. The length is what the system says of it now, or as it was where the system says nothing.
-    fn refused(&mut self) -> Fault
+    fn refused(&mut self, cause: Cause) -> Fault
         ensures fault { result ≡ Fault.Device }
         ensures failures { file_failures self.new ≡ file_failures self.old + 1 }
         ensures torn { file_is_torn self.new ≡ file_is_torn self.old }
         ensures changed { file_is_changed self.new ≡ file_is_changed self.old }
     {
         self.failures.rise();
+        self.cause = Some(cause);
         if let Ok(metadata) = self.file.metadata() {
             self.len = metadata.len();
         }
@@ -161,7 +192,7 @@ impl Disk for FileDisk {
     {
         match self.file.read_exact_at(buffer, at) {
             Ok(()) => Ok(()),
-            Err(_) => Err(self.refused()),
+            Err(error) => Err(self.refused(cause_of(&error))),
         }
     }
 
@@ -175,14 +206,14 @@ impl Disk for FileDisk {
         self.changed = true;
         let end = match at.checked_add(bytes.len() as u64) {
             Some(end) if !self.read_only => end,
-            _ => return Err(self.refused()),
+            _ => return Err(self.refused(Cause::NoRights)),
         };
         match self.file.write_all_at(bytes, at) {
             Ok(()) => {
                 self.len = self.len.max(end);
                 Ok(())
             }
-            Err(_) => Err(self.refused()),
+            Err(error) => Err(self.refused(cause_of(&error))),
         }
     }
 
@@ -193,11 +224,16 @@ impl Disk for FileDisk {
         ensures changed { IsTrue (file_is_changed self.new) }
     {
         self.changed = true;
-        if !self.read_only && self.file.set_len(len).is_ok() {
-            self.len = len;
-            return Ok(());
+        if self.read_only {
+            return Err(self.refused(Cause::NoRights));
         }
-        Err(self.refused())
+        match self.file.set_len(len) {
+            Ok(()) => {
+                self.len = len;
+                Ok(())
+            }
+            Err(error) => Err(self.refused(cause_of(&error))),
+        }
     }
 
     /// It is `fsync`, but of a file that was opened for reads alone. Once it has failed, it fails until the file is opened again.
@@ -210,22 +246,29 @@ impl Disk for FileDisk {
         ensures whole { OnOk result (file_is_torn self.new ≡ file_is_torn self.old) }
         ensures changed { file_is_changed self.new ≡ file_is_changed self.old }
     {
-        if !self.torn && (self.read_only || self.file.sync_all().is_ok()) {
+        if self.torn {
+            return Err(self.refused(Cause::Failed));
+        }
+        if self.read_only {
             return Ok(());
         }
-        self.torn = true;
-        Err(self.refused())
+        match self.file.sync_all() {
+            Ok(()) => Ok(()),
+            Err(error) => {
+                self.torn = true;
+                Err(self.refused(cause_of(&error)))
+            }
+        }
     }
 
     fn arm(&mut self, _call: Option<u64>) {}
 }
 
 // The length of a plain file.
-fn plain_len(file: &File) -> Result<u64, Fault>
-    ensures { IfErr result (λ fault. fault ≡ Fault.Device) }
-{
-    match file.metadata() {
-        Ok(metadata) if metadata.is_file() => Ok(metadata.len()),
-        _ => Err(Fault::Device),
+fn plain_len(file: &File) -> Result<u64, Cause> {
+    let found = or_cause(file.metadata())?;
+    match cause_in(&found) {
+        None => Ok(found.len()),
+        Some(cause) => Err(cause),
     }
 }

@@ -1,64 +1,58 @@
 //! Names of files, their locks and their folders.
-ghost use Rattle.std.specs.Prelude.{◌≡◌, IfErr};
-
-use std::fs::{self, File};
+use crate::cause::{Cause, cause_in, cause_of};
+use std::fs::{self, File, Metadata, TryLockError};
+use std::io;
 use std::os::unix::fs::MetadataExt;
 use std::path::Path;
 use std::rt::Files;
-use units::Fault;
 
-/// What was opened, or `Device`.
-pub fn or_device(opened: std::io::Result<File>) -> Result<File, Fault>
-    ensures { IfErr result (λ fault. fault ≡ Fault.Device) }
-{
-    match opened {
-        Ok(file) => Ok(file),
-        Err(_) => Err(Fault::Device),
+/// What was opened, or why it was not.
+pub fn or_cause<T: Drop>(answer: io::Result<T>) -> Result<T, Cause> {
+    match answer {
+        Ok(value) => Ok(value),
+        Err(error) => Err(cause_of(&error)),
     }
 }
 
-/// The name is that of a plain file, and of no link.
-pub fn plain<R: Files>(rt: &R, path: &str) -> Result<(), Fault>
-    ensures { IfErr result (λ fault. fault ≡ Fault.Device) }
-{
-    match fs::symlink_metadata(rt, path) {
-        Ok(metadata) if metadata.is_file() => Ok(()),
-        _ => Err(Fault::Device),
+/// What was found is a plain file.
+pub fn plain(found: io::Result<Metadata>) -> Result<(), Cause> {
+    match cause_in(&or_cause(found)?) {
+        None => Ok(()),
+        Some(cause) => Err(cause),
     }
 }
 
-/// The file that was opened, or `Device`: once no other open one has the lock, and where the name is still its own. It was not renamed
+/// The file that was opened, once no other open one has the lock, and if the name is still its own. It was not renamed
 /// or taken away before it was locked, and the name is no link.
-pub fn locked<R: Files>(rt: &R, path: &str, opened: std::io::Result<File>) -> Result<File, Fault>
-    ensures { IfErr result (λ fault. fault ≡ Fault.Device) }
-{
-    let file = or_device(opened)?;
-    if file.try_lock().is_ok() && has_name(rt, path, &file) {
+pub fn locked<R: Files>(rt: &R, path: &str, opened: io::Result<File>) -> Result<File, Cause> {
+    let file = or_cause(opened)?;
+    match file.try_lock() {
+        Ok(()) => {}
+        Err(TryLockError::WouldBlock) => return Err(Cause::InUse),
+        Err(TryLockError::Error(error)) => return Err(cause_of(&error)),
+    }
+    if is_same(&file, fs::symlink_metadata(rt, path)) {
         Ok(file)
     } else {
-        Err(Fault::Device)
+        Err(Cause::Rewritten)
     }
 }
 
-// The name is that of this file, which is a plain one.
-fn has_name<R: Files>(rt: &R, path: &str, file: &File) -> bool {
-    let Ok(found) = file.metadata() else {
+/// What was found by a name is this file, which is a plain one.
+pub fn is_same(file: &File, named: io::Result<Metadata>) -> bool {
+    let Ok(named) = named else {
         return false;
     };
-    let Ok(named) = fs::symlink_metadata(rt, path) else {
-        return false;
-    };
-    found.is_file() && found.dev() == named.dev() && found.ino() == named.ino()
+    match file.metadata() {
+        Ok(found) => { found.is_file() && found.dev() == named.dev() && found.ino() == named.ino() }
+        Err(_) => false,
+    }
 }
 
 /// Waits until the names in the folder of a path are on the device.
-pub fn sync_folder<R: Files<File = File>>(rt: &R, path: &str) -> Result<(), Fault>
-    ensures { IfErr result (λ fault. fault ≡ Fault.Device) }
-{
-    match File::open(rt, folder_of(path)) {
-        Ok(folder) if folder.sync_all().is_ok() => Ok(()),
-        _ => Err(Fault::Device),
-    }
+pub fn sync_folder<R: Files<File = File>>(rt: &R, path: &str) -> Result<(), Cause> {
+    let folder = or_cause(File::open(rt, folder_of(path)))?;
+    or_cause(folder.sync_all())
 }
 
 // The folder that a path stands in.

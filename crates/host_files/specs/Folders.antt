@@ -4,6 +4,7 @@ use Rattle.units.specs.declared.fault.Fault.{Fault}
 use Rattle.units.specs.declared.fault.Fault.TheVariants.{BadRequest, Damaged, Device, Memory, NotALog, Stranger}
 use Rattle.units.specs.declared.fault.Reason.TheVariants as reason
 use Rattle.host_files.specs.declared.names.StoreFolder.{StoreFolder}
+use Rattle.host_files.specs.declared.refused.Refused.{Refused}
 
 -- every name that was made, changed or taken away in it is on the device
 abbrev pub names_are_synced : {R : Type 0} → StoreFolder R → Bool
@@ -14,3 +15,13 @@ names_are_synced f = f.synced
 abbrev pub IsFolderFault : Fault → Type 0
 IsFolderFault fault = (fault ≡ Memory) ⊎ (fault ≡ Device) ⊎ (fault ≡ BadRequest reason.Settings) ⊎ (fault ≡ Stranger)
     ⊎ (fault ≡ NotALog) ⊎ ((offset : ℕ) × (fault ≡ Damaged offset))
+
+-- why a file is refused: what the system refuses, or want of memory
+abbrev pub IsSystemFault : Fault → Type 0
+IsSystemFault fault = (fault ≡ Memory) ⊎ (fault ≡ Device)
+
+abbrev pub IsSystemRefusal : Refused → Type 0
+IsSystemRefusal refused = IsSystemFault refused.fault
+
+abbrev pub IsFolderRefusal : Refused → Type 0
+IsFolderRefusal refused = IsFolderFault refused.fault

@@ -1,11 +1,11 @@
 //! A folder that has no manifest yet.
-ghost use Rattle.std.specs.Prelude.{◌≡◌, ◌⊎◌, ◌≤◌, IfErr, OnOk, IsTrue};
-ghost use Rattle.host_files.specs.Folders.{IsFolderFault, names_are_synced};
-ghost use Rattle.units.specs.declared.fault.Fault.TheVariants.{Device, Memory};
+ghost use Rattle.std.specs.Prelude.{◌≤◌, IfErr, OnOk, IsTrue};
+ghost use Rattle.host_files.specs.Folders.{IsFolderRefusal, IsSystemRefusal, names_are_synced};
 
 use crate::manifest::manifest_text;
 use crate::names::{Kind, Name, StoreFolder};
 use crate::owners::all_fit;
+use crate::refused::Refused;
 use crate::shards::numbered;
 use disk::Disk;
 use filedisk::FileDisk;
@@ -17,44 +17,83 @@ use units::{Fault, Reason, Splits};
 
 /// Begins a store in a folder: the logs that are there belong to it, a draft stands for each other one, and the manifest tells of
 /// them. A draft without a record is made anew, and one with a record is the log that once had its name; one of version 1 is refused.
+/// If a log holds a record and another one is missing, that one is lost: it is refused as `Device`, and nothing is made.
 pub fn begin<R: Files<File = File>>(
     folder: &mut StoreFolder<'_, R>,
     alloc: Global,
     splits: &Splits,
     name: u64,
-) -> Result<(), Fault>
+) -> Result<(), Refused>
     ensures synced { OnOk result (IsTrue (names_are_synced folder.new)) }
-    ensures refused { IfErr result IsFolderFault }
+    ensures refused { IfErr result IsFolderRefusal }
 {
-    let shards = splits.as_slice().len() + 1;
-    for beyond in shards..16 {
-        let Kind::Nothing = folder.kind(Name::Log(beyond))? else {
-            return Err(Fault::BadRequest(Reason::Settings));
-        };
-    }
-    for shard in 0..shards {
-        prepare(folder, alloc, splits, shard)?;
+    may_begin(folder, alloc, splits)?;
+    for shard in 0..splits.as_slice().len() + 1 {
+        if let Kind::Nothing = folder.kind(Name::Log(shard))? {
+            draft(folder, alloc, splits, shard)?;
+        }
     }
     tell(folder, &manifest_text(alloc, splits, name)?)
 }
 
-// The log of a shard is there and belongs to it, or a draft stands for it.
-fn prepare<R: Files<File = File>>(
-    folder: &mut StoreFolder<'_, R>,
+/// The logs in a folder without a manifest are those of a store that may begin: none has a number beyond its shards, each belongs to its
+/// shard, and none is missing if another one holds a record.
+pub fn may_begin<R: Files<File = File>>(
+    folder: &StoreFolder<'_, R>,
+    alloc: Global,
+    splits: &Splits,
+) -> Result<(), Refused>
+    ensures { IfErr result IsFolderRefusal }
+{
+    for beyond in splits.as_slice().len() + 1..16 {
+        let Kind::Nothing = folder.kind(Name::Log(beyond))? else {
+            return Err(Refused::from(Fault::BadRequest(Reason::Settings)).of(Name::Log(beyond)));
+        };
+    }
+    match lost_log(folder, alloc, splits)? {
+        Some(shard) => Err(Refused::lost(Name::Log(shard))),
+        None => Ok(()),
+    }
+}
+
+// The last log that is missing, if another one holds a record: no crash of a new store leaves a record before all its logs have their
+// names. Each log that is there belongs to its shard.
+fn lost_log<R: Files<File = File>>(
+    folder: &StoreFolder<'_, R>,
+    alloc: Global,
+    splits: &Splits,
+) -> Result<Option<usize>, Refused>
+    ensures { IfErr result IsFolderRefusal }
+{
+    let mut missing = None;
+    let mut is_held = false;
+    for shard in 0..splits.as_slice().len() + 1 {
+        match found(folder, alloc, splits, shard)? {
+            Some(held) => is_held = is_held || held,
+            None => missing = Some(shard),
+        }
+    }
+    Ok(if is_held { missing } else { None })
+}
+
+// Whether the log of a shard holds a record, if it is there. A draft that holds one is the log.
+fn found<R: Files<File = File>>(
+    folder: &StoreFolder<'_, R>,
     alloc: Global,
     splits: &Splits,
     shard: usize,
-) -> Result<(), Fault>
+) -> Result<Option<bool>, Refused>
     requires { shard ≤ 15 }
-    ensures { IfErr result IsFolderFault }
+    ensures { IfErr result IsFolderRefusal }
 {
-    match folder.kind(Name::Log(shard))? {
-        Kind::Nothing => draft(folder, alloc, splits, shard),
-        _ => match holds(alloc, folder.open(Name::Log(shard))?, splits, shard) {
-            Ok(_) => Ok(()),
-            Err(fault) => Err(fault),
-        },
+    if let Kind::Nothing = folder.kind(Name::Log(shard))? {
+        let Kind::Plain = folder.kind(Name::LogDraft(shard))? else {
+            return Ok(None);
+        };
+        let is_kept = is_kept(folder, alloc, splits, shard)?;
+        return Ok(if is_kept { Some(true) } else { None });
     }
+    Ok(Some(holds(folder, alloc, Name::Log(shard), splits, shard)?))
 }
 
 // A draft stands for a log.
@@ -63,9 +102,9 @@ fn draft<R: Files<File = File>>(
     alloc: Global,
     splits: &Splits,
     shard: usize,
-) -> Result<(), Fault>
+) -> Result<(), Refused>
     requires { shard ≤ 15 }
-    ensures { IfErr result IsFolderFault }
+    ensures { IfErr result IsFolderRefusal }
 {
     let draft = Name::LogDraft(shard);
     let kind = folder.kind(draft)?;
@@ -82,7 +121,7 @@ fn draft<R: Files<File = File>>(
         }
         Err((fault, file)) => {
             drop(file);
-            Err(fault)
+            Err(Refused::from(fault).of(draft))
         }
     }
 }
@@ -93,15 +132,15 @@ fn is_kept<R: Files<File = File>>(
     alloc: Global,
     splits: &Splits,
     shard: usize,
-) -> Result<bool, Fault>
+) -> Result<bool, Refused>
     requires { shard ≤ 15 }
-    ensures { IfErr result IsFolderFault }
+    ensures { IfErr result IsFolderRefusal }
 {
     let draft = Name::LogDraft(shard);
-    match holds(alloc, folder.open(draft)?, splits, shard) {
-        Err(Fault::NotALog) => {
+    match holds(folder, alloc, draft, splits, shard) {
+        Err(refused) if refused.fault == Fault::NotALog => {
             if is_old(folder, draft)? {
-                Err(Fault::NotALog)
+                Err(refused)
             } else {
                 Ok(false)
             }
@@ -111,38 +150,46 @@ fn is_kept<R: Files<File = File>>(
 }
 
 // Whether a draft begins as a log of version 1 does. It may hold records, so it is not made anew.
-fn is_old<R: Files<File = File>>(folder: &StoreFolder<'_, R>, draft: Name) -> Result<bool, Fault>
-    ensures { IfErr result (λ fault. (fault ≡ Memory) ⊎ (fault ≡ Device)) }
+fn is_old<R: Files<File = File>>(folder: &StoreFolder<'_, R>, draft: Name) -> Result<bool, Refused>
+    ensures { IfErr result IsSystemRefusal }
 {
     let front = folder.read(draft, 8)?;
     Ok(front.as_slice() == b"SPNLOG01".as_slice())
 }
 
-// Whether the log of a shard holds a record. All that it holds belong to the shard.
-fn holds(alloc: Global, file: FileDisk, splits: &Splits, shard: usize) -> Result<bool, Fault>
+// Whether the log of a shard, in a file, holds a record. All that it holds belong to the shard.
+fn holds<R: Files<File = File>>(
+    folder: &StoreFolder<'_, R>,
+    alloc: Global,
+    file: Name,
+    splits: &Splits,
+    shard: usize,
+) -> Result<bool, Refused>
     requires { shard ≤ 15 }
-    ensures { IfErr result IsFolderFault }
+    ensures { IfErr result IsFolderRefusal }
 {
-    match GateLog::open(alloc, file) {
+    match GateLog::open(alloc, folder.open(file)?) {
         Ok((log, entries)) => {
             drop(log.into_disk());
             let fits = all_fit(splits, numbered(shard), &entries);
             let held = !entries.is_empty();
             drop(entries);
-            fits?;
-            Ok(held)
+            match fits {
+                Ok(()) => Ok(held),
+                Err(fault) => Err(Refused::from(fault).of(file)),
+            }
         }
-        Err((fault, file)) => {
-            drop(file);
-            Err(fault)
+        Err((fault, disk)) => {
+            drop(disk);
+            Err(Refused::from(fault).of(file))
         }
     }
 }
 
 // The folder gets its manifest, which is whole before it has its name.
-fn tell<R: Files<File = File>>(folder: &mut StoreFolder<'_, R>, text: &str) -> Result<(), Fault>
+fn tell<R: Files<File = File>>(folder: &mut StoreFolder<'_, R>, text: &str) -> Result<(), Refused>
     ensures synced { OnOk result (IsTrue (names_are_synced folder.new)) }
-    ensures refused { IfErr result IsFolderFault }
+    ensures refused { IfErr result IsFolderRefusal }
 {
     draft_manifest(folder, text)?;
     folder.sync()?;
@@ -154,8 +201,8 @@ fn tell<R: Files<File = File>>(folder: &mut StoreFolder<'_, R>, text: &str) -> R
 fn draft_manifest<R: Files<File = File>>(
     folder: &mut StoreFolder<'_, R>,
     text: &str,
-) -> Result<(), Fault>
-    ensures { IfErr result IsFolderFault }
+) -> Result<(), Refused>
+    ensures { IfErr result IsFolderRefusal }
 {
     let kind = folder.kind(Name::ManifestDraft)?;
     folder.clear(Name::ManifestDraft, kind)?;
@@ -165,9 +212,10 @@ fn draft_manifest<R: Files<File = File>>(
     written
 }
 
-fn write(file: &mut FileDisk, text: &str) -> Result<(), Fault>
-    ensures { IfErr result IsFolderFault }
+fn write(file: &mut FileDisk, text: &str) -> Result<(), Refused>
+    ensures { IfErr result IsFolderRefusal }
 {
     file.write_at(0, text.as_bytes())?;
-    file.sync()
+    file.sync()?;
+    Ok(())
 }

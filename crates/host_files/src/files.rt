@@ -1,37 +1,91 @@
 //! The machine's files, as commands ask for them.
-ghost use Rattle.std.specs.Prelude.{◌≡◌, ◌⊎◌, IfErr};
-ghost use Rattle.units.specs.declared.fault.Fault.TheVariants.{Device, Memory};
-
+use crate::folder::refusal_in;
+use crate::log_file::{LogFile, at_one_moment};
 use crate::names::read_front;
-use filedisk::FileDisk;
+use filedisk::Cause;
 use std::alloc::Global;
+use std::cell::Cell;
 use std::fs::File;
 use std::rt;
 use system::{Files, Note};
-use units::Fault;
+use units::{Fault, Splits};
 
-/// The files behind a runtime: texts are read as they are, links are followed, and logs are opened to be read alone. `create` makes a
-/// file, and nothing else does. Notes are told on standard error, where that is watched.
+/// The files behind a runtime: texts are read as they are, links are followed, and logs are opened to be read alone, each as it stands
+/// at one moment. `create` makes a file, and nothing else does. Notes are told on standard error, where that is watched.
 #[derive(Drop)]
 pub struct HostFiles<'r, R> {
     pub rt: &'r R,
     /// Standard error is a terminal.
     pub is_watched: bool,
+    /// Why the last file that was to be made was not.
+    unmade: Cell<Option<Cause>>,
+}
+
+impl<'r, R> HostFiles<'r, R> {
+    /// The files behind a runtime, none of which was refused yet.
+    pub fn new(rt: &'r R, is_watched: bool) -> HostFiles<'r, R> {
+        HostFiles {
+            rt,
+            is_watched,
+            unmade: Cell::new(None),
+        }
+    }
 }
 
 impl<R: rt::Files<File = File> + Eprint> Files for HostFiles<'_, R> {
-    type Log = FileDisk;
+    type Log = LogFile;
 
     fn read(&self, alloc: Global, path: &str, most: u64) -> Result<Vec<u8>, Fault> {
-        read_front(self.rt, alloc, path, most)
+        match read_front(self.rt, alloc, path, most) {
+            Ok(bytes) => Ok(bytes),
+            Err(refused) => Err(refused.fault),
+        }
     }
 
-    fn create(&self, _alloc: Global, path: &str) -> Result<FileDisk, Fault> {
-        FileDisk::create(self.rt, path)
+    fn create(&self, _alloc: Global, path: &str) -> Result<LogFile, Fault> {
+        match LogFile::create(self.rt, path) {
+            Ok(log) => Ok(log),
+            Err(cause) => {
+                self.unmade.set(Some(cause));
+                Err(Fault::from(cause))
+            }
+        }
     }
 
-    fn open(&self, _alloc: Global, path: &str) -> Result<FileDisk, Fault> {
-        FileDisk::open_to_read(self.rt, path)
+    fn open(&self, alloc: Global, path: &str) -> Result<LogFile, Fault> {
+        match LogFile::open(self.rt, alloc, path) {
+            Ok(log) => Ok(log),
+            Err(refused) => Err(refused.fault),
+        }
+    }
+
+    fn at_one_moment(&self, alloc: Global, logs: &mut [LogFile]) -> Result<(), Fault> {
+        at_one_moment(alloc, logs)
+    }
+
+    fn why(&self, alloc: Global, path: &str) -> Option<String> {
+        let why = read_front(self.rt, alloc, path, 0).err()?.why?;
+        format!(in alloc; "{why}").ok()
+    }
+
+    fn why_unopened(&self, alloc: Global, folder: &str, splits: &Splits) -> Option<String> {
+        let refused = refusal_in(self.rt, alloc, folder, splits)?;
+        match (refused.file, refused.why) {
+            (Some(file), Some(why)) => format!(in alloc; "{folder}/{file}: {why}").ok(),
+            (Some(file), None) => format!(in alloc; "{folder}/{file}").ok(),
+            (None, Some(why)) => format!(in alloc; "{folder}: {why}").ok(),
+            (None, None) => None,
+        }
+    }
+
+    fn why_unmade(&self, alloc: Global) -> Option<String> {
+        let cause = self.unmade.get()?;
+        format!(in alloc; "{cause}").ok()
+    }
+
+    fn give_back(&self, log: LogFile) {
+        self.unmade.set(log.cause());
+        drop(log);
     }
 
     fn wants_notes(&self) -> bool {

@@ -1,20 +1,22 @@
 //! The logs of the shards of a drive.
-ghost use Rattle.std.specs.Prelude.{◌≡◌, ◌⊎◌, ◌+◌, ◌<◌, ◌≤◌, [], IfOk, IfErr, OnOk, Ok, All, length, IsTrue, false};
+ghost use Rattle.std.specs.Prelude.{◌≡◌, ◌+◌, ◌<◌, ◌≤◌, [], IfOk, IfErr, OnOk, Ok, All, length, IsTrue, false};
 ghost use Rattle.disk.specs.File.{surface};
 ghost use Rattle.disk.specs.declared.plan.FailurePlan.TheVariants.{Never};
 ghost use Rattle.filedisk.specs.State.{file_is_changed};
 ghost use Rattle.gatelog.specs.Crash.{Stands};
 ghost use Rattle.gatelog.specs.Log.{log};
-ghost use Rattle.host_files.specs.Folders.{IsFolderFault, names_are_synced};
+ghost use Rattle.host_files.specs.Folders.{IsFolderRefusal, IsSystemRefusal, names_are_synced};
 ghost use Rattle.simdisk.specs.State.{disk_file, disk_plan};
-ghost use Rattle.units.specs.declared.fault.Fault.TheVariants.{Device, Memory};
+ghost use Rattle.units.specs.declared.fault.Fault.TheVariants.{Memory};
 
-use crate::beginning::begin;
+use crate::agreeing::agree;
+use crate::beginning::{begin, may_begin};
 use crate::manifest::{MOST_MANIFEST, is_manifest_of};
 use crate::names::{Kind, Name, StoreFolder};
 use crate::owners::first_fits;
+use crate::refused::Refused;
 use crate::shards::numbered;
-use filedisk::FileDisk;
+use filedisk::{FileDisk, cause_of};
 use gatelog::GateLog;
 use simdisk::SimDisk;
 use std::alloc::Global;
@@ -35,18 +37,22 @@ use units::{Fault, Reason, Splits};
 /// What is made here is a draft until it is whole: `shard-0.log.new`, `store.toml.new`. Where there is a manifest, a draft whose log is
 /// missing gets that name, whatever it holds. Where there is none, a draft that holds a record is the log, and gets its name too; one
 /// that is of version 1, damaged or another shard's is refused; and each other draft is taken away and made anew, also a link. A file
-/// that has the name of a log and is none, an empty one too, is never made anew: it is refused, here or as it is opened.
+/// that has the name of a log and is none, an empty one too, is never made anew: it is refused.
+///
+/// Then each log is read, before any takes a record: one that its opening would refuse by what its records say one after another, and
+/// one that lacks what the log of another shard says of it, which is of another moment or of another store, or new (`Damaged` where
+/// its records end). What was lost without a manifest is refused too, and then nothing is made (`begin`).
 pub fn logs_in<R: Files<File = File> + RandomSource>(
     rt: &R,
     alloc: Global,
     folder: &str,
     splits: &Splits,
-) -> Result<Vec<FileDisk>, Fault>
+) -> Result<Vec<FileDisk>, Refused>
     ensures all { IfOk result (λ logs. length logs.items ≡ length splits.now + 1) }
     // Each is what stands under its name: it was opened, and read alone.
     ensures unchanged { IfOk result
         (λ logs. All (λ log. file_is_changed log ≡ false) logs.items) }
-    ensures refused { IfErr result IsFolderFault }
+    ensures refused { IfErr result IsFolderRefusal }
 {
     let mut folder = StoreFolder::lock(rt, alloc, folder)?;
     let logs = logs_of(&mut folder, rt, alloc, splits);
@@ -60,18 +66,20 @@ fn logs_of<R: Files<File = File> + RandomSource>(
     rt: &R,
     alloc: Global,
     splits: &Splits,
-) -> Result<Vec<FileDisk>, Fault>
+) -> Result<Vec<FileDisk>, Refused>
     ensures all { IfOk result (λ logs. length logs.items ≡ length splits.now + 1) }
     ensures unchanged { IfOk result
         (λ logs. All (λ log. file_is_changed log ≡ false) logs.items) }
     ensures synced { OnOk result (IsTrue (names_are_synced folder.new)) }
-    ensures refused { IfErr result IsFolderFault }
+    ensures refused { IfErr result IsFolderRefusal }
 {
     if !is_known(folder, alloc, splits)? {
         begin(folder, alloc, splits, drawn(rt)?)?;
     }
     name_all(folder, splits)?;
-    open_all(folder, alloc, splits)
+    let logs = open_all(folder, alloc, splits)?;
+    agree(folder, alloc, splits)?;
+    Ok(logs)
 }
 
 // Whether there is a manifest, which is then that of a store with these splits.
@@ -79,8 +87,8 @@ fn is_known<R: Files<File = File>>(
     folder: &StoreFolder<'_, R>,
     alloc: Global,
     splits: &Splits,
-) -> Result<bool, Fault>
-    ensures { IfErr result IsFolderFault }
+) -> Result<bool, Refused>
+    ensures { IfErr result IsFolderRefusal }
 {
     if let Kind::Nothing = folder.kind(Name::Manifest)? {
         return Ok(false);
@@ -89,19 +97,20 @@ fn is_known<R: Files<File = File>>(
     let is_known = is_manifest_of(alloc, &text, splits);
     drop(text);
     match is_known {
-        Ok(false) => Err(Fault::BadRequest(Reason::Settings)),
-        known => known,
+        Ok(true) => Ok(true),
+        Ok(false) => { Err(Refused::from(Fault::BadRequest(Reason::Settings)).of(Name::Manifest)) }
+        Err(fault) => Err(Refused::from(fault)),
     }
 }
 
 // Some number for the name of a new store.
-fn drawn<R: RandomSource>(rt: &R) -> Result<u64, Fault>
-    ensures { IfErr result (λ fault. fault ≡ Device) }
+fn drawn<R: RandomSource>(rt: &R) -> Result<u64, Refused>
+    ensures { IfErr result IsSystemRefusal }
 {
     let mut bytes = [0; 8];
     match rt.fill_bytes(&mut bytes) {
         Ok(()) => Ok(u64::from_be_bytes(bytes)),
-        Err(_) => Err(Fault::Device),
+        Err(error) => Err(Refused::from(cause_of(&error))),
     }
 }
 
@@ -110,9 +119,9 @@ fn drawn<R: RandomSource>(rt: &R) -> Result<u64, Fault>
 fn name_all<R: Files<File = File>>(
     folder: &mut StoreFolder<'_, R>,
     splits: &Splits,
-) -> Result<(), Fault>
+) -> Result<(), Refused>
     ensures synced { OnOk result (IsTrue (names_are_synced folder.new)) }
-    ensures refused { IfErr result IsFolderFault }
+    ensures refused { IfErr result IsFolderRefusal }
 {
     let missing = missing_logs(folder, splits)?;
     for shard in 0..16 {
@@ -128,14 +137,14 @@ fn name_all<R: Files<File = File>>(
 fn missing_logs<R: Files<File = File>>(
     folder: &StoreFolder<'_, R>,
     splits: &Splits,
-) -> Result<[bool; 16], Fault>
-    ensures { IfErr result IsFolderFault }
+) -> Result<[bool; 16], Refused>
+    ensures { IfErr result IsFolderRefusal }
 {
     let mut missing = [false; 16];
     for shard in 0..splits.as_slice().len() + 1 {
         if let Kind::Nothing = folder.kind(Name::Log(shard))? {
             let Kind::Plain = folder.kind(Name::LogDraft(shard))? else {
-                return Err(Fault::Device);
+                return Err(Refused::lost(Name::Log(shard)));
             };
             missing[shard] = true;
         }
@@ -148,11 +157,11 @@ fn open_all<R: Files<File = File>>(
     folder: &StoreFolder<'_, R>,
     alloc: Global,
     splits: &Splits,
-) -> Result<Vec<FileDisk>, Fault>
+) -> Result<Vec<FileDisk>, Refused>
     ensures all { IfOk result (λ logs. length logs.items ≡ length splits.now + 1) }
     ensures unchanged { IfOk result
         (λ logs. All (λ log. file_is_changed log ≡ false) logs.items) }
-    ensures refused { IfErr result IsFolderFault }
+    ensures refused { IfErr result IsFolderRefusal }
 {
     let shards = splits.as_slice().len() + 1;
     let mut logs = Vec::new(alloc);
@@ -168,19 +177,53 @@ fn opened<R: Files<File = File>>(
     alloc: Global,
     splits: &Splits,
     shard: usize,
-) -> Result<FileDisk, Fault>
+) -> Result<FileDisk, Refused>
     requires { shard ≤ 15 }
     ensures unchanged { IfOk result (λ log. file_is_changed log ≡ false) }
-    ensures refused { IfErr result IsFolderFault }
+    ensures refused { IfErr result IsFolderRefusal }
 {
     let mut log = folder.open(Name::Log(shard))?;
     match first_fits(alloc, &mut log, splits, numbered(shard)) {
         Ok(()) => Ok(log),
         Err(fault) => {
             drop(log);
-            Err(fault)
+            Err(Refused::from(fault).of(Name::Log(shard)))
         }
     }
+}
+
+/// Why the logs of the store in a folder are refused, if they are now; nothing is made or named. A folder that is refused for what
+/// stands in no file, and one that is taken, gives nothing.
+pub fn refusal_in<R: Files<File = File>>(
+    rt: &R,
+    alloc: Global,
+    folder: &str,
+    splits: &Splits,
+) -> Option<Refused> {
+    match StoreFolder::lock(rt, alloc, folder) {
+        Ok(folder) => {
+            let looked = look(&folder, alloc, splits);
+            drop(folder);
+            looked.err()
+        }
+        Err(refused) => Some(refused),
+    }
+}
+
+// Looks at the logs of a store, if it has a manifest; else at what is there without one.
+fn look<R: Files<File = File>>(
+    folder: &StoreFolder<'_, R>,
+    alloc: Global,
+    splits: &Splits,
+) -> Result<(), Refused>
+    ensures { IfErr result IsFolderRefusal }
+{
+    if !is_known(folder, alloc, splits)? {
+        return may_begin(folder, alloc, splits);
+    }
+    missing_logs(folder, splits)?;
+    drop(open_all(folder, alloc, splits)?);
+    agree(folder, alloc, splits)
 }
 
 /// New logs of so many shards, on disks in memory.

@@ -1,14 +1,21 @@
 //! The machine's files, as commands ask for them, and the logs of a drive in a folder.
 #![tactic(auto)]
 
+mod agreeing;
 mod beginning;
 mod files;
 mod folder;
+mod log_file;
 mod manifest;
 mod names;
 mod owners;
+mod refused;
 mod shards;
+mod walking;
 
 pub use files::HostFiles;
-pub use folder::{logs_in, logs_in_memory};
+pub use folder::{logs_in, logs_in_memory, refusal_in};
+pub use log_file::{LogFile, at_one_moment};
 pub use manifest::manifest_text;
+pub use names::Name;
+pub use refused::{Refused, Why};

@@ -1,16 +1,22 @@
 //! The files of a store's folder, by their names in it.
-ghost use Rattle.std.specs.Prelude.{◌≡◌, ◌⊎◌, IfOk, IfErr, OnOk, IsTrue, false};
+ghost use Rattle.std.specs.Prelude.{◌≡◌, IfOk, IfErr, OnOk, IsTrue, false};
 ghost use Rattle.filedisk.specs.State.{file_is_changed};
-ghost use Rattle.host_files.specs.Folders.{names_are_synced};
-ghost use Rattle.units.specs.declared.fault.Fault.TheVariants.{Device, Memory};
+ghost use Rattle.host_files.specs.Folders.{IsSystemRefusal, names_are_synced};
+ghost use Rattle.units.specs.declared.fault.Fault.TheVariants.{Device};
 
-use filedisk::FileDisk;
-use std::alloc::Global;
-use std::fs::File;
+use crate::log_file::LogFile;
+use crate::refused::Refused;
+use filedisk::{Cause, FileDisk, cause_in, cause_of};
+use std::alloc::{AllocError, Global};
+use std::fs::{File, TryLockError};
 use std::io::{ErrorKind, Read};
+use std::os::unix::fs::{FileTypeExt, MetadataExt};
 use std::rt::Files;
 use std::{fmt, fs, io};
 use units::Fault;
+
+// The number of the null device: the third one of the first kind.
+const NULL_DEVICE: u64 = 0x103;
 
 /// The name of a file in a store's folder. What is not whole yet has that of a draft.
 #[derive(Clone, Copy)]
@@ -43,7 +49,7 @@ pub enum Kind {
 }
 
 /// A folder of the system that nobody else makes a store in meanwhile: it is locked (`flock`) until this is dropped. Names are
-/// looked at and opened without following a link. What the system refuses is `Device`.
+/// looked at and opened without following a link. What the system refuses is `Device`, and the file and the reason are told.
 #[derive(Drop)]
 pub struct StoreFolder<'a, R> {
     rt: &'a R,
@@ -55,11 +61,14 @@ pub struct StoreFolder<'a, R> {
 }
 
 impl<'a, R: Files<File = File>> StoreFolder<'a, R> {
-    /// Locks a folder that is there. Whether its names are on the device is not known.
-    pub fn lock(rt: &'a R, alloc: Global, path: &'a str) -> Result<StoreFolder<'a, R>, Fault>
-        ensures { IfErr result (λ fault. fault ≡ Device) }
+    /// Locks a folder that is there: what it is, is asked before it is opened. Whether its names are on the device is not known.
+    pub fn lock(rt: &'a R, alloc: Global, path: &'a str) -> Result<StoreFolder<'a, R>, Refused>
+        ensures { IfErr result IsSystemRefusal }
     {
-        let folder = or_device(File::open(rt, path))?;
+        if !or_refused(fs::metadata(rt, path))?.is_dir() {
+            return Err(Refused::from(Cause::NoFolder));
+        }
+        let folder = or_refused(File::open(rt, path))?;
         match folder.try_lock() {
             Ok(()) => Ok(StoreFolder {
                 rt,
@@ -68,126 +77,162 @@ impl<'a, R: Files<File = File>> StoreFolder<'a, R> {
                 folder,
                 synced: false,
             }),
-            Err(_) => Err(Fault::Device),
+            Err(TryLockError::WouldBlock) => Err(Refused::from(Cause::InUse)),
+            Err(TryLockError::Error(error)) => Err(Refused::from(cause_of(&error))),
         }
     }
 
-    fn path_of(&self, name: Name) -> Result<String, Fault>
-        ensures { IfErr result (λ fault. fault ≡ Memory) }
-    {
+    fn path_of(&self, name: Name) -> Result<String, AllocError> {
         let path = self.path;
-        Ok(format!(in self.alloc; "{path}/{name}")?)
+        format!(in self.alloc; "{path}/{name}")
     }
 
     /// What stands under a name.
-    pub fn kind(&self, name: Name) -> Result<Kind, Fault>
-        ensures { IfErr result (λ fault. (fault ≡ Memory) ⊎ (fault ≡ Device)) }
+    pub fn kind(&self, name: Name) -> Result<Kind, Refused>
+        ensures { IfErr result IsSystemRefusal }
     {
         let path = self.path_of(name)?;
-        kind_of(fs::symlink_metadata(self.rt, &path))
+        match kind_of(fs::symlink_metadata(self.rt, &path)) {
+            Ok(kind) => Ok(kind),
+            Err(cause) => Err(Refused::from(cause).of(name)),
+        }
     }
 
     /// The bytes of a plain file, so many at most.
-    pub fn read(&self, name: Name, most: u64) -> Result<Vec<u8>, Fault>
-        ensures { IfErr result (λ fault. (fault ≡ Memory) ⊎ (fault ≡ Device)) }
+    pub fn read(&self, name: Name, most: u64) -> Result<Vec<u8>, Refused>
+        ensures { IfErr result IsSystemRefusal }
     {
         let Kind::Plain = self.kind(name)? else {
-            return Err(Fault::Device);
+            return Err(Refused::from(Cause::NoPlainFile).of(name));
         };
         let path = self.path_of(name)?;
-        read_front(self.rt, self.alloc, &path, most)
+        match read_front(self.rt, self.alloc, &path, most) {
+            Ok(bytes) => Ok(bytes),
+            Err(refused) => Err(refused.of(name)),
+        }
     }
 
     /// Makes a new, empty file, whose name is on the device. It is refused where there is anything of that name.
-    pub fn create(&self, name: Name) -> Result<FileDisk, Fault>
-        ensures { IfErr result (λ fault. (fault ≡ Memory) ⊎ (fault ≡ Device)) }
+    pub fn create(&self, name: Name) -> Result<FileDisk, Refused>
+        ensures { IfErr result IsSystemRefusal }
     {
         let path = self.path_of(name)?;
-        FileDisk::create(self.rt, &path)
+        match FileDisk::create(self.rt, &path) {
+            Ok(disk) => Ok(disk),
+            Err(cause) => Err(Refused::from(cause).of(name)),
+        }
     }
 
     /// Opens a plain file that is there.
-    pub fn open(&self, name: Name) -> Result<FileDisk, Fault>
+    pub fn open(&self, name: Name) -> Result<FileDisk, Refused>
         ensures unchanged { IfOk result (λ disk. file_is_changed disk ≡ false) }
-        ensures refused { IfErr result (λ fault. (fault ≡ Memory) ⊎ (fault ≡ Device)) }
+        ensures refused { IfErr result IsSystemRefusal }
     {
         let path = self.path_of(name)?;
-        FileDisk::open(self.rt, &path)
+        match FileDisk::open(self.rt, &path) {
+            Ok(disk) => Ok(disk),
+            Err(cause) => Err(Refused::from(cause).of(name)),
+        }
+    }
+
+    /// Opens the file of a log to be read alone.
+    pub fn read_log(&self, name: Name) -> Result<LogFile, Refused>
+        ensures { IfErr result IsSystemRefusal }
+    {
+        let path = self.path_of(name)?;
+        match LogFile::open(self.rt, self.alloc, &path) {
+            Ok(log) => Ok(log),
+            Err(refused) => Err(refused.of(name)),
+        }
     }
 
     /// Takes a name away, under which something of this kind stands: of a link not what it leads to.
-    pub fn clear(&mut self, name: Name, kind: Kind) -> Result<(), Fault>
-        ensures { IfErr result (λ fault. (fault ≡ Memory) ⊎ (fault ≡ Device)) }
+    pub fn clear(&mut self, name: Name, kind: Kind) -> Result<(), Refused>
+        ensures { IfErr result IsSystemRefusal }
     {
         if let Kind::Nothing = kind {
             return Ok(());
         }
         self.synced = false;
         let path = self.path_of(name)?;
-        or_device(fs::remove_file(self.rt, &path))
+        match fs::remove_file(self.rt, &path) {
+            Ok(()) => Ok(()),
+            Err(error) => Err(Refused::from(cause_of(&error)).of(name)),
+        }
     }
 
     /// Gives a draft the name that it is to have, which nothing has. All names before it are on the device: so no crash leaves this one
     /// without them.
-    pub fn name(&mut self, draft: Name, name: Name) -> Result<(), Fault>
+    pub fn name(&mut self, draft: Name, name: Name) -> Result<(), Refused>
         requires { IsTrue (names_are_synced self.old) }
-        ensures { IfErr result (λ fault. (fault ≡ Memory) ⊎ (fault ≡ Device)) }
+        ensures { IfErr result IsSystemRefusal }
     {
         self.synced = false;
         let Kind::Nothing = self.kind(name)? else {
-            return Err(Fault::Device);
+            return Err(Refused::from(Cause::Exists).of(name));
         };
         let from = self.path_of(draft)?;
         let to = self.path_of(name)?;
-        or_device(fs::rename(self.rt, &from, &to))
+        match fs::rename(self.rt, &from, &to) {
+            Ok(()) => Ok(()),
+            Err(error) => Err(Refused::from(cause_of(&error)).of(name)),
+        }
     }
 
     /// Waits until all names are on the device (`fsync` of the folder).
-    pub fn sync(&mut self) -> Result<(), Fault>
+    pub fn sync(&mut self) -> Result<(), Refused>
         ensures synced { OnOk result (IsTrue (names_are_synced self.new)) }
-        ensures refused { IfErr result (λ fault. fault ≡ Device) }
+        ensures refused { IfErr result IsSystemRefusal }
     {
-        or_device(self.folder.sync_all())?;
+        or_refused(self.folder.sync_all())?;
         self.synced = true;
         Ok(())
     }
 }
 
 // What stands under a name, by what the system says of it.
-fn kind_of(found: io::Result<fs::Metadata>) -> Result<Kind, Fault>
-    ensures { IfErr result (λ fault. fault ≡ Device) }
-{
+fn kind_of(found: io::Result<fs::Metadata>) -> Result<Kind, Cause> {
     match found {
         Ok(metadata) if metadata.is_file() => Ok(Kind::Plain),
         Ok(_) => Ok(Kind::Other),
         Err(error) if error.kind() == ErrorKind::NotFound => Ok(Kind::Nothing),
-        Err(_) => Err(Fault::Device),
+        Err(error) => Err(cause_of(&error)),
     }
 }
 
-/// The bytes of a file, so many at most.
+/// The bytes of a plain file, so many at most; the null device has none. What it is, is asked before it is opened: so no pipe is waited for.
 pub fn read_front<R: Files<File = File>>(
     rt: &R,
     alloc: Global,
     path: &str,
     most: u64,
-) -> Result<Vec<u8>, Fault>
-    ensures { IfErr result (λ fault. (fault ≡ Memory) ⊎ (fault ≡ Device)) }
+) -> Result<Vec<u8>, Refused>
+    ensures { IfErr result IsSystemRefusal }
 {
-    let file = or_device(File::open(rt, path))?;
+    let found = or_refused(fs::metadata(rt, path))?;
+    match cause_in(&found) {
+        Some(cause) if !is_null_device(&found) => return Err(Refused::from(cause)),
+        _ => {}
+    }
+    let file = or_refused(File::open(rt, path))?;
     let mut bytes = Vec::new(alloc);
     match file.take(most).read_to_end(&mut bytes) {
         Ok(_) => Ok(bytes),
-        Err(error) if error.kind() == ErrorKind::OutOfMemory => Err(Fault::Memory),
-        Err(_) => Err(Fault::Device),
+        Err(error) if error.kind() == ErrorKind::OutOfMemory => Err(Refused::from(Fault::Memory)),
+        Err(error) => Err(Refused::from(cause_of(&error))),
     }
 }
 
-fn or_device<T: Drop>(answer: io::Result<T>) -> Result<T, Fault>
-    ensures { IfErr result (λ fault. fault ≡ Device) }
+// The device that holds nothing, `/dev/null`.
+fn is_null_device(found: &fs::Metadata) -> bool {
+    found.file_type().is_char_device() && found.rdev() == NULL_DEVICE
+}
+
+fn or_refused<T: Drop>(answer: io::Result<T>) -> Result<T, Refused>
+    ensures { IfErr result (λ refused. refused.fault ≡ Device) }
 {
     match answer {
         Ok(value) => Ok(value),
-        Err(_) => Err(Fault::Device),
+        Err(error) => Err(Refused::from(cause_of(&error))),
     }
 }

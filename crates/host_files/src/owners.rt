@@ -123,8 +123,8 @@ pub fn first_fits(
     fits
 }
 
-// So many bytes of a file, from an offset on.
-fn part_of(alloc: Global, disk: &mut FileDisk, at: u64, size: u64) -> Result<Vec<u8>, Fault>
+/// So many bytes of a file, from an offset on.
+pub fn part_of(alloc: Global, disk: &mut FileDisk, at: u64, size: u64) -> Result<Vec<u8>, Fault>
     ensures size { IfOk result (λ part. length part.items ≡ size) }
     ensures refused { IfErr result (λ fault. (fault ≡ Memory) ⊎ (fault ≡ Device)) }
     ensures kept { file_is_changed disk.new ≡ file_is_changed disk.old }
@@ -135,8 +135,8 @@ fn part_of(alloc: Global, disk: &mut FileDisk, at: u64, size: u64) -> Result<Vec
     Ok(part)
 }
 
-// Where the log begins in a file of this length, by its header and its slots, as far as it has these; nowhere, where they are those of no log.
-fn area_of(front: &[u8], len: u64) -> Option<u64>
+/// Where the log begins in a file of this length, by its header and its slots, as far as it has these; nowhere, where they are those of no log.
+pub fn area_of(front: &[u8], len: u64) -> Option<u64>
     requires { (length front.now ≡ len) ⊎ ((length front.now ≡ 9224) × (9224 ≤ len)) }
 {
     let Some(slots) = front.strip_prefix(HEADER.as_slice()) else {

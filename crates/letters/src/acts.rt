@@ -1,13 +1,13 @@
 //! One act of a node.
 ghost use Rattle.std.specs.Prelude.{◌≡◌};
-ghost use Rattle.letters.specs.Letters.{session_of};
+ghost use Rattle.letters.specs.Letters.{is_answer, is_unanswered, keeps, session_of};
 
-use crate::letter::{Post, Refused};
-use crate::serves::Serves;
-use message::{Input, Message};
+use crate::letter::{Post, Refused, UnderWay};
+use crate::serves::{Due, Serves};
+use message::{Envelope, Input, Message, Outbox};
 use std::sync::Wait;
 use truetime::Clock;
-use units::TxnId;
+use units::{MOST_ROWS, TxnId};
 
 /// The node takes an input, and what it puts out is posted; where it refuses the letter of a session, that is. It says whether it was taken.
 pub fn act<N: Serves, W: Wait, P: Post, C: Clock>(
@@ -17,26 +17,122 @@ pub fn act<N: Serves, W: Wait, P: Post, C: Clock>(
     clock: &mut C,
     input: Input,
 ) -> bool {
-    let session = session_of(&input);
-    let taken = node.take(rt, clock, &input);
+    let taken = taken(node, rt, post, clock, &input);
     drop(input);
     match taken {
-        Ok(outbox) => {
-            for envelope in outbox.into_vec() {
-                post.post(envelope);
-            }
+        Some(outbox) => {
+            post_all(post, outbox);
             true
         }
+        None => false,
+    }
+}
+
+/// The node takes a message, as any other input. It says whether it keeps what a session asks for; where the session has sent that again, in
+/// a round, it is told so.
+pub fn deliver<N: Serves, W: Wait, P: Post, C: Clock>(
+    node: &N,
+    rt: &W,
+    post: &mut P,
+    clock: &mut C,
+    message: Message,
+    round: Option<u64>,
+) -> bool {
+    let input = Input::Deliver(message);
+    let Some(outbox) = taken(node, rt, post, clock, &input) else {
+        drop(input);
+        return false;
+    };
+    let keeps = keeps(&input, outbox.as_slice());
+    post_all(post, outbox);
+    if let (true, Some(round), Some(txn)) = (keeps, round, session_of(&input)) {
+        post.assure(UnderWay {
+            txn,
+            shard: node.shard(),
+            round,
+            decided: is_decided(node, rt, txn),
+        });
+    }
+    drop(input);
+    keeps
+}
+
+// The node takes an input. Where it refuses the letter of a session, the post is told.
+fn taken<N: Serves, W: Wait, P: Post, C: Clock>(
+    node: &N,
+    rt: &W,
+    post: &mut P,
+    clock: &mut C,
+    input: &Input,
+) -> Option<Outbox> {
+    match node.take(rt, clock, input) {
+        Ok(outbox) => Some(outbox),
         Err(fault) => {
-            if let Some(txn) = session {
+            if let Some(txn) = session_of(input) {
                 post.refuse(Refused {
                     txn,
                     shard: node.shard(),
                     fault,
                 });
             }
-            false
+            None
         }
+    }
+}
+
+// Posts what a node has put out.
+fn post_all<P: Post>(post: &mut P, outbox: Outbox) {
+    for envelope in outbox.into_vec() {
+        post.post(envelope);
+    }
+}
+
+// Whether the transaction is decided and not settled at the node.
+fn is_decided<N: Serves, W: Wait>(node: &N, rt: &W, txn: TxnId) -> bool {
+    for n in 0..MOST_ROWS {
+        match node.due(rt, Due::Decided, n) {
+            Some((found, _)) if found == txn => return true,
+            Some(_) => {}
+            None => return false,
+        }
+    }
+    false
+}
+
+/// Whether a node that has taken a session's message, and put this out, keeps what that asks for: nothing of it answers the session, and no
+/// vote is refused.
+pub fn keeps(input: &Input, out: &[Envelope]) -> bool
+    ensures { result ≡ keeps input.now out.now }
+{
+    match input {
+        Input::Deliver(Message::Read(read)) => is_unanswered(read.txn, out),
+        Input::Deliver(Message::Prepare(prepare)) => is_unanswered(prepare.txn, out),
+        Input::Deliver(Message::Commit(commit)) => is_unanswered(commit.txn, out),
+        _ => false,
+    }
+}
+
+// Whether none of some messages is an answer to what a transaction asks for.
+fn is_unanswered(txn: TxnId, out: &[Envelope]) -> bool
+    ensures { result ≡ is_unanswered txn out.now }
+{
+    for envelope in out {
+        if is_answer(txn, envelope) {
+            return false;
+        }
+    }
+    true
+}
+
+// Whether a message answers what a transaction asks for: its read, or its end, or that it is not voted for.
+fn is_answer(txn: TxnId, envelope: &Envelope) -> bool
+    ensures { result ≡ is_answer txn envelope.now }
+{
+    match &envelope.message {
+        Message::ReadAnswer(answer) => answer.txn == txn,
+        Message::Done(done) => done.txn() == txn,
+        Message::Vote(vote) => vote.vote.is_none() && vote.txn == txn,
+        _ => false,
     }
 }
 

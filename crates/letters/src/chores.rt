@@ -16,6 +16,14 @@ fn moment() -> Duration {
     Duration::from_millis(1)
 }
 
+// A second: so long a few versions that nobody has looked for are not shown.
+fn long() -> Duration {
+    Duration::from_secs(1)
+}
+
+// So many versions are shown though nobody looks: to show more at once would keep a node from its letters.
+const MANY_VERSIONS: usize = 256;
+
 // An advance may log, and wait for a device. Under letters that go on, so many times as long pass behind each as it took.
 const SHARE_OF_ADVANCES: u32 = 4;
 
@@ -100,10 +108,13 @@ impl Chores {
         post: &P,
     ) -> Option<Duration> {
         let share = self.took.saturating_mul(SHARE_OF_ADVANCES);
+        let versions = node.versions(rt);
         let rest = if post.is_looked_for(node.shard()) {
             share
-        } else if node.versions(rt) != self.shown {
+        } else if versions >= self.shown.saturating_add(MANY_VERSIONS) {
             later(share, moment())
+        } else if versions != self.shown {
+            return Some(left(rt, self.advanced, later(share, long())));
         } else {
             return None;
         };

@@ -5,6 +5,7 @@ mod acts;
 mod bell;
 mod chores;
 mod gate;
+mod kept;
 mod letter;
 mod network;
 mod put_off;
@@ -13,7 +14,7 @@ mod sessions;
 mod threads;
 
 pub use gate::Gate;
-pub use letter::{Letter, Post, Refused, Reply};
+pub use letter::{Letter, Post, Refused, Reply, UnderWay};
 pub use network::{Inboxes, Mail, Network};
 pub use serves::{Due, Serves, serve};
 pub use threads::{Served, start, start_in, to_serve};

@@ -2,23 +2,26 @@
 ghost use Rattle.std.specs.Prelude.{◌≡◌, [], length, IfOk, IfErr, OnOk};
 
 use crate::bell::Bell;
-use crate::letter::{Letter, Post, Refused, Reply};
+use crate::gate::Gate;
+use crate::letter::{Letter, Post, Refused, Reply, UnderWay};
 use crate::sessions::Sessions;
 use crossbeam_channel::{Receiver, Sender, unbounded};
 use message::{Address, Envelope};
 use std::alloc::Global;
+use std::sync::atomic::{AtomicU64, Ordering};
 use std::sync::{Mutex, Wait};
 use std::time::Duration;
 use std::{thread, time};
 use units::{Fault, ShardNo, Stamp, TxnId};
 
-/// The inboxes and bells of all nodes, by shard, the inboxes of all workers, and who runs which transaction. A letter to nobody, to one who is gone, or
-/// for which there is no memory, is lost.
+/// The inboxes and bells of all nodes, by shard, the inboxes of all workers, who runs which transaction, and which shards have stopped. A
+/// letter to nobody, to one who is gone, or for which there is no memory, is lost.
 pub struct Network {
     nodes: Vec<Sender<Letter>>,
     bells: Vec<Bell>,
     workers: Vec<Sender<Reply>>,
     sessions: Mutex<Sessions>,
+    stopped: AtomicU64,
 }
 
 impl Drop for Network {
@@ -28,6 +31,7 @@ impl Drop for Network {
             bells: _,
             workers: _,
             sessions: _,
+            stopped: _,
         } = self;
     }
 }
@@ -55,6 +59,7 @@ impl Network {
             bells: Vec::new(alloc),
             workers: Vec::new(alloc),
             sessions,
+            stopped: AtomicU64::new(0),
         };
         let mut inboxes = Inboxes {
             nodes: Vec::new(alloc),
@@ -79,14 +84,28 @@ impl Network {
     pub fn send<R: Wait>(&self, rt: &R, envelope: Envelope) {
         let Envelope { to, message } = envelope;
         match to {
-            Address::Shard(shard) => match self.nodes.get(usize::from(shard.number())) {
-                Some(inbox) => drop(inbox.send(rt, Letter::Carry(message))),
-                None => drop(message),
-            },
+            Address::Shard(shard) => self.send_to(rt, shard, Letter::Carry(message)),
             Address::Session(txn) => match self.inbox_of(rt, txn) {
                 Some(inbox) => drop(inbox.send(rt, Reply::Carry(message))),
                 None => drop(message),
             },
+        }
+    }
+
+    /// Sends a message of a session again, in this round: a shard that keeps it says so (`Reply::UnderWay`).
+    pub fn send_again<R: Wait>(&self, rt: &R, envelope: Envelope, round: u64) {
+        let Envelope { to, message } = envelope;
+        match to {
+            Address::Shard(shard) => self.send_to(rt, shard, Letter::Again(message, round)),
+            Address::Session(_) => drop(message),
+        }
+    }
+
+    // Sends a letter to a shard's node.
+    fn send_to<R: Wait>(&self, rt: &R, shard: ShardNo, letter: Letter) {
+        match self.nodes.get(usize::from(shard.number())) {
+            Some(inbox) => drop(inbox.send(rt, letter)),
+            None => drop(letter),
         }
     }
 
@@ -95,6 +114,30 @@ impl Network {
         if let Some(inbox) = self.inbox_of(rt, refused.txn) {
             drop(inbox.send(rt, Reply::Refused(refused)));
         }
+    }
+
+    /// Tells the worker that runs the transaction that what it has sent again is under way.
+    pub fn assure<R: Wait>(&self, rt: &R, under_way: UnderWay) {
+        if let Some(inbox) = self.inbox_of(rt, under_way.txn) {
+            drop(inbox.send(rt, Reply::UnderWay(under_way)));
+        }
+    }
+
+    /// Whether the shard has stopped, as its gate was told.
+    pub fn has_stopped(&self, shard: ShardNo) -> bool {
+        self.stopped.load(Ordering::SeqCst) & bit(shard) != 0
+    }
+
+    /// The first shard that has stopped.
+    pub fn stopped_shard(&self) -> Option<ShardNo> {
+        for number in 0..MOST_SHARDS {
+            if let Some(shard) = ShardNo::new(number) {
+                if self.has_stopped(shard) {
+                    return Some(shard);
+                }
+            }
+        }
+        None
     }
 
     // The inbox of the worker that runs the transaction.
@@ -137,6 +180,25 @@ impl Network {
         for inbox in &self.nodes {
             close_one(rt, inbox);
         }
+    }
+}
+
+// So many shards there are at most.
+const MOST_SHARDS: u8 = 16;
+
+// The bit of a shard.
+fn bit(shard: ShardNo) -> u64 {
+    1 << (u32::from(shard.number()) % 64)
+}
+
+// A network as a gate keeps in mind which shards have stopped.
+impl Gate for Network {
+    fn before(&self, _shard: ShardNo, _n: u64) {}
+
+    fn after(&self, _shard: ShardNo, _n: u64) {}
+
+    fn stopped(&self, shard: ShardNo) {
+        self.stopped.fetch_or(bit(shard), Ordering::SeqCst);
     }
 }
 
@@ -220,6 +282,10 @@ impl<R: Wait> Post for Mail<'_, '_, R> {
 
     fn refuse(&mut self, refused: Refused) {
         self.network.refuse(self.rt, refused);
+    }
+
+    fn assure(&mut self, under_way: UnderWay) {
+        self.network.assure(self.rt, under_way);
     }
 
     fn is_looked_for(&self, shard: ShardNo) -> bool {

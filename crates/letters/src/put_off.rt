@@ -90,12 +90,12 @@ impl Waiting {
     // letter is handed back.
     fn keep(&mut self, letter: Letter) -> Option<Letter> {
         match &letter {
-            Letter::Carry(Message::Read(_)) => {}
+            Letter::Carry(Message::Read(_)) | Letter::Again(Message::Read(_), _) => {}
             Letter::Close => {
                 self.closes = true;
                 return None;
             }
-            Letter::Carry(_) | Letter::Look => return Some(letter),
+            Letter::Carry(_) | Letter::Again(_, _) | Letter::Look => return Some(letter),
         }
         if self.reads.len() < self.reads.capacity() {
             drop(self.reads.push_back(letter));

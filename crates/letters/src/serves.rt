@@ -1,11 +1,12 @@
 //! How a node is served.
-use crate::acts::act;
+use crate::acts::deliver;
 use crate::chores::Chores;
 use crate::gate::Gate;
+use crate::kept::{Kept, Watched};
 use crate::letter::{Letter, Post};
 use crate::put_off::{Next, Waiting};
 use crossbeam_channel::Receiver;
-use message::{Input, Outbox};
+use message::{Input, Message, Outbox};
 use std::alloc::Global;
 use std::sync::Wait;
 use std::time;
@@ -77,6 +78,7 @@ pub fn serve<N: Serves, W: Wait + time::Clock, P: Post, C: Clock, G: Gate>(
     let mut round = Round {
         chores: Chores::new(node, rt),
         reads: Waiting::none(node.alloc(), READS_AT_MOST),
+        kept: Kept::none(node.alloc()),
         n: 0,
         in_a_row: 0,
         stopped: false,
@@ -103,12 +105,13 @@ pub fn serve<N: Serves, W: Wait + time::Clock, P: Post, C: Clock, G: Gate>(
     unreachable!()
 }
 
-// What a node is in the midst of: its chores, the reads that wait, how many letters were taken, how many came since it did its chores, and
+// What a node is in the midst of: its chores, the reads that wait to be taken, those that wait for a lock, how many letters were taken, how many came since it did its chores, and
 // whether it had stopped then.
 #[derive(Drop)]
 struct Round {
     chores: Chores,
     reads: Waiting,
+    kept: Kept,
     n: u64,
     in_a_row: u64,
     stopped: bool,
@@ -128,13 +131,22 @@ fn tend<N: Serves, W: Wait + time::Clock, P: Post, C: Clock, G: Gate>(
         take_reads(node, rt, post, clock, gate, round);
     }
     round.in_a_row = 0;
-    let pause = round.chores.tend(node, rt, post, clock);
+    round.kept.look_after(node, rt, post, clock);
+    let pause = round.chores.tend(
+        node,
+        rt,
+        &mut Watched {
+            post,
+            kept: &mut round.kept,
+        },
+        clock,
+    );
     let stopped = node.is_stopped(rt);
     if stopped && !round.stopped {
         gate.stopped(node.shard());
     }
     round.stopped = stopped;
-    pause
+    round.kept.pause(rt, pause)
 }
 
 // Takes the reads that wait, in the order in which they came.
@@ -168,8 +180,11 @@ fn take<N: Serves, W: Wait + time::Clock, P: Post, C: Clock, G: Gate>(
     gate.before(node.shard(), round.n);
     let goes_on = match letter {
         Letter::Carry(message) => {
-            act(node, rt, post, clock, Input::Deliver(message));
-            round.chores.took_letter(rt);
+            take_message(node, rt, post, clock, round, message, None);
+            true
+        }
+        Letter::Again(message, asked) => {
+            take_message(node, rt, post, clock, round, message, Some(asked));
             true
         }
         Letter::Look => true,
@@ -180,4 +195,26 @@ fn take<N: Serves, W: Wait + time::Clock, P: Post, C: Clock, G: Gate>(
         round.n += 1;
     }
     goes_on
+}
+
+// Takes a message, which a session may have sent again. Where its transaction waits with it that is kept in mind.
+fn take_message<N: Serves, W: Wait + time::Clock, P: Post, C: Clock>(
+    node: &N,
+    rt: &W,
+    post: &mut P,
+    clock: &mut C,
+    round: &mut Round,
+    message: Message,
+    asked: Option<u64>,
+) {
+    let waits = round.kept.see(&message);
+    let mut post = Watched {
+        post,
+        kept: &mut round.kept,
+    };
+    let keeps = deliver(node, rt, &mut post, clock, message, asked);
+    if let (true, Some(read)) = (keeps, waits) {
+        round.kept.add(read);
+    }
+    round.chores.took_letter(rt);
 }

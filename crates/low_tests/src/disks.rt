@@ -4,7 +4,7 @@ use crate::devices::sent;
 use crate::file_logs::{is_no_log, is_opened_again};
 use crate::steps::{Step, Stepped, call_any, go_well, read_back};
 use disk::Disk;
-use filedisk::FileDisk;
+use filedisk::{Cause, FileDisk};
 use made::{Folder, WrongRows};
 use std::alloc::Global;
 use std::{env, fs};
@@ -22,6 +22,8 @@ enum There {
 enum Call {
     Create,
     Open,
+    // To read alone.
+    Read,
 }
 
 // What the file is, when it is opened again.
@@ -46,12 +48,12 @@ pub struct Asked {
     there: There,
     call: Call,
     // The length of the file that is taken, or how it is refused.
-    wanted: Result<u64, Fault>,
+    wanted: Result<u64, Cause>,
     steps: &'static [Step],
     left: Left,
 }
 
-static ROWS: [Asked; 21] = [
+static ROWS: [Asked; 27] = [
     Asked {
         what: "a new file",
         path: None,
@@ -66,7 +68,7 @@ static ROWS: [Asked; 21] = [
         path: None,
         there: There::File,
         call: Call::Create,
-        wanted: Err(Fault::Device),
+        wanted: Err(Cause::Exists),
         steps: &[],
         left: Left::Anything,
     },
@@ -75,7 +77,7 @@ static ROWS: [Asked; 21] = [
         path: None,
         there: There::Held,
         call: Call::Create,
-        wanted: Err(Fault::Device),
+        wanted: Err(Cause::Exists),
         steps: &[],
         left: Left::Anything,
     },
@@ -84,7 +86,7 @@ static ROWS: [Asked; 21] = [
         path: None,
         there: There::Folder,
         call: Call::Create,
-        wanted: Err(Fault::Device),
+        wanted: Err(Cause::Exists),
         steps: &[],
         left: Left::Anything,
     },
@@ -93,7 +95,7 @@ static ROWS: [Asked; 21] = [
         path: None,
         there: There::Nothing,
         call: Call::Open,
-        wanted: Err(Fault::Device),
+        wanted: Err(Cause::NoFile),
         steps: &[],
         left: Left::Anything,
     },
@@ -111,7 +113,7 @@ static ROWS: [Asked; 21] = [
         path: None,
         there: There::Held,
         call: Call::Open,
-        wanted: Err(Fault::Device),
+        wanted: Err(Cause::InUse),
         steps: &[],
         left: Left::Anything,
     },
@@ -120,8 +122,68 @@ static ROWS: [Asked; 21] = [
         path: None,
         there: There::Folder,
         call: Call::Open,
-        wanted: Err(Fault::Device),
+        wanted: Err(Cause::Folder),
         steps: &[],
+        left: Left::Anything,
+    },
+    Asked {
+        what: "a device is opened",
+        path: Some("/dev/null"),
+        there: There::Nothing,
+        call: Call::Open,
+        wanted: Err(Cause::NoPlainFile),
+        steps: &[],
+        left: Left::Anything,
+    },
+    Asked {
+        what: "a file that is missing is read",
+        path: None,
+        there: There::Nothing,
+        call: Call::Read,
+        wanted: Err(Cause::NoFile),
+        steps: &[],
+        left: Left::Anything,
+    },
+    Asked {
+        what: "a folder is read",
+        path: None,
+        there: There::Folder,
+        call: Call::Read,
+        wanted: Err(Cause::Folder),
+        steps: &[],
+        left: Left::Anything,
+    },
+    Asked {
+        what: "a device is read",
+        path: Some("/dev/zero"),
+        there: There::Nothing,
+        call: Call::Read,
+        wanted: Err(Cause::NoPlainFile),
+        steps: &[],
+        left: Left::Anything,
+    },
+    Asked {
+        what: "a file below a file is read",
+        path: Some("/dev/null/log"),
+        there: There::Nothing,
+        call: Call::Read,
+        wanted: Err(Cause::NoFile),
+        steps: &[],
+        left: Left::Anything,
+    },
+    Asked {
+        what: "a file that is held is read, and not written to",
+        path: None,
+        there: There::Held,
+        call: Call::Read,
+        wanted: Ok(5),
+        steps: &[
+            Step::Holds(b"bytes"),
+            Step::Fails(&Step::WriteAnywhere(5, b".")),
+            Step::Fails(&Step::CutAnywhere(0)),
+            Step::Sync,
+            Step::Holds(b"bytes"),
+        ],
         left: Left::Anything,
     },
     Asked {
@@ -156,7 +218,7 @@ static ROWS: [Asked; 21] = [
         path: Some("missing/log"),
         there: There::Nothing,
         call: Call::Create,
-        wanted: Err(Fault::Device),
+        wanted: Err(Cause::NoFile),
         steps: &[],
         left: Left::Anything,
     },
@@ -165,7 +227,7 @@ static ROWS: [Asked; 21] = [
         path: Some("logs/"),
         there: There::Nothing,
         call: Call::Create,
-        wanted: Err(Fault::Device),
+        wanted: Err(Cause::Folder),
         steps: &[],
         left: Left::Anything,
     },
@@ -174,7 +236,7 @@ static ROWS: [Asked; 21] = [
         path: Some(""),
         there: There::Nothing,
         call: Call::Create,
-        wanted: Err(Fault::Device),
+        wanted: Err(Cause::NoFile),
         steps: &[],
         left: Left::Anything,
     },
@@ -309,10 +371,11 @@ fn is_answered_so(rt: &HostRuntime, path: &str, row: &Asked) -> bool {
     let taken = match row.call {
         Call::Create => FileDisk::create(rt, path),
         Call::Open => FileDisk::open(rt, path),
+        Call::Read => FileDisk::open_to_read(rt, path),
     };
     let answered = match taken {
         Ok(disk) => goes_on(rt.alloc(), disk, row),
-        Err(fault) => row.wanted == Err(fault),
+        Err(cause) => row.wanted == Err(cause),
     };
     drop(held);
     answered

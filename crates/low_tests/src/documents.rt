@@ -1,6 +1,6 @@
 //! Documents with settings.
 use made::WrongRows;
-use settings::Settings;
+use settings::{Settings, Unread};
 use std::alloc::Global;
 use units::{Fault, Key, Reason};
 
@@ -143,11 +143,11 @@ static LINES: [&str; 7] = [
     "keys = 10",
 ];
 
-// Texts in place of one of its lines.
+// Texts in place of one of its lines: those that are taken, and those that are refused with what is told of each behind the name of the file.
 struct Changed {
     line: usize,
     taken: &'static [&'static str],
-    refused: &'static [&'static str],
+    refused: &'static [(&'static str, &'static str)],
 }
 
 static CHANGED: [Changed; 7] = [
@@ -155,17 +155,41 @@ static CHANGED: [Changed; 7] = [
         line: 0,
         taken: &["shards = 3", "# three\nshards = 0x3"],
         refused: &[
-            "",
-            "shards = 0",
-            "shards = 2",
-            "shards = 4",
-            "shards = 17",
-            "shards = -3",
-            "shards = 3.0",
-            "shards = \"3\"",
-            "shards = true",
-            "shards = 3\nshards = 3",
-            "Shards = 3",
+            ("", " the key 'shards' is missing"),
+            (
+                "shards = 0",
+                "1: 'shards' has to be a whole number from 1 to 16",
+            ),
+            ("shards = 2", "2: 'splits' has 2 keys, and 2 shards want 1"),
+            ("shards = 4", "2: 'splits' has 2 keys, and 4 shards want 3"),
+            (
+                "shards = 17",
+                "1: 'shards' has to be a whole number from 1 to 16",
+            ),
+            (
+                "shards = -3",
+                "1: 'shards' has to be a whole number from 1 to 16",
+            ),
+            (
+                "shards = 3.0",
+                "1: 'shards' has to be a whole number from 1 to 16",
+            ),
+            (
+                "shards = \"3\"",
+                "1: 'shards' has to be a whole number from 1 to 16",
+            ),
+            (
+                "shards = true",
+                "1: 'shards' has to be a whole number from 1 to 16",
+            ),
+            (
+                "shards = 3\nshards = 3",
+                "2: this line is no TOML, tells a key again, or a number beyond 64 bits",
+            ),
+            (
+                "Shards = 3",
+                "1: 'Shards' is no key of settings; these are: shards, splits, stride, epsilon, workers, transactions, keys, dir",
+            ),
         ],
     },
     Changed {
@@ -175,81 +199,180 @@ static CHANGED: [Changed; 7] = [
             "splits = [\n  \"b\",\n  \"c\",\n]",
         ],
         refused: &[
-            "",
-            "splits = []",
-            "splits = [\"b\"]",
-            "splits = [\"b\", \"c\", \"d\"]",
-            "splits = [\"c\", \"b\"]",
-            "splits = [\"b\", \"b\"]",
-            "splits = [\"\", \"b\"]",
-            "splits = [\"b\", \"c1234567890123456789012345678901234567890123456789012345678901234\"]",
-            "splits = [\"b\", 3]",
-            "splits = \"b\"",
+            ("", " the key 'splits' is missing"),
+            ("splits = []", "2: 'splits' has 0 keys, and 3 shards want 2"),
+            (
+                "splits = [\"b\"]",
+                "2: 'splits' has 1 keys, and 3 shards want 2",
+            ),
+            (
+                "splits = [\"b\", \"c\", \"d\"]",
+                "2: 'splits' has 3 keys, and 3 shards want 2",
+            ),
+            (
+                "splits = [\"c\", \"b\"]",
+                "2: the keys of 'splits' have to ascend",
+            ),
+            (
+                "splits = [\"b\", \"b\"]",
+                "2: the keys of 'splits' have to ascend",
+            ),
+            (
+                "splits = [\"\", \"b\"]",
+                "2: each of 'splits' has to be a text of 1 to 64 bytes",
+            ),
+            (
+                "splits = [\"b\", \"c1234567890123456789012345678901234567890123456789012345678901234\"]",
+                "2: each of 'splits' has to be a text of 1 to 64 bytes",
+            ),
+            (
+                "splits = [\"b\", 3]",
+                "2: each of 'splits' has to be a text of 1 to 64 bytes",
+            ),
+            ("splits = \"b\"", "2: 'splits' has to be a list of texts"),
         ],
     },
     Changed {
         line: 2,
         taken: &["stride = 0", "stride = 10000000"],
-        refused: &["", "stride = -1", "stride = 10000001"],
+        refused: &[
+            ("", " the key 'stride' is missing"),
+            (
+                "stride = -1",
+                "3: 'stride' has to be a whole number from 0 to 10000000",
+            ),
+            (
+                "stride = 10000001",
+                "3: 'stride' has to be a whole number from 0 to 10000000",
+            ),
+        ],
     },
     Changed {
         line: 3,
         taken: &["epsilon = 0", "epsilon = 1000000"],
-        refused: &["", "epsilon = -1", "epsilon = 1000001"],
+        refused: &[
+            ("", " the key 'epsilon' is missing"),
+            (
+                "epsilon = -1",
+                "4: 'epsilon' has to be a whole number from 0 to 1000000",
+            ),
+            (
+                "epsilon = 1000001",
+                "4: 'epsilon' has to be a whole number from 0 to 1000000",
+            ),
+        ],
     },
     Changed {
         line: 4,
         taken: &["workers = 1", "workers = 64"],
-        refused: &["", "workers = 0", "workers = 65"],
+        refused: &[
+            ("", " the key 'workers' is missing"),
+            (
+                "workers = 0",
+                "5: 'workers' has to be a whole number from 1 to 64",
+            ),
+            (
+                "workers = 65",
+                "5: 'workers' has to be a whole number from 1 to 64",
+            ),
+        ],
     },
     Changed {
         line: 5,
         taken: &["transactions = 1", "transactions = 100000"],
-        refused: &["", "transactions = 0", "transactions = 100001"],
+        refused: &[
+            ("", " the key 'transactions' is missing"),
+            (
+                "transactions = 0",
+                "6: 'transactions' has to be a whole number from 1 to 100000",
+            ),
+            (
+                "transactions = 100001",
+                "6: 'transactions' has to be a whole number from 1 to 100000",
+            ),
+        ],
     },
     Changed {
         line: 6,
         taken: &["keys = 1", "keys = 10000", "keys = 10\ndir = \"logs\""],
         refused: &[
-            "",
-            "keys",
-            "keys = 0",
-            "keys = 10001",
-            "keys = 99999999999999999999",
-            "keys = 10\ndir = 1",
-            "keys = 10\ndir = \"\"",
-            "keys = 10\ndir = [\"logs\"]",
-            "keys = 10\nother = 1",
-            "keys = 10\n[dir]",
+            ("", " the key 'keys' is missing"),
+            (
+                "keys",
+                "7: this line is no TOML, tells a key again, or a number beyond 64 bits",
+            ),
+            (
+                "keys = 0",
+                "7: 'keys' has to be a whole number from 1 to 10000",
+            ),
+            (
+                "keys = 10001",
+                "7: 'keys' has to be a whole number from 1 to 10000",
+            ),
+            (
+                "keys = 99999999999999999999",
+                "7: this line is no TOML, tells a key again, or a number beyond 64 bits",
+            ),
+            (
+                "keys = 10\ndir = 1",
+                "8: 'dir' has to be a text that is not empty",
+            ),
+            (
+                "keys = 10\ndir = \"\"",
+                "8: 'dir' has to be a text that is not empty",
+            ),
+            (
+                "keys = 10\ndir = [\"logs\"]",
+                "8: 'dir' has to be a text that is not empty",
+            ),
+            (
+                "keys = 10\nother = 1",
+                "8: 'other' is no key of settings; these are: shards, splits, stride, epsilon, workers, transactions, keys, dir",
+            ),
+            (
+                "keys = 10\n[dir]",
+                "8: 'dir' has to be a text that is not empty",
+            ),
         ],
     },
 ];
 
-const REFUSED: Option<Fault> = Some(Fault::BadRequest(Reason::Settings));
-
-// How the document is refused that has a text in place of one line. A line that memory is wanting for is left out.
-fn refusal(alloc: Global, at: usize, text: &str) -> Option<Fault> {
+// The document that has a text in place of one line. A line that memory is wanting for is left out.
+fn whole(alloc: Global, at: usize, text: &str) -> String {
     let mut whole = String::new(alloc);
     for (n, line) in LINES.iter().enumerate() {
         let _ = whole.push_str(if n == at { text } else { *line });
         let _ = whole.push('\n');
     }
-    let refusal = Settings::read(alloc, whole.as_str()).err();
-    drop(whole);
-    refusal
+    whole
 }
 
-// Goes over texts for a line, which are refused so, or taken.
-fn go_over_texts(
-    wrong: &mut WrongRows,
-    alloc: Global,
-    line: usize,
-    texts: &[&str],
-    refused: Option<Fault>,
-) {
-    for text in texts {
-        let right = refusal(alloc, line, *text) == refused;
-        wrong.unless_at(right, *text, line as u64);
+// Whether it is refused as settings, and this is told of it.
+fn is_refused(alloc: Global, text: &str, wanted: &str) -> bool {
+    let Err(Unread::Wrong(wrong)) = Settings::read_or_tell(alloc, text) else {
+        return false;
+    };
+    let Ok(told) = wrong.told(alloc, text) else {
+        return false;
+    };
+    let right = told.as_str() == wanted;
+    drop(told);
+    right && Settings::read(alloc, text).err() == Some(Fault::BadRequest(Reason::Settings))
+}
+
+// Goes over texts for a line, of which the first are taken and the others refused.
+fn go_over_texts(wrong: &mut WrongRows, alloc: Global, row: &Changed) {
+    for text in row.taken {
+        let document = whole(alloc, row.line, *text);
+        let right = Settings::read(alloc, document.as_str()).is_ok();
+        drop(document);
+        wrong.unless_at(right, *text, row.line as u64);
+    }
+    for (text, told) in row.refused {
+        let document = whole(alloc, row.line, *text);
+        let right = is_refused(alloc, document.as_str(), *told);
+        drop(document);
+        wrong.unless_at(right, *text, row.line as u64);
     }
 }
 
@@ -271,7 +394,6 @@ pub fn go_over(wrong: &mut WrongRows, alloc: Global) {
         wrong.unless(is_taken(alloc, row), row.what);
     }
     for row in &CHANGED {
-        go_over_texts(wrong, alloc, row.line, row.taken, None);
-        go_over_texts(wrong, alloc, row.line, row.refused, REFUSED);
+        go_over_texts(wrong, alloc, row);
     }
 }

@@ -29,10 +29,10 @@ static KINDS: [Drive; 3] = [
         groups: &[],
         micros: 0,
         line: "0 of 200 done, 0 commits a second",
-        table: "     us       count        half   90 of 100   99 of 100        most\n\
-            commits           0           -           -           -           -\n\
-            \x20aborts           0           -           -           -           -\n\
-            \x20 looks           0           -           -           -           -\n",
+        table: "     us   count    half     90%     99%    most\n\
+            commits       0       -       -       -       -\n\
+            \x20aborts       0       -       -       -       -\n\
+            \x20 looks       0       -       -       -       -\n",
     },
     Drive {
         name: "each kind",
@@ -66,10 +66,10 @@ static KINDS: [Drive; 3] = [
         ],
         micros: 375_000,
         line: "120 of 200 done, 312 commits a second",
-        table: "     us       count        half   90 of 100   99 of 100        most\n\
-            commits         117        3000        3000        3000        3000\n\
-            \x20aborts           2           2           2           2           2\n\
-            \x20 looks         100           4           4          50          50\n",
+        table: "     us   count    half     90%     99%    most\n\
+            commits     117    3000    3000    3000    3000\n\
+            \x20aborts       2       2       2       2       2\n\
+            \x20 looks     100       4       4      50      50\n",
     },
     Drive {
         name: "in any order",
@@ -98,10 +98,10 @@ static KINDS: [Drive; 3] = [
         ],
         micros: 655_000,
         line: "200 of 200 done, 305 commits a second",
-        table: "     us       count        half   90 of 100   99 of 100        most\n\
-            commits         200        1850        9120        9120       50000\n\
-            \x20aborts           0           -           -           -           -\n\
-            \x20 looks           1           7           7           7           7\n",
+        table: "     us   count    half     90%     99%    most\n\
+            commits     200    1850    9120    9120   50000\n\
+            \x20aborts       0       -       -       -       -\n\
+            \x20 looks       1       7       7       7       7\n",
     },
 ];
 
@@ -124,10 +124,10 @@ static COLUMNS: [Drive; 3] = [
         ],
         micros: 1_000_000,
         line: "3 of 3 done, 0 commits a second",
-        table: "     us       count        half   90 of 100   99 of 100        most\n\
-            commits           0           -           -           -           -\n\
-            \x20aborts           2           5           5           5           5\n\
-            \x20 looks           0           -           -           -           -\n",
+        table: "     us   count    half     90%     99%    most\n\
+            commits       0       -       -       -       -\n\
+            \x20aborts       2       5       5       5       5\n\
+            \x20 looks       0       -       -       -       -\n",
     },
     Drive {
         name: "four figures",
@@ -161,10 +161,10 @@ static COLUMNS: [Drive; 3] = [
         ],
         micros: 1_000_000,
         line: "100 of 100 done, 100 commits a second",
-        table: "     us       count        half   90 of 100   99 of 100        most\n\
-            commits         100          10          20          30          40\n\
-            \x20aborts           0           -           -           -           -\n\
-            \x20 looks         100           1           1           1           1\n",
+        table: "     us   count    half     90%     99%    most\n\
+            commits     100      10      20      30      40\n\
+            \x20aborts       0       -       -       -       -\n\
+            \x20 looks     100       1       1       1       1\n",
     },
     Drive {
         name: "a number wider than its column",
@@ -176,10 +176,10 @@ static COLUMNS: [Drive; 3] = [
         }],
         micros: 1_000_000,
         line: "1 of 1 done, 0 commits a second",
-        table: "     us       count        half   90 of 100   99 of 100        most\n\
-            commits           0           -           -           -           -\n\
-            \x20aborts           1 9999999999999 9999999999999 9999999999999 9999999999999\n\
-            \x20 looks           0           -           -           -           -\n",
+        table: "     us   count    half     90%     99%    most\n\
+            commits       0       -       -       -       -\n\
+            \x20aborts       1 9999999999999 9999999999999 9999999999999 9999999999999\n\
+            \x20 looks       0       -       -       -       -\n",
     },
 ];
 
@@ -204,10 +204,16 @@ fn count(progress: &mut Progress, group: &Group) {
     }
 }
 
-// No line has more than 80 columns.
-fn is_narrow(text: &str) -> bool {
+// No line has more than 50 columns, or more than 80 where a number has more than seven digits.
+fn is_narrow(row: &Drive, text: &str) -> bool {
+    let mut most: usize = 50;
+    for group in row.groups {
+        if group.micros > 9_999_999 {
+            most = 80;
+        }
+    }
     for line in text.lines() {
-        if line.len() > 80 {
+        if line.len() > most {
             return false;
         }
     }
@@ -223,7 +229,10 @@ impl Row for Drive {
         }
         let has_line = is_text(progress.line(alloc, self.micros), self.line);
         let has_table = is_text(progress.table(alloc), self.table);
-        wrong.unless(has_table & has_line & is_narrow(self.table), self.name);
+        wrong.unless(
+            has_table & has_line & is_narrow(self, self.table),
+            self.name,
+        );
     }
 }
 

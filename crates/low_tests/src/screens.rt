@@ -43,10 +43,10 @@ static ROWS: [Shown; 7] = [
         end: 300_000,
         failures: 0,
         written: "\r3 of 3 done, 10 commits a second\n\
-                  \x20    us       count        half   90 of 100   99 of 100        most\n\
-                  commits           3           5           5           5           5\n\
-                  \x20aborts           0           -           -           -           -\n\
-                  \x20 looks           2           4           4           4           4\n",
+                  \x20    us   count    half     90%     99%    most\n\
+                  commits       3       5       5       5       5\n\
+                  \x20aborts       0       -       -       -       -\n\
+                  \x20 looks       2       4       4       4       4\n",
     },
     Shown {
         name: "each is late enough",
@@ -57,10 +57,10 @@ static ROWS: [Shown; 7] = [
                   \r2 of 3 done, 5 commits a second\
                   \r3 of 3 done, 5 commits a second\
                   \r3 of 3 done, 3 commits a second\n\
-                  \x20    us       count        half   90 of 100   99 of 100        most\n\
-                  commits           3           5           5           5           5\n\
-                  \x20aborts           0           -           -           -           -\n\
-                  \x20 looks           2           4           4           4           4\n",
+                  \x20    us   count    half     90%     99%    most\n\
+                  commits       3       5       5       5       5\n\
+                  \x20aborts       0       -       -       -       -\n\
+                  \x20 looks       2       4       4       4       4\n",
     },
     Shown {
         name: "one is too early",
@@ -70,10 +70,10 @@ static ROWS: [Shown; 7] = [
         written: "\r1 of 3 done, 4 commits a second\
                   \r3 of 3 done, 6 commits a second\
                   \r3 of 3 done, 3 commits a second\n\
-                  \x20    us       count        half   90 of 100   99 of 100        most\n\
-                  commits           3           5           5           5           5\n\
-                  \x20aborts           0           -           -           -           -\n\
-                  \x20 looks           2           4           4           4           4\n",
+                  \x20    us   count    half     90%     99%    most\n\
+                  commits       3       5       5       5       5\n\
+                  \x20aborts       0       -       -       -       -\n\
+                  \x20 looks       2       4       4       4       4\n",
     },
     Shown {
         name: "nothing is left of a longer line",
@@ -82,10 +82,10 @@ static ROWS: [Shown; 7] = [
         failures: 0,
         written: "\r2 of 3 done, 10 commits a second\
                   \r3 of 3 done, 3 commits a second \n\
-                  \x20    us       count        half   90 of 100   99 of 100        most\n\
-                  commits           3           5           5           5           5\n\
-                  \x20aborts           0           -           -           -           -\n\
-                  \x20 looks           2           4           4           4           4\n",
+                  \x20    us   count    half     90%     99%    most\n\
+                  commits       3       5       5       5       5\n\
+                  \x20aborts       0       -       -       -       -\n\
+                  \x20 looks       2       4       4       4       4\n",
     },
     Shown {
         name: "a write fails",
@@ -94,10 +94,10 @@ static ROWS: [Shown; 7] = [
         failures: 1,
         written: "\r3 of 3 done, 7 commits a second\
                   \r3 of 3 done, 3 commits a second\n\
-                  \x20    us       count        half   90 of 100   99 of 100        most\n\
-                  commits           3           5           5           5           5\n\
-                  \x20aborts           0           -           -           -           -\n\
-                  \x20 looks           2           4           4           4           4\n",
+                  \x20    us   count    half     90%     99%    most\n\
+                  commits       3       5       5       5       5\n\
+                  \x20aborts       0       -       -       -       -\n\
+                  \x20 looks       2       4       4       4       4\n",
     },
     Shown {
         name: "each write fails",

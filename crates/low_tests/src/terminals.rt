@@ -22,10 +22,10 @@ fn tell<W: Watch>(watch: &W) {
 }
 
 const TABLE: &str = " commits a second\n\
-    \x20    us       count        half   90 of 100   99 of 100        most\n\
-    commits          20           4           8           9           9\n\
-    \x20aborts           0           -           -           -           -\n\
-    \x20 looks          20           4           8           9           9\n";
+    \x20    us   count    half     90%     99%    most\n\
+    commits      20       4       8       9       9\n\
+    \x20aborts       0       -       -       -       -\n\
+    \x20 looks      20       4       8       9       9\n";
 
 fn is_last(text: &str) -> bool {
     text.contains("\r20 of 20 done, ") && text.ends_with(TABLE)

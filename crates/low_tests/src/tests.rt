@@ -1,12 +1,12 @@
 //! The tests, each of some areas. A body that names several tables costs much to prove, so most tables have a function of their own.
 use crate::checks::{end, go_over};
 use crate::{
-    clocks, crowd, devices, disks, documents, drawers, drive_lines, figures, files, grouped,
-    handed, horizons, known, ledgers, left, limits, looks, messages, migrated, plain, records,
-    refusals, renewed, screens, seated, sessions, spellings, tables, terminals, turned, verdicts,
-    versioned,
+    beside, clocks, crowd, devices, disks, documents, drawers, drive_lines, figures, files,
+    grouped, handed, horizons, known, ledgers, left, limits, looks, messages, migrated, plain,
+    records, refusals, renewed, screens, seated, sessions, spellings, tables, terminals, turned,
+    verdicts, versioned,
 };
-use made::WrongRows;
+use made::{Folder, WrongRows};
 
 #[test]
 fn small_types_and_texts(rt: HostRuntime) {
@@ -74,6 +74,22 @@ fn turned_and_migrated_logs(rt: HostRuntime) {
     wrong.unless(turned::ends(&rt), "a log without a slot left");
     migrated::tell_migrated(&mut wrong, &rt);
     migrated::tell_failing(&mut wrong, &rt);
+    end(&rt, wrong);
+}
+
+#[test]
+fn logs_that_are_written_to(rt: HostRuntime) {
+    let folder = Folder::new(&rt).ok().expect(&rt, "a folder");
+    let mut wrong = WrongRows::none(rt.alloc());
+    wrong.unless(
+        beside::are_read_beside_appends(&rt, &rt, &folder),
+        "appended to",
+    );
+    wrong.unless(
+        beside::are_read_beside_turnovers(&rt, &rt, &folder),
+        "renewed",
+    );
+    wrong.unless(folder.remove(&rt), "the folder");
     end(&rt, wrong);
 }
 

@@ -50,7 +50,19 @@ impl<W: Write> Stream<W> {
         ensures kept { failures_of self.old ≤ failures_of self.new }
         ensures quiet { OnOk result (failures_of self.new ≡ failures_of self.old) }
     {
-        match self.writer.write_all(text.as_bytes()) {
+        self.print_bytes(text.as_bytes())
+    }
+
+    /// Prints some bytes.
+    pub fn print_bytes(&mut self, bytes: &[u8]) -> Result<(), Failure>
+        ensures printed { OnOk result
+            (Appends (W.contents (writer_of self.old)) (W.contents (writer_of self.new)) bytes.now) }
+        ensures unwritten { IfErr result (λ failure. failure ≡ Unwritten) }
+        ensures failed { IfErr result (λ _. failures_of self.new ≡ failures_of self.old + 1) }
+        ensures kept { failures_of self.old ≤ failures_of self.new }
+        ensures quiet { OnOk result (failures_of self.new ≡ failures_of self.old) }
+    {
+        match self.writer.write_all(bytes) {
             Ok(()) => Ok(()),
             Err(_) => {
                 self.failures.rise();

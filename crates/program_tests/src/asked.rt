@@ -93,7 +93,12 @@ static JUDGED: [Asked; 11] = [
 ];
 
 // What dumps print.
-static DUMPED: [Asked; 6] = [
+static DUMPED: [Asked; 7] = [
+    Asked {
+        lines: &["dump odd.log"],
+        printed: "9224 opened 1\n9238 commit 1.2 200 0 - b\\x0a9=x\\x3d\\x2c\\x1b\nclosed at 9285\n",
+        ..TAKEN
+    },
     Asked {
         lines: &["dump done.log"],
         printed: "9224 opened 1\n9238 commit 1.2 200 0 - a=1\n9280 outcome 1.2 committed 200\nclosed at 9311\n",
@@ -206,7 +211,35 @@ static COUNTED: [Asked; 9] = [
 ];
 
 // What is told of keys, and of writes to them.
-static TOLD: [Asked; 9] = [
+static TOLD: [Asked; 12] = [
+    Asked {
+        lines: &[
+            "get --raw one a",
+            "get one --raw a 111",
+            "get two a 299 --raw",
+        ],
+        printed: "1",
+        ..TAKEN
+    },
+    Asked {
+        lines: &[
+            "get --raw one b",
+            "get --raw one a 110",
+            "get --raw two a 300",
+        ],
+        status: 1,
+        ..TAKEN
+    },
+    Asked {
+        lines: &[
+            "put --bytes one a \\x73t\\x61nds",
+            "put one a -",
+            "put --bytes one a -",
+            "put -- one a -",
+        ],
+        printed: "committed 112\n",
+        ..TAKEN
+    },
     Asked {
         lines: &["history one a"],
         printed: "111 1.1 =1\n",
@@ -366,6 +399,9 @@ static REFUSED_WORDS: [Asked; 4] = [
             "get one a x",
             "put one a",
             "put one a stands 5",
+            "put --bytes one a \\x7",
+            "put --bytes one a stands\\x",
+            "put --bytes one a \\xg0",
         ],
         refused: "fault: 7 BadRequest(command)\n",
         ..REFUSED
@@ -508,16 +544,74 @@ static REFUSED_FILES: [Asked; 10] = [
     },
 ];
 
-// Help is printed before anything else is looked at. It begins like this.
-static HELP: [Asked; 1] = [Asked {
-    lines: &["--help", "-h", "once --help", "once a -h -- 1", "-x --help"],
-    printed: "usage: shards COMMAND",
-    writes: Writes {
-        whole: false,
-        ..AMPLE
+// Only how the text begins is told.
+const BEGUN: Writes = Writes {
+    whole: false,
+    ..AMPLE
+};
+
+// Help and the version are printed before anything else is looked at.
+static HELP: [Asked; 8] = [
+    Asked {
+        lines: &[
+            "--help",
+            "-h",
+            "help",
+            "-x --help",
+            "help help",
+            "help gett",
+            "gett --help",
+        ],
+        printed: "usage: shards COMMAND WORD..\n",
+        writes: BEGUN,
+        ..TAKEN
     },
-    ..TAKEN
-}];
+    Asked {
+        lines: &[
+            "once --help",
+            "once a -h -- 1",
+            "help once",
+            "--help once",
+            "-h once",
+        ],
+        printed: "once KEY VALUE E1 L1 E2 L2\n",
+        writes: BEGUN,
+        ..TAKEN
+    },
+    Asked {
+        lines: &["get --help", "help get", "get one -h"],
+        printed: "get [--raw] DIR KEY [AT]\n",
+        writes: BEGUN,
+        ..TAKEN
+    },
+    Asked {
+        lines: &["put --help", "help put more"],
+        printed: "put [--bytes] DIR KEY VALUE\n",
+        writes: BEGUN,
+        ..TAKEN
+    },
+    Asked {
+        lines: &["stats --help"],
+        printed: "stats LOG..\n",
+        writes: BEGUN,
+        ..TAKEN
+    },
+    Asked {
+        lines: &["help migrate"],
+        printed: "migrate OLD NEW\n    Makes NEW, which must not exist, as a log file of version 2 with the records\n    of OLD, a log file of version 1, which stays as it is. Prints nothing.\n",
+        ..TAKEN
+    },
+    Asked {
+        lines: &["help format"],
+        printed: "format FILE\n    Makes FILE, which must not exist, as the file of a new log. Prints nothing.\n",
+        ..TAKEN
+    },
+    Asked {
+        lines: &["--version", "version", "version --raw"],
+        printed: "shards 1.0\nlogs of version 2 (SPNLOG02)\n",
+        ..TAKEN
+    },
+];
 
 const ONCE: Asked = Asked {
     lines: &["once a 1 100 110 112 121"],

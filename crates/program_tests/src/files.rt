@@ -52,7 +52,7 @@ static LISTS: [File<'static>; 7] = [
 ];
 
 // Logs.
-static LOGS: [File<'static>; 13] = [
+static LOGS: [File<'static>; 14] = [
     // Opened 1.
     File {
         path: "opened.log",
@@ -70,6 +70,12 @@ static LOGS: [File<'static>; 13] = [
         bytes: b"SPNLOG02\xa5\0\0\0\x09\x01\0\0\0\0\0\0\0\x01\
             \xa5\0\0\0%\x04\0\0\0\0\0\0\0\x01\0\0\0\0\0\0\0\x02\0\0\0\0\0\0\0\xc8\0\x01\0\0\0\x01\x01a\x01\0\x011\
             \xa5\0\0\0\x1a\x06\0\0\0\0\0\0\0\x01\0\0\0\0\0\0\0\x02\x01\0\0\0\0\0\0\0\xc8\0",
+    },
+    // Opened 1; Commit 1.2 at 200 by shard 0, with a key that has a line feed, and a value that has `=`, a comma and an escape.
+    File {
+        path: "odd.log",
+        bytes: b"SPNLOG02\xa5\0\0\0\x09\x01\0\0\0\0\0\0\0\x01\
+            \xa5\0\0\0\x2a\x04\0\0\0\0\0\0\0\x01\0\0\0\0\0\0\0\x02\0\0\0\0\0\0\0\xc8\0\x01\0\0\0\x01\x03b\x0a9\x01\0\x04x=,\x1b\0",
     },
     // Opened 1; Prepare 1.2 of coordinator 0 at 200.
     File {

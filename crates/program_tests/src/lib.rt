@@ -16,6 +16,8 @@ mod drawn;
 #[cfg(test)]
 mod each_call;
 #[cfg(test)]
+mod explained;
+#[cfg(test)]
 mod files;
 #[cfg(test)]
 mod given;
@@ -31,6 +33,8 @@ mod outside;
 mod places;
 #[cfg(test)]
 mod played;
+#[cfg(test)]
+mod pruned;
 #[cfg(test)]
 mod replying;
 #[cfg(test)]

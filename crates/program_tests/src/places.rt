@@ -95,14 +95,14 @@ static OF_STORES: [Row; 10] = [
         place: "",
     },
     Row {
-        line: "once a 1 110 100 112 121",
-        fault: Fault::BadRequest(Reason::Stamp),
+        line: "once a 1 100 110 112 121",
+        fault: Fault::TimeSpent,
         place: "",
     },
     Row {
-        line: "dum opened.log",
+        line: "put --bytes one a \\x7",
         fault: Fault::BadRequest(Reason::Command),
-        place: "",
+        place: "--> VALUE has a '\\x' without two hexadecimal digits",
     },
     Row {
         line: "get missing a",
@@ -161,7 +161,7 @@ static OF_RUNS: [Row; 9] = [
     Row {
         line: "drive wrong.settings",
         fault: Fault::BadRequest(Reason::Settings),
-        place: "--> wrong.settings",
+        place: "--> wrong.settings:1: 'shards' has to be a whole number from 1 to 16",
     },
     Row {
         line: "drive missing",

@@ -5,7 +5,8 @@ use crate::horizons::horizons;
 use crate::turnovers::turnovers;
 use crate::verdict::end;
 use crate::{
-    asked, comparing, each_call, outside, places, played, schedule_texts, stops, unlawful, words,
+    asked, comparing, each_call, explained, outside, places, played, pruned, schedule_texts, stops,
+    unlawful, words,
 };
 use made::WrongRows;
 
@@ -15,11 +16,13 @@ fn answers(rt: HostRuntime) {
     let mut wrong = WrongRows::none(alloc);
     asked::go_over_answers(wrong.of("answers"), alloc);
     asked::go_over_refusals(wrong.of("refusals"), alloc);
+    pruned::go_over(wrong.of("pruned logs"), alloc);
     let told = asked::counts_no_log(alloc);
     wrong.of("numbers").unless(told, "no log");
     words::go_over(wrong.of("words"), alloc);
     played::go_over(wrong.of("files that are played"), alloc);
     places::go_over(wrong.of("places of faults"), alloc);
+    explained::go_over(wrong.of("words that are explained"), alloc);
     schedule_texts::go_over(wrong.of("texts"), alloc);
     unlawful::go_over(wrong.of("lists"), alloc);
     outside::go_over(wrong.of("outside"), alloc);

@@ -1,6 +1,6 @@
 //! Lines that are a command, or none.
 use crate::given::words_of;
-use commands::{Command, command};
+use commands::{Command, Words};
 use made::WrongRows;
 use std::alloc::Global;
 use units::{Fault, Reason};
@@ -15,7 +15,7 @@ static LINES: [&str; 12] = [
     "one a 1 100 110 112 121",
     "once a 1  110 112 121",
     "once a 1 +100 110 112 121",
-    "help",
+    "once --raw a 1 100 110 112 121",
     "once --helpful",
     "play",
     "play a b",
@@ -44,7 +44,10 @@ fn is_taken(alloc: Global, line: &str, wanted: bool) -> bool {
     let Ok(words) = words_of(alloc, line) else {
         return false;
     };
-    let right = match command(alloc, &words) {
+    let Ok(read) = Words::new(alloc, &words) else {
+        return false;
+    };
+    let right = match read.command(alloc) {
         Ok(command) => {
             let once = is_once(&command);
             drop(command);
@@ -52,6 +55,7 @@ fn is_taken(alloc: Global, line: &str, wanted: bool) -> bool {
         }
         Err(fault) => !wanted && fault == Fault::BadRequest(Reason::Command),
     };
+    drop(read);
     drop(words);
     right
 }

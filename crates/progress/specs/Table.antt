@@ -10,7 +10,7 @@ right width word = replicate (width - length word) 32 ++ word
 
 -- a word at the right end of a column, with a blank before it
 abbrev pub cell : List ℕ → List ℕ
-cell word = codes " " ++ right 11 word
+cell word = codes " " ++ right 7 word
 
 -- how long they took, or dashes where it is not known of any
 abbrev pub figures_cells : Option Figures → List ℕ
@@ -25,7 +25,7 @@ row_text word count figures = right 7 word ++ (cell (decimal count) ++ (figures_
 -- the words above the columns
 abbrev pub head_text : List ℕ
 head_text = right 7 (codes "us")
-    ++ (cell (codes "count") ++ (cell (codes "half") ++ (cell (codes "90 of 100") ++ (cell (codes "99 of 100") ++ (cell (codes "most") ++ codes "\n")))))
+    ++ (cell (codes "count") ++ (cell (codes "half") ++ (cell (codes "90%") ++ (cell (codes "99%") ++ (cell (codes "most") ++ codes "\n")))))
 
 -- the whole table
 abbrev pub table_text : Tally → Option Figures → Option Figures → Option Figures → List ℕ

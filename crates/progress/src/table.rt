@@ -6,11 +6,11 @@ ghost use Rattle.progress.specs.Table.{cell, figures_cells, row_text};
 use crate::series::Figures;
 use std::alloc::{AllocError, Global};
 
-/// The words above the columns. Durations are in microseconds.
-pub const HEAD: &str = "     us       count        half   90 of 100   99 of 100        most\n";
+/// The words above the columns. Durations are in microseconds. A line has 47 bytes, if no number has more than seven digits.
+pub const HEAD: &str = "     us   count    half     90%     99%    most\n";
 
 // In the place of what they took.
-const DASHES: &str = "           -           -           -           -";
+const DASHES: &str = "       -       -       -       -";
 
 /// A line of the table: what it is of, how many there were, and how long they took, where that is known.
 pub fn row(
@@ -56,7 +56,7 @@ fn push_number(text: &mut String, alloc: Global, number: u64) -> Result<(), Allo
 {
     let word = format!(in alloc; "{number}")?;
     text.push_str(" ")?;
-    push_blanks(text, word.len(), 11)?;
+    push_blanks(text, word.len(), 7)?;
     text.push_str(&word)
 }
 

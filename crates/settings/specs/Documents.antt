@@ -1,5 +1,5 @@
 -- The documents that give settings.
-use Rattle.std.specs.Prelude.{◌≡◌, ◌⊎◌, ℕ, ℤ, pos, Bool, ◌==◌, ◌&&◌, ◌||◌, ◌-◌, true, List, [], ◌∷◌, Option, Some, None}
+use Rattle.std.specs.Prelude.{◌≡◌, ◌⊎◌, ℕ, ℤ, pos, Bool, ◌==◌, ◌&&◌, ◌||◌, ◌-◌, true, false, List, [], ◌∷◌, Option, Some, None}
 use Rattle.std.specs.Prelude.{codes, length, if◌then◌else◌, nat_le, option_and_then, option_map}
 use Rattle.std.specs.Str.{bytes_eq}
 use Rattle.toml.specs.Data.{Data, Items, no_items, item, Members, no_members, member, as_array, as_integer, as_str, get_member}
@@ -9,6 +9,12 @@ use Rattle.units.specs.Lists.{ascends}
 use Rattle.units.specs.declared.fault.Fault.{Fault}
 use Rattle.units.specs.declared.fault.Fault.TheVariants.{BadRequest, Memory}
 use Rattle.units.specs.declared.fault.Reason.TheVariants as reason
+use Rattle.settings.specs.declared.wrong.Setting.{Setting}
+use Rattle.settings.specs.declared.wrong.Setting.TheVariants as setting
+use Rattle.settings.specs.declared.wrong.Unread.{Unread}
+use Rattle.settings.specs.declared.wrong.Unread.TheVariants as unread
+use Rattle.settings.specs.declared.wrong.Wrong.{Wrong}
+use Rattle.settings.specs.declared.wrong.Wrong.TheVariants as wrong
 
 pub record DriveSettings : Type 0 where
   pub splits : List Bytes
@@ -26,6 +32,32 @@ GivesNothing fault o = (fault ≡ BadRequest reason.Settings) × (o ≡ None)
 -- there was no memory, or there is nothing to give
 abbrev pub Refuses : {A : Type 0} → Fault → Option A → Type 0
 Refuses fault o = (fault ≡ Memory) ⊎ GivesNothing fault o
+
+-- how a key is written
+abbrev pub name_of : Setting → Bytes
+name_of setting.Shards = codes "shards"
+name_of setting.Splits = codes "splits"
+name_of setting.Stride = codes "stride"
+name_of setting.Epsilon = codes "epsilon"
+name_of setting.Workers = codes "workers"
+name_of setting.Transactions = codes "transactions"
+name_of setting.Keys = codes "keys"
+name_of setting.Dir = codes "dir"
+
+-- the fault of it
+abbrev pub fault_of : Unread → Fault
+fault_of unread.Memory = Memory
+fault_of (unread.Wrong wrong) = BadRequest reason.Settings
+
+-- there was no memory, or something is wrong, and there is nothing to give
+abbrev pub IsUnread : {A : Type 0} → Unread → Option A → Type 0
+IsUnread unread.Memory o = Unit {0}
+IsUnread (unread.Wrong wrong) o = o ≡ None
+
+-- a key is missing
+abbrev pub is_missing : Wrong → Bool
+is_missing (wrong.Missing key) = true
+is_missing _ = false
 
 -- the value, where it passes the test
 abbrev pub if_passes : {A : Type 0} → Bool → A → Option A

@@ -3,19 +3,20 @@
 
 ghost use Rattle.std.specs.Prelude.{◌≡◌, Some, MatchResult};
 ghost use Rattle.toml.specs.View.{table_view};
-ghost use Rattle.settings.specs.Documents.{Refuses, settings_in, settings_of};
+ghost use Rattle.settings.specs.Documents.{IsUnread, Refuses, settings_in, settings_of};
 ghost use Rattle.settings.specs.Views.{settings_view};
 
 mod members;
 mod split_keys;
+mod wrong;
 
 use members::{are_known, folder, number, stride};
 use split_keys::splits;
 use std::alloc::Global;
 use toml::Table;
-use units::{Fault, Reason, Splits, Stride};
-
-pub(crate) const WRONG: Fault = Fault::BadRequest(Reason::Settings);
+use toml::de::Error;
+use units::{Fault, Splits, Stride};
+pub use wrong::{Setting, Unread, Wrong};
 
 /// What is driven: the shards, and the workers with their transactions.
 #[derive(Drop)]
@@ -45,45 +46,54 @@ impl Settings {
             (λ settings. settings_of text.now ≡ Some (settings_view settings))
             (λ fault. Refuses fault (settings_of text.now)) }
     {
+        Ok(Settings::read_or_tell(alloc, text)?)
+    }
+
+    /// The same settings, or what is wrong with the text, to be told by `Wrong::told`.
+    pub fn read_or_tell(alloc: Global, text: &str) -> Result<Settings, Unread>
+        ensures { MatchResult result
+            (λ settings. settings_of text.now ≡ Some (settings_view settings))
+            (λ unread. IsUnread unread (settings_of text.now)) }
+    {
         match toml::table_from_str(alloc, text) {
             Ok(table) => read_table(alloc, &table),
+            Err(error) if error.is_memory() => Err(Unread::Memory),
             Err(error) => {
-                if error.is_memory() {
-                    Err(Fault::Memory)
-                } else {
-                    Err(WRONG)
-                }
+                let line = line_of(text, &error);
+                Err(Unread::Wrong(Wrong::NotToml { line }))
             }
         }
     }
 }
 
-fn read_table(alloc: Global, table: &Table) -> Result<Settings, Fault>
+// The line in which a text is no document, from 1.
+fn line_of(text: &str, error: &Error) -> u64 {
+    let Some(span) = error.span() else {
+        return 1;
+    };
+    let mut line: u64 = 1;
+    for (place, byte) in text.as_bytes().iter().enumerate() {
+        if place < span.start && *byte == b'\n' {
+            line = line.saturating_add(1);
+        }
+    }
+    line
+}
+
+fn read_table(alloc: Global, table: &Table) -> Result<Settings, Unread>
     ensures { MatchResult result
         (λ settings. settings_in (table_view table.now) ≡ Some (settings_view settings))
-        (λ fault. Refuses fault (settings_in (table_view table.now))) }
+        (λ unread. IsUnread unread (settings_in (table_view table.now))) }
 {
     if !are_known(table) {
-        return Err(WRONG);
+        return Err(Unread::Wrong(Wrong::Unknown));
     }
-    let Some(shards) = number(table, "shards", 1, 16) else {
-        return Err(WRONG);
-    };
-    let Some(stride) = stride(table) else {
-        return Err(WRONG);
-    };
-    let Some(epsilon) = number(table, "epsilon", 0, 1_000_000) else {
-        return Err(WRONG);
-    };
-    let Some(workers) = number(table, "workers", 1, 64) else {
-        return Err(WRONG);
-    };
-    let Some(transactions) = number(table, "transactions", 1, 100_000) else {
-        return Err(WRONG);
-    };
-    let Some(keys) = number(table, "keys", 1, 10_000) else {
-        return Err(WRONG);
-    };
+    let shards = number(table, Setting::Shards, 1, 16)?;
+    let stride = stride(table)?;
+    let epsilon = number(table, Setting::Epsilon, 0, 1_000_000)?;
+    let workers = number(table, Setting::Workers, 1, 64)?;
+    let transactions = number(table, Setting::Transactions, 1, 100_000)?;
+    let keys = number(table, Setting::Keys, 1, 10_000)?;
     let splits = splits(alloc, table, shards)?;
     let dir = folder(alloc, table)?;
     Ok(Settings {

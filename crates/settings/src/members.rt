@@ -1,15 +1,15 @@
 // The members of a table that are read.
-ghost use Rattle.std.specs.Prelude.{◌≡◌, ◌≤◌, Some, IfSome, MatchResult, option_and_then, option_map, string_bytes, codes, length, nat_le};
+ghost use Rattle.std.specs.Prelude.{◌≡◌, ◌≤◌, Some, None, IfErr, IfOk, IfSome, MatchResult, is_none, is_some, option_and_then, option_map, string_bytes, codes, length, nat_le};
 ghost use Rattle.std.specs.BTreeMap.{keys};
 ghost use Rattle.std.specs.List.{list_all};
 ghost use Rattle.toml.specs.Data.{as_array, as_integer, get_member};
 ghost use Rattle.toml.specs.View.{array_view, table_view, view};
-ghost use Rattle.settings.specs.Documents.{Refuses, dir_in, is_known, knows, number_member};
+ghost use Rattle.settings.specs.Documents.{IsUnread, dir_in, is_known, is_missing, knows, name_of, number_member};
 
-use crate::WRONG;
+use crate::wrong::{Setting, Unread, Wrong};
 use std::alloc::Global;
 use toml::{Table, Value};
-use units::{Fault, Stride};
+use units::Stride;
 
 /// No key of the table is unknown.
 pub(crate) fn are_known(table: &Table) -> bool
@@ -24,7 +24,8 @@ fn have_known_names(table: &Table) -> bool
     table.keys().all(|key| is_known_key(key.as_str()))
 }
 
-fn is_known_key(key: &str) -> bool
+/// Settings may have the key.
+pub(crate) fn is_known_key(key: &str) -> bool
     ensures { result ≡ is_known key.now }
 {
     match key {
@@ -35,7 +36,24 @@ fn is_known_key(key: &str) -> bool
 }
 
 /// The number at a key, where it lies between the two.
-pub(crate) fn number(table: &Table, key: &str, least: u64, most: u64) -> Option<u64>
+pub(crate) fn number(table: &Table, key: Setting, least: u64, most: u64) -> Result<u64, Wrong>
+    ensures value { MatchResult result
+        (λ n. number_member (name_of key) least most (table_view table.now) ≡ Some n)
+        (λ wrong. number_member (name_of key) least most (table_view table.now) ≡ None) }
+    ensures limit { IfOk result (λ n. n ≤ most) }
+    ensures missing { IfErr result (λ wrong. is_missing wrong
+        ≡ is_none (get_member (name_of key) (table_view table.now))) }
+{
+    if !has(table, key.name()) {
+        return Err(Wrong::Missing(key));
+    }
+    match number_between(table, key.name(), least, most) {
+        Some(number) => Ok(number),
+        None => Err(Wrong::Number { key, least, most }),
+    }
+}
+
+fn number_between(table: &Table, key: &str, least: u64, most: u64) -> Option<u64>
     ensures value { result ≡ number_member key.now least most (table_view table.now) }
     ensures limit { IfSome result (λ n. n ≤ most) }
 {
@@ -46,10 +64,20 @@ pub(crate) fn number(table: &Table, key: &str, least: u64, most: u64) -> Option<
 }
 
 /// The stride.
-pub(crate) fn stride(table: &Table) -> Option<Stride>
-    ensures { result ≡ number_member (codes "stride") 0 10000000 (table_view table.now) }
+pub(crate) fn stride(table: &Table) -> Result<Stride, Wrong>
+    ensures { MatchResult result
+        (λ s. number_member (codes "stride") 0 10000000 (table_view table.now) ≡ Some s)
+        (λ wrong. number_member (codes "stride") 0 10000000 (table_view table.now) ≡ None) }
 {
-    Stride::new(number(table, "stride", 0, Stride::MAX)?)
+    let micros = number(table, Setting::Stride, 0, Stride::MAX)?;
+    match Stride::new(micros) {
+        Some(stride) => Ok(stride),
+        None => Err(Wrong::Number {
+            key: Setting::Stride,
+            least: 0,
+            most: Stride::MAX,
+        }),
+    }
 }
 
 fn integer_at(table: &Table, key: &str) -> Option<i64>
@@ -72,6 +100,13 @@ pub(crate) fn array_at<'a>(table: &'a Table, key: &str) -> Option<&'a Vec<Value>
     }
 }
 
+/// There is something at the key.
+pub(crate) fn has(table: &Table, key: &str) -> bool
+    ensures { result ≡ is_some (get_member key.now (table_view table.now)) }
+{
+    member(table, key).is_some()
+}
+
 fn member<'a>(table: &'a Table, key: &str) -> Option<&'a Value>
     ensures { option_map (λ v. view v.now) result ≡ get_member key.now (table_view table.now) }
 {
@@ -79,16 +114,16 @@ fn member<'a>(table: &'a Table, key: &str) -> Option<&'a Value>
 }
 
 /// The folder of the logs, where one is named.
-pub(crate) fn folder(alloc: Global, table: &Table) -> Result<Option<String>, Fault>
+pub(crate) fn folder(alloc: Global, table: &Table) -> Result<Option<String>, Unread>
     ensures { MatchResult result
         (λ d. dir_in (table_view table.now) ≡ Some (option_map string_bytes d))
-        (λ fault. Refuses fault (dir_in (table_view table.now))) }
+        (λ unread. IsUnread unread (dir_in (table_view table.now))) }
 {
     match member(table, "dir") {
         None => Ok(None),
         Some(value) => match value.as_str() {
             Some(text) if names_some(text) => Ok(Some(String::from_str(alloc, text)?)),
-            _ => Err(WRONG),
+            _ => Err(Unread::Wrong(Wrong::Folder)),
         },
     }
 }

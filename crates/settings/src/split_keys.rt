@@ -1,39 +1,40 @@
 // The splits: keys that ascend, one less than the shards.
 ghost use Rattle.std.specs.Prelude.{◌≡◌, ◌≤◌, Some, MatchResult};
 ghost use Rattle.toml.specs.View.{array_view, table_view, view};
-ghost use Rattle.settings.specs.Documents.{Refuses, key_in, keys_in, parted, splits_in};
+ghost use Rattle.settings.specs.Documents.{IsUnread, key_in, keys_in, parted, splits_in};
 
-use crate::WRONG;
-use crate::members::array_at;
+use crate::members::{array_at, has};
+use crate::wrong::{Setting, Unread, Wrong};
 use std::alloc::Global;
 use toml::{Table, Value};
 use units::{Fault, Key, Splits};
 
 /// The splits of that many shards.
-pub(crate) fn splits(alloc: Global, table: &Table, shards: u64) -> Result<Splits, Fault>
+pub(crate) fn splits(alloc: Global, table: &Table, shards: u64) -> Result<Splits, Unread>
     requires { shards ≤ 16 }
     ensures { MatchResult result (λ s. splits_in shards (table_view table.now) ≡ Some s)
-        (λ fault. Refuses fault (splits_in shards (table_view table.now))) }
+        (λ unread. IsUnread unread (splits_in shards (table_view table.now))) }
 {
     match array_at(table, "splits") {
         Some(items) => {
             let found = split_keys(alloc, items)?;
             part(alloc, found.as_slice(), shards)
         }
-        None => Err(WRONG),
+        None if has(table, "splits") => Err(Unread::Wrong(Wrong::NoList)),
+        None => Err(Unread::Wrong(Wrong::Missing(Setting::Splits))),
     }
 }
 
 // The keys of a list that has nothing else.
-fn split_keys(alloc: Global, items: &Vec<Value>) -> Result<Vec<Key>, Fault>
+fn split_keys(alloc: Global, items: &Vec<Value>) -> Result<Vec<Key>, Unread>
     ensures { MatchResult result (λ found. keys_in (array_view items.now) ≡ Some found.items)
-        (λ fault. Refuses fault (keys_in (array_view items.now))) }
+        (λ unread. IsUnread unread (keys_in (array_view items.now))) }
 {
     let mut found = Vec::new(alloc);
     for item in items {
         match split_key(item) {
             Some(key) => found.push(key)?,
-            None => return Err(WRONG),
+            None => return Err(Unread::Wrong(Wrong::Split)),
         }
     }
     Ok(found)
@@ -46,17 +47,18 @@ fn split_key(item: &Value) -> Option<Key>
 }
 
 // The keys as splits, where they are one less than the shards and ascend.
-fn part(alloc: Global, keys: &[Key], shards: u64) -> Result<Splits, Fault>
+fn part(alloc: Global, keys: &[Key], shards: u64) -> Result<Splits, Unread>
     requires { shards ≤ 16 }
     ensures { MatchResult result (λ s. parted shards keys.now ≡ Some s)
-        (λ fault. Refuses fault (parted shards keys.now)) }
+        (λ unread. IsUnread unread (parted shards keys.now)) }
 {
-    if keys.len() as u64 != shards.saturating_sub(1) {
-        return Err(WRONG);
+    let splits = keys.len() as u64;
+    if splits != shards.saturating_sub(1) {
+        return Err(Unread::Wrong(Wrong::Count { splits, shards }));
     }
     match Splits::new(alloc, keys) {
         Ok(splits) => Ok(splits),
-        Err(Fault::Memory) => Err(Fault::Memory),
-        Err(_) => Err(WRONG),
+        Err(Fault::Memory) => Err(Unread::Memory),
+        Err(_) => Err(Unread::Wrong(Wrong::Order)),
     }
 }

@@ -1,10 +1,10 @@
 -- What the log of a shard says of a key.
-use Rattle.std.specs.Prelude.{ℕ, Bool, true, false, List, [], ◌∷◌, Option, Some, None, Result, Ok, Err, map, filter, flat_map, option_map, if◌then◌else◌}
+use Rattle.std.specs.Prelude.{ℕ, Bool, true, false, List, [], ◌∷◌, Option, Some, None, Result, Ok, Err, map, filter, flat_map, option_map, if◌then◌else◌, nat_lt}
 use Rattle.units.specs.Ids.{Id}
 use Rattle.units.specs.Keys.{Bytes, same_key}
 use Rattle.units.specs.Versions.{at_time, latest}
 use Rattle.units.specs.declared.fault.Fault.{Fault}
-use Rattle.units.specs.declared.fault.Fault.TheVariants.{Damaged, NotALog, Stranger}
+use Rattle.units.specs.declared.fault.Fault.TheVariants.{Damaged, NotALog, Stranger, TooOld}
 use Rattle.units.specs.declared.setup.Setup.{Setup}
 use Rattle.units.specs.declared.writes.Install.{Install}
 use Rattle.units.specs.declared.writes.Write.{Write}
@@ -12,7 +12,7 @@ use Rattle.record.specs.Accepted.{taken}
 use Rattle.record.specs.Installs.{installs_of}
 use Rattle.record.specs.Records.{ended_of}
 use Rattle.record.specs.declared.record.Record.{Record}
-use Rattle.record.specs.declared.record.Record.TheVariants.{Prepare, Commit, Version}
+use Rattle.record.specs.declared.record.Record.TheVariants.{Base, Prepare, Commit, Version}
 use Rattle.gatelog.specs.Log.{log}
 use Rattle.frames.specs.Placed.{Placed}
 use Rattle.recovery.specs.Recovered.{fault_in, items}
@@ -75,11 +75,27 @@ taken_entries setup entries = unless_refused (items entries) (fault_in (taken se
 abbrev pub log_in : Setup → List ℕ → Result (List Record) Fault
 log_in setup image = and_then (log image) (taken_entries setup)
 
-abbrev pub history_in : Setup → Bytes → List ℕ → Result (List Told) Fault
-history_in setup k image = and_then (log_in setup image) (λ records. Ok (history records k))
+-- from when on a log is whole: that of a renewed log has only what holds from its horizon on
+abbrev pub whole_from : List Record → Option ℕ
+whole_from (Base epoch floor horizon ∷ rest) = Some horizon
+whole_from _ = None
+
+-- the timestamp lies below it
+abbrev pub is_below : Option ℕ → Option ℕ → Bool
+is_below (Some at) (Some from) = nat_lt at from
+is_below _ _ = false
+
+-- a value that can be told, and one that can not
+abbrev pub unless_below : Bool → Option Bytes → Result (Option Bytes) Fault
+unless_below true value = Err TooOld
+unless_below false value = Ok value
+
+abbrev pub history_in : Setup → Bytes → List ℕ → Result (Option ℕ × List Told) Fault
+history_in setup k image = and_then (log_in setup image) (λ records. Ok (whole_from records, history records k))
 
 abbrev pub value_in : Setup → Bytes → Option ℕ → List ℕ → Result (Option Bytes) Fault
-value_in setup k at image = and_then (log_in setup image) (λ records. Ok (value_by records k at))
+value_in setup k at image =
+    and_then (log_in setup image) (λ records. unless_below (is_below at (whole_from records)) (value_by records k at))
 
 -- why a file does not hold the log of its shard, whatever it is
 abbrev pub is_no_shard_log : Fault → Bool

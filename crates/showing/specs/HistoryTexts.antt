@@ -1,5 +1,5 @@
 -- How a history and a value are printed.
-use Rattle.std.specs.Prelude.{◌≡◌, ◌⊎◌, ◌&&◌, ◌==◌, ◌/◌, ◌%◌, ℕ, Bool, not, IsTrue, List, [], ◌∷◌, ◌++◌, Option, Some, None, codes, flat_map, nat_le}
+use Rattle.std.specs.Prelude.{◌≡◌, ◌⊎◌, ◌&&◌, ◌==◌, ◌/◌, ◌%◌, ℕ, Bool, not, IsTrue, List, [], ◌∷◌, ◌++◌, Option, Some, None, codes, flat_map, nat_le, nat_lt}
 use Rattle.std.specs.Prelude.{if◌then◌else◌}
 use Rattle.std.specs.Char.{digit_char}
 use Rattle.std.specs.Fmt.{decimal}
@@ -7,7 +7,7 @@ use Rattle.units.specs.Ids.{Id}
 use Rattle.units.specs.Keys.{Bytes}
 use Rattle.units.specs.Texts.{txn_text}
 use Rattle.units.specs.declared.fault.Fault.{Fault}
-use Rattle.units.specs.declared.fault.Fault.TheVariants.{BadRequest, Device, Memory}
+use Rattle.units.specs.declared.fault.Fault.TheVariants.{BadRequest, Device, Memory, TooOld}
 use Rattle.units.specs.declared.fault.Reason.TheVariants as reason
 use Rattle.showing.specs.Histories.{is_no_shard_log}
 use Rattle.showing.specs.declared.told.Standing.{Standing}
@@ -51,18 +51,28 @@ told_line told =
     decimal (stamp_of told.standing)
     ++ (codes " " ++ (txn_word told.txn ++ (codes " " ++ (value_text told.value ++ (mark_of told.standing ++ codes "\n")))))
 
+-- from when on it is whole, as a line, where that is not from the first
+abbrev pub from_line : Option ℕ → List ℕ
+from_line (Some from) = if nat_lt 0 from then codes "whole from " ++ (decimal from ++ codes "\n") else []
+from_line None = []
+
 -- a line for each write of a key
-abbrev pub history_text : List Told → List ℕ
-history_text told = flat_map told_line told
+abbrev pub told_lines : List Told → List ℕ
+told_lines told = flat_map told_line told
+
+-- from when on it is whole, and the writes
+abbrev pub history_text : Option ℕ → List Told → List ℕ
+history_text from told = from_line from ++ told_lines told
 
 -- it is the text of some history
 abbrev pub IsAHistory : List ℕ → Type 0
-IsAHistory text = (told : List Told) × (text ≡ history_text told)
+IsAHistory text = (from : Option ℕ) × (told : List Told) × (text ≡ history_text from told)
 
 -- it is a value, or what stands for none, on a line
 abbrev pub IsAValue : List ℕ → Type 0
 IsAValue text = (value : Option Bytes) × (text ≡ value_text value ++ codes "\n")
 
--- why nothing is told of a key: memory is wanting, the system refuses a file, the folder has no manifest, or its log is not taken
+-- why nothing is told of a key: memory is wanting, the system refuses a file, the folder has no manifest, its log is not taken, or is not
+-- whole from the timestamp on
 abbrev pub IsNotTold : Fault → Type 0
-IsNotTold fault = (fault ≡ Memory) ⊎ ((fault ≡ Device) ⊎ ((fault ≡ BadRequest reason.Settings) ⊎ IsTrue (is_no_shard_log fault)))
+IsNotTold fault = (fault ≡ Memory) ⊎ ((fault ≡ Device) ⊎ ((fault ≡ BadRequest reason.Settings) ⊎ (IsTrue (is_no_shard_log fault) ⊎ (fault ≡ TooOld))))

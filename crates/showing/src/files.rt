@@ -72,8 +72,8 @@ pub fn history_told<D: Disk + Drop>(
     ensures text { IfOk result (λ text. IsAHistory (string_bytes text)) }
     ensures refused { IfErr result IsNotTold }
 {
-    let told = read_history(alloc, disk, setup, key)?;
-    history_text(alloc, &told)
+    let (from, told) = read_history(alloc, disk, setup, key)?;
+    history_text(alloc, from, &told)
 }
 
 /// The value of a key by the log of a shard, as a line.

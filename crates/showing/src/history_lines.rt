@@ -1,23 +1,44 @@
 //! A history and a value as text.
 ghost use Rattle.std.specs.Prelude.{◌≡◌, ◌++◌, ◌<◌, IfOk, IfErr, OnOk, codes, flat_map, string_bytes};
 ghost use Rattle.std.specs.Char.{digit_char};
-ghost use Rattle.showing.specs.HistoryTexts.{byte_text, history_text, is_plain, mark_of, stamp_of, told_line, txn_word, value_text};
+ghost use Rattle.showing.specs.HistoryTexts.{byte_text, from_line, history_text, is_plain, mark_of, stamp_of, told_line, told_lines, txn_word, value_text};
 
 use crate::told::{Standing, Told};
 use std::alloc::Global;
 use units::{Fault, Stamp, TxnId, Value};
 
-/// A line for each write of a key: its timestamp, its transaction, or a dash where none is known, its value and how it stands, where
-/// it is no version.
-pub fn history_text(alloc: Global, told: &[Told]) -> Result<String, Fault>
-    ensures text { IfOk result (λ text. string_bytes text ≡ history_text told.now) }
+/// From when on it is whole, where that is not from the first; and a line for each write of a key: its timestamp, its transaction, or a dash where
+/// none is known, its value and how it stands, where it is no version.
+pub fn history_text(alloc: Global, from: Option<Stamp>, told: &[Told]) -> Result<String, Fault>
+    ensures text { IfOk result (λ text. string_bytes text ≡ history_text from told.now) }
     ensures memory { IfErr result (λ fault. fault ≡ Fault.Memory) }
 {
-    let mut text = String::new(alloc);
-    for write in told {
-        push_line(&mut text, alloc, write)?;
-    }
+    let mut text = from_line(alloc, from)?;
+    push_lines(&mut text, alloc, told)?;
     Ok(text)
+}
+
+// From when on a log is whole, as a line, where that is not from the first.
+fn from_line(alloc: Global, from: Option<Stamp>) -> Result<String, Fault>
+    ensures text { IfOk result (λ text. string_bytes text ≡ from_line from) }
+    ensures memory { IfErr result (λ fault. fault ≡ Fault.Memory) }
+{
+    match from {
+        Some(from) if from.micros() > 0 => Ok(format!(in alloc; "whole from {from}\n")?),
+        _ => Ok(String::new(alloc)),
+    }
+}
+
+// The lines of some writes.
+fn push_lines(text: &mut String, alloc: Global, told: &[Told]) -> Result<(), Fault>
+    ensures lines { OnOk result
+        (string_bytes text.new ≡ string_bytes text.old ++ told_lines told.now) }
+    ensures memory { IfErr result (λ fault. fault ≡ Fault.Memory) }
+{
+    for write in told {
+        push_line(text, alloc, write)?;
+    }
+    Ok(())
 }
 
 /// A value, as a line: `=` and its bytes, or `none`. Printable ASCII but `\` stands for itself, and each other byte as `\xHH`.

@@ -3,26 +3,27 @@ ghost use Rattle.std.specs.Prelude.{◌≡◌, ◌⊎◌, ◌<◌, Ok, Err, IfOk
 ghost use Rattle.disk.specs.File.{surface};
 ghost use Rattle.record.specs.Accepted.{Accepted, taken};
 ghost use Rattle.recovery.specs.Recovered.{IsRebuilt, items};
-ghost use Rattle.showing.specs.Histories.{history_in, is_no_shard_log, log_in, value_in, value_with};
+ghost use Rattle.showing.specs.Histories.{history_in, is_below, is_no_shard_log, log_in, unless_below, value_in, value_with, whole_from};
 
 use crate::learning::learn_all;
 use crate::told::{Told, history};
 use disk::Disk;
 use gatelog::{Entry, GateLog};
+use record::Record;
 use recovery::{State, rebuild};
 use std::alloc::Global;
 use units::{Fault, Key, Setup, Stamp, Value, value_at};
 
-/// What the log of a shard says of a key: each write that was promised or decided and not aborted, in its order, with how it
-/// stands. A log that an opening of the shard refuses is refused for the same. Nothing is written.
+/// What the log of a shard says of a key: from when on it is whole, if it was renewed, and each write that was promised or decided and
+/// not aborted, in its order, with how it stands. A log that an opening of the shard refuses is refused for the same. Nothing is written.
 pub fn read_history<D: Disk + Drop>(
     alloc: Global,
     disk: D,
     setup: &Setup,
     key: &Key,
-) -> Result<Vec<Told>, Fault>
+) -> Result<(Option<Stamp>, Vec<Told>), Fault>
     ensures told { D.keeps_model → IfOk result (λ told.
-        history_in setup.now key.now (surface (D.file disk)).seen ≡ Ok told.items) }
+        history_in setup.now key.now (surface (D.file disk)).seen ≡ Ok (told.0, told.1.items)) }
     ensures refused { IfErr result (λ fault. (fault ≡ Fault.Memory)
         ⊎ (((fault ≡ Fault.Device) × ((back : D) × (D.failures disk < D.failures back)))
         ⊎ (IsTrue (is_no_shard_log fault) × (D.keeps_model →
@@ -31,11 +32,13 @@ pub fn read_history<D: Disk + Drop>(
     let (entries, state) = read_log(alloc, disk, setup)?;
     stop(state);
     let facts = learn_all(alloc, setup, &entries)?;
-    history(alloc, key, &entries, &facts)
+    let told = history(alloc, key, &entries, &facts)?;
+    Ok((whole_from(&entries), told))
 }
 
 /// The value of a key by the log of a shard, at a timestamp or by the latest version: none where there is none or it was erased.
-/// What has no outcome in the log is no version, and a horizon takes none away. It is refused as `read_history` is. Nothing is written.
+/// What has no outcome in the log is no version, and a horizon takes none away. A renewed log has only what holds from its horizon on, so
+/// a timestamp below that is `TooOld`; else it is refused as `read_history` is. Nothing is written.
 pub fn read_value<D: Disk + Drop>(
     alloc: Global,
     disk: D,
@@ -47,17 +50,60 @@ pub fn read_value<D: Disk + Drop>(
         value_in setup.now key.now at (surface (D.file disk)).seen ≡ Ok value) }
     ensures refused { IfErr result (λ fault. (fault ≡ Fault.Memory)
         ⊎ (((fault ≡ Fault.Device) × ((back : D) × (D.failures disk < D.failures back)))
-        ⊎ (IsTrue (is_no_shard_log fault) × (D.keeps_model →
+        ⊎ ((IsTrue (is_no_shard_log fault) ⊎ (fault ≡ Fault.TooOld)) × (D.keeps_model →
         value_in setup.now key.now at (surface (D.file disk)).seen ≡ Err fault)))) }
 {
     let (entries, state) = read_log(alloc, disk, setup)?;
+    let from = whole_from(&entries);
     drop(entries);
     let Some(state) = state else {
         return Ok(None);
     };
-    let value = value_of(&state, key, at);
+    let value = value_from(&state, key, at, from);
     state.stop();
     value
+}
+
+// From when on a log is whole, where it was renewed.
+fn whole_from(entries: &[Entry]) -> Option<Stamp>
+    ensures { result ≡ whole_from (items entries.now) }
+{
+    let [first, ..] = entries else {
+        return None;
+    };
+    match first.item() {
+        Record::Base { horizon, .. } => Some(*horizon),
+        _ => None,
+    }
+}
+
+// The value of a key in memory, of a log that is whole from a timestamp on.
+fn value_from(
+    state: &State,
+    key: &Key,
+    at: Option<Stamp>,
+    from: Option<Stamp>,
+) -> Result<Option<Value>, Fault>
+    ensures value { IfOk result (λ value. unless_below (is_below at from)
+        (value_with state.now.facts.installs key.now at) ≡ Ok value) }
+    ensures refused { IfErr result (λ fault. (fault ≡ Fault.Memory) ⊎ ((fault ≡ Fault.TooOld)
+        × (unless_below (is_below at from) (value_with state.now.facts.installs key.now at)
+        ≡ Err fault))) }
+{
+    if is_below(&at, &from) {
+        Err(Fault::TooOld)
+    } else {
+        value_of(state, key, at)
+    }
+}
+
+fn is_below(at: &Option<Stamp>, from: &Option<Stamp>) -> bool
+    ensures { result ≡ is_below at.now from.now }
+{
+    match (at, from) {
+        (Some(at), Some(from)) => *at < *from,
+        _ => false,
+    }
 }
 
 // The value of a key in memory, with bytes of its own. All versions of the log are there, those below its horizon too.

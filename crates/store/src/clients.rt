@@ -20,8 +20,8 @@ use tickets::Drawer;
 use truetime::Clock;
 use units::{Fault, ShardNo};
 
-/// A client of a store. It is one thread's at a time. Contracts see the run of its ids, the splits of its store, what it has drawn, what
-/// was put out and heard of each of its attempts, its viewers, and of its clock the epsilon and the timestamp from which it goes on.
+/// A client of a store. It is one thread's at a time. Contracts see the run of its ids, the splits of its store, what it has drawn, and its
+/// viewers. They see what was put out and heard of each of its attempts, and of its clock the epsilon and the timestamp from which it goes on.
 #[derive(Drop)]
 pub struct Client<'s, R> {
     pub(crate) rt: &'s R,
@@ -54,7 +54,7 @@ impl<'s, R> Model for Client<'s, R> {
     ghost invariant = { λ c. c.drawer.source ≡ c.shared.now.ids };
 }
 
-// A client waits no more than two seconds.
+// So many rounds a client waits at most for what others keep it from.
 const LONGEST: u32 = 100;
 
 // Clients that wait for one another are not to give up at the same time: so their patience differs, by their numbers.
@@ -65,9 +65,9 @@ const REST_MILLIS: u64 = 2;
 
 impl<'s, R: Wait + time::Clock> Client<'s, R> {
     /// Runs the code of a transaction and commits it. After each abort the code is run again, as a new transaction, so often in all as
-    /// `tries` says. Where the code asks for `Halt::Abandon` it is aborted at once, and a refusal that the code hands on is answered.
+    /// `tries` says. If the code asks for `Halt::Abandon` it is aborted at once, and a refusal that the code hands on is answered.
     ///
-    /// Each attempt is a session of its own, which is closed only where its code gave `Ok`, and the answer is that of the last. Code that
+    /// Each attempt is a session of its own, which is closed only if its code gave `Ok`, and the answer is that of the last. Code that
     /// puts the transaction of another client in the place of its own is refused as a `Stranger`, and what it left is given up.
     pub fn transact<F: FnMut(&mut Transaction<'s, R>) -> Result<(), Halt>>(
         &mut self,
@@ -92,10 +92,18 @@ impl<'s, R: Wait + time::Clock> Client<'s, R> {
             if !runs_again(&ran, &ended) {
                 return ended;
             }
-            patience = patience.saturating_add(1).min(LONGEST);
+            patience = self.next_patience(patience);
             thread::sleep(self.rt, Duration::from_millis(REST_MILLIS));
         }
         Ok(Ended::Aborted)
+    }
+
+    // How many rounds the next attempt waits: one more. If a shard has stopped it is one, since that may have left in doubt what it waits for.
+    fn next_patience(&self, patience: u32) -> u32 {
+        match self.shared.network.stopped_shard() {
+            Some(_) => 1,
+            None => patience.saturating_add(1).min(LONGEST),
+        }
     }
 
     // A new transaction.
@@ -107,7 +115,7 @@ impl<'s, R: Wait + time::Clock> Client<'s, R> {
             (λ fault. (self.new ≡ self.old) × CannotBegin self.old fault) }
     {
         let shared = self.shared;
-        let mut wire = Wire::new(
+        let wire = Wire::new(
             self.rt,
             shared.alloc,
             &shared.network,
@@ -116,6 +124,7 @@ impl<'s, R: Wait + time::Clock> Client<'s, R> {
             self.number,
             patience,
         );
+        let mut wire = wire.by_progress(shared.give_up);
         let tx = wire.begin(shared.run, &shared.splits, &shared.ids, &mut self.drawer)?;
         Ok(Transaction { wire, tx })
     }
@@ -142,7 +151,7 @@ impl<'s, R: Wait + time::Clock> Client<'s, R> {
         ended
     }
 
-    /// A view of the whole store at the present: its timestamp is the latest of a reading of the client's clock. There is none where that
+    /// A view of the whole store at the present: its timestamp is the latest of a reading of the client's clock. There is none if that
     /// gives no reading.
     pub fn view(&mut self) -> Option<View<'_, 's, R>>
         ensures present { IfSome result (λ view. IsPresent self.old view.at) }
@@ -161,7 +170,7 @@ impl<'s, R: Wait + time::Clock> Client<'s, R> {
 
     /// Whether the shard has stopped, since its device failed: it takes no more, and views of it go on.
     pub fn has_stopped(&self, shard: ShardNo) -> bool {
-        self.shared.stopped.has(shard)
+        self.shared.network.has_stopped(shard)
     }
 }
 

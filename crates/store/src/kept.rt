@@ -11,8 +11,8 @@ use std::sync::atomic::{AtomicU64, Ordering};
 use truetime::Clock;
 use units::{Fault, ShardNo, Stamp, TxnId};
 
-/// A node that is served as it is, but that forgets, whenever it advances, what is older than so many microseconds, and renews its log once
-/// that has grown by so many bytes; and when it was asked last.
+/// A node that is served as it is. Whenever it advances it forgets what is older than so many microseconds, and it renews its log once that has
+/// grown by so many bytes. It also keeps when it was asked last.
 #[derive(Drop)]
 pub struct Kept<'n, D: Disk + Drop, H: Wait + Drop> {
     node: &'n Node<D, H>,

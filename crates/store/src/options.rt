@@ -15,16 +15,20 @@ pub struct Options {
     pub epsilon: u64,
     /// How many clients work at the same time: 1 to 64.
     pub clients: u64,
-    /// How often 20 milliseconds pass in silence before the first attempt of a transaction is given up, up to three times more by the client's
-    /// number; each further attempt waits once more than the one before, and no more than 100 times.
+    /// How many rounds the first attempt of a transaction waits for others, and up to three more by the client's number. Each further attempt
+    /// waits one more, and 100 at most. In a round all its shards say that it waits. It takes 20 milliseconds, or longer if they say so later. So
+    /// transactions that wait for each other end soon, and none is given up for a long queue.
     pub patience: u32,
+    /// For how many milliseconds a client waits for a shard that says nothing, or nothing new of what it has decided. Then a transaction that
+    /// closes is `Unknown`.
+    pub give_up: u64,
     /// For how many microseconds a shard keeps what its keys were before, so that views which are no older are answered; or `None`, for good.
     /// A shard that is written to or looked at forgets now and then what is older. A view of that is refused as `TooOld`, for good, also
-    /// where the store is opened again by other options.
+    /// if the store is opened again by other options.
     pub keep: Option<u64>,
-    /// By how many bytes the log of a shard has to grow before it is turned over, in its file, into one of what the shard holds; it also has
-    /// to be more than twice as long as it was behind the last turnover. Or `None`, never. So an opening reads no more than some twice of
-    /// what is held. The file does not shrink, and takes 1,024 turnovers: of a few bytes they are soon spent, and then its log grows on.
+    /// By how many bytes the log of a shard has to grow before it is turned over, in its file, into one of what the shard holds. It also has
+    /// to be more than twice as long as it was after the last turnover of this opening. Or `None`, never. The file does not shrink, and takes
+    /// 1,024 turnovers: of a few bytes they are soon spent, and then its log grows on.
     pub renew: Option<u64>,
 }
 
@@ -32,12 +36,13 @@ pub struct Options {
 const STRIDE: u64 = 100_000;
 
 impl Options {
-    /// So many clients over these shards: a stride of 100,000 microseconds, an epsilon of 1,000, and a patience of 100 milliseconds.
-    /// Nothing is forgotten, and no log is turned over.
+    /// So many clients over these shards: a stride of 100,000 microseconds, an epsilon of 1,000, a patience of 100 milliseconds, and 30 seconds
+    /// for a shard that says nothing. Nothing is forgotten, and no log is turned over.
     pub fn new(splits: Splits, clients: u64) -> Options
         ensures splits { result.splits ≡ splits }
         ensures clients { result.clients ≡ clients }
-        ensures times { (result.stride ≡ 100000) × (result.epsilon ≡ 1000) × (result.patience ≡ 5) }
+        ensures times { (result.stride ≡ 100000) × (result.epsilon ≡ 1000) × (result.patience ≡ 5)
+            × (result.give_up ≡ 30000) }
         ensures all { (result.keep ≡ None) × (result.renew ≡ None) }
     {
         let stride = match Stride::new(STRIDE) {
@@ -50,6 +55,7 @@ impl Options {
             epsilon: 1_000,
             clients,
             patience: 5,
+            give_up: 30_000,
             keep: None,
             renew: None,
         }

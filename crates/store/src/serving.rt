@@ -7,7 +7,7 @@ use crate::Options;
 use crate::clients::Client;
 use crate::crew::{Crew, clients_of};
 use crate::kept::kept_nodes;
-use crate::shared::{Shared, Stopped};
+use crate::shared::Shared;
 use crate::steady::StoreClock;
 use board::Viewers;
 use client::Stop;
@@ -120,7 +120,7 @@ fn shared_of(
         network,
         ids,
         stop: Stop::new(),
-        stopped: Stopped::none(),
+        give_up: options.give_up,
     };
     let crew = Crew {
         inboxes: to_clients,
@@ -166,7 +166,7 @@ fn work_beside<
                 clock.entry.machine.epsilon clock.entry.from) clients.items) }
             ensures refused { IfErr result (λ fault. fault ≡ Fault.Memory) }
         {
-            let answer = if start_in(scope, rt, served, &shared.stopped) {
+            let answer = if start_in(scope, rt, served, &shared.network) {
                 work_with(rt, shared, crew, clock, patience, work)
             } else {
                 drop(crew);

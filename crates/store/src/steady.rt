@@ -9,8 +9,8 @@ use std::time;
 use truetime::{Clock, Reading};
 use units::Stamp;
 
-/// The machine's clock, but one that does not go back (`SteadyClock`): its copies share the latest microsecond that was reached, and its readings
-/// end at a microsecond from which it goes on, or later.
+/// The machine's clock, but one that does not go back (`SteadyClock`). Its copies share the latest microsecond that was reached. Its readings end
+/// at a microsecond from which it goes on, or later.
 pub struct StoreClock<'a, R> {
     pub(crate) machine: MachineClock<'a, R>,
     pub(crate) from: u64,
@@ -18,7 +18,7 @@ pub struct StoreClock<'a, R> {
 }
 
 impl<'a, R> StoreClock<'a, R> {
-    /// The clock of a store that is served by these options, behind logs whose greatest timestamp is `last`.
+    /// The clock of a store that is served by these options, after logs whose greatest timestamp is `last`.
     pub fn new(
         rt: &'a R,
         options: &Options,

@@ -21,8 +21,8 @@ use std::thread::Threads;
 use std::time;
 use units::{Fault, Reason};
 
-/// A store whose shards are open, each over a disk of its own. Contracts see the run of its ids, its splits, how many shards it has and for how
-/// many clients, and of its clock the epsilon and the timestamp from which it goes on.
+/// A store whose shards are open, each over a disk of its own. Contracts see the run of its ids, its splits, and how many shards and clients it
+/// has. Of its clock they see the epsilon and the timestamp from which it goes on.
 #[derive(Drop)]
 pub struct Store<'r, R: Wait, D: Disk + Drop> {
     rt: &'r R,
@@ -54,7 +54,7 @@ impl<'r, R: Threads + Wait + Sync, D: Disk + Drop + Send> Store<'r, R, D> {
     /// Opens the logs of shards 0, 1 and so on, side by side: one disk a shard, with a formatted log. Options beyond their limits, and
     /// more or fewer disks than shards, are refused as `settings`; else the first shard that is refused counts, and is told.
     ///
-    /// The run of all ids is the greatest epoch of these openings, each of which is one more than that of its log; so no id is of an earlier
+    /// The run of all ids is the greatest epoch of these openings, each of which is one more than that of its log. So no id is of an earlier
     /// opening. The clock goes on from the greatest timestamp of the logs.
     pub fn open(
         rt: &'r R,
@@ -96,8 +96,9 @@ impl<'r, R: Threads + Wait + Sync, D: Disk + Drop + Send> Store<'r, R, D> {
 }
 
 impl<'r, R: Threads + Wait + time::Clock + Sync, D: Disk + Drop + Send> Store<'r, R, D> {
-    /// Serves the store on threads of its own while `work` goes on with its clients, and closes it behind that. What `work` gave comes
-    /// with the disks, by shard. Where there is no memory or no thread for it, `work` is not called.
+    /// Serves the store on threads of its own while `work` goes on with its clients, and closes it after that. What `work` gave comes
+    /// with the disks, by shard. It is refused as `Memory` if there is no thread or no memory for it. That may come after `work` has ended, and what
+    /// it gave is lost then.
     pub fn serve<T: Drop, F: for<'s> FnOnce(Vec<Client<'s, R>>) -> T>(
         self,
         work: F,
@@ -135,8 +136,9 @@ impl<'r, R: Threads + Wait + time::Clock + Sync, D: Disk + Drop + Send> Store<'r
 
 impl<'r, R: Files<File = File> + RandomSource + Threads + Wait + Sync> Store<'r, R, FileDisk> {
     /// Opens the store in a folder, which has to be there; a folder without a store gets one. Other options than those of the folder's
-    /// manifest are refused as `settings`, and a log that is missing as `Device`; then the first shard that is refused is told, whose log
-    /// is the file `shard-N.log`.
+    /// manifest are refused as `settings`, and a log that is missing as `Device`. Then the first shard that is refused is told, whose log
+    /// is the file `shard-N.log`. A log that lacks what the log of another shard says of it is `Damaged`: it is of another moment or of
+    /// another store, or new. No log takes a record before all were read. `refusal_in` says more of why a folder is refused.
     pub fn open_folder(
         rt: &'r R,
         alloc: Global,
@@ -157,9 +159,12 @@ impl<'r, R: Files<File = File> + RandomSource + Threads + Wait + Sync> Store<'r,
     {
         match logs_in(rt, alloc, folder, &options.splits) {
             Ok(logs) => Store::open(rt, alloc, logs, options),
-            Err(fault) => {
+            Err(refused) => {
                 drop(options);
-                Err(Unopened::from(fault))
+                Err(Unopened {
+                    shard: refused.shard(),
+                    fault: refused.fault,
+                })
             }
         }
     }

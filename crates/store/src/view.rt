@@ -31,7 +31,7 @@ impl<R: Wait + time::Clock> View<'_, '_, R> {
     }
 
     /// The value of a key. It waits until the key's shard serves the timestamp, some seconds at most, and is then refused as `NotYet`. The
-    /// value is right for good: nothing that is committed later stands at or below the timestamp there. Where the shard has forgotten what
+    /// value is right for good: nothing that is committed later stands at or below the timestamp there. If the shard has forgotten what
     /// its keys were then, it is refused as `TooOld`: then another view has to be opened.
     pub fn get(&mut self, key: &Key) -> Result<Option<Value>, Fault>
         ensures at { self.new.at ≡ self.old.at }

@@ -24,9 +24,13 @@ mod renewing;
 #[cfg(test)]
 mod services;
 #[cfg(test)]
+mod slow;
+#[cfg(test)]
 mod stops;
 #[cfg(test)]
 mod store_folders;
+#[cfg(test)]
+mod under_load;
 #[cfg(test)]
 mod verdict;
 #[cfg(test)]

@@ -141,6 +141,61 @@ fn services_hear_of_stopped_shards(rt: HostRuntime) {
     end(&rt, wrong);
 }
 
+// Whether a transaction that reads a key which a stopped shard has left in doubt, on the other one, is refused as `Stopped` within two seconds,
+// though it may be tried fifty times.
+fn is_left_in_doubt<R: Wait + time::Clock>(
+    rt: &R,
+    alloc: Global,
+    clients: Vec<Client<'_, R>>,
+) -> bool {
+    let mut clients = clients;
+    let Some(mut client) = clients.pop() else {
+        return false;
+    };
+    for _transaction in 0..100 {
+        let ended = write_soon(rt, alloc, &mut client, &KEYS);
+        if !matches!(ended, Some(Ended::Committed(_))) {
+            break;
+        }
+    }
+    let start = Instant::now(rt).ok();
+    let ended = client.transact(50, |tx: &mut Transaction<'_, R>| -> Result<(), Halt> {
+        drop(tx.get(&Key::new(KEYS[1])?)?);
+        Ok(())
+    });
+    drop(client);
+    drop(clients);
+    let soon = match start {
+        Some(start) => match start.elapsed(rt) {
+            Ok(took) => took < Duration::from_secs(2),
+            Err(_) => false,
+        },
+        None => false,
+    };
+    soon && ended == Err(Fault::Stopped)
+}
+
+// It fails where a client tries on what a stopped shard has left in doubt.
+#[test]
+fn what_is_left_in_doubt_is_not_tried_on(rt: HostRuntime) {
+    let alloc = rt.alloc();
+    let mut disks = disks_of(&rt, alloc, 2);
+    if let Some(disk) = disks.get_mut(0) {
+        disk.fail_next(20);
+    }
+    let mut options = of_two_shards(&rt, alloc, 100_000);
+    options.patience = 5;
+    let store = store_of(&rt, alloc, disks, options);
+    let served = store.serve(|clients: Vec<Client<'_, HostRuntime>>| is_left_in_doubt(
+        &rt, alloc, clients,
+    ));
+    let (refused, disks) = served.ok().expect(&rt, "a service");
+    drop(disks);
+    let mut wrong = WrongRows::none(alloc);
+    wrong.unless(refused, "a read of what is in doubt");
+    end(&rt, wrong);
+}
+
 // Whether a view answers each of these keys.
 fn answers<R: Wait + time::Clock>(view: &mut View<'_, '_, R>, keys: &[&[u8]]) -> bool {
     let mut all = true;

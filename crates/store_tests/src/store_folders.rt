@@ -24,6 +24,30 @@ const OF_SHARD_0: &[u8] =
     b"SPNLOG02\xa5\0\0\0\x09\x01\0\0\0\0\0\0\0\x01\xa5\0\0\0\x25\x04\0\0\0\0\0\0\0\x01\0\0\0\0\0\0\0\x01\
 \0\0\0\0\0\0\0\x6f\0\x01\0\0\0\x01\x01\x61\x01\0\x01\x31\0";
 
+// Opened 1; a closed gate.
+const OPENED: &[u8] = b"SPNLOG02\xa5\0\0\0\x09\x01\0\0\0\0\0\0\0\x01\0";
+
+// Opened 1; Commit 1.1 at 111, parts 0 and 1, no reads, a=1; a closed gate.
+const OF_BOTH_SHARDS: &[u8] =
+    b"SPNLOG02\xa5\0\0\0\x09\x01\0\0\0\0\0\0\0\x01\xa5\0\0\0\x25\x04\0\0\0\0\0\0\0\x01\0\0\0\0\0\0\0\x01\
+\0\0\0\0\0\0\0\x6f\0\x03\0\0\0\x01\x01\x61\x01\0\x01\x31\0";
+
+// Opened 1; Prepare 1.1 of shard 0 at 100, no reads, z=1; a closed gate.
+const PROMISED: &[u8] =
+    b"SPNLOG02\xa5\0\0\0\x09\x01\0\0\0\0\0\0\0\x01\xa5\0\0\0\x24\x03\0\0\0\0\0\0\0\x01\0\0\0\0\0\0\0\x01\
+\0\0\0\0\0\0\0\0\x64\0\0\0\x01\x01\x7a\x01\0\x01\x31\0";
+
+// The same at 112, which is above the commit.
+const PROMISED_LATER: &[u8] =
+    b"SPNLOG02\xa5\0\0\0\x09\x01\0\0\0\0\0\0\0\x01\xa5\0\0\0\x24\x03\0\0\0\0\0\0\0\x01\0\0\0\0\0\0\0\x01\
+\0\0\0\0\0\0\0\0\x70\0\0\0\x01\x01\x7a\x01\0\x01\x31\0";
+
+// Opened 1; the promise at 100; Outcome 1.1 committed at 111; a closed gate.
+const ENDED: &[u8] =
+    b"SPNLOG02\xa5\0\0\0\x09\x01\0\0\0\0\0\0\0\x01\xa5\0\0\0\x24\x03\0\0\0\0\0\0\0\x01\0\0\0\0\0\0\0\x01\
+\0\0\0\0\0\0\0\0\x64\0\0\0\x01\x01\x7a\x01\0\x01\x31\
+\xa5\0\0\0\x1a\x06\0\0\0\0\0\0\0\x01\0\0\0\0\0\0\0\x01\x01\0\0\0\0\0\0\0\x6f\0";
+
 // Opened 1, in version 1.
 const OLD: &[u8] = b"SPNLOG01\xa5\0\0\0\x09\x01\0\0\0\0\0\0\0\x01\0";
 
@@ -114,12 +138,12 @@ static STORES: [Scene; 7] = [
         files: &[
             ("store.toml", MANIFEST),
             ("shard-0.log", OF_SHARD_0),
-            ("shard-1.log", EMPTY),
+            ("shard-1.log", OPENED),
         ],
         left: &[
             ("store.toml", MANIFEST),
             ("shard-0.log", OF_SHARD_0),
-            ("shard-1.log", EMPTY),
+            ("shard-1.log", OPENED),
         ],
         ..TAKEN
     },
@@ -136,12 +160,12 @@ static STORES: [Scene; 7] = [
         files: &[
             ("store.toml", MANIFEST),
             ("shard-0.log.new", OF_SHARD_0),
-            ("shard-1.log.new", EMPTY),
+            ("shard-1.log.new", OPENED),
         ],
         left: &[
             ("store.toml", MANIFEST),
             ("shard-0.log", OF_SHARD_0),
-            ("shard-1.log", EMPTY),
+            ("shard-1.log", OPENED),
         ],
         ..TAKEN
     },
@@ -175,11 +199,38 @@ static STORES: [Scene; 7] = [
 ];
 
 // Logs without a manifest, and records that are out of place.
-static LOGS: [Scene; 6] = [
+static LOGS: [Scene; 9] = [
     Scene {
         what: "a log without a manifest",
+        files: &[("shard-0.log", OPENED), ("shard-1.log", EMPTY)],
+        left: &[("shard-0.log", OPENED), ("shard-1.log", EMPTY)],
+        ..TAKEN
+    },
+    // No crash of a new store leaves a record before each log has its name.
+    Scene {
+        what: "a log that holds a record, and another one that is missing",
         files: &[("shard-0.log", OF_SHARD_0)],
-        left: &[("shard-0.log", OF_SHARD_0), ("shard-1.log", EMPTY)],
+        refused: Some(Fault::Device),
+        left: &[("shard-0.log", OF_SHARD_0)],
+        gone: &[
+            "shard-1.log",
+            "shard-1.log.new",
+            "store.toml",
+            "store.toml.new",
+        ],
+        ..TAKEN
+    },
+    Scene {
+        what: "a last log that holds a record, and a first one that is missing",
+        files: &[("shard-1.log", OPENED), ("shard-0.log.new", EMPTY)],
+        refused: Some(Fault::Device),
+        left: &[("shard-1.log", OPENED), ("shard-0.log.new", EMPTY)],
+        gone: &["shard-0.log", "store.toml", "store.toml.new"],
+        ..TAKEN
+    },
+    Scene {
+        what: "an empty log, and another one that is missing",
+        files: &[("shard-0.log", EMPTY)],
         ..TAKEN
     },
     Scene {
@@ -269,12 +320,116 @@ static STRANGERS: [Scene; 4] = [
     },
 ];
 
+// Logs of other moments and other stores beside each other.
+static BESIDE: [Scene; 7] = [
+    Scene {
+        what: "a commit and its promise",
+        files: &[
+            ("store.toml", MANIFEST),
+            ("shard-0.log", OF_BOTH_SHARDS),
+            ("shard-1.log", PROMISED),
+        ],
+        left: &[("shard-0.log", OF_BOTH_SHARDS), ("shard-1.log", PROMISED)],
+        ..TAKEN
+    },
+    Scene {
+        what: "a commit, its promise and its outcome",
+        files: &[
+            ("store.toml", MANIFEST),
+            ("shard-0.log", OF_BOTH_SHARDS),
+            ("shard-1.log", ENDED),
+        ],
+        left: &[("shard-0.log", OF_BOTH_SHARDS), ("shard-1.log", ENDED)],
+        ..TAKEN
+    },
+    Scene {
+        what: "a promise without a decision",
+        files: &[
+            ("store.toml", MANIFEST),
+            ("shard-0.log", OPENED),
+            ("shard-1.log", PROMISED),
+        ],
+        left: &[("shard-0.log", OPENED), ("shard-1.log", PROMISED)],
+        ..TAKEN
+    },
+    // The log of shard 1 is older than that of shard 0.
+    Scene {
+        what: "a commit without its promise",
+        files: &[
+            ("store.toml", MANIFEST),
+            ("shard-0.log", OF_BOTH_SHARDS),
+            ("shard-1.log", OPENED),
+        ],
+        refused: Some(Fault::Damaged {
+            offset: FIRST_GATE + 14,
+        }),
+        left: &[("shard-0.log", OF_BOTH_SHARDS), ("shard-1.log", OPENED)],
+        ..TAKEN
+    },
+    // That of shard 0 is.
+    Scene {
+        what: "an outcome without its commit",
+        files: &[
+            ("store.toml", MANIFEST),
+            ("shard-0.log", OPENED),
+            ("shard-1.log", ENDED),
+        ],
+        refused: Some(Fault::Damaged {
+            offset: FIRST_GATE + 14,
+        }),
+        left: &[("shard-0.log", OPENED), ("shard-1.log", ENDED)],
+        ..TAKEN
+    },
+    // It is of another store.
+    Scene {
+        what: "a promise above the commit",
+        files: &[
+            ("store.toml", MANIFEST),
+            ("shard-0.log", OF_BOTH_SHARDS),
+            ("shard-1.log", PROMISED_LATER),
+        ],
+        refused: Some(Fault::Damaged {
+            offset: FIRST_GATE + 55,
+        }),
+        left: &[
+            ("shard-0.log", OF_BOTH_SHARDS),
+            ("shard-1.log", PROMISED_LATER),
+        ],
+        ..TAKEN
+    },
+    // It is new.
+    Scene {
+        what: "an empty log beside one that has served",
+        files: &[
+            ("store.toml", MANIFEST),
+            ("shard-0.log", OF_SHARD_0),
+            ("shard-1.log", EMPTY),
+        ],
+        refused: Some(Fault::Damaged { offset: FIRST_GATE }),
+        left: &[("shard-0.log", OF_SHARD_0), ("shard-1.log", EMPTY)],
+        ..TAKEN
+    },
+];
+
 // Drafts, and logs that were emptied.
-static EMPTIED: [Scene; 5] = [
+static EMPTIED: [Scene; 6] = [
+    Scene {
+        what: "a draft that holds a record, and another log that is missing",
+        files: &[("shard-0.log.new", OF_SHARD_0)],
+        refused: Some(Fault::Device),
+        left: &[("shard-0.log.new", OF_SHARD_0)],
+        gone: &[
+            "shard-0.log",
+            "shard-1.log",
+            "shard-1.log.new",
+            "store.toml",
+        ],
+        ..TAKEN
+    },
     Scene {
         what: "a draft that holds a record",
-        files: &[("shard-0.log.new", OF_SHARD_0)],
-        left: &[("shard-0.log", OF_SHARD_0), ("shard-1.log", EMPTY)],
+        files: &[("shard-0.log.new", OF_SHARD_0), ("shard-1.log", OPENED)],
+        left: &[("shard-0.log", OF_SHARD_0), ("shard-1.log", OPENED)],
         ..TAKEN
     },
     Scene {
@@ -294,6 +449,7 @@ static EMPTIED: [Scene; 5] = [
             ("shard-0.log", OF_SHARD_0),
             ("shard-1.log", b""),
         ],
+        refused: Some(Fault::NotALog),
         left: &[
             ("store.toml", MANIFEST),
             ("shard-0.log", OF_SHARD_0),
@@ -308,6 +464,7 @@ static EMPTIED: [Scene; 5] = [
             ("shard-0.log", OF_SHARD_0),
             ("shard-1.log.new", b""),
         ],
+        refused: Some(Fault::NotALog),
         left: &[
             ("store.toml", MANIFEST),
             ("shard-0.log", OF_SHARD_0),
@@ -335,6 +492,7 @@ static STRANGE: [Scene; 6] = [
             ("shard-0.log", OLD),
             ("shard-1.log", EMPTY),
         ],
+        refused: Some(Fault::NotALog),
         left: &[("shard-0.log", OLD), ("shard-1.log", EMPTY)],
         ..TAKEN
     },
@@ -550,7 +708,7 @@ fn asked(
             drop(logs);
             None
         }
-        Err(fault) => Some(fault),
+        Err(refused) => Some(refused.fault),
     };
     (fault, faulty.has_failed())
 }
@@ -588,6 +746,10 @@ fn strangers() -> &'static [Scene] {
     &STRANGERS
 }
 
+fn beside() -> &'static [Scene] {
+    &BESIDE
+}
+
 fn emptied() -> &'static [Scene] {
     &EMPTIED
 }
@@ -599,7 +761,14 @@ fn strange() -> &'static [Scene] {
 #[test]
 fn folders(rt: HostRuntime) {
     let mut wrong = WrongRows::none(rt.alloc());
-    for scenes in [stores(), logs(), strangers(), emptied(), strange()] {
+    for scenes in [
+        stores(),
+        logs(),
+        strangers(),
+        beside(),
+        emptied(),
+        strange(),
+    ] {
         for scene in scenes {
             wrong.unless(goes(&rt, &rt, scene), scene.what);
         }

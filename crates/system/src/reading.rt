@@ -44,7 +44,10 @@ pub fn format_file<F: Files>(alloc: Global, files: &F, path: &str) -> Result<(),
     let file = files.create(alloc, path)?;
     match GateLog::format(file) {
         Ok(_) => Ok(()),
-        Err((fault, _)) => Err(fault),
+        Err((fault, file)) => {
+            files.give_back(file);
+            Err(fault)
+        }
     }
 }
 
@@ -58,11 +61,14 @@ pub fn migrate_file<F: Files>(alloc: Global, files: &F, old: &str, new: &str) ->
     let second = files.create(alloc, new)?;
     match migrate(alloc, &mut first, second) {
         Ok(_) => Ok(()),
-        Err((fault, _)) => Err(fault),
+        Err((fault, second)) => {
+            files.give_back(second);
+            Err(fault)
+        }
     }
 }
 
-/// Opens some files to be read, in their order.
+/// Opens some files to be read, in their order. All of them read as they stand at one moment behind that.
 pub fn open_all<F: Files>(alloc: Global, files: &F, paths: &[&str]) -> Result<Vec<F::Log>, Fault>
     ensures all { IfOk result (λ opened. length opened.items ≡ length paths.now) }
     ensures refused { IfErr result (λ fault. (fault ≡ Memory) ⊎ (fault ≡ Device)) }
@@ -71,5 +77,6 @@ pub fn open_all<F: Files>(alloc: Global, files: &F, paths: &[&str]) -> Result<Ve
     for path in paths {
         opened.push(files.open(alloc, path)?)?;
     }
+    files.at_one_moment(alloc, &mut opened)?;
     Ok(opened)
 }

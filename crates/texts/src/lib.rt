@@ -12,4 +12,4 @@ pub use forms::{Form, Kind, Values};
 pub use line_reader::{LineReader, lines};
 pub use numbers::{number, reading, stamp};
 pub use printing::Text;
-pub use words::{NO_WORD, fate, key, shard, txn, value};
+pub use words::{NO_WORD, fate, key, shard, txn, unspelled, value};

@@ -1,19 +1,24 @@
 //! How each thing of schedules and reports is printed.
 use crate::printed::{Word, address_words, line_words, message_words, record_words};
+use crate::words::is_letter;
 use message::Envelope;
 use record::Record;
 use std::fmt;
 use units::{Key, Keys, Line, Parts, Stamp, Value, Writes};
 
-/// A thing, to be printed. A byte of a key or a value is printed as one character.
+/// A thing, to be printed. A byte of a key or a value that no word of a schedule has is printed as `\xHH`, in two hexadecimal digits.
 #[derive(Drop)]
 pub struct Text<'t, T>(pub &'t T);
 
-// A mark, and behind it each byte as one character.
+// A mark, and behind it each byte: itself, if a word of a schedule may have it, or `\xHH`.
 fn write_bytes<W: fmt::Write>(f: &mut fmt::Formatter<W>, mark: &str, bytes: &[u8]) -> fmt::Result {
     f.write_str(mark)?;
     for byte in bytes {
-        f.write_char(char::from(*byte))?;
+        if is_letter(*byte) {
+            f.write_char(char::from(*byte))?;
+        } else {
+            write!(f, "\\x{byte:02x}")?;
+        }
     }
     Ok(())
 }

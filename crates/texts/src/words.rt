@@ -1,5 +1,6 @@
 //! The words of a line, each read as a value. What is not such a word is refused.
-ghost use Rattle.std.specs.Prelude.{◌<◌, IfSome};
+ghost use Rattle.std.specs.Prelude.{◌<◌, IfErr, IfSome};
+ghost use Rattle.texts.specs.Refusals.{IsNoSpelling};
 
 use crate::numbers::number;
 use disk::Fate;
@@ -70,11 +71,47 @@ fn digit(byte: u8) -> Option<u8>
     }
 }
 
+/// A word of a schedule may have the byte: it is an ASCII letter, a digit or an underline.
+pub(crate) fn is_letter(byte: u8) -> bool {
+    byte.is_ascii_alphanumeric() || byte == b'_'
+}
+
+/// The bytes that a word spells: `\xHH` is the byte of these two hexadecimal digits, and each other byte stands for itself. A `\x` without
+/// them is refused as `command`.
+pub fn unspelled(alloc: Global, word: &str) -> Result<Vec<u8>, Fault>
+    ensures { IfErr result IsNoSpelling }
+{
+    let mut bytes = Vec::new(alloc);
+    for (place, piece) in word.split("\\x").enumerate() {
+        let plain = if place > 0 {
+            push_spelled(&mut bytes, piece.as_bytes())?
+        } else {
+            piece.as_bytes()
+        };
+        bytes.extend_from_slice(plain)?;
+    }
+    Ok(bytes)
+}
+
+// Puts in the byte that the first two digits spell, and gives what stands behind them.
+fn push_spelled<'t>(bytes: &mut Vec<u8>, piece: &'t [u8]) -> Result<&'t [u8], Fault>
+    ensures { IfErr result IsNoSpelling }
+{
+    let [high, low, rest @ ..] = piece else {
+        return Err(NO_WORD);
+    };
+    let (Some(high), Some(low)) = (digit(*high), digit(*low)) else {
+        return Err(NO_WORD);
+    };
+    bytes.push(high * 16 + low)?;
+    Ok(rest)
+}
+
 // Some ASCII letters, digits and underlines.
 fn plain(word: &str) -> Result<&[u8], Fault> {
     let bytes = word.as_bytes();
     for byte in bytes {
-        if !byte.is_ascii_alphanumeric() && *byte != b'_' {
+        if !is_letter(*byte) {
             return Err(NO_WORD);
         }
     }

@@ -5,7 +5,7 @@ use Rattle.clap.specs.Kinds.{HasKind}
 use Rattle.command_line.specs.Commands.{command_or_refusal}
 use Rattle.command_line.specs.Lines.{Word}
 use Rattle.command_line.specs.Parser.{shards_app}
-use Rattle.command_line.specs.Views.{Answers}
+use Rattle.command_line.specs.Views.{AnswersAs}
 use Rattle.command_line.proofs.ProgramLemmas.{line_found, line_refused}
 use Rattle.command_line.proofs.words.read_command.Goals as goal
 
@@ -17,13 +17,13 @@ returns-in-Ok c plain =
     ap (λ (a : App). fault_of a words) (sym app_is) ∙ c.in-Ok.ensures.kinds (ap is_simple_and_free app_is) in
     let found = line_found words plain quiet in
     let rows = (c.in-Ok.ensures.matches (ap is_simple app_is)).1 ∙ ap (λ (a : App). subcommand_of a words) app_is ∙ found.2 in
-    subst (λ line. Answers line c.found_command.result) (sym found.1) (c.found_command.ensures found.0 rows)
+    subst (λ line. AnswersAs (command_or_refusal c.args.marks line) c.found_command.result) (sym found.1) (c.found_command.ensures found.0 rows)
 
 pub returns : goal.returns
 returns c plain =
     let words : List Word = map (λ w. w.now) c.args.words.now in
     let app_is = c.in_ok-shards.ensures in
-    inr (ap command_or_refusal (line_refused words plain (λ quiet.
+    inr (ap (command_or_refusal c.args.marks) (line_refused words plain (λ quiet.
     let kinds : HasKind [] c.in-Err.error =
     subst (λ k. HasKind k c.in-Err.error) (ap (λ (a : App). fault_of a words) app_is ∙ quiet)
     (c.in-Err.ensures.kinds (ap is_simple_and_free app_is)) in

@@ -33,11 +33,6 @@ returns-in-History-clause-numbered g c =
     rw (c.in-History.is)
     (passed_on _ _ _ _ c.history.result c.print_text-in-History.result c.history.ensures.refused c.print_text-in-History.ensures.printed c.print_text-in-History.ensures.refused)
 
-pub returns-in-Get-clause-numbered : goal.returns-in-Get-clause-numbered
-returns-in-Get-clause-numbered g c =
-    rw (c.in-Get.is)
-    (passed_on _ _ _ _ c.get.result c.print_text-in-Get.result c.get.ensures.refused c.print_text-in-Get.ensures.printed c.print_text-in-Get.ensures.refused)
-
 pub returns-in-Play-clause-tells : goal.returns-in-Play-clause-tells
 returns-in-Play-clause-tells g c =
     rw (c.in-Play.is)
@@ -61,9 +56,3 @@ returns-in-History-clause-tells g c =
     rw (c.in-History.is)
     (of_printed _ _ _ _ _ c.history.result c.print_text-in-History.result (λ t is status p. (string_bytes t, (p.0, is), p.1)) c.history.ensures.text c.print_text-in-History.ensures.printed
     c.print_text-in-History.ensures.refused)
-
-pub returns-in-Get-clause-tells : goal.returns-in-Get-clause-tells
-returns-in-Get-clause-tells g c =
-    rw (c.in-Get.is)
-    (of_printed _ _ _ _ _ c.get.result c.print_text-in-Get.result (λ t is status p. (string_bytes t, (p.0, is), p.1)) c.get.ensures.text c.print_text-in-Get.ensures.printed
-    c.print_text-in-Get.ensures.refused)

@@ -7,8 +7,8 @@ use Rattle.node.proofs.Outcomes.{on_err, on_ok}
 use Rattle.drive.specs.Told.{IsToldOf}
 use Rattle.drive.proofs.shards.drive_watched.Goals as goal
 
-pub returns-in_ok-logs-in-Some-clause-refused : goal.returns-in_ok-logs-in-Some-clause-refused
-returns-in_ok-logs-in-Some-clause-refused g c = on_err _ _ c.drive_over.result (λ none why. inr why) c.drive_over.ensures.undriven
+pub returns-in-Ok-clause-refused : goal.returns-in-Ok-clause-refused
+returns-in-Ok-clause-refused g c = on_err _ _ c.drive_over.result (λ none why. inr why) c.drive_over.ensures.undriven
 
 -- there is one disk a shard
 pub returns-in_ok-logs-in-None-clause-judged : goal.returns-in_ok-logs-in-None-clause-judged

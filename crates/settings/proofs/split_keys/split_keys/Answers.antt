@@ -1,4 +1,4 @@
-use Rattle.std.proofs.Common.{◌≡◌, ◌∙◌, ◌+◌, Some, None, ap, drop, get_or, inr, refl, sym}
+use Rattle.std.proofs.Common.{◌≡◌, ◌∙◌, ◌+◌, Some, None, ap, drop, get_or, sym}
 use Rattle.toml.specs.View.{items_view, view}
 use Rattle.settings.specs.Documents.{key_in, keys_in}
 use Rattle.settings.proofs.Documents.{after, keys_more, keys_none}
@@ -10,11 +10,8 @@ returns-in-None c =
     let i = c.loop-item.item-index in
     let none : key_in (view (get_or vs i c.item-item.result)) ≡ None =
     ap (λ v. key_in (view v)) (sym c.item-item.is) ∙ sym c.split_key.ensures ∙ c.in-None.is in
-    inr (
-      refl,
-      ap (λ xs. keys_in (items_view xs)) (sym c.deref-item-items.ensures.value) ∙ sym c.loop-item.invariant
-          ∙ keys_none vs i c.item-item.result c.loop-item.found.items c.loop-item-test.true none,
-    )
+    ap (λ xs. keys_in (items_view xs)) (sym c.deref-item-items.ensures.value) ∙ sym c.loop-item.invariant
+    ∙ keys_none vs i c.item-item.result c.loop-item.found.items c.loop-item-test.true none
 
 pub loop-item-preserved : goal.loop-item-preserved
 loop-item-preserved c =

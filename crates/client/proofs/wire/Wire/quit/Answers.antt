@@ -21,11 +21,11 @@ pub returns-in-Some : goal.returns-in-Some
 returns-in-Some g c =
     let tx = c.args.tx in
     let quit = c.in-Ok.tx in
-    let listens = c.listen_anew.ensures in
+    let listens = c.insist.ensures in
     let asked = c.await_end.ensures.sent in
     let heard = c.in-Some.ensures.heard in
     let sent =
-    asked_once tx.splits quit.splits tx.client quit.client c.in-Ok.outbox c.args.self.now.sent c.listen_anew.new.self.sent c.await_end.new.self.sent
+    asked_once tx.splits quit.splits tx.client quit.client c.in-Ok.outbox c.args.self.now.sent c.insist.new.self.sent c.await_end.new.self.sent
     c.in-Ok.ensures.splits c.in-Ok.ensures.client c.in-Ok.ensures.step.1 (ap (λ (t : Traffic). t.sent) listens ∙ c.send_all.ensures.sent) asked in (
       sent.0,
       heard.0,
@@ -41,11 +41,11 @@ pub returns-in-None : goal.returns-in-None
 returns-in-None g c =
     let tx = c.args.tx in
     let quit = c.in-Ok.tx in
-    let listens = c.listen_anew.ensures in
+    let listens = c.insist.ensures in
     let asked = c.await_end.ensures.sent in
     let heard = c.in-None.ensures.heard in
     let sent =
-    asked_once tx.splits quit.splits tx.client quit.client c.in-Ok.outbox c.args.self.now.sent c.listen_anew.new.self.sent c.await_end.new.self.sent
+    asked_once tx.splits quit.splits tx.client quit.client c.in-Ok.outbox c.args.self.now.sent c.insist.new.self.sent c.await_end.new.self.sent
     c.in-Ok.ensures.splits c.in-Ok.ensures.client c.in-Ok.ensures.step.1 (ap (λ (t : Traffic). t.sent) listens ∙ c.send_all.ensures.sent) asked in (
       sent.0,
       heard.0,

@@ -1,3 +1,5 @@
+use Rattle.std.proofs.Common.{ap, ◌∙◌}
+use Rattle.client.specs.Traffic.{Traffic}
 use Rattle.store.specs.Attempts.{Worker}
 use Rattle.store.proofs.Attempts.{begins}
 use Rattle.store.proofs.clients.Client.begin.Goals as goal
@@ -6,6 +8,7 @@ pub returns : goal.returns
 returns g c =
     let inside = c.self.inside in
     let is = c.in_ok-tx.ensures in
+    let same = c.by_progress-wire.ensures in
     let before : Worker = record {
       run = inside.shared.now.run;
       splits = inside.shared.now.splits;
@@ -15,5 +18,6 @@ returns g c =
       epsilon = inside.clock.machine.epsilon;
       from = inside.clock.from;
     } in
-    begins before c.args.self.now c.begin.new.drawer c.in_ok-tx.tx c.new-wire.result c.begin.new.self c.self.view_is
-    c.new-wire.ensures.0 c.new-wire.ensures.1 is.wire is.splits is.begun is.source is.drawn
+    begins before c.args.self.now c.begin.new.drawer c.in_ok-tx.tx c.by_progress-wire.result c.begin.new.self c.self.view_is
+    (ap (λ (t : Traffic). t.sent) same ∙ c.new-wire.ensures.0) (ap (λ (t : Traffic). t.heard) same ∙ c.new-wire.ensures.1)
+    is.wire is.splits is.begun is.source is.drawn

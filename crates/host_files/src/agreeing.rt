@@ -1,0 +1,186 @@
+//! Whether the logs of a store are of one store and one moment.
+ghost use Rattle.std.specs.Prelude.{◌≡◌, ◌≤◌, IfErr};
+ghost use Rattle.host_files.specs.Folders.{IsFolderFault};
+
+use crate::names::{Name, StoreFolder};
+use crate::owners::all_fit;
+use crate::refused::Refused;
+use crate::shards::numbered;
+use facts::{Facts, Status};
+use gatelog::{Entry, GateLog};
+use std::alloc::Global;
+use std::fs::File;
+use std::rt::Files;
+use units::{Fault, Parts, ShardNo, Splits, Stamp, TxnId};
+
+// What the log of a shard says of transactions, and where its records end.
+#[derive(Drop)]
+struct Known {
+    facts: Facts,
+    end: u64,
+}
+
+/// Reads the logs of a store, and asks what the opening of one shard can not. A log is refused if it is none, if a record is of another
+/// shard or does not follow those before it, or if it lacks what the log of another shard says of it: the promise of each part of a
+/// commit, the commit of each outcome, or any record where that shard has served. Its fault is then `Damaged` where its records end.
+/// Nothing is written.
+pub fn agree<R: Files<File = File>>(
+    folder: &StoreFolder<'_, R>,
+    alloc: Global,
+    splits: &Splits,
+) -> Result<(), Refused>
+    ensures { IfErr result (λ refused. IsFolderFault refused.fault) }
+{
+    let mut all = Vec::new(alloc);
+    for shard in 0..splits.as_slice().len() + 1 {
+        all.push(known_in(folder, alloc, splits, shard)?)?;
+    }
+    for one in &all {
+        let ids = one.facts.ids(alloc)?;
+        let backed = is_backed(one, &ids, &all);
+        drop(ids);
+        backed?;
+    }
+    Ok(())
+}
+
+// What the log of a shard says.
+fn known_in<R: Files<File = File>>(
+    folder: &StoreFolder<'_, R>,
+    alloc: Global,
+    splits: &Splits,
+    shard: usize,
+) -> Result<Known, Refused>
+    requires { shard ≤ 15 }
+    ensures { IfErr result (λ refused. IsFolderFault refused.fault) }
+{
+    let file = Name::Log(shard);
+    let (gate_log, entries) = match GateLog::open(alloc, folder.read_log(file)?) {
+        Ok(opened) => opened,
+        Err((fault, disk)) => {
+            drop(disk);
+            return Err(Refused::from(fault).of(file));
+        }
+    };
+    let end = gate_log.gate();
+    drop(gate_log.into_disk());
+    match learnt(alloc, splits, numbered(shard), entries) {
+        Ok(facts) => Ok(Known { facts, end }),
+        Err(fault) => Err(Refused::from(fault).of(file)),
+    }
+}
+
+// The facts of some entries, if they are those of a log of this shard.
+fn learnt(
+    alloc: Global,
+    splits: &Splits,
+    shard: ShardNo,
+    entries: Vec<Entry>,
+) -> Result<Facts, Fault>
+    ensures { IfErr result IsFolderFault }
+{
+    all_fit(splits, shard, &entries)?;
+    let mut facts = Facts::new(alloc, shard);
+    for entry in entries {
+        facts.reserve()?;
+        let offset = entry.offset();
+        if let Err((fault, item)) = facts.learn(offset, entry.into_logged().spend()) {
+            drop(item);
+            return Err(fault);
+        }
+    }
+    Ok(facts)
+}
+
+// Each other log holds what this one says of it.
+fn is_backed(one: &Known, ids: &[TxnId], all: &[Known]) -> Result<(), Refused>
+    ensures { IfErr result (λ refused. IsFolderFault refused.fault) }
+{
+    let shard = one.facts.shard();
+    for other in all {
+        let number = other.facts.shard();
+        if number != shard && (is_new_beside(one, ids, other) || lacks(one, ids, other)) {
+            return Err(Refused::older(usize::from(number.number()), other.end, shard));
+        }
+    }
+    Ok(())
+}
+
+// A log holds no record, and another one tells that its shard has served: each shard of a store is opened before that.
+fn is_new_beside(one: &Known, ids: &[TxnId], other: &Known) -> bool {
+    other.facts.epoch() == 0 && (!ids.is_empty() || one.facts.floor() > Stamp::zero())
+}
+
+// A log lacks something that another one says of it.
+fn lacks(one: &Known, ids: &[TxnId], other: &Known) -> bool {
+    let shard = one.facts.shard();
+    let number = other.facts.shard();
+    for id in ids {
+        if let Some(status) = one.facts.status(*id) {
+            if !is_answered(status, shard, number, other.facts.status(*id)) {
+                return true;
+            }
+        }
+    }
+    false
+}
+
+// How a transaction stands at a shard goes with how it stands at another one.
+fn is_answered(status: &Status, shard: ShardNo, other: ShardNo, found: Option<&Status>) -> bool {
+    match status {
+        Status::Decided(committed) => {
+            !committed.parts.has(other) || is_promised(found, shard, committed.at)
+        }
+        Status::Settled { at, parts } => !parts.has(other) || is_promised(found, shard, *at),
+        Status::Prepared(prepared) => {
+            prepared.coordinator != other || may_end_so(found, shard, prepared.at)
+        }
+        Status::Closed {
+            coordinator,
+            outcome,
+        } => *coordinator != other || has_ended_so(found, shard, *outcome),
+        Status::Aborted => true,
+    }
+}
+
+// There is a promise to this coordinator, which may commit at that timestamp.
+fn is_promised(found: Option<&Status>, coordinator: ShardNo, at: Stamp) -> bool {
+    match found {
+        Some(Status::Prepared(prepared)) => {
+            prepared.coordinator == coordinator && prepared.at <= at
+        }
+        Some(
+            Status::Closed {
+                coordinator: to,
+                outcome,
+            },
+        ) => *to == coordinator && *outcome == Some(at),
+        _ => false,
+    }
+}
+
+// There is no decision, or one that takes the promise of this part at that timestamp in.
+fn may_end_so(found: Option<&Status>, part: ShardNo, at: Stamp) -> bool {
+    match decided(found) {
+        Some((decided, parts)) => parts.has(part) && at <= decided,
+        None => true,
+    }
+}
+
+// A promise of this part has ended as the decision says.
+fn has_ended_so(found: Option<&Status>, part: ShardNo, outcome: Option<Stamp>) -> bool {
+    match (decided(found), outcome) {
+        (Some((decided, parts)), Some(at)) => parts.has(part) && decided == at,
+        (Some(_), None) | (None, Some(_)) => false,
+        (None, None) => true,
+    }
+}
+
+// The timestamp and the parts of a commit decision.
+fn decided(found: Option<&Status>) -> Option<(Stamp, Parts)> {
+    match found {
+        Some(Status::Decided(committed)) => Some((committed.at, committed.parts)),
+        Some(Status::Settled { at, parts }) => Some((*at, *parts)),
+        _ => None,
+    }
+}

@@ -1,0 +1,176 @@
+//! Transactions that a node keeps waiting, since others have their keys.
+use crate::acts::deliver;
+use crate::bell::left;
+use crate::letter::{Post, Refused, UnderWay};
+use crate::serves::Serves;
+use message::{Envelope, Message, Read};
+use std::alloc::Global;
+use std::sync::Wait;
+use std::time;
+use std::time::{Duration, Instant};
+use truetime::Clock;
+use units::{Key, ShardNo, Stamp, TxnId};
+
+// So many are kept in mind. The session of another one hears when it asks again.
+const MOST: usize = 1_024;
+
+// So long a node does not look after them again.
+fn moment() -> Duration {
+    Duration::from_millis(1)
+}
+
+/// Transactions that wait with a read or a commit, each with a key that it waits for; whether another one has closed since the node looked
+/// after them, which may have ended them; and when it did. A node tells nobody that it has ended one of these. So it is asked to read that key for
+/// them again: it answers that it refuses where it has ended the transaction, and nothing while that waits.
+#[derive(Drop)]
+pub struct Kept {
+    reads: Vec<Read>,
+    disturbed: bool,
+    looked: Option<Instant>,
+}
+
+impl Kept {
+    /// None yet.
+    pub fn none(alloc: Global) -> Kept {
+        Kept {
+            reads: Vec::new(alloc),
+            disturbed: false,
+            looked: None,
+        }
+    }
+
+    /// One more waits, where there is memory to keep that in mind.
+    pub fn add(&mut self, read: Read) {
+        if self.reads.len() < MOST && !self.has(&read) {
+            drop(self.reads.push(read));
+        }
+    }
+
+    // Whether it waits already.
+    fn has(&self, read: &Read) -> bool {
+        for kept in self.reads.iter() {
+            if kept.txn == read.txn && kept.key == read.key {
+                return true;
+            }
+        }
+        false
+    }
+
+    /// A message is about to be taken. A transaction that closes waits no more with a read, and may end others. It says with which key the
+    /// transaction waits where the node keeps the message.
+    pub fn see(&mut self, message: &Message) -> Option<Read> {
+        match message {
+            Message::Read(read) => Some(*read),
+            Message::Commit(commit) => {
+                self.closes(commit.txn);
+                let key = commit.writes.as_slice().first()?.key;
+                Some(Read {
+                    txn: commit.txn,
+                    key,
+                })
+            }
+            Message::Prepare(prepare) => {
+                self.closes(prepare.txn);
+                None
+            }
+            Message::GiveUp(given) => {
+                self.closes(given.txn);
+                None
+            }
+            _ => None,
+        }
+    }
+
+    // The transaction closes.
+    fn closes(&mut self, txn: TxnId) {
+        self.disturbed = true;
+        self.forget(txn, None);
+    }
+
+    // The transaction waits no more with a read: of this key, or of any.
+    fn forget(&mut self, txn: TxnId, key: Option<Key>) {
+        let mut at = 0;
+        for _read in 0..self.reads.len() {
+            match self.reads.get(at) {
+                Some(read) if read.txn == txn && (key.is_none() || key == Some(read.key)) => {
+                    drop(self.reads.remove(at));
+                }
+                Some(_) => at += 1,
+                None => return,
+            }
+        }
+    }
+
+    /// How long nobody has to look after them.
+    pub fn pause<W: time::Clock>(&self, rt: &W, pause: Duration) -> Duration {
+        if !self.disturbed || self.reads.is_empty() {
+            return pause;
+        }
+        pause.min(left(rt, self.looked, moment()))
+    }
+
+    /// The node is asked for them again, where it may have ended some of them, and not more often than each millisecond.
+    pub fn look_after<N: Serves, W: Wait + time::Clock, P: Post, C: Clock>(
+        &mut self,
+        node: &N,
+        rt: &W,
+        post: &mut P,
+        clock: &mut C,
+    ) {
+        if !self.disturbed || left(rt, self.looked, moment()) > Duration::ZERO {
+            return;
+        }
+        self.disturbed = false;
+        self.looked = Instant::now(rt).ok();
+        let mut at = 0;
+        for _read in 0..self.reads.len() {
+            let Some(read) = self.reads.get(at) else {
+                return;
+            };
+            let again = Message::Read(*read);
+            if deliver(node, rt, post, clock, again, None) {
+                at += 1;
+            } else {
+                drop(self.reads.remove(at));
+            }
+        }
+    }
+}
+
+/// A post that takes out of those that wait whose answer goes by.
+#[derive(Drop)]
+pub struct Watched<'p, P> {
+    pub post: &'p mut P,
+    pub kept: &'p mut Kept,
+}
+
+impl<P: Post> Post for Watched<'_, P> {
+    fn post(&mut self, envelope: Envelope) {
+        match &envelope.message {
+            Message::ReadAnswer(answer) => self.kept.forget(answer.txn, Some(answer.key)),
+            Message::Done(done) => self.kept.forget(done.txn(), None),
+            _ => {}
+        }
+        self.post.post(envelope);
+    }
+
+    fn refuse(&mut self, refused: Refused) {
+        self.post.refuse(refused);
+    }
+
+    fn assure(&mut self, under_way: UnderWay) {
+        self.post.assure(under_way);
+    }
+
+    fn is_looked_for(&self, shard: ShardNo) -> bool {
+        self.post.is_looked_for(shard)
+    }
+
+    fn silence(&mut self, shard: ShardNo) {
+        self.post.silence(shard);
+    }
+
+    fn tell(&mut self, shard: ShardNo, served: Stamp) {
+        self.post.tell(shard, served);
+    }
+}

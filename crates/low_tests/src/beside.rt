@@ -1,0 +1,195 @@
+//! Logs that are read while another thread writes to them.
+use filedisk::FileDisk;
+use gatelog::{Area, Entry, GateLog};
+use host_files::{LogFile, at_one_moment};
+use made::{Folder, stamp, with_slots};
+use record::Record;
+use std::alloc::Global;
+use std::thread;
+use std::thread::Threads;
+use units::Fault;
+
+// How many ceilings a log holds at first: more than are read at once.
+const FIRST: u32 = 7_000;
+
+// The ceiling behind which nothing is written.
+const LAST: u32 = 7_240;
+
+// Each time that so many were written, the logs are renewed, if they are.
+const TURN: u32 = 40;
+
+// How often they are read at most: more often than a test has time for, since a device may be slow.
+const MOST_READS: u32 = 2_000_000;
+
+// The record of a ceiling, in a frame whose gate is open.
+fn frame_of(number: u32) -> [u8; 14] {
+    let [first, second, third, fourth] = number.to_be_bytes();
+    [
+        0xa5, 0, 0, 0, 9, 2, 0, 0, 0, 0, first, second, third, fourth,
+    ]
+}
+
+// The bytes of a log that holds the first ceilings.
+fn first_bytes(alloc: Global) -> Result<Vec<u8>, Fault> {
+    let mut told = Vec::new(alloc);
+    told.extend_from_slice(b"SPNLOG02")?;
+    for number in 1..FIRST + 1 {
+        told.extend_from_slice(&frame_of(number))?;
+    }
+    told.push(0)?;
+    Ok(with_slots(alloc, &told)?)
+}
+
+// A log that may be written to.
+fn opened(rt: &HostRuntime, path: &str) -> Result<GateLog<FileDisk>, Fault> {
+    match GateLog::open(rt.alloc(), FileDisk::open(rt, path)?) {
+        Ok((log, entries)) => {
+            drop(entries);
+            Ok(log)
+        }
+        Err((fault, disk)) => {
+            drop(disk);
+            Err(fault)
+        }
+    }
+}
+
+// A log takes a ceiling, and is renewed then, if it is: what it holds is that ceiling alone.
+fn put(
+    alloc: Global,
+    log: &mut GateLog<FileDisk>,
+    number: u32,
+    renewed: bool,
+) -> Result<(), Fault> {
+    let item = Record::Ceiling { at: stamp(number) };
+    let staged = log.stage(alloc, item)?;
+    drop(log.append(staged)?.spend());
+    if renewed && number % TURN == 0 {
+        let mut area = Area::new(alloc);
+        area.push(alloc, &Record::Ceiling { at: stamp(number) })?;
+        let staged = log.stage_area(area)?;
+        log.turn_over(staged)?;
+    }
+    Ok(())
+}
+
+// Both logs take the other ceilings, the second log each of them first.
+fn write(rt: &HostRuntime, paths: [&str; 2], renewed: bool) -> Result<(), Fault> {
+    let alloc = rt.alloc();
+    let mut low = opened(rt, paths[0])?;
+    let mut high = opened(rt, paths[1])?;
+    for number in FIRST + 1..LAST + 1 {
+        put(alloc, &mut high, number, renewed)?;
+        put(alloc, &mut low, number, renewed)?;
+    }
+    drop(low);
+    drop(high);
+    Ok(())
+}
+
+// The last ceiling of some entries.
+fn last_of(entries: &[Entry]) -> Option<u64> {
+    match entries.last()?.item() {
+        Record::Ceiling { at } => Some(at.micros()),
+        _ => None,
+    }
+}
+
+// The last ceiling of a log, which is read alone.
+fn last_in(alloc: Global, log: LogFile) -> Result<Option<u64>, Fault> {
+    match GateLog::open(alloc, log) {
+        Ok((log, entries)) => {
+            drop(log.into_disk());
+            let last = last_of(&entries);
+            drop(entries);
+            Ok(last)
+        }
+        Err((fault, disk)) => {
+            drop(disk);
+            Err(fault)
+        }
+    }
+}
+
+// The log in a file, to be read alone.
+fn opened_to_read(rt: &HostRuntime, path: &str) -> Result<LogFile, Fault> {
+    match LogFile::open(rt, rt.alloc(), path) {
+        Ok(log) => Ok(log),
+        Err(refused) => Err(refused.fault),
+    }
+}
+
+// The last ceilings of both logs, as they stand at one moment.
+fn read(rt: &HostRuntime, paths: [&str; 2]) -> Result<Option<(u64, u64)>, Fault> {
+    let alloc = rt.alloc();
+    let mut logs = [opened_to_read(rt, paths[0])?, opened_to_read(rt, paths[1])?];
+    at_one_moment(alloc, &mut logs)?;
+    let [low, high] = logs;
+    let low = last_in(alloc, low);
+    let high = last_in(alloc, high)?;
+    Ok(match (low?, high) {
+        (Some(low), Some(high)) => Some((low, high)),
+        _ => None,
+    })
+}
+
+// Reads until all is there: each time the second log is where the first one is, or one ceiling on, and no log is where it was before.
+fn read_all(rt: &HostRuntime, paths: [&str; 2]) -> bool {
+    let mut former = 0;
+    for _ in 0..MOST_READS {
+        let Ok(Some((low, high))) = read(rt, paths) else {
+            return false;
+        };
+        if low < former || high < low || high - low > 1 {
+            return false;
+        }
+        if low == u64::from(LAST) {
+            return true;
+        }
+        former = low;
+    }
+    false
+}
+
+// Whether two logs of a folder, which one thread writes to, are each read as they stood at one moment.
+fn are_read<R: Threads + Sync>(
+    rt: &HostRuntime,
+    threads: &R,
+    folder: &Folder,
+    renewed: bool,
+) -> Result<bool, Fault> {
+    let alloc = rt.alloc();
+    let bytes = first_bytes(alloc)?;
+    let put = folder.put(rt, "low", &bytes).is_ok() && folder.put(rt, "high", &bytes).is_ok();
+    drop(bytes);
+    let low = folder.path(alloc, "low")?;
+    let high = folder.path(alloc, "high")?;
+    let paths = [low.as_str(), high.as_str()];
+    let (written, read) = thread::join(
+        threads,
+        || write(rt, paths, renewed),
+        || read_all(rt, paths),
+    );
+    drop(low);
+    drop(high);
+    written?;
+    Ok(put && read)
+}
+
+/// Whether logs are read beside a thread that appends to them.
+pub fn are_read_beside_appends<R: Threads + Sync>(
+    rt: &HostRuntime,
+    threads: &R,
+    folder: &Folder,
+) -> bool {
+    are_read(rt, threads, folder, false) == Ok(true)
+}
+
+/// Whether logs are read beside a thread that renews them too.
+pub fn are_read_beside_turnovers<R: Threads + Sync>(
+    rt: &HostRuntime,
+    threads: &R,
+    folder: &Folder,
+) -> bool {
+    are_read(rt, threads, folder, true) == Ok(true)
+}

@@ -1,0 +1,4 @@
+pub mod Following
+pub mod Lines
+pub mod ReadBack
+pub mod Verbs

@@ -1,0 +1,27 @@
+//! What a line asks for.
+use units::{Key, Value};
+
+/// A request.
+#[derive(Drop)]
+pub enum Request {
+    /// A transaction begins.
+    Begin,
+    /// The values of some keys are told: of the transaction, of the view, or of the present.
+    Get(Vec<Key>),
+    /// A value is written to a key: in the transaction, or by one of its own.
+    Put(Key, Value),
+    /// A key is erased: in the transaction, or by one of its own.
+    Erase(Key),
+    /// The transaction closes.
+    Commit,
+    /// The transaction is given up.
+    Abort,
+    /// A view of the present is opened.
+    View,
+    /// The view ends.
+    End,
+    /// What may be asked is told.
+    Help,
+    /// All that was asked is answered, and the store is closed.
+    Quit,
+}

@@ -1,0 +1,54 @@
+//! A store in a folder is opened.
+use crate::options::options_of;
+use filedisk::FileDisk;
+use service_words::Choices;
+use std::alloc::Global;
+use std::fs::File;
+use std::random::RandomSource;
+use std::rt::Files;
+use std::sync::Wait;
+use std::thread::Threads;
+use std::time::Duration;
+use std::{thread, time};
+use store::{Store, Unopened};
+use units::{Fault, Splits};
+
+// How often the folder is tried where it is locked, or its device fails, and how long in between, in milliseconds: a second.
+const TRIES: u32 = 50;
+
+const REST: u64 = 20;
+
+/// Opens the store in a folder. Where another process has it open, it waits up to a second for that one to close it.
+pub fn opened<'r, R: Files<File = File> + RandomSource + Threads + Wait + time::Clock + Sync>(
+    rt: &'r R,
+    alloc: Global,
+    dir: &str,
+    splits: &Splits,
+    choices: &Choices,
+) -> Result<Store<'r, R, FileDisk>, Unopened> {
+    for _try in 0..TRIES {
+        match open_once(rt, alloc, dir, splits, choices) {
+            Ok(store) => return Ok(store),
+            Err(unopened) => {
+                if unopened.fault != Fault::Device {
+                    return Err(unopened);
+                }
+            }
+        }
+        thread::sleep(rt, Duration::from_millis(REST));
+    }
+    open_once(rt, alloc, dir, splits, choices)
+}
+
+fn open_once<'r, R: Files<File = File> + RandomSource + Threads + Wait + time::Clock + Sync>(
+    rt: &'r R,
+    alloc: Global,
+    dir: &str,
+    splits: &Splits,
+    choices: &Choices,
+) -> Result<Store<'r, R, FileDisk>, Unopened> {
+    match options_of(alloc, splits, choices) {
+        Ok(options) => Store::open_folder(rt, alloc, dir, options),
+        Err(fault) => Err(Unopened::from(fault)),
+    }
+}

@@ -1,0 +1,85 @@
+//! What is told on a terminal beside the answers.
+ghost use Rattle.std.specs.Prelude.{◌<◌, ◌^◌};
+
+use requests::Answer;
+use std::fmt::Write;
+use units::Fault;
+
+/// What may be asked, for a reader.
+const HELP: &str = "\
+A line is a client's number, below the number of clients, and what it asks;
+without a number it is client 0's. Words are parted by one blank.
+
+begin              opens a transaction
+get KEY..          values of up to 128 keys, as '=VALUE' or 'none'
+put KEY VALUE      writes a value
+erase KEY          erases a key
+commit             closes the transaction, and tells its timestamp and its id
+abort              gives the transaction up
+view               opens a view of the present, of which 'get' tells then
+end                ends the view
+help               these lines
+quit               closes the store
+
+In a transaction 'get' reads under locks, and 'put' and 'erase' wait for 'commit'.
+Outside of it 'get' is a view, and 'put' and 'erase' are transactions of their own.
+A transaction that no line comes for is given up after a while: its next line is
+answered 'aborted'.
+
+Answers: begun ID, =VALUE or none for each key, ok, committed AT ID, aborted,
+unknown ID, at AT, ended, closed. AT is in microseconds.
+'unknown' says that nobody told in time whether the transaction stands.
+'fault: N WORDS' refuses a line, and what was open stays open;
+'ended: fault: N WORDS' says that it has ended too.
+
+A blank in a key or a value is written \\x20, a backslash \\x5c, and each byte
+that is no printable ASCII by its two hexadecimal digits, as \\x0a.
+'put KEY ' with a blank at its end writes the empty value.
+";
+
+/// Adds, on a terminal, what stands after an answer: a date after a timestamp, the help, and the prompt of what is open then.
+pub fn push_prompted(line: &mut String, answer: &Answer) -> Result<(), Fault> {
+    match answer {
+        Answer::Help => line.push_str(HELP)?,
+        Answer::Committed(at, _) | Answer::At(at) => push_date(line, at.micros())?,
+        _ => {}
+    }
+    match answer {
+        Answer::Begun(id) => write!(line, "{id}> ")?,
+        Answer::At(_) => line.push_str("view> ")?,
+        Answer::Closed => {}
+        _ => line.push_str("store> ")?,
+    }
+    Ok(())
+}
+
+// A line with the date of a timestamp, by the Gregorian calendar and in universal time.
+fn push_date(line: &mut String, micros: u64) -> Result<(), Fault> {
+    let (seconds, micros) = (micros / 1_000_000, micros % 1_000_000);
+    let (days, seconds) = (seconds / 86_400, seconds % 86_400);
+    let (hours, minutes, seconds) = (seconds / 3_600, seconds / 60 % 60, seconds % 60);
+    let (year, month, day) = date(days);
+    write!(
+        line,
+        "{year}-{month:02}-{day:02} {hours:02}:{minutes:02}:{seconds:02}.{micros:06}\n"
+    )?;
+    Ok(())
+}
+
+// The year, month and day that lie so many days after the first of January 1970.
+fn date(days: u64) -> (u64, u64, u64)
+    requires { days < 2 ^ 32 }
+{
+    let days = days + 719_468;
+    let (era, of_era) = (days / 146_097, days % 146_097);
+    let year = (of_era - of_era / 1_460 + of_era / 36_524 - of_era / 146_096) / 365;
+    let of_year = of_era - (365 * year + year / 4 - year / 100);
+    let month = (5 * of_year + 2) / 153;
+    let day = of_year - (153 * month + 2) / 5 + 1;
+    let (month, later) = if month < 10 {
+        (month + 3, 0)
+    } else {
+        (month - 9, 1)
+    };
+    (era * 400 + year + later, month, day)
+}

@@ -1,0 +1,65 @@
+//! The lines of one client, and where its answers go.
+use crate::asks::{Asks, Exchange, Heard};
+use crate::desk::Desk;
+use crossbeam_channel::{Receiver, RecvTimeoutError};
+use growing::Growing;
+use requests::{Request, request, words_of};
+use std::alloc::Global;
+use std::io::Write;
+use std::sync::Wait;
+use std::time::Duration;
+use std::{str, time};
+use units::{Fault, Reason};
+
+/// What is asked of one client, and to where it answers.
+#[derive(Drop)]
+pub struct Talk<'a, R, W: Write + Drop> {
+    pub rt: &'a R,
+    pub alloc: Global,
+    pub number: u64,
+    pub inbox: Receiver<Vec<u8>>,
+    pub desk: &'a Desk<W>,
+    /// For how long no line of an open transaction may come.
+    pub idle: Duration,
+    /// What was said so far, in proofs alone.
+    pub said: Growing<Exchange>,
+}
+
+impl<R: Wait + time::Clock, W: Write + Drop> Asks for Talk<'_, R, W> {
+    ghost said = { λ t. t.said.entries };
+
+    fn next(&mut self) -> Heard {
+        match self.inbox.recv(self.rt) {
+            Ok(line) => heard(self.alloc, &line),
+            Err(_) => Heard::Nothing,
+        }
+    }
+
+    fn next_of_open(&mut self) -> Heard {
+        match self.inbox.recv_timeout(self.rt, self.idle) {
+            Ok(line) => heard(self.alloc, &line),
+            Err(RecvTimeoutError::Timeout) => Heard::Silence,
+            Err(_) => Heard::Nothing,
+        }
+    }
+
+    fn answer(&mut self, exchange: Exchange) -> Result<(), Fault> {
+        self.desk.tell(self.rt, self.number, &exchange.answer)?;
+        self.said.add(&exchange);
+        drop(exchange);
+        Ok(())
+    }
+}
+
+fn heard(alloc: Global, line: &[u8]) -> Heard {
+    Heard::Asked(asked(alloc, line))
+}
+
+// What a line asks for.
+fn asked(alloc: Global, line: &[u8]) -> Result<Request, Fault> {
+    let Ok(text) = str::from_utf8(line) else {
+        return Err(Fault::BadRequest(Reason::Command));
+    };
+    let words = words_of(alloc, text)?;
+    request(alloc, words.as_slice())
+}

@@ -1,0 +1,11 @@
+//! Tests of lines that a store is asked, and of what is answered.
+#![tactic(auto)]
+
+#[cfg(test)]
+mod ends;
+#[cfg(test)]
+mod lines;
+#[cfg(test)]
+mod streams;
+#[cfg(test)]
+mod words;

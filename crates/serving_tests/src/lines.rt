@@ -1,0 +1,129 @@
+//! What clients are answered.
+use crate::streams::{answers, are_answers};
+use serving::Served;
+
+/// A name, the lines, and what clients 0 and 1 are answered.
+type Row = (
+    &'static str,
+    &'static [u8],
+    &'static [&'static [u8]],
+    &'static [&'static [u8]],
+);
+
+// Longer than any part takes.
+const NEVER: u64 = 60_000;
+
+static ROWS: [Row; 9] = [
+    (
+        "each client hears its own answers",
+        b"0 put a 1\n1 put b 2\n0 get a\n1 get b\n0 get b a\n1 foo\n",
+        &[b"committed *", b"=1", b"=*"],
+        &[b"committed *", b"=2", b"fault: 7 BadRequest(command)"],
+    ),
+    (
+        "a transaction reads what it wrote, and others do not before it commits",
+        b"put a 1\nbegin\nput a 2\nget a\ncommit\nget a\n",
+        &[
+            b"committed *",
+            b"begun *",
+            b"ok",
+            b"=2",
+            b"committed *",
+            b"=2",
+        ],
+        &[],
+    ),
+    (
+        "a transaction writes what its own lines say",
+        b"begin\nput a 1\nput z 2\nput a 3\nerase z\nget a z\ncommit\nget a z\n",
+        &[
+            b"begun *",
+            b"ok",
+            b"ok",
+            b"ok",
+            b"ok",
+            b"=3 none",
+            b"committed *",
+            b"=3 none",
+        ],
+        &[],
+    ),
+    (
+        "what is given up stands nowhere",
+        b"begin\nput a 1\nabort\nget a\n",
+        &[b"begun *", b"ok", b"aborted", b"none"],
+        &[],
+    ),
+    (
+        "a view shows what stood, and takes no writes",
+        b"put a 1\nview\nget a b\nput a 2\nbegin\nend\nget a\n",
+        &[
+            b"committed *",
+            b"at *",
+            b"=1 none",
+            b"fault: 7 BadRequest(state)",
+            b"fault: 7 BadRequest(state)",
+            b"ended",
+            b"=1",
+        ],
+        &[],
+    ),
+    (
+        "verbs out of their place",
+        b"commit\nabort\nend\nbegin\nbegin\nview\nend\nabort\nbegin\ncommit\n",
+        &[
+            b"fault: 7 BadRequest(state)",
+            b"aborted",
+            b"ended",
+            b"begun *",
+            b"fault: 7 BadRequest(state)",
+            b"fault: 7 BadRequest(state)",
+            b"fault: 7 BadRequest(state)",
+            b"aborted",
+            b"begun *",
+            b"ended: fault: 7 BadRequest(nothing)",
+        ],
+        &[],
+    ),
+    (
+        "keys and values of any bytes, and the empty value",
+        b"put \\x20\\x5C\\xff a\\x0ab\nget \\x20\\x5c\\xFF\nput e \nget e\nput \\q 1\n",
+        &[
+            b"committed *",
+            b"=a\\x0ab",
+            b"committed *",
+            b"=",
+            b"fault: 7 BadRequest(command)",
+        ],
+        &[],
+    ),
+    (
+        "a last line without its end is answered, and what is open is given up",
+        b"0 put a 1\n1 begin\n1 put b 1\n1 get a\n0 get a",
+        &[b"committed *", b"=1"],
+        &[b"begun *", b"ok", b"*"],
+    ),
+    (
+        "lines that ask for nothing",
+        b"\n0\n1 \nget\nput a\nview 5\nhelp\n",
+        &[
+            b"fault: 7 BadRequest(command)",
+            b"fault: 7 BadRequest(command)",
+            b"fault: 7 BadRequest(command)",
+            b"fault: 7 BadRequest(command)",
+            b"fault: 7 BadRequest(command)",
+            b"help: *",
+        ],
+        &[b"fault: 7 BadRequest(command)"],
+    ),
+];
+
+#[test]
+fn clients_are_answered(rt: HostRuntime) {
+    for (_name, lines, zero, one) in &ROWS {
+        let (served, told) = answers(&rt, rt.alloc(), &[(0, *lines)], NEVER, false);
+        assert!(rt; served == Served::All);
+        assert!(rt; are_answers(&told, b'0', *zero));
+        assert!(rt; are_answers(&told, b'1', *one));
+    }
+}
