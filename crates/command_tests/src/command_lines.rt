@@ -220,7 +220,7 @@ const OF_TWO_PARTS: &[u8] =
 /// An empty log, without its slots.
 pub const EMPTY: &[u8] = b"SPNLOG02\0";
 
-// A drive over a store of which one shard has lost its part of a commit.
+// A store of which one shard has lost its part of a commit: the verdict says so, and no drive goes on over it.
 static TORN: [Step; 2] = [
     Step {
         lines: &["inspect ./no.lines ./shard-0.log ./shard-1.log"],
@@ -230,9 +230,8 @@ static TORN: [Step; 2] = [
     },
     Step {
         lines: &["drive ./files.settings"],
-        output: Output::Ends("\nverdict no torn 1.1\n"),
-        fault: "",
-        status: 1,
+        fault: "fault: 11 Damaged at 9224\n",
+        ..NO_DEVICE
     },
 ];
 
@@ -392,7 +391,7 @@ pub fn put_log(rt: &HostRuntime, test: &impl Abort, folder: &Folder, name: &str,
     drop(whole);
 }
 
-// It fails where a verdict of no has status 0, or the text of a drive is another one than its verdict's.
+// It fails if a verdict of no has status 0, or a drive goes on over a log that is older than another shard says.
 #[test]
 fn a_drive_over_a_torn_commit(rt: HostRuntime) {
     let folder = furnished(&rt, &rt);
