@@ -48,12 +48,12 @@ inspect() {
 drive unlimited || fail "the first drive did not go well"
 inspect "the first drive"
 
-if drive "$(blocks)" || [ "$(cat "$room/said")" != 'fault: 2 Device' ]; then
+if drive "$(blocks)" || [ "$(head -n 1 "$room/said")" != 'fault: 2 Device' ]; then
     fail "an opening without room was not refused as 2 Device"
 fi
 inspect "an opening without room"
 
-if drive $(($(blocks) + 2)) || [ "$(sed 's/ .*//' "$room/said" | tr '\n' ' ')" != 'committed aborted unknown looks fault: ' ]; then
+if drive $(($(blocks) + 2)) || [ "$(sed '/^-->/d; s/ .*//' "$room/said" | tr '\n' ' ')" != 'committed aborted unknown looks fault: ' ]; then
     fail "a drive that runs into the limit did not print its counts and then why it is refused"
 fi
 cut=$(cat "$room/said")
