@@ -1,4 +1,4 @@
-//! A count without limit.
+//! A count without limit, for contracts alone.
 ghost use Rattle.std.specs.Prelude.{◌≡◌, ◌+◌, ℕ};
 ghost use Rattle.std.specs.Borrow.{ftrue};
 
@@ -20,12 +20,14 @@ unsafe impl Send for Count {}
 unsafe impl Sync for Count {}
 
 impl Count {
+    /// Makes a count of 0.
     pub fn none() -> Count
         ensures { result.number ≡ 0 }
     {
         Count {}
     }
 
+    /// Counts one more.
     pub fn rise(&mut self)
         ensures { self.new.number ≡ self.old.number + 1 }
     {}

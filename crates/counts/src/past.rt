@@ -1,4 +1,4 @@
-//! All that was.
+//! A list of all that something has been, for contracts alone.
 ghost use Rattle.std.specs.Prelude.{◌≡◌, List, [], ◌∷◌};
 ghost use Rattle.std.specs.Borrow.{ftrue};
 ghost use base.Stored.{coded_list};
@@ -22,6 +22,7 @@ unsafe impl<E> Send for Past<E> {}
 unsafe impl<E> Sync for Past<E> {}
 
 impl<E> Past<E> {
+    /// Makes an empty list.
     pub fn none() -> Past<E>
         ensures { result.entries ≡ [] }
     {
@@ -30,6 +31,7 @@ impl<E> Past<E> {
         }
     }
 
+    /// Puts an entry in front.
     pub fn add(&mut self, _entry: &E)
         ensures { self.new.entries ≡ _entry.now ∷ self.old.entries }
     {}

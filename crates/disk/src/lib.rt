@@ -14,12 +14,13 @@ mod plan;
 pub use plan::{FailurePlan, Fate};
 use units::Fault;
 
-/// One file on a device, with what a crash may leave of it. Every refusal but that of `reserve` is `Fault::Device`.
+/// One file on a device, with what a crash may leave of it. Lengths and offsets are in bytes. `reserve` fails with
+/// `Fault::Memory`, and every other call with `Fault::Device`.
 pub trait Disk {
-    /// Disks of this type keep the disk model.
+    /// Says that disks of this type keep the disk model.
     ghost keeps_model: { Type 0 };
 
-    /// Disks of this type fail only by their plan, as long as they have room.
+    /// Says that disks of this type fail only by their plan, as long as they have room.
     ghost obeys: { Type 0 };
 
     /// What the last sync left, and the changes since.
@@ -28,7 +29,7 @@ pub trait Disk {
     /// The moment, as a number that does not fall.
     ghost clock: { Self → ℕ };
 
-    /// What a crash at some moment from that one on might have left, within a call or between two.
+    /// What a crash may have left at some moment from that one on, within a call or between two.
     ghost since: { Self → ℕ → List ℕ → Type 0 };
 
     /// How often the device has failed.
@@ -37,14 +38,15 @@ pub trait Disk {
     /// Which call is to fail.
     ghost plan: { Self → FailurePlan };
 
-    /// That many more changes and syncs, of that many bytes in all, need no memory.
+    /// Says that so many more changes and syncs, of so many bytes in all, need no memory.
     ghost has_room: { Self → ℕ → ℕ → Type 0 };
 
-    /// The length of the file.
+    /// Gives the length of the file, in bytes.
     fn len(&self) -> u64
         ensures { keeps_model → result ≡ length (surface (file self.now)).seen };
 
-    /// Takes memory ahead, for changes of that many bytes in all, in at most 8 calls, syncs counted.
+    /// Takes memory ahead for at most 8 changes and syncs, which change so many bytes in all. `Memory` comes if there
+    /// is none.
     fn reserve(&mut self, bytes: u64) -> Result<(), Fault>
         ensures room { OnOk result (obeys → has_room self.new 8 bytes) }
         ensures cause { IfErr result (λ fault. fault ≡ Memory) }
@@ -52,7 +54,7 @@ pub trait Disk {
         ensures plan { plan self.new ≡ plan self.old }
         ensures time { Elapses file clock since failures self.old self.new };
 
-    /// Fills the buffer from an offset on. All of the range lies in the file.
+    /// Fills the buffer with the bytes from an offset on. All of the range lies in the file.
     fn read_at(&mut self, at: u64, buffer: &mut [u8]) -> Result<(), Fault>
         requires { keeps_model → at + length buffer.old ≤ length (surface (file self.old)).seen }
         ensures planned { obeys → IsAsPlanned (fails (plan self.old)) result }
@@ -66,7 +68,8 @@ pub trait Disk {
         ensures time { Elapses file clock since failures self.old self.new }
         ensures cause { HasCause (failures self.old) (failures self.new) result };
 
-    /// Writes over what is there, and past the end. The offset is at most the length.
+    /// Writes bytes at an offset, over what is there and past the end. The offset is at most the length. A crash
+    /// before the next sync may lose the write or tear it.
     fn write_at(&mut self, at: u64, bytes: &[u8]) -> Result<(), Fault>
         requires { keeps_model → at ≤ length (surface (file self.old)).seen }
         ensures planned { (calls more : ℕ)
@@ -89,7 +92,7 @@ pub trait Disk {
         ensures time { Elapses file clock since failures self.old self.new }
         ensures cause { HasCause (failures self.old) (failures self.new) result };
 
-    /// Cuts the file to a length, which is at most its own.
+    /// Cuts the file to a length in bytes, which is at most its own. A crash before the next sync may undo the cut.
     fn cut(&mut self, len: u64) -> Result<(), Fault>
         requires { keeps_model → len ≤ length (surface (file self.old)).seen }
         ensures planned { (calls more : ℕ) → has_room self.old (calls + 1) more →
@@ -107,7 +110,7 @@ pub trait Disk {
         ensures time { Elapses file clock since failures self.old self.new }
         ensures cause { HasCause (failures self.old) (failures self.new) result };
 
-    /// After it, a crash leaves what a read gives.
+    /// Syncs the file: after it, a crash leaves what a read gives now.
     fn sync(&mut self) -> Result<(), Fault>
         ensures planned { (calls more : ℕ) → has_room self.old (calls + 1) more →
             IsAsPlanned (fails (plan self.old)) result × has_room self.new calls more
@@ -122,8 +125,9 @@ pub trait Disk {
         ensures time { Elapses file clock since failures self.old self.new }
         ensures cause { HasCause (failures self.old) (failures self.new) result };
 
-    /// For tests: of the calls `read_at`, `write_at`, `cut` and `sync`, the one that comes that many calls after the next `write_at`
-    /// (which is 0) fails once; with `None` none does. It does nothing on a real file.
+    /// Plans a failure, for tests. Of the calls `read_at`, `write_at`, `cut` and `sync`, one fails once: the one that
+    /// comes so many calls after the next `write_at`, which is 0. With `None` none does. It does nothing on a real
+    /// file.
     fn arm(&mut self, call: Option<u64>)
         ensures plan { obeys → plan self.new ≡ armed call }
         ensures room { (calls bytes : ℕ) → has_room self.old calls bytes
@@ -132,18 +136,18 @@ pub trait Disk {
         ensures failures { failures self.new ≡ failures self.old }
         ensures time { Elapses file clock since failures self.old self.new };
 
-    /// What is enough for more is enough for less.
+    /// Room for more is room for less.
     ghost room_less: { (disk : Self) (calls bytes fewer less : ℕ) → fewer ≤ calls → less ≤ bytes
         → has_room disk calls bytes → has_room disk fewer less };
 
-    /// This moment is one of those since an earlier one.
+    /// What a crash may leave now is among what it may have left since an earlier moment.
     ghost counts_now: { (disk : Self) (moment : ℕ) (image : List ℕ) → moment ≤ clock disk
         → MayLeave (surface (file disk)) image → since disk moment image };
 
-    /// What a read gives is one of them.
+    /// What a read gives now is among what a crash may leave now.
     ghost reads_now: { (disk : Self) → MayLeave (surface (file disk)) (surface (file disk)).seen };
 
-    /// Since this moment there is no other.
+    /// What a crash may have left since this very moment is what it may leave now.
     ghost only_now: { (disk : Self) (image : List ℕ) → since disk (clock disk) image
         → MayLeave (surface (file disk)) image };
 }

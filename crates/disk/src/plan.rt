@@ -7,14 +7,14 @@ ghost use Rattle.disk.specs.Planned.{fails, next, at_write, armed};
 pub enum FailurePlan {
     /// No call.
     Never,
-    /// The call that comes so many calls from now: 0 is the next.
+    /// It is the call that comes so many calls from now: 0 is the next.
     After(u64),
-    /// The call that comes so many calls after the next write, which is 0.
+    /// It is the call that comes so many calls after the next write, which is 0.
     AfterWrite(u64),
 }
 
 impl FailurePlan {
-    /// A call is made that is no write. Answers whether it fails.
+    /// Counts a call that is no write, and tells whether it fails.
     pub fn call(&mut self) -> bool
         ensures fails { result ≡ fails self.old }
         ensures next { self.new ≡ next self.old }
@@ -32,7 +32,7 @@ impl FailurePlan {
         }
     }
 
-    /// A write is made. Answers whether it fails.
+    /// Counts a write, and tells whether it fails.
     pub fn write(&mut self) -> bool
         ensures fails { result ≡ fails (at_write self.old) }
         ensures next { self.new ≡ next (at_write self.old) }
@@ -43,7 +43,7 @@ impl FailurePlan {
         self.call()
     }
 
-    /// The plan that `Disk::arm` makes.
+    /// Makes the plan that `Disk::arm` sets.
     pub fn armed(call: Option<u64>) -> FailurePlan
         ensures { result ≡ armed call }
     {
@@ -54,12 +54,12 @@ impl FailurePlan {
     }
 }
 
-/// What a crash makes of a change that is not synced.
+/// What a crash makes of a change that is not synced, for tests.
 #[derive(Clone, Copy)]
 pub enum Fate {
     /// It is as if the change had not been made.
     Old,
-    /// The change is made whole, a failed write too.
+    /// The change is made whole, and so is a write that failed.
     New,
     /// Each byte of a write's range is this one. A cut is made.
     Filled(u8),

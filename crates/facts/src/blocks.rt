@@ -6,7 +6,8 @@ use std::alloc::Global;
 use std::marker::Model;
 use units::{Fault, Keys, Parts, ShardNo, Stamp, TxnId, Writes};
 
-/// Memory for one more promise, and for one more decision. Contracts see for how many records there is memory: one or none.
+/// Memory for one more promise, and for one more decision. Contracts see for how many records there is memory: one or
+/// none.
 #[derive(Drop)]
 pub struct Blocks {
     promise: Option<Box<Prepared>>,
@@ -22,7 +23,7 @@ impl Model for Blocks {
 }
 
 impl Blocks {
-    /// No memory.
+    /// Begins without memory.
     pub fn none() -> Blocks {
         Blocks {
             promise: None,
@@ -30,7 +31,7 @@ impl Blocks {
         }
     }
 
-    /// Takes what is missing.
+    /// Takes the memory that is missing.
     pub fn reserve(&mut self, alloc: Global, shard: ShardNo) -> Result<(), Fault>
         ensures room { OnOk result (1 ≤ self.new) }
         ensures keeps { self.old ≤ self.new }
@@ -46,7 +47,7 @@ impl Blocks {
         Ok(())
     }
 
-    /// Puts a promise where there is memory for it.
+    /// Puts a promise into the memory for it.
     pub fn promise(&mut self, prepared: Prepared) -> Box<Prepared>
         requires { 1 ≤ self.old }
         ensures { result.value ≡ prepared }
@@ -58,7 +59,7 @@ impl Blocks {
         place
     }
 
-    /// Puts a decision where there is memory for it.
+    /// Puts a decision into the memory for it.
     pub fn decision(&mut self, committed: Committed) -> Box<Committed>
         requires { 1 ≤ self.old }
         ensures { result.value ≡ committed }
@@ -71,7 +72,7 @@ impl Blocks {
     }
 }
 
-// What stands where no promise is yet.
+// Gives what fills the memory until a promise comes.
 fn no_promise(alloc: Global, shard: ShardNo) -> Prepared {
     Prepared {
         txn: no_txn(),
@@ -82,7 +83,7 @@ fn no_promise(alloc: Global, shard: ShardNo) -> Prepared {
     }
 }
 
-// What stands where no decision is yet.
+// Gives what fills the memory until a decision comes.
 fn no_decision(alloc: Global, shard: ShardNo) -> Committed {
     Committed {
         txn: no_txn(),

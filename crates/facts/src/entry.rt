@@ -5,8 +5,9 @@ ghost use Rattle.std.specs.Option.{option_copied};
 use record::{Committed, Prepared};
 use units::{Parts, ShardNo, Stamp};
 
-/// How a transaction that has a record stands in a log: a promise or a decision without an outcome, an abort decision, or
-/// how it ended. Of one that ended the log's facts keep no reads and no writes, and it takes little room.
+/// How a transaction that has a record stands in a log: a promise or a decision without an outcome, an abort
+/// decision, or how it ended. After its end the log's facts keep no reads and no writes of it, so it takes little
+/// room.
 #[derive(Drop)]
 pub enum Status {
     Prepared(Box<Prepared>),
@@ -30,7 +31,7 @@ impl Status {
     ghost use Rattle.facts.specs.Rules.{allows};
     ghost use Rattle.record.specs.Facts.{after_outcome};
 
-    /// The promise, while it has no outcome.
+    /// Gives the promise, while it has no outcome.
     pub fn prepared(&self) -> Option<&Prepared>
         ensures { option_copied result ≡ standing_promise (meaning self.now) }
     {
@@ -40,7 +41,7 @@ impl Status {
         }
     }
 
-    /// The commit decision, while it has no outcome.
+    /// Gives the commit decision, while it has no outcome.
     pub fn committed(&self) -> Option<&Committed>
         ensures { option_copied result ≡ standing_decision (meaning self.now) }
     {
@@ -50,7 +51,7 @@ impl Status {
         }
     }
 
-    /// How the transaction ended here, where it has: at a timestamp, or `None` for aborted.
+    /// Gives how the transaction ended here, if it has: at a timestamp, or `None` for aborted.
     pub fn outcome(&self) -> Option<Option<Stamp>>
         ensures { result ≡ outcome_in (meaning self.now) }
     {
@@ -64,7 +65,8 @@ impl Status {
         }
     }
 
-    /// The outcome may follow: at a timestamp a promise not above it or a decision at it, and aborted a promise.
+    /// Tells whether the outcome may follow. An outcome at a timestamp follows a promise not above it, or a decision
+    /// at it. Aborted follows a promise.
     pub(crate) fn allows(&self, outcome: Option<Stamp>) -> bool
         ensures { result ≡ allows (meaning self.now) outcome }
     {
@@ -76,7 +78,7 @@ impl Status {
         }
     }
 
-    /// What an outcome that it allows makes of it.
+    /// Gives what an outcome that it allows makes of it.
     pub(crate) fn after(&self, outcome: Option<Stamp>) -> Status
         requires { IsTrue (allows (meaning self.now) outcome) }
         ensures { meaning result ≡ after_outcome (meaning self.now) outcome }

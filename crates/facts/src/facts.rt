@@ -23,14 +23,15 @@ use std::marker::Model;
 use units::{Fault, Install, ShardNo, Stamp, TxnId};
 
 /// What a shard's log determines: the epoch, the greatest timestamp, how each transaction stands, the versions in the
-/// log's order, and the horizon; and where in the log one is. It learns the records one by one, in the order of the log. A look-up goes by the id's hash.
+/// log's order, and the horizon. It also keeps how far one is in the log. It learns the records one by one, in the
+/// order of the log. A look-up goes by the hash of the id.
 pub struct Facts {
     shard: ShardNo,
     epoch: u64,
     floor: Stamp,
     // In the order in which the transactions came.
     statuses: IndexMap<TxnId, Status>,
-    // A promise or a decision that stands is behind a box, so that the entry of one that ended is small.
+    // A promise or a decision that stands is in a box, so that the entry of one that ended is small.
     blocks: Blocks,
     installs: Vec<Install>,
     horizon: Stamp,
@@ -74,7 +75,7 @@ impl Model for Facts {
 }
 
 impl Facts {
-    /// The facts of no record.
+    /// Makes the facts of an empty log.
     pub fn new(alloc: Global, shard: ShardNo) -> Facts
         ensures shard { result.shard ≡ shard }
         ensures facts { result.facts ≡ facts_of [] }
@@ -106,14 +107,14 @@ impl Facts {
         make_room(&mut self.installs)
     }
 
-    /// The shard whose log it is.
+    /// Gives the shard whose log it is.
     pub fn shard(&self) -> ShardNo
         ensures { result ≡ self.now.shard }
     {
         self.shard
     }
 
-    /// The epoch of the last opening, 0 before the first.
+    /// Gives the epoch of the last opening, 0 before the first.
     pub fn epoch(&self) -> u64
         ensures value { result ≡ self.now.facts.epoch }
         ensures limit { result < 2 ^ 62 }
@@ -121,28 +122,28 @@ impl Facts {
         self.epoch
     }
 
-    /// The greatest timestamp, 0 where there is none.
+    /// Gives the greatest timestamp, 0 if there is none.
     pub fn floor(&self) -> Stamp
         ensures { result ≡ self.now.facts.floor }
     {
         self.floor
     }
 
-    /// The horizon, below which no value is read: 0 where there is none.
+    /// Gives the horizon, below which no value is read: 0 if there is none.
     pub fn horizon(&self) -> Stamp
         ensures { result ≡ self.now.facts.horizon }
     {
         self.horizon
     }
 
-    /// How a transaction stands, where it has a record.
+    /// Gives how a transaction stands, if it has a record.
     pub fn status(&self, txn: TxnId) -> Option<&Status>
         ensures { meant (option_copied result) ≡ recorded self.now.facts txn }
     {
         self.statuses.get(&txn)
     }
 
-    /// The ids that have a record, ascending.
+    /// Lists the ids that have a record, ascending.
     pub fn ids(&self, alloc: Global) -> Result<Vec<TxnId>, Fault>
         ensures ids { IfOk result (λ ids. ids.items ≡
             map (λ e. e.txn) self.now.facts.entries) }
@@ -152,49 +153,49 @@ impl Facts {
         ids(alloc, &self.statuses)
     }
 
-    /// The transaction's promise, while it has no outcome.
+    /// Gives the transaction's promise, while it has no outcome.
     pub fn prepared(&self, txn: TxnId) -> Option<&Prepared>
         ensures { option_copied result ≡ standing_promise (recorded self.now.facts txn) }
     {
         self.status(txn)?.prepared()
     }
 
-    /// The transaction's commit decision, while it has no outcome.
+    /// Gives the transaction's commit decision, while it has no outcome.
     pub fn committed(&self, txn: TxnId) -> Option<&Committed>
         ensures { option_copied result ≡ standing_decision (recorded self.now.facts txn) }
     {
         self.status(txn)?.committed()
     }
 
-    /// There is an abort decision of the transaction.
+    /// Tells whether there is an abort decision of the transaction.
     pub fn aborted(&self, txn: TxnId) -> bool
         ensures { result ≡ has_abort (recorded self.now.facts txn) }
     {
         matches!(self.status(txn), Some(Status::Aborted))
     }
 
-    /// The transaction's outcome, where there is one: a timestamp, or `None` for aborted.
+    /// Gives the transaction's outcome, if there is one: a timestamp, or `None` for aborted.
     pub fn outcome(&self, txn: TxnId) -> Option<Option<Stamp>>
         ensures { result ≡ outcome_in (recorded self.now.facts txn) }
     {
         self.status(txn)?.outcome()
     }
 
-    /// The versions, in the log's order.
+    /// Gives the versions, in the log's order.
     pub fn installs(&self) -> &[Install]
         ensures { result.now ≡ self.now.facts.installs }
     {
         self.installs.as_slice()
     }
 
-    /// Where in the log one is.
+    /// Gives how far one is in the log.
     pub fn stage(&self) -> Stage
         ensures { result ≡ self.now.stage }
     {
         self.stage
     }
 
-    /// The record may come next in the log.
+    /// Tells whether the record may come next in the log.
     #[tactic(auto, unfolding(crate::specs::Stages::follows_next))]
     pub fn may_come(&self, item: &Record) -> bool
         ensures { result ≡
@@ -203,7 +204,8 @@ impl Facts {
         self.follows(item) || self.follows_head(item)
     }
 
-    /// The record is of a kind that steps log, and may come next in the log, by the rules of one transaction and of openings.
+    /// Tells whether the record is of a kind that steps log and may come next, by the rules of one transaction and of
+    /// openings.
     #[tactic(auto, unfolding(crate::specs::Rules::follows_facts))]
     pub fn follows(&self, item: &Record) -> bool
         ensures { result ≡ follows_facts self.now.shard self.now.facts item.now }
@@ -230,7 +232,7 @@ impl Facts {
         }
     }
 
-    /// The record is of a kind of a renewed log's head, and may come next in the log.
+    /// Tells whether the record is of a kind of a renewed log's head, and may come next in the log.
     #[tactic(auto, unfolding(crate::specs::Stages::follows_head))]
     pub fn follows_head(&self, item: &Record) -> bool
         ensures { result ≡
@@ -265,14 +267,14 @@ impl Facts {
         }
     }
 
-    // A record came, and no opening.
+    // Tells whether a base came, and no opening yet.
     fn is_early(&self) -> bool
         ensures { result ≡ (nat_lt 0 self.now.facts.epoch && not (is_open self.now.stage)) }
     {
         self.epoch > 0 && !self.stage.is_open()
     }
 
-    // The last version, where there is one, comes before one more.
+    // Tells whether one more version comes after the last one, if there is one.
     fn comes_behind(&self, install: &Install) -> bool
         ensures { result ≡ comes_behind self.now.facts.installs install.now }
     {
@@ -282,7 +284,7 @@ impl Facts {
         }
     }
 
-    // The outcome may come next, by what stands of the transaction.
+    // Tells whether the outcome may come next, by what stands of the transaction.
     fn allows(&self, txn: TxnId, outcome: Option<Stamp>) -> bool
         ensures { result ≡ allows (recorded self.now.facts txn) outcome }
     {
@@ -292,15 +294,15 @@ impl Facts {
         }
     }
 
-    // Nothing is recorded of the transaction.
+    // Tells whether nothing is recorded of the transaction.
     fn is_new(&self, txn: TxnId) -> bool
         ensures { result ≡ is_unrecorded (recorded self.now.facts txn) }
     {
         self.status(txn).is_none()
     }
 
-    /// Learns the record that comes next in the log. It takes no memory. A record that may not come next is damage at the
-    /// offset, and is handed back.
+    /// Learns the record that comes next in the log. It takes no memory. A record that may not come next is handed
+    /// back as `Damaged` at this offset, in bytes.
     pub fn learn(&mut self, offset: u64, item: Record) -> Result<(), (Fault, Record)>
         requires room { 1 ≤ self.old.room }
         ensures learnt { OnOk result (self.new.facts ≡ learn self.old.facts item) }
@@ -320,7 +322,8 @@ impl Facts {
         Ok(())
     }
 
-    /// Learns a record that may come next in the log. It takes no memory. The writes that it installs ascend by key, and are not many.
+    /// Learns a record that may come next in the log. It takes no memory. The writes that it installs ascend by key,
+    /// and are at most 128.
     pub fn learn_next(&mut self, item: Record)
         requires room { 1 ≤ self.old.room }
         requires follows { IsTrue
@@ -435,7 +438,7 @@ impl Facts {
     }
 }
 
-// The timestamp of an outcome, where there is one, is not 0.
+// Tells whether an outcome at a timestamp is not at 0.
 fn is_timed(outcome: Option<Stamp>) -> bool
     ensures { result ≡ is_timed outcome }
 {
@@ -445,7 +448,7 @@ fn is_timed(outcome: Option<Stamp>) -> bool
     }
 }
 
-// Where one is behind one more record.
+// Gives how far one is after one more record.
 fn stage_after(stage: Stage, item: &Record) -> Stage
     ensures { result ≡ stage_after stage item.now }
 {

@@ -1,5 +1,5 @@
-//! The facts of a shard's log, learnt record by record: the epoch, the greatest timestamp, how each transaction stands, and
-//! the versions.
+//! The facts of a shard's log, learnt record by record: the epoch, the greatest timestamp, how each transaction
+//! stands, and the versions.
 #![tactic(auto)]
 
 mod blocks;

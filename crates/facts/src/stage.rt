@@ -1,7 +1,7 @@
-//! Where in a log one is, as far as the kinds of a renewed log's head ask for it.
+//! How far one is in a log, as far as the kinds of a renewed log's head ask for it.
 
-/// In the head: before any record, or behind the base and the versions that it lists. Early: behind these, before the first opening. Open:
-/// behind an opening.
+/// How far one is in a log. `Head`: before any record, or after the base and the versions that it lists. `Early`:
+/// after other records, before the first opening. `Open`: after an opening.
 #[derive(Clone, Copy)]
 pub enum Stage {
     Head,
@@ -13,7 +13,7 @@ impl Stage {
     ghost use Rattle.std.specs.Prelude.{◌≡◌};
     ghost use Rattle.facts.specs.Stages.{past_head, is_head, is_open};
 
-    /// A version may come, as far as this tells.
+    /// Tells whether a version may come, as far as this tells.
     pub(crate) fn is_head(self) -> bool
         ensures { result ≡ is_head self }
     {
@@ -23,7 +23,7 @@ impl Stage {
         }
     }
 
-    /// An opening came.
+    /// Tells whether an opening came.
     pub(crate) fn is_open(self) -> bool
         ensures { result ≡ is_open self }
     {
@@ -33,7 +33,7 @@ impl Stage {
         }
     }
 
-    /// Behind a record that is none of the head's and no opening.
+    /// Gives the stage after a record that is none of the head's and no opening.
     pub(crate) fn past_head(self) -> Stage
         ensures { result ≡ past_head self }
     {

@@ -19,10 +19,10 @@ use std::alloc::Global;
 use std::mem::replace;
 use units::{Fault, Install, Stamp, TxnId, Write, Writes};
 
-// How many versions a record installs at most.
+// The most versions that one record installs.
 const MOST_INSTALLS: usize = 128;
 
-/// The ids of the transactions, ascending.
+/// Lists the ids of the transactions, ascending.
 pub fn ids(alloc: Global, statuses: &IndexMap<TxnId, Status>) -> Result<Vec<TxnId>, Fault>
     ensures ids { IfOk result (λ ids. ids.items ≡
         map (λ e. e.txn) (shown_entries (by_id statuses.now.entries))) }
@@ -34,7 +34,7 @@ pub fn ids(alloc: Global, statuses: &IndexMap<TxnId, Status>) -> Result<Vec<TxnI
     Ok(ids)
 }
 
-// The ids in the order in which they came, each once.
+// Lists the ids in the order in which they came, each once.
 fn ids_as_they_came(alloc: Global, statuses: &IndexMap<TxnId, Status>) -> Result<Vec<TxnId>, Fault>
     ensures ids { IfOk result (λ ids. ids.items ≡ map (λ e. e.0) statuses.now.entries) }
     ensures once { IfOk result (λ ids. IsDistinct same_id ids.items) }
@@ -77,7 +77,7 @@ pub fn close(statuses: &mut IndexMap<TxnId, Status>, txn: TxnId, outcome: Option
     }
 }
 
-/// Makes room for the versions of one record. A longer list gets an eighth more, so that little of it stands empty.
+/// Makes room for the versions of one record. A long list gets an eighth more, so that little of it stands empty.
 pub fn make_room(installs: &mut Vec<Install>) -> Result<(), Fault>
     ensures items { installs.new.items ≡ installs.old.items }
     ensures len { vec_len installs.new ≡ vec_len installs.old }
@@ -93,7 +93,7 @@ pub fn make_room(installs: &mut Vec<Install>) -> Result<(), Fault>
     Ok(())
 }
 
-/// Installs what was promised or decided at a timestamp. It takes no memory.
+/// Installs what was promised or decided, at a timestamp. It takes no memory.
 pub fn install(installs: &mut Vec<Install>, former: Status, at: Stamp)
     requires { vec_len installs.old + 128 ≤ vec_capacity installs.old }
     ensures items { installs.new.items ≡

@@ -4,30 +4,30 @@ use std::fs::Metadata;
 use std::io::{Error, ErrorKind};
 use units::Fault;
 
-/// Why the system refuses a file. Each is `Fault::Device`.
+/// Why the system refuses a file. Each cause becomes `Fault::Device`.
 #[derive(Clone, Copy, PartialEq, Eq)]
 pub enum Cause {
     /// There is nothing of that name.
     NoFile,
     /// There is a folder of that name.
     Folder,
-    /// There is no folder of that name, but something else.
+    /// There is something of that name, but it is no folder.
     NoFolder,
     /// There is a pipe, a socket or a device of that name.
     NoPlainFile,
     /// There is a link of that name, which is not followed.
     Link,
-    /// The rights do not suffice, or the file system may not be written to.
+    /// The program lacks the rights that it needs, or the file system may not be written to.
     NoRights,
     /// Another program has it open.
     InUse,
     /// There is something of that name already.
     Exists,
-    /// The store has no file of that name, and had one.
+    /// The store had a file of that name, and it is gone.
     Lost,
     /// The device is full, or the file may not grow so far.
     NoRoom,
-    /// Each time that it was looked at, another file had got its name meanwhile, or another part of it was in force.
+    /// At each look another file had got its name meanwhile, or another part of it was in force.
     Rewritten,
     /// The device fails, or the system refuses it for a reason of its own.
     Failed,
@@ -63,7 +63,7 @@ impl From<Cause> for Fault {
     }
 }
 
-/// Why the system says that it does not do something.
+/// Finds the cause in an error of the system.
 pub fn cause_of(error: &Error) -> Cause {
     match error.kind() {
         ErrorKind::NotFound => Cause::NoFile,
@@ -79,7 +79,7 @@ pub fn cause_of(error: &Error) -> Cause {
     }
 }
 
-/// Why what was found under a name is no plain file, if it is none.
+/// Finds why something is no plain file. `None` means that it is one.
 pub fn cause_in(found: &Metadata) -> Option<Cause> {
     if found.is_file() {
         None

@@ -15,31 +15,32 @@ use std::os::unix::fs::FileExt;
 use std::rt::Files;
 use units::Fault;
 
-/// A file of the system, open for reads and writes at offsets, and locked (`flock`) against every other `FileDisk` that may be
-/// written to, also one of another program, until it is dropped; or open for reads alone, without the lock. It goes on with calls that a
-/// signal interrupts and with those that move fewer bytes than they are asked for. What the system refuses counts as a failure, and
-/// its length is then measured again.
+/// A file of the system, open for reads and writes at offsets, and locked (`flock`) until it is dropped. The lock
+/// keeps out every other `FileDisk` that may write to it, also one of another program. A file that is open for reads
+/// alone takes no lock. Calls that a signal interrupts go on, and so do those that move fewer bytes than they are
+/// asked for. What the system refuses is a failure, after which the length is measured again.
 #[derive(Drop)]
 pub struct FileDisk {
     file: File,
     len: u64,
-    // It was opened for reads alone.
+    // Whether it was opened for reads alone.
     read_only: bool,
-    // A sync has failed. What it was to write may be lost, though a read still shows it and the system would take the next sync.
+    // Whether a sync has failed. What it was to write may be lost, though a read still shows it and the system would
+    // take the next sync.
     torn: bool,
-    // It was asked for a write or a cut.
+    // Whether it was asked for a write or a cut.
     changed: bool,
     failures: Count,
-    // Why the last call failed that did.
+    // Why the last call that failed did so.
     cause: Option<Cause>,
 }
 
 impl FileDisk {
     ghost use Rattle.filedisk.specs.State.{Counts, file_length, file_failures, file_is_torn, file_is_changed};
 
-    /// Makes a new file, which is empty. Its name is on the device when this returns: the folder that it stands in is synced
-    /// (`fsync`). It is refused if there is something of that name, also a link, or if the system refuses; a file that was made
-    /// before the system refused is left.
+    /// Makes a new file, which is empty. Its name is on the device when this returns, since the folder that it stands
+    /// in is synced (`fsync`). It is refused if something has that name already, also a link, or if the system
+    /// refuses. A file that was made before the system refused is left.
     pub fn create<R: Files<File = File>>(rt: &R, path: &str) -> Result<FileDisk, Cause>
         ensures length { IfOk result (λ disk. file_length disk ≡ 0) }
         ensures failures { IfOk result (λ disk. file_failures disk ≡ 0) }
@@ -51,9 +52,9 @@ impl FileDisk {
         Ok(FileDisk::over(file, 0, false))
     }
 
-    /// Opens a file that is there, for reads and writes. It is refused if there is none of that name, it is no plain file but a link, a
-    /// folder or a device, another `FileDisk` has it open for writes, or the system refuses. Once it has the lock, the file is still
-    /// the one of that name.
+    /// Opens a file that is there, for reads and writes. It is refused if nothing has that name; if it is a link, a
+    /// folder or a device; if another `FileDisk` has it open for writes; or if the system refuses. Once it has the
+    /// lock, it makes sure that the name is still that of this file.
     pub fn open<R: Files<File = File>>(rt: &R, path: &str) -> Result<FileDisk, Cause>
         ensures failures { IfOk result (λ disk. file_failures disk ≡ 0) }
         ensures whole { IfOk result (λ disk. file_is_torn disk ≡ false) }
@@ -66,10 +67,10 @@ impl FileDisk {
         Ok(FileDisk::over(file, len, false))
     }
 
-    /// Opens a file that is there for reads alone: it needs no right to write, and neither takes the lock nor asks who has it. What is
-    /// read while somebody writes may be no one moment's. A link is followed. It is refused if there is no plain file of that name, which
-    /// is asked before it is opened, so no pipe is waited for; or if the system refuses. Each write and each cut is refused, and a sync
-    /// has nothing to do.
+    /// Opens a file that is there for reads alone. It needs no right to write, takes no lock, and does not ask who
+    /// has it. If somebody writes meanwhile, a read may mix the bytes of several moments. A link is followed. It is
+    /// refused if no plain file has that name, or if the system refuses. This is asked before the file is opened, so
+    /// it does not wait for a pipe. Each write and each cut is refused, and a sync does nothing.
     pub fn open_to_read<R: Files<File = File>>(rt: &R, path: &str) -> Result<FileDisk, Cause>
         ensures failures { IfOk result (λ disk. file_failures disk ≡ 0) }
         ensures whole { IfOk result (λ disk. file_is_torn disk ≡ false) }
@@ -81,7 +82,8 @@ impl FileDisk {
         Ok(FileDisk::over(file, len, true))
     }
 
-    /// Takes the length anew: somebody else may have written to a file that was opened for reads alone.
+    /// Takes the length anew, in bytes: somebody else may have written to a file that was opened for reads alone.
+    /// `Device` means that the system refused.
     pub fn measure(&mut self) -> Result<u64, Fault>
         ensures length { IfOk result (λ len. file_length self.new ≡ len) }
         ensures cause { Counts (file_failures self.old) (file_failures self.new) result }
@@ -97,17 +99,17 @@ impl FileDisk {
         }
     }
 
-    /// Why the last of its calls failed that did.
+    /// Gives why the last of its calls that failed did so. `None` means that none has failed.
     pub fn cause(&self) -> Option<Cause> {
         self.cause
     }
 
-    /// Whether a name, or the link of that name, leads to this file.
+    /// Tells whether a name, or the link of that name, leads to this file.
     pub fn has_name<R: Files>(&self, rt: &R, path: &str) -> bool {
         is_same(&self.file, fs::metadata(rt, path))
     }
 
-    // No call has failed yet.
+    // Makes the disk of a file of which no call has failed yet.
     fn over(file: File, len: u64, read_only: bool) -> FileDisk
         ensures length { file_length result ≡ len }
         ensures failures { file_failures result ≡ 0 }
@@ -125,7 +127,8 @@ impl FileDisk {
         }
     }
 
-    // The call was refused. The length is what the system says of it now, or as it was where the system says nothing.
+    // Counts a call that was refused. The length is then what the system says of it now, or stays if the system says
+    // nothing.
     fn refused(&mut self, cause: Cause) -> Fault
         ensures fault { result ≡ Fault.Device }
         ensures failures { file_failures self.new ≡ file_failures self.old + 1 }
@@ -149,7 +152,7 @@ impl Disk for FileDisk {
     ghost use Rattle.filedisk.specs.State.{Counts, file_length, file_failures, file_is_torn, file_is_changed, unknown};
     ghost use Rattle.units.specs.declared.fault.Fault.TheVariants.{Device};
 
-    // What a file holds, no contract knows. So nothing that rests on the disk model is said of it here.
+    // No contract knows what a file holds. So nothing that rests on the disk model is said of it here.
     ghost keeps_model = { ⊥ };
 
     ghost obeys = { ⊥ };
@@ -236,7 +239,8 @@ impl Disk for FileDisk {
         }
     }
 
-    /// It is `fsync`, but of a file that was opened for reads alone. Once it has failed, it fails until the file is opened again.
+    /// Syncs the file (`fsync`), but does nothing if it was opened for reads alone. Once it has failed, it fails
+    /// until the file is opened again.
     fn sync(&mut self) -> Result<(), Fault>
         ensures length { OnOk result (file_length self.new ≡ file_length self.old) }
         ensures cause { Counts (file_failures self.old) (file_failures self.new) result }
@@ -264,7 +268,7 @@ impl Disk for FileDisk {
     fn arm(&mut self, _call: Option<u64>) {}
 }
 
-// The length of a plain file.
+// Gives the length of a plain file.
 fn plain_len(file: &File) -> Result<u64, Cause> {
     let found = or_cause(file.metadata())?;
     match cause_in(&found) {

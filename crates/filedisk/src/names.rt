@@ -6,7 +6,7 @@ use std::os::unix::fs::MetadataExt;
 use std::path::Path;
 use std::rt::Files;
 
-/// What was opened, or why it was not.
+/// Gives what was opened, or why it was not.
 pub fn or_cause<T: Drop>(answer: io::Result<T>) -> Result<T, Cause> {
     match answer {
         Ok(value) => Ok(value),
@@ -14,7 +14,7 @@ pub fn or_cause<T: Drop>(answer: io::Result<T>) -> Result<T, Cause> {
     }
 }
 
-/// What was found is a plain file.
+/// Checks that what was found is a plain file.
 pub fn plain(found: io::Result<Metadata>) -> Result<(), Cause> {
     match cause_in(&or_cause(found)?) {
         None => Ok(()),
@@ -22,8 +22,8 @@ pub fn plain(found: io::Result<Metadata>) -> Result<(), Cause> {
     }
 }
 
-/// The file that was opened, once no other open one has the lock, and if the name is still its own. It was not renamed
-/// or taken away before it was locked, and the name is no link.
+/// Locks the file that was opened. It is refused if another open one has the lock, or if the name is not its own any
+/// more: a link, or a file that was renamed or taken away before it was locked.
 pub fn locked<R: Files>(rt: &R, path: &str, opened: io::Result<File>) -> Result<File, Cause> {
     let file = or_cause(opened)?;
     match file.try_lock() {
@@ -38,7 +38,7 @@ pub fn locked<R: Files>(rt: &R, path: &str, opened: io::Result<File>) -> Result<
     }
 }
 
-/// What was found by a name is this file, which is a plain one.
+/// Tells whether what was found by a name is this file, and a plain one.
 pub fn is_same(file: &File, named: io::Result<Metadata>) -> bool {
     let Ok(named) = named else {
         return false;
@@ -55,7 +55,7 @@ pub fn sync_folder<R: Files<File = File>>(rt: &R, path: &str) -> Result<(), Caus
     or_cause(folder.sync_all())
 }
 
-// The folder that a path stands in.
+// Gives the folder that a path stands in.
 fn folder_of(path: &str) -> Path<'_> {
     match Path::new(path).parent() {
         Some(folder) if !folder.as_os_str().is_empty() => folder,

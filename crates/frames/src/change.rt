@@ -12,7 +12,7 @@ use crate::gate::OPEN_GATE;
 use disk::Disk;
 use units::Fault;
 
-/// Writes, and syncs.
+/// Writes bytes at an offset, and syncs. `Device` means that one of both failed.
 pub fn write_and_sync<D: Disk>(disk: &mut D, at: u64, bytes: &[u8]) -> Result<(), Fault>
     requires { D.keeps_model → at ≤ length (surface (D.file disk.old)).seen }
     ensures planned { (calls more : ℕ) → D.has_room disk.old (calls + 2) (length bytes.now + more) →
@@ -34,7 +34,8 @@ pub fn write_and_sync<D: Disk>(disk: &mut D, at: u64, bytes: &[u8]) -> Result<()
     disk.sync()
 }
 
-/// Writes bytes behind a closed gate, and opens it once they are on the disk.
+/// Writes bytes after a closed gate, and opens the gate once they are on the disk. `Device` means that a call of the
+/// disk failed.
 pub fn open_behind<D: Disk>(disk: &mut D, at: u64, bytes: &[u8]) -> Result<(), Fault>
     requires small { at + 1 < 2 ^ 64 }
     requires inside { D.keeps_model → at + 1 ≤ length (surface (D.file disk.old)).seen }

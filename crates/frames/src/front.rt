@@ -8,7 +8,8 @@ use spelling::{Record, decode};
 use std::alloc::Global;
 use units::Fault;
 
-/// What stands where a gate is due: a closed one; a frame with its gate, of so many bytes; too little to tell; or no frame.
+/// What stands at the place of a gate: a closed gate; a frame with its gate, of so many bytes; too little to tell; or
+/// no frame.
 #[derive(Drop)]
 pub enum Front {
     Closed,
@@ -17,7 +18,8 @@ pub enum Front {
     Broken,
 }
 
-/// What stands at the front of some bytes, behind which so many of the file are left to be read.
+/// Finds what stands at the front of some bytes, after which so many bytes of the file are left to be read. It is
+/// refused for want of memory alone.
 pub fn front_of(alloc: Global, bytes: &[u8], left: u64) -> Result<Front, Fault>
     requires { length bytes.now + left < 2 ^ 64 }
     ensures front { IfOk result (IsAtFront bytes.now left) }

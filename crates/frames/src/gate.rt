@@ -1,4 +1,4 @@
 //! The gate before a frame.
 
-/// The gate that is open; every other byte is a closed one.
+/// The byte of an open gate. Every other byte is a closed gate.
 pub const OPEN_GATE: u8 = 0xa5;

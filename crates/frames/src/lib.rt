@@ -1,4 +1,5 @@
-//! The frames of a log's file: read from pieces of it, and written behind a closed gate, which is opened last.
+//! The frames of a log's file. They are read from pieces of it. They are written after a closed gate, which is opened
+//! last.
 #![tactic(auto)]
 
 mod change;

@@ -10,10 +10,10 @@ use std::alloc::Global;
 use std::marker::Model;
 use units::Fault;
 
-/// How much is read at once.
+/// How much is read at once, in bytes.
 pub const PIECE: u64 = 65_536;
 
-/// What was read and not passed yet, and how much of the file is left to be read.
+/// The bytes that were read and not passed yet, and how much of the file is left to be read.
 #[derive(Drop)]
 pub struct Pieces {
     window: Vec<u8>,
@@ -39,7 +39,7 @@ impl Model for Pieces {
 }
 
 impl Pieces {
-    /// A file of this length, of which nothing was read.
+    /// Begins a file of this length, in bytes, of which nothing was read.
     pub fn of(alloc: Global, len: u64) -> Pieces
         ensures at { result.at ≡ 0 }
         ensures bytes { result.bytes ≡ [] }
@@ -53,21 +53,21 @@ impl Pieces {
         }
     }
 
-    /// The offset of the next byte.
+    /// Gives the offset of the next byte.
     pub fn at(&self) -> u64
         ensures { result ≡ self.now.at }
     {
         self.read - (self.window.len() - self.passed) as u64
     }
 
-    /// What was read from there on.
+    /// Gives what was read from there on.
     pub fn bytes(&self) -> &[u8]
         ensures { result.now ≡ self.now.bytes }
     {
         &self.window[self.passed..]
     }
 
-    /// How many bytes are left to be read.
+    /// Gives how many bytes are left to be read.
     pub fn left(&self) -> u64
         ensures value { result ≡ self.now.left }
         ensures small { length self.now.bytes + self.now.left < 2 ^ 64 }
@@ -75,14 +75,14 @@ impl Pieces {
         self.len - self.read
     }
 
-    /// The length of the file.
+    /// Gives the length of the file, in bytes.
     pub fn len(&self) -> u64
         ensures { result ≡ self.now.at + length self.now.bytes + self.now.left }
     {
         self.len
     }
 
-    /// Goes on behind so many bytes.
+    /// Passes so many bytes that were read.
     pub fn pass(&mut self, count: usize)
         requires { count ≤ length self.old.bytes }
         ensures at { self.new.at ≡ self.old.at + count }
@@ -109,7 +109,8 @@ impl Pieces {
         }
     }
 
-    /// Reads on, by one piece. It asks for no more than 65,536 bytes at once.
+    /// Reads on, by one piece. It asks for no more than 65,536 bytes at once. `Memory` comes if there is none for it,
+    /// and `Device` if the read fails.
     pub fn more<D: Disk>(&mut self, alloc: Global, disk: &mut D) -> Result<(), Fault>
         requires left { 0 < self.old.left }
         requires there { D.keeps_model → IsAhead (surface (D.file disk.old)).seen self.old }
@@ -139,7 +140,7 @@ impl Pieces {
     }
 }
 
-// So many bytes of a file from an offset on.
+// Reads so many bytes of a file from an offset on.
 fn piece_at<D: Disk>(alloc: Global, disk: &mut D, at: u64, count: usize) -> Result<Vec<u8>, Fault>
     requires { D.keeps_model → at + count ≤ length (surface (D.file disk.old)).seen }
     ensures size { IfOk result (λ piece. length piece.items ≡ count) }

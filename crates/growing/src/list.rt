@@ -1,4 +1,4 @@
-//! Two growing lists under one pair of names.
+//! Growing lists, made two at a time under one pair of names.
 ghost use Rattle.std.specs.Prelude.{◌≡◌, Bool, true, false, List, [], ◌∷◌, ◌++◌};
 ghost use mathlib.Core.List.{IsPrefix};
 ghost use base.Stored.{coded_list};
@@ -7,7 +7,7 @@ ghost use denote.Sharing.{said};
 
 use std::marker::{Model, PhantomData};
 
-/// The right to make a list longer. It is one of two, which share their names.
+/// The right to make a list longer. It is made with a twin, and both share their pair of names.
 #[derive(Drop)]
 pub struct Growing<E> {
     marker: PhantomData<E>,
@@ -22,7 +22,7 @@ impl<E> Model for Growing<E> {
     ghost also_shares = { λ h _ κ. growing_shares E.row.coded.code (name_of h.names h.second) h.entries κ };
 }
 
-/// A beginning of a growing list, which that list has for good.
+/// A beginning that a growing list has had. The list keeps it for good.
 #[derive(Drop)]
 pub struct Beginning<E> {
     marker: PhantomData<E>,
@@ -38,7 +38,7 @@ impl<E> Model for Beginning<E> {
 }
 
 impl<E> Growing<E> {
-    /// Two lists with no entry.
+    /// Makes two empty lists that share their names.
     pub fn twins() -> (Growing<E>, Growing<E>)
         ensures { (result.0.entries ≡ []) × (result.1.entries ≡ [])
             × (result.1.names ≡ result.0.names)
@@ -54,21 +54,21 @@ impl<E> Growing<E> {
         )
     }
 
-    /// Adds an entry.
+    /// Adds an entry at the end.
     pub fn add(&mut self, _entry: &E)
         ensures { (self.new.entries ≡ self.old.entries ++ _entry.now ∷ [])
             × (self.new.names ≡ self.old.names)
             × (self.new.second ≡ self.old.second) }
     {}
 
-    /// Goes on to a longer list.
+    /// Makes the list equal to a longer one that it begins.
     pub fn follow(&mut self, _longer: &Growing<E>)
         requires { IsPrefix self.old.entries _longer.now.entries }
         ensures { (self.new.entries ≡ _longer.now.entries) × (self.new.names ≡ self.old.names)
             × (self.new.second ≡ self.old.second) }
     {}
 
-    /// The list so far.
+    /// Gives a token of the list as it is now.
     pub fn so_far(&self) -> Beginning<E>
         ensures { (result.entries ≡ self.now.entries) × (result.names ≡ self.now.names)
             × (result.second ≡ self.now.second) }
@@ -78,7 +78,7 @@ impl<E> Growing<E> {
         }
     }
 
-    /// The list begins with what was seen of it.
+    /// Shows to a proof that the list begins with what was seen of it. It does nothing.
     pub fn begins_with(&self, _seen: &Beginning<E>)
         requires { (_seen.now.names ≡ self.now.names) × (_seen.now.second ≡ self.now.second) }
         ensures { IsPrefix _seen.now.entries self.now.entries }
@@ -86,7 +86,7 @@ impl<E> Growing<E> {
 }
 
 impl<E> Beginning<E> {
-    /// The longer of two beginnings of one list, which the other begins.
+    /// Gives the longer of two beginnings of one list: the shorter begins it.
     pub fn longer(&self, _other: &Beginning<E>) -> Beginning<E>
         requires { (_other.now.names ≡ self.now.names) × (_other.now.second ≡ self.now.second) }
         ensures { (result ≡
@@ -99,7 +99,7 @@ impl<E> Beginning<E> {
         }
     }
 
-    /// A copy.
+    /// Copies the token.
     pub fn again(&self) -> Beginning<E>
         ensures { result ≡ self.now }
     {

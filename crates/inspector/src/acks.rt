@@ -15,7 +15,7 @@ pub struct Ack {
     pub at: u64,
 }
 
-/// Those of all lines, ascending by moment, each with the greatest timestamp up to there.
+/// Lists the acknowledgements of all lines, ascending by moment, each with the greatest timestamp up to there.
 pub fn acks_by_moment(alloc: Global, lines: &[Line]) -> Result<Vec<Ack>, Fault>
     ensures order { IfOk result (λ acks. AscendsByMoment acks.items) }
     ensures late { IfOk result
@@ -44,7 +44,7 @@ fn acks_of(alloc: Global, lines: &[Line]) -> Result<Vec<Ack>, Fault>
     Ok(acks)
 }
 
-// Each with the greatest timestamp up to there.
+// Gives each the greatest timestamp up to there.
 fn raised(alloc: Global, acks: &[Ack]) -> Result<Vec<Ack>, Fault>
     ensures raised { IfOk result (λ found. found.items ≡ raised_acks 0 acks.now) }
     ensures memory { IfErr result (λ fault. fault ≡ Fault.Memory) }
@@ -61,7 +61,7 @@ fn raised(alloc: Global, acks: &[Ack]) -> Result<Vec<Ack>, Fault>
     Ok(found)
 }
 
-/// One came before a moment, at a timestamp that is not below a given one.
+/// Tells whether one came before a moment, at a timestamp that is not below a given one.
 pub fn is_late_by(acks: &[Ack], moment: u64, at: Stamp) -> bool
     requires { AscendsByMoment acks.now }
     ensures { result ≡ is_late_by moment at acks.now }

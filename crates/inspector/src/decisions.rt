@@ -6,7 +6,7 @@ use record::Record;
 use std::marker::Model;
 use units::{Keys, Parts, Stamp, TxnId, Writes};
 
-/// A commit decision. Where its record tells only that it has ended, nothing was read or written.
+/// A commit decision. If its record tells only that the transaction has ended, its reads and writes are `None`.
 #[derive(Drop)]
 pub struct Decision<'l> {
     pub txn: TxnId,
@@ -32,7 +32,7 @@ impl<'l> Model for Decision<'l> {
     } };
 }
 
-/// The decision that a record tells of.
+/// Gives the decision that a record tells of.
 pub fn decision_of(item: &Record) -> Option<Decision<'_>>
     ensures { result ≡ as_committed item.now }
 {

@@ -26,7 +26,7 @@ impl<'l> Model for Entry<'l> {
     ghost view = { λ e. record { txn = e.txn; shard = e.shard; item = e.item.now } };
 }
 
-/// Those of all logs, ascending by transaction; those of one transaction stand in the order of the logs.
+/// Lists the records of all logs, ascending by transaction. Those of one transaction stand in the order of the logs.
 pub fn entries_by_txn<'l>(alloc: Global, logs: &'l [Vec<Record>]) -> Result<Vec<Entry<'l>>, Fault>
     ensures order { IfOk result (λ found. AscendsByTxn found.items) }
     ensures same { IfOk result
@@ -50,7 +50,7 @@ fn entries_of<'l>(alloc: Global, logs: &'l [Vec<Record>]) -> Result<Vec<Entry<'l
     Ok(found)
 }
 
-// Puts in those of one log.
+// Adds those of one log.
 fn add_entries<'l>(found: &mut Vec<Entry<'l>>, shard: usize, log: &'l [Record]) -> Result<(), Fault>
     ensures found { OnOk result
         (found.new.items ≡ found.old.items ++ gather (about_in shard) log.now) }
@@ -64,7 +64,7 @@ fn add_entries<'l>(found: &mut Vec<Entry<'l>>, shard: usize, log: &'l [Record]) 
     Ok(())
 }
 
-// The id that a record is about.
+// Gives the id that a record is about.
 fn id_of(item: &Record) -> Option<TxnId>
     ensures { result ≡ id_in item.now }
 {
@@ -79,7 +79,7 @@ fn id_of(item: &Record) -> Option<TxnId>
     }
 }
 
-/// Those of one transaction, among some that ascend.
+/// Gives those of one transaction, among some that ascend.
 pub fn run_of<'e, 'l>(entries: &'e [Entry<'l>], txn: TxnId) -> &'e [Entry<'l>]
     requires { AscendsByTxn entries.now }
     ensures { result.now ≡ of_txn txn entries.now }

@@ -35,7 +35,7 @@ impl Model for Transaction {
 }
 
 impl Transaction {
-    /// It comes before another in the serial order.
+    /// Tells whether it comes before another in the serial order.
     pub fn comes_before(&self, other: &Transaction) -> bool
         ensures { result ≡ serial_before self.now other.now }
     {
@@ -44,7 +44,7 @@ impl Transaction {
     }
 }
 
-/// The transactions of the logs, each with its writes of all shards.
+/// Lists the transactions of the logs, each with its writes of all shards.
 pub fn history_of(
     alloc: Global,
     logs: &[Vec<Record>],
@@ -64,7 +64,7 @@ pub fn history_of(
     Ok(found)
 }
 
-// Puts in the transactions that one log decides as the log of the least part.
+// Adds the transactions that one log decides as the log of the least part.
 fn add_decided(
     alloc: Global,
     found: &mut Vec<Transaction>,
@@ -88,7 +88,7 @@ fn add_decided(
     Ok(())
 }
 
-// The transaction of a decision, with the records about it.
+// Makes the transaction of a decision, with the records about it.
 fn whole(
     alloc: Global,
     run: &[Entry<'_>],
@@ -110,7 +110,7 @@ fn whole(
     })
 }
 
-// Puts in what others than a given shard promised to write.
+// Adds what others than a given shard promised to write.
 fn add_promised(writes: &mut Vec<Write>, run: &[Entry<'_>], shard: usize) -> Result<(), Fault>
     ensures writes { OnOk result
         (writes.new.items ≡ writes.old.items ++ flat_map (λ p. p.writes)
@@ -127,7 +127,7 @@ fn add_promised(writes: &mut Vec<Write>, run: &[Entry<'_>], shard: usize) -> Res
     Ok(())
 }
 
-// Puts in equal writes.
+// Adds equal writes.
 fn add_copies(writes: &mut Vec<Write>, more: &[Write]) -> Result<(), Fault>
     ensures writes { OnOk result (writes.new.items ≡ writes.old.items ++ more.now) }
     ensures memory { IfErr result (λ fault. fault ≡ Fault.Memory) }
@@ -157,7 +157,7 @@ pub fn put_by_id(found: &mut Vec<Transaction>) -> Result<(), Fault>
     Ok(())
 }
 
-// Those of one id, among some that ascend by id.
+// Gives those of one id, among some that ascend by id.
 fn run_of(found: &[Transaction], txn: TxnId) -> &[Transaction]
     requires { AscendsById found.now }
     ensures { result.now ≡ of_id txn found.now }
@@ -168,7 +168,7 @@ fn run_of(found: &[Transaction], txn: TxnId) -> &[Transaction]
     &rest[..count]
 }
 
-/// The first transaction of an id, among some that ascend by id.
+/// Finds the first transaction of an id, among some that ascend by id.
 pub fn find(found: &[Transaction], txn: TxnId) -> Option<&Transaction>
     requires { AscendsById found.now }
     ensures { option_copied result ≡ find_txn found.now txn }
@@ -179,7 +179,7 @@ pub fn find(found: &[Transaction], txn: TxnId) -> Option<&Transaction>
     }
 }
 
-/// The id is there at this timestamp, among some that ascend by id.
+/// Tells whether the id is there at this timestamp, among some that ascend by id.
 #[tactic(auto, using(crate::proofs::FoundLaws::any_of_id))]
 pub fn is_in_at(found: &[Transaction], txn: TxnId, at: Stamp) -> bool
     requires { AscendsById found.now }
@@ -188,7 +188,7 @@ pub fn is_in_at(found: &[Transaction], txn: TxnId, at: Stamp) -> bool
     is_at(run_of(found, txn), at)
 }
 
-// One of them is at this timestamp.
+// Tells whether one of them is at this timestamp.
 fn is_at(run: &[Transaction], at: Stamp) -> bool
     ensures { result ≡ list_any (λ u. nat_eq u.at at) run.now }
 {

@@ -13,7 +13,7 @@ use crate::history::Transaction;
 use crate::versions::{Version, value_before_place};
 use units::{Key, Stamp, Value};
 
-/// A key's value of the transactions before one, in the serial order.
+/// Finds a key's value after the transactions before this one, in the serial order.
 pub fn value_before<'t>(
     ordered: &[Transaction],
     versions: &[Version<'t>],
@@ -31,7 +31,7 @@ pub fn value_before<'t>(
     value_before_place(versions, key, place)
 }
 
-/// A key's value of the transactions up to a timestamp, in the serial order.
+/// Finds a key's value after the transactions up to a timestamp, in the serial order.
 pub fn value_up_to<'t>(
     ordered: &[Transaction],
     versions: &[Version<'t>],
@@ -48,7 +48,7 @@ pub fn value_up_to<'t>(
     value_before_place(versions, key, place)
 }
 
-/// The two values are one, or neither is there.
+/// Tells whether the two values are equal, or neither is there.
 pub fn is_same(value: Option<&Value>, other: Option<&Value>) -> bool
     ensures { result ≡ same_value (option_copied value.entry) (option_copied other.entry) }
 {

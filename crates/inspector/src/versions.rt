@@ -9,7 +9,7 @@ use std::alloc::Global;
 use std::marker::Model;
 use units::{Fault, Key, Value, Write};
 
-/// A write of the transaction at a place of the serial order.
+/// A write of the transaction at this place of the serial order.
 #[derive(Drop)]
 pub struct Version<'t> {
     pub place: usize,
@@ -24,7 +24,7 @@ impl<'t> Model for Version<'t> {
     ghost view = { λ v. record { place = v.place; write = v.write.now } };
 }
 
-/// Those of all transactions, ascending by key; those of one key stand in the order of their transactions.
+/// Lists the writes of all transactions, ascending by key. Those of one key stand in the order of their transactions.
 pub fn versions_by_key<'t>(
     alloc: Global,
     ordered: &'t [Transaction],
@@ -51,7 +51,7 @@ fn versions_of<'t>(alloc: Global, ordered: &'t [Transaction]) -> Result<Vec<Vers
     Ok(found)
 }
 
-// Puts in those of one transaction.
+// Adds those of one transaction.
 fn add_writes<'t>(
     found: &mut Vec<Version<'t>>,
     place: usize,
@@ -66,7 +66,7 @@ fn add_writes<'t>(
     Ok(())
 }
 
-// Those of one key, among some that ascend.
+// Gives those of one key, among some that ascend.
 fn run_of<'v, 't>(versions: &'v [Version<'t>], key: &Key) -> &'v [Version<'t>]
     requires { AscendsByKey versions.now }
     ensures { result.now ≡ placed_for key.now versions.now }
@@ -77,7 +77,7 @@ fn run_of<'v, 't>(versions: &'v [Version<'t>], key: &Key) -> &'v [Version<'t>]
     &rest[..count]
 }
 
-/// The value of a key after the transactions before a place.
+/// Finds the value of a key after the transactions before a place.
 pub fn value_before_place<'t>(
     versions: &[Version<'t>],
     key: &Key,
@@ -93,7 +93,7 @@ pub fn value_before_place<'t>(
     last_of(&run[..count])
 }
 
-// The last value.
+// Gives the last value.
 fn last_of<'t>(versions: &[Version<'t>]) -> Option<&'t Value>
     ensures { option_copied result ≡ last_value versions.now None }
 {

@@ -15,23 +15,24 @@ use record::Record;
 use std::alloc::Global;
 use units::{Fault, ShardNo, Stamp, TxnId};
 
-// The decisions of a transaction that were found so far: none, one and whether all logs fit it, or more.
 #[derive(Clone, Copy)]
+/// The decisions of a transaction that were found so far: none, one and whether all logs fit it, or more.
 pub enum Tally {
     Never,
     Once(bool),
     Again,
 }
 
-// How a record stands to a decision: it says nothing of it, or otherwise, or promises it, and whether that fits.
 #[derive(Clone, Copy)]
+/// How a record relates to a decision. `Nothing`: it says nothing of it. `Otherwise`: it says something else.
+/// `Promised`: it promises it, and whether that fits.
 pub enum Stand {
     Nothing,
     Otherwise,
     Promised(bool),
 }
 
-/// The transaction is whole over a number of logs, of which these are the records.
+/// Tells whether the transaction is whole over a number of logs, of which these are the records.
 #[tactic(auto, using(crate::proofs::TallyLaws::whole_is_settled), unfolding(record::specs::Whole::is_whole))]
 pub fn is_whole(
     alloc: Global,
@@ -49,7 +50,7 @@ pub fn is_whole(
     }
 }
 
-// The decisions of all logs.
+// Finds the decisions of all logs.
 fn tally_of(alloc: Global, count: usize, entries: &[Entry<'_>], txn: TxnId) -> Result<Tally, Fault>
     ensures tally { IfOk result
         (λ tally. tally ≡ after (fits_all (logs_from count 0 entries.now) txn) Never
@@ -63,7 +64,7 @@ fn tally_of(alloc: Global, count: usize, entries: &[Entry<'_>], txn: TxnId) -> R
     Ok(tally)
 }
 
-// The decisions of one log are found too.
+// Finds the decisions of one log too.
 fn tally_log(
     alloc: Global,
     mut tally: Tally,
@@ -94,7 +95,7 @@ fn tally_log(
     Ok(tally)
 }
 
-// Every log fits the decision, and it stands in its least part's log.
+// Tells whether every log fits the decision, and it stands in its least part's log.
 #[tactic(auto, using(crate::proofs::Numbers::from_length))]
 fn fits(
     alloc: Global,
@@ -117,7 +118,7 @@ fn fits(
     )
 }
 
-// Each part is below a number.
+// Tells whether each part is below a number.
 fn exist(parts: &[ShardNo], count: usize) -> bool
     ensures { result ≡ list_all (λ n. nat_lt n count) parts.now }
 {
@@ -129,7 +130,7 @@ fn exist(parts: &[ShardNo], count: usize) -> bool
     true
 }
 
-// Each log fits the decision.
+// Tells whether each log fits the decision.
 fn each_fits(
     count: usize,
     entries: &[Entry<'_>],
@@ -150,7 +151,7 @@ fn each_fits(
     true
 }
 
-// One log beside the decision.
+// Tells whether one log fits the decision.
 fn log_fits(
     number: usize,
     entries: &[Entry<'_>],
@@ -186,7 +187,7 @@ fn log_fits(
     is_own || found || !is_part
 }
 
-// The shard of this number is a part.
+// Tells whether the shard of this number is a part.
 fn is_part(parts: &[ShardNo], number: usize) -> bool
     ensures { result ≡ has parts.now number }
 {
@@ -198,7 +199,7 @@ fn is_part(parts: &[ShardNo], number: usize) -> bool
     false
 }
 
-// How a record stands to the decision.
+// Gives how a record relates to the decision.
 fn stand_of(item: &Record, txn: TxnId, shard: usize, commit: &Decision<'_>) -> Stand
     ensures { result ≡ stand_of txn (record { shard = shard; commit = commit.now }) item.now }
 {
@@ -257,14 +258,15 @@ fn turned_down(is_otherwise: bool) -> Stand
     }
 }
 
-// An outcome at a timestamp is the transaction's, and not the decision's.
+// Tells whether an outcome at a timestamp is the transaction's, and not the decision's.
 fn ends_otherwise(ended: TxnId, at: Stamp, txn: TxnId, commit: &Decision<'_>) -> bool
     ensures { result ≡ (same_id txn ended && not (nat_eq commit.now.at at)) }
 {
     txn == ended && commit.at.micros() != at.micros()
 }
 
-// How a promise stands to the decision. One that fits names the coordinator, and is not above the commit's timestamp.
+// Gives how a promise relates to the decision. One that fits names the coordinator, and is not above the commit's
+// timestamp.
 fn promised_as(
     promised: TxnId,
     coordinator: ShardNo,
@@ -283,7 +285,7 @@ fn promised_as(
     }
 }
 
-// No log ends the transaction at a timestamp.
+// Tells whether no log ends the transaction at a timestamp.
 fn never_ends(count: usize, entries: &[Entry<'_>], txn: TxnId) -> bool
     ensures { result ≡ list_all (λ l. outcomes_fit l txn (λ s. false))
         (logs_from count 0 entries.now) }
@@ -296,7 +298,7 @@ fn never_ends(count: usize, entries: &[Entry<'_>], txn: TxnId) -> bool
     true
 }
 
-// The log ends the transaction at a timestamp.
+// Tells whether the log ends the transaction at a timestamp.
 fn ends(number: usize, entries: &[Entry<'_>], txn: TxnId) -> bool
     ensures { result ≡ not (outcomes_fit (log_numbered number entries.now) txn (λ s. false)) }
 {
@@ -312,7 +314,7 @@ fn ends(number: usize, entries: &[Entry<'_>], txn: TxnId) -> bool
     false
 }
 
-// The transaction that the record ends at a timestamp.
+// Gives the transaction that the record ends at a timestamp.
 fn ended_at_a_time(item: &Record) -> Option<TxnId>
     ensures { result ≡ ended_at_a_time item.now }
 {

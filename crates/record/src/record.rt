@@ -4,7 +4,8 @@ ghost use Rattle.std.specs.Prelude.{◌≡◌, IfOk, IfErr};
 use std::alloc::Global;
 use units::{Epoch, Fault, Install, Keys, Parts, ShardNo, Stamp, TxnId, Writes};
 
-/// A transaction's part that a shard has promised at a timestamp, and the shard that decides.
+/// A promise: a shard's part of a transaction, which it can commit at this timestamp or later. It names the shard
+/// that decides.
 pub struct Prepared {
     pub txn: TxnId,
     pub coordinator: ShardNo,
@@ -26,7 +27,7 @@ impl Drop for Prepared {
 }
 
 impl Prepared {
-    /// Its writes.
+    /// Gives its writes.
     pub fn into_writes(self) -> Writes
         ensures { result ≡ self.writes }
     {
@@ -41,8 +42,8 @@ impl Prepared {
     }
 }
 
-/// A commit decision at a timestamp, with the shards that take part and what was read and written at this one. It stands
-/// in the log of the least of its parts.
+/// The decision to commit a transaction at a timestamp, with the shards that take part and what was read and written
+/// at this one. It stands in the log of the least of its parts.
 pub struct Committed {
     pub txn: TxnId,
     pub at: Stamp,
@@ -64,7 +65,7 @@ impl Drop for Committed {
 }
 
 impl Committed {
-    /// Its writes.
+    /// Gives its writes.
     pub fn into_writes(self) -> Writes
         ensures { result ≡ self.writes }
     {
@@ -79,42 +80,50 @@ impl Committed {
     }
 }
 
-/// A record of a shard's log: an opening with its epoch, a ceiling of the served time, a promise, a commit decision, an
-/// abort decision, how a transaction ended at this shard (at a timestamp, or `None` for aborted), or a horizon, below which
-/// no value is read any more. Four more kinds are those of which a renewed log is made: its base with what it keeps of the
-/// epoch, of the greatest timestamp and of the horizon, a version that was installed, a decision of this shard with its
-/// outcome, and a promise with its outcome; of what ended neither reads nor writes are left.
+/// A record of a shard's log. The last four kinds come in the head of a renewed log, which keeps neither the reads
+/// nor the writes of a transaction that has ended.
 #[derive(Drop)]
 pub enum Record {
+    /// The shard was opened, for this epoch.
     Opened {
         epoch: Epoch,
     },
+    /// The shard may serve times up to this one.
     Ceiling {
         at: Stamp,
     },
+    /// The shard promised a transaction.
     Prepare(Prepared),
+    /// The shard decided that a transaction commits.
     Commit(Committed),
+    /// The shard decided that a transaction aborts.
     Abort {
         txn: TxnId,
     },
+    /// A transaction ended at this shard: at a timestamp, or aborted if `None`.
     Outcome {
         txn: TxnId,
         outcome: Option<Stamp>,
     },
+    /// Looks below this timestamp are answered no more.
     Horizon {
         at: Stamp,
     },
+    /// A renewed log begins, with the epoch, the greatest timestamp and the horizon that it keeps.
     Base {
         epoch: Epoch,
         floor: Stamp,
         horizon: Stamp,
     },
+    /// A version was installed.
     Version(Install),
+    /// The shard decided a commit, and the transaction has ended here.
     Settled {
         txn: TxnId,
         at: Stamp,
         parts: Parts,
     },
+    /// The shard promised a transaction, and it has ended here: at a timestamp, or aborted if `None`.
     Closed {
         txn: TxnId,
         coordinator: ShardNo,
@@ -123,7 +132,7 @@ pub enum Record {
 }
 
 impl Record {
-    /// An equal record with memory of its own.
+    /// Copies the record into memory of its own.
     pub fn copy(&self, alloc: Global) -> Result<Record, Fault>
         ensures same { IfOk result (λ copied. copied ≡ self.now) }
         ensures memory { IfErr result (λ fault. fault ≡ Fault.Memory) }

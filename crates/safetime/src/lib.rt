@@ -1,4 +1,5 @@
-//! The safe time of a shard, the greatest timestamp at which its versions may be read, and its ceilings: served time that its log allows.
+//! The safe time of a shard, which is the greatest timestamp at which its versions may be read, and the ceilings that
+//! let it serve.
 #![tactic(auto)]
 
 mod ceiling;
@@ -14,8 +15,8 @@ use std::alloc::Global;
 use std::marker::Model;
 use units::{Fault, MOST_ROWS, Stamp};
 
-/// The greatest timestamp assigned, applied or served, and the timestamps of the transactions that are not settled: at most
-/// as many as a shard has rows.
+/// The greatest timestamp assigned, applied or served, and the timestamps of the transactions that are not settled.
+/// These are at most as many as a shard has rows.
 #[derive(Drop)]
 pub struct SafeTime {
     last: Stamp,
@@ -36,7 +37,7 @@ impl Model for SafeTime {
 }
 
 impl SafeTime {
-    /// Nothing is held. The space for all holds is taken here.
+    /// Begins with no holds, and takes the memory for all of them. It is refused for want of memory alone.
     pub fn new(alloc: Global, last: Stamp) -> Result<SafeTime, Fault>
         ensures times { IfOk result (λ times. times ≡ record { last = last; holds = [] }) }
         ensures memory { IfErr result (λ fault. fault ≡ Fault.Memory) }
@@ -45,14 +46,14 @@ impl SafeTime {
         Ok(SafeTime { last, holds })
     }
 
-    /// A timestamp is given to a transaction.
+    /// Notes that a timestamp is given to a transaction.
     pub fn assign(&mut self, at: Stamp)
         ensures { self.new ≡ record self.old { last = max self.old.last at } }
     {
         self.raise(at);
     }
 
-    /// A timestamp was applied or served.
+    /// Notes that a timestamp was applied or served.
     pub fn raise(&mut self, at: Stamp)
         ensures { self.new ≡ record self.old { last = max self.old.last at } }
     {
@@ -68,7 +69,7 @@ impl SafeTime {
         self.holds.push_reserved(at);
     }
 
-    /// Lifts one hold of a timestamp, where there is one.
+    /// Lifts one hold of a timestamp, if there is one.
     #[tactic(auto, using(crate::proofs::Lifts::remove_is_lifted, crate::proofs::Lifts::lifted_none))]
     pub fn lift(&mut self, at: Stamp)
         ensures { self.new ≡ record self.old { holds = lifted at self.old.holds } }
@@ -79,14 +80,14 @@ impl SafeTime {
         }
     }
 
-    /// The greatest timestamp assigned, applied or served.
+    /// Gives the greatest timestamp assigned, applied or served.
     pub fn last(&self) -> Stamp
         ensures { result ≡ self.now.last }
     {
         self.last
     }
 
-    /// The greatest timestamp at which versions may be read.
+    /// Gives the safe time: the greatest timestamp at which versions may be read.
     pub fn safe(&self) -> Stamp
         ensures { result ≡ safe_of self.now }
     {
@@ -94,7 +95,7 @@ impl SafeTime {
     }
 }
 
-// The least of the last timestamp and of those before the holds.
+// Gives the least of the last timestamp and of those before the holds.
 fn safe_below(last: Stamp, holds: &[Stamp]) -> Stamp
     requires { All (λ at. 0 < at) holds.now }
     ensures { result ≡ safe_of (record { last = last; holds = holds.now }) }
@@ -112,7 +113,7 @@ fn earlier(a: Stamp, b: Stamp) -> Stamp
     if a < b { a } else { b }
 }
 
-// The timestamp before this one.
+// Gives the timestamp before this one.
 fn before(at: Stamp) -> Stamp
     requires { 0 < at }
     ensures { result ≡ at - 1 }
@@ -123,7 +124,7 @@ fn before(at: Stamp) -> Stamp
     }
 }
 
-// The first place of a timestamp, or the length.
+// Finds the first place of a timestamp, or gives the length.
 fn place(holds: &[Stamp], at: Stamp) -> usize
     ensures { result ≡ position_or_len (λ hold. hold == at) holds.now }
 {

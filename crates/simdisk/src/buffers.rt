@@ -8,12 +8,13 @@ use crate::tear::{Fates, make_changes, put};
 use disk::Fate;
 use std::alloc::{AllocError, Global};
 
+/// The contents of a disk in memory.
 pub struct Buffers {
     /// What the last sync left.
     pub durable: Vec<u8>,
     /// The changes since, the oldest first.
     pub changes: Vec<Change>,
-    /// The bytes of their writes, one behind another.
+    /// The bytes of their writes, one after another.
     pub store: Vec<u8>,
     /// What a read gives.
     pub seen: Vec<u8>,
@@ -39,7 +40,7 @@ impl Drop for Buffers {
 impl Buffers {
     ghost use Rattle.simdisk.specs.Held.{held, held_file, HasRoomFor, IsReadyForWrite};
 
-    /// An empty file.
+    /// Makes an empty file.
     pub fn new(alloc: Global) -> Buffers
         ensures { held_file result ≡ settled [] }
     {
@@ -51,7 +52,7 @@ impl Buffers {
         }
     }
 
-    /// Takes memory ahead, for changes of that many bytes in all, in at most 8 calls.
+    /// Takes memory ahead for at most 8 changes, of so many bytes in all.
     pub fn reserve(&mut self, bytes: usize) -> Result<(), AllocError>
         ensures same { held_file self.new ≡ held_file self.old }
         ensures room { OnOk result (HasRoomFor self.new 8 bytes) }
@@ -81,7 +82,7 @@ impl Buffers {
         self.durable.reserve(end.saturating_sub(self.durable.len()))
     }
 
-    /// A write that is seen.
+    /// Makes a write that a read sees.
     pub fn write(&mut self, at: usize, bytes: &[u8]) -> Result<(), AllocError>
         requires { at ≤ length self.old.seen.items }
         ensures ok { OnOk result
@@ -100,7 +101,7 @@ impl Buffers {
         Ok(())
     }
 
-    /// A write that failed: a read does not see it.
+    /// Keeps a write that failed: a read does not see it, but a crash may leave it.
     pub fn try_write(&mut self, at: usize, bytes: &[u8]) -> Result<(), AllocError>
         requires { at ≤ length self.old.seen.items }
         ensures ok { OnOk result
@@ -118,7 +119,7 @@ impl Buffers {
         Ok(())
     }
 
-    /// Cuts the file to a length.
+    /// Cuts the file to a length, in bytes.
     pub fn cut(&mut self, len: u64) -> Result<(), AllocError>
         ensures ok { OnOk result (held_file self.new ≡ with_change (cut len) (held_file self.old)) }
         ensures err { OnErr result (held_file self.new ≡ held_file self.old) }
@@ -131,7 +132,7 @@ impl Buffers {
         Ok(())
     }
 
-    /// Nothing is unsynced any more. Its time goes by the changes since the last sync, and not by the file's length.
+    /// Makes all changes durable. Its time goes by the changes since the last sync, and not by the file's length.
     pub fn sync(&mut self)
         ensures file { held_file self.new ≡ synced (held_file self.old) }
         ensures room { (calls more : ℕ) → HasRoomFor self.old (calls + 1) more
@@ -141,7 +142,7 @@ impl Buffers {
         forget(&mut self.changes, &mut self.store);
     }
 
-    /// Each change comes out by its fate, the oldest first.
+    /// Crashes: each change comes out by its fate, the oldest first.
     pub fn crash(&mut self, fates: &[Fate])
         ensures { held_file self.new ≡ settled (crash_leaves fates.now (held_file self.old)) }
     {
@@ -172,7 +173,7 @@ fn keep(changes: &mut Vec<Change>, store: &mut Vec<u8>, change: Change, bytes: &
     changes.push(change).unwrap();
 }
 
-// Nothing is unsynced.
+// Forgets all changes that were not synced.
 fn forget(changes: &mut Vec<Change>, store: &mut Vec<u8>)
     ensures changes { (changes.new.items ≡ []) × (vec_len changes.new ≡ 0) }
     ensures store { (store.new.items ≡ []) × (vec_len store.new ≡ 0) }

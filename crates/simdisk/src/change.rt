@@ -3,13 +3,14 @@ ghost use Rattle.std.specs.Prelude.{◌≡◌};
 
 use disk::Fate;
 
-/// The bytes of writes are kept elsewhere, one behind another.
+/// A change that is not synced. The bytes of writes are kept elsewhere, one after another.
 #[derive(Clone, Copy)]
 pub enum Change {
     /// A write that succeeded.
     Write { at: u64, count: u64 },
     /// A write that failed. A read does not see it, but a crash may.
     Tried { at: u64, count: u64 },
+    /// A cut to a length, in bytes.
     Cut { len: u64 },
 }
 
@@ -17,7 +18,7 @@ impl Change {
     ghost use Rattle.simdisk.specs.Fates.{fate_seen};
     ghost use Rattle.simdisk.specs.Replay.{size};
 
-    /// How many bytes it has in the store.
+    /// Gives how many bytes it has in the store.
     pub fn count(&self) -> usize
         ensures { result ≡ size self.now }
     {
@@ -27,7 +28,7 @@ impl Change {
         }
     }
 
-    /// The fate by which a read sees it.
+    /// Gives the fate by which a read sees it.
     pub fn fate_seen(&self) -> Fate
         ensures { result ≡ fate_seen self.now }
     {

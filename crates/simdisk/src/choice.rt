@@ -19,7 +19,7 @@ impl Model for Choice {
 }
 
 impl Choice {
-    /// Every change is old.
+    /// Makes the choice by which every change is old.
     pub fn none(alloc: Global) -> Choice
         ensures { result ≡ [] }
     {
@@ -28,12 +28,14 @@ impl Choice {
         }
     }
 
+    /// Makes the choice of these fates, the oldest change first.
     pub fn from_vec(fates: Vec<Fate>) -> Choice
         ensures { result ≡ fates.items }
     {
         Choice { fates }
     }
 
+    /// Gives the fates, the oldest change first.
     pub fn fates(&self) -> &[Fate]
         ensures { result.now ≡ self.now }
     {

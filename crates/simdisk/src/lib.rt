@@ -1,4 +1,4 @@
-//! A disk in memory. What the last sync left and every change since are kept apart, so a crash may tear each change.
+//! A disk in memory. It keeps what the last sync left and every change since apart, so a crash may tear each change.
 #![tactic(auto)]
 
 mod buffers;

@@ -1,4 +1,4 @@
-//! The disk.
+//! A disk in memory, for tests.
 ghost use Rattle.std.specs.Prelude.{◌≡◌, ◌+◌, ℕ, [], ◌∷◌, length};
 
 use crate::buffers::Buffers;
@@ -8,7 +8,8 @@ use disk::{Disk, FailurePlan};
 use std::alloc::Global;
 use units::Fault;
 
-/// A file in memory. It fails where it finds no memory for a change, and where it is told to.
+/// A file in memory. A change fails with `Device` if there is no memory for it, and each call fails if the plan says
+/// so.
 pub struct SimDisk {
     buffers: Buffers,
     past: Past<Buffers>,
@@ -35,7 +36,7 @@ impl SimDisk {
     ghost use Rattle.simdisk.specs.Replay.{settled};
     ghost use Rattle.simdisk.specs.State.{disk_file, disk_past, disk_plan, disk_failures, DiskHasRoom, disk_clock, LeftSince};
 
-    /// An empty file.
+    /// Makes an empty file.
     pub fn new(alloc: Global) -> SimDisk
         ensures empty { disk_file result ≡ settled [] }
         ensures plan { disk_plan result ≡ FailurePlan.Never }
@@ -49,7 +50,8 @@ impl SimDisk {
         }
     }
 
-    /// A crash now. Each change that is not synced comes out by its fate in the choice. No call is to fail any more.
+    /// Crashes the disk now: each change that is not synced comes out by its fate in the choice. No call is to fail
+    /// any more.
     pub fn crash(self, choice: &Choice) -> SimDisk
         ensures image { disk_file result ≡ settled (crash_leaves choice.now (disk_file self)) }
         ensures may { MayLeave (surface (disk_file self))
@@ -74,8 +76,8 @@ impl SimDisk {
         }
     }
 
-    /// For tests: of the calls `read_at`, `write_at`, `cut` and `sync`, the one that comes that many calls from now fails
-    /// once; 0 is the next.
+    /// Plans a failure, for tests. Of the calls `read_at`, `write_at`, `cut` and `sync`, the one that comes so many
+    /// calls from now fails once; 0 is the next.
     pub fn fail_next(&mut self, calls: u64)
         ensures plan { disk_plan self.new ≡ FailurePlan.After calls }
         ensures same { disk_file self.new ≡ disk_file self.old }

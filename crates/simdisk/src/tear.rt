@@ -1,4 +1,4 @@
-// What a sync or a crash makes of the changes that are not synced, in memory that is there.
+// What a sync or a crash makes of the changes that are not synced. It takes no memory.
 ghost use Rattle.std.specs.Prelude.{◌≡◌, ◌+◌, ◌≤◌, max, length, replicate, vec_len, vec_capacity};
 ghost use Rattle.disk.specs.Image.{with_bytes};
 ghost use Rattle.disk.specs.File.{laid, by_fate, wrote, tried};
@@ -11,9 +11,9 @@ use disk::Fate;
 /// The fate of each change that is not synced.
 #[derive(Clone, Copy)]
 pub enum Fates<'a> {
-    /// In a sync: a change is new where a read sees it.
+    /// In a sync, a change is new if a read sees it, and old if not.
     AsSeen,
-    /// In a crash: these, the oldest first. A change without one is old.
+    /// In a crash, these are the fates, the oldest first. A change without one is old.
     Given(&'a [Fate]),
 }
 
@@ -30,7 +30,7 @@ pub fn put(image: &mut Vec<u8>, at: usize, bytes: &[u8])
     image.extend_from_slice(&bytes[over..]).unwrap();
 }
 
-/// Writes bytes at an offset that may lie past the end: zeros stand between.
+/// Writes bytes at an offset that may lie past the end, with zeros between.
 fn lay(image: &mut Vec<u8>, at: usize, bytes: &[u8])
     requires { at + length bytes.now ≤ vec_capacity image.old }
     ensures items { image.new.items ≡ laid at bytes.now image.old.items }

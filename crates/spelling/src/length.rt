@@ -37,7 +37,7 @@ fn writes_len(writes: &Writes) -> u64
     total
 }
 
-/// How many bytes the spelling of a record has. It takes no memory.
+/// Gives how many bytes the spelling of a record has. It takes no memory.
 #[tactic(auto, unfolding(crate::specs::Grammar::parts_spelling))]
 pub fn encoded_len(record: &Record) -> u64
     ensures value { result ≡ length (spelling «record».now) }

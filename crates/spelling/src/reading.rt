@@ -1,4 +1,4 @@
-// Reading a record from left to right.
+// Reads a record from left to right.
 ghost use Rattle.std.specs.Prelude.{◌≡◌, ◌≢◌, ◌≤◌, ◌↔◌, ◌==◌, [], ◌∷◌, length, IfOk, IfErr, MatchResult};
 ghost use Rattle.std.specs.Int.{w16, w64};
 ghost use Rattle.spelling.specs.Gives.{Gives, Finds};
@@ -119,7 +119,7 @@ fn key_of(bytes: &[u8]) -> Option<(Key, &[u8])>
     }
 }
 
-// The bytes of a value, behind their number.
+// Reads the bytes of a value, which follow their number.
 fn text_of(bytes: &[u8]) -> Option<(&[u8], &[u8])>
     ensures { Finds (λ x. (x.0.now, x.1.now)) result (value_text_at bytes.now) }
 {
@@ -165,7 +165,7 @@ fn write_of(alloc: Global, bytes: &[u8]) -> Result<(Write, &[u8]), Unread>
     }
 }
 
-// Reads that many keys.
+// Reads so many keys.
 fn key_list<'a>(keys: &mut Vec<Key>, count: u16, bytes: &'a [u8]) -> Result<&'a [u8], Unread>
     requires { keys.old.items ≡ [] }
     ensures { Gives (λ rest. (keys.new.items, rest.now)) result
@@ -185,7 +185,7 @@ fn key_list<'a>(keys: &mut Vec<Key>, count: u16, bytes: &'a [u8]) -> Result<&'a 
     Ok(rest)
 }
 
-// Reads that many writes.
+// Reads so many writes.
 fn write_list<'a>(
     writes: &mut Vec<Write>,
     count: u16,
@@ -341,7 +341,7 @@ fn commit_of(alloc: Global, bytes: &[u8]) -> Result<(Record, &[u8]), Unread>
     }
 }
 
-// An id and how it ended.
+// Reads an id and how its transaction ended.
 #[tactic(auto, unfolding(crate::specs::Reading::ended_at))]
 fn ended_of(bytes: &[u8]) -> Option<((TxnId, Option<Stamp>), &[u8])>
     ensures { Finds (λ x. (x.0, x.1.now)) result (ended_at bytes.now) }
@@ -419,7 +419,7 @@ fn closed_of(bytes: &[u8]) -> Option<((TxnId, ShardNo, Option<Stamp>), &[u8])>
     }
 }
 
-// A record of a kind that steps log, and that takes no memory; or one of a head.
+// Reads a record that takes no memory: of a kind that steps log, or of one of a head.
 #[tactic(auto, unfolding(crate::specs::Reading::record_at))]
 fn short_of(kind: u8, bytes: &[u8]) -> Option<(Record, &[u8])>
     requires { (kind ≢ 3) × (kind ≢ 4) × (kind ≢ 9) }
@@ -451,7 +451,7 @@ fn short_of(kind: u8, bytes: &[u8]) -> Option<(Record, &[u8])>
     }
 }
 
-// A record of a renewed log's head, of a kind that takes no memory.
+// Reads a record of a renewed log's head, of a kind that takes no memory.
 #[tactic(auto, unfolding(crate::specs::Reading::record_at))]
 fn head_of(kind: u8, bytes: &[u8]) -> Option<(Record, &[u8])>
     requires { (8 ≤ kind) × (kind ≢ 9) }
@@ -506,7 +506,7 @@ fn record_of(alloc: Global, bytes: &[u8]) -> Result<(Record, &[u8]), Unread>
     }
 }
 
-// The record, where nothing stands behind it.
+// Gives the record if no byte follows it.
 fn only(found: Record, rest: &[u8]) -> Option<Record>
     ensures { result ≡ only_if (length rest.now == 0) found }
 {
@@ -517,7 +517,7 @@ fn only(found: Record, rest: &[u8]) -> Option<Record>
     Some(found)
 }
 
-// The record that all of the bytes are.
+// Reads the record that all of the bytes are.
 #[tactic(auto, unfolding(crate::specs::Reading::read_record))]
 fn whole_record(alloc: Global, bytes: &[u8]) -> Result<Option<Record>, Fault>
     ensures { MatchResult result (λ found. read_record bytes.now ≡ found)
@@ -530,7 +530,8 @@ fn whole_record(alloc: Global, bytes: &[u8]) -> Result<Option<Record>, Fault>
     }
 }
 
-/// The record that the bytes spell, and none where they spell no record.
+/// Reads the record that the bytes spell. `None` means that they spell no record; `Memory` comes if there is none for
+/// it.
 pub fn decode(alloc: Global, bytes: &[u8]) -> Result<Option<Record>, Fault>
     ensures spelled { IfOk result (λ found. (r : Record) → Spells bytes.now r ↔ (found ≡ Some r)) }
     // The same by a definition that computes.

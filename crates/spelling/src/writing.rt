@@ -14,7 +14,7 @@ use record::{Committed, Prepared, Record};
 use std::alloc::Global;
 use units::{Epoch, Fault, Install, Key, Keys, Parts, ShardNo, Stamp, TxnId, Value, Write, Writes};
 
-// What follows is put behind what stands in a buffer. Each call says whether there was the memory for it.
+// Each of these calls adds to a buffer, and tells whether there was the memory for it.
 
 fn put_u8(out: &mut Vec<u8>, byte: u8) -> bool
     ensures { IsTrue result → out.new.items ≡ out.old.items ++ byte ∷ [] }
@@ -227,7 +227,7 @@ fn put_closed(out: &mut Vec<u8>, txn: TxnId, coordinator: ShardNo, outcome: Opti
     put_outcome(out, outcome)
 }
 
-// The byte for its kind.
+// Gives the byte for its kind.
 fn kind_of(record: &Record) -> u8
     ensures { result ≡ kind «record».now }
 {
@@ -292,7 +292,7 @@ fn put_record(out: &mut Vec<u8>, record: &Record) -> bool
     put_u8(out, kind_of(record)) && put_fields(out, record)
 }
 
-/// The one spelling of a record.
+/// Writes the one spelling of a record into a new buffer. It is refused for want of memory alone.
 pub fn encode(alloc: Global, record: &Record) -> Result<Vec<u8>, Fault>
     ensures spelling { IfOk result (λ bytes. bytes.items ≡ spelling «record».now) }
     // The types of its parts keep the limits.
@@ -307,7 +307,8 @@ pub fn encode(alloc: Global, record: &Record) -> Result<Vec<u8>, Fault>
     Ok(out)
 }
 
-/// The one spelling of a record, behind what stands in a buffer.
+/// Writes the one spelling of a record at the end of a buffer. It is refused for want of memory alone; the buffer may
+/// then end with a part of the spelling.
 pub fn encode_into(out: &mut Vec<u8>, record: &Record) -> Result<(), Fault>
     ensures spelling { OnOk result (out.new.items ≡ out.old.items ++ spelling «record».now) }
     ensures fits { OnOk result (IsRecord «record».now) }
@@ -320,7 +321,7 @@ pub fn encode_into(out: &mut Vec<u8>, record: &Record) -> Result<(), Fault>
     }
 }
 
-/// Two spellings, one of them at the beginning of the other, are of one record.
+/// States that if one spelling begins another, both are of one record. It does nothing.
 pub fn none_begins_another()
     ensures { NoneBeginsAnother }
 {}

@@ -1,4 +1,5 @@
-//! Readings of a clock with a known uncertainty, as from TrueTime, and commit wait: a timestamp has surely passed, or it is too early.
+//! Readings of a clock with a known uncertainty, as from TrueTime, and commit wait, which refuses a timestamp that
+//! has not surely passed.
 #![tactic(auto)]
 
 mod reading;

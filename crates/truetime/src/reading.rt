@@ -4,8 +4,8 @@ ghost use Rattle.truetime.specs.Reading.{surely_after, surely_before};
 use std::marker::Model;
 use units::{Fault, Reason, Stamp};
 
-/// An interval of a clock, `earliest` at most `latest`, that holds the true time at which it was asked (TrueTime's
-/// `TT.now()`). It is honest where it really does.
+/// What a clock answers (TrueTime's `TT.now()`): an interval from `earliest` to `latest`. It is honest if it holds
+/// the true time at which the clock was asked.
 #[derive(Clone, Copy)]
 pub struct Reading {
     earliest: Stamp,
@@ -26,7 +26,7 @@ impl Model for Reading {
 }
 
 impl Reading {
-    /// The interval between two timestamps. One whose first end is above its second is refused as `stamp`.
+    /// Makes the interval between two timestamps. `BadRequest(Stamp)` comes if `earliest` is above `latest`.
     pub fn new(earliest: Stamp, latest: Stamp) -> Result<Reading, Fault>
         ensures { MatchResult result (λ now. (now.earliest ≡ earliest) × (now.latest ≡ latest)
             × (earliest ≤ latest))
@@ -39,7 +39,7 @@ impl Reading {
         }
     }
 
-    /// The true time is not before it.
+    /// Gives the earliest end: an honest reading says that the true time is not before it.
     pub fn earliest(self) -> Stamp
         ensures value { result ≡ self.earliest }
         ensures ordered { self.earliest ≤ self.latest }
@@ -47,7 +47,7 @@ impl Reading {
         self.earliest
     }
 
-    /// The true time is not after it.
+    /// Gives the latest end: an honest reading says that the true time is not after it.
     pub fn latest(self) -> Stamp
         ensures value { result ≡ self.latest }
         ensures ordered { self.earliest ≤ self.latest }
@@ -55,14 +55,14 @@ impl Reading {
         self.latest
     }
 
-    /// The timestamp has surely passed (`TT.after`).
+    /// Tells whether a timestamp has surely passed by this reading (`TT.after`).
     pub fn after(self, at: Stamp) -> bool
         ensures { result ≡ surely_after self at }
     {
         self.earliest.micros() > at.micros()
     }
 
-    /// The timestamp has surely not come (`TT.before`).
+    /// Tells whether a timestamp has surely not come yet by this reading (`TT.before`).
     pub fn before(self, at: Stamp) -> bool
         ensures { result ≡ surely_before self at }
     {
@@ -70,7 +70,8 @@ impl Reading {
     }
 }
 
-/// Where readings come from. A clock that has none answers `None`.
+/// A source of readings.
 pub trait Clock {
+    /// Asks the clock. `None` means that it has no reading now.
     fn now(&mut self) -> Option<Reading>;
 }

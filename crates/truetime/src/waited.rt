@@ -4,8 +4,9 @@ use crate::Reading;
 use std::marker::Model;
 use units::{Fault, Stamp};
 
-/// The word that a timestamp has surely passed. Only `pass` makes it, and it has to be spent. Whoever holds one may tell
-/// of a commit at that timestamp (Spanner's commit wait: nobody sees the data before `TT.after` of the timestamp).
+/// A token that a timestamp has surely passed (Spanner's commit wait: nobody sees the data before `TT.after` of the
+/// timestamp). Only `pass` makes it, and it has to be spent. Whoever holds one may tell of a commit at that
+/// timestamp.
 pub struct Waited {
     at: Stamp,
 }
@@ -19,14 +20,14 @@ impl Model for Waited {
 }
 
 impl Waited {
-    /// The timestamp that has passed.
+    /// Gives the timestamp that has passed.
     pub fn at(&self) -> Stamp
         ensures { result ≡ self.now }
     {
         self.at
     }
 
-    /// Spends the word.
+    /// Spends the token, and gives the timestamp.
     pub fn spend(self) -> Stamp
         ensures { result ≡ self }
     {
@@ -35,7 +36,8 @@ impl Waited {
     }
 }
 
-/// The word that a timestamp has passed by this reading, whose earliest end is above it; else it is `Early`.
+/// Makes the token that a timestamp has passed, if the earliest end of this reading is above it. `Early` means that
+/// it has not surely passed: ask again with a later reading.
 pub fn pass(at: Stamp, now: &Reading) -> Result<Waited, Fault>
     ensures { MatchResult result (λ waited. (waited ≡ at) × (at < now.now.earliest))
         (λ fault. (fault ≡ Fault.Early) × (now.now.earliest ≤ at)) }

@@ -11,8 +11,8 @@ use std::cmp::Ordering;
 use std::hash::{Hash, Hasher};
 use std::marker::Model;
 
-/// A key of 1 to 64 bytes. It is a plain value, so a copy of it takes no memory. Keys are ordered by their bytes: a key comes
-/// before each longer one that it begins.
+/// A key of 1 to 64 bytes. It is a plain value, so a copy of it takes no memory. Keys are ordered by their bytes: a
+/// key comes before each longer one that it begins.
 #[derive(Clone, Copy)]
 pub struct Key {
     bytes: [u8; 64],
@@ -38,7 +38,7 @@ impl Model for Key {
 }
 
 impl Key {
-    /// The key with these bytes.
+    /// Makes the key of these bytes. `BadRequest(Key)` comes if there are none, or more than 64.
     pub fn new(bytes: &[u8]) -> Result<Key, Fault>
         ensures { MatchResult result (λ key. (key ≡ bytes.now) × (1 ≤ length bytes.now)
             × (length bytes.now ≤ 64))
@@ -56,7 +56,7 @@ impl Key {
         })
     }
 
-    /// Its bytes.
+    /// Gives its bytes.
     pub fn as_bytes(&self) -> &[u8]
         ensures same { result.now ≡ self.now }
         ensures least { 1 ≤ length result.now }

@@ -7,7 +7,7 @@ use crate::{Fault, Key};
 use std::alloc::Global;
 use std::marker::Model;
 
-/// At most 128 keys, strictly ascending by bytes.
+/// At most 128 keys, strictly ascending by bytes, such as those that a transaction reads.
 pub struct Keys {
     keys: Vec<Key>,
 }
@@ -32,7 +32,7 @@ impl Model for Keys {
 }
 
 impl Keys {
-    /// No key.
+    /// Makes an empty list of keys.
     pub fn none(alloc: Global) -> Keys
         ensures { result ≡ [] }
     {
@@ -41,7 +41,8 @@ impl Keys {
         }
     }
 
-    /// The keys of a list, which is handed back where they do not ascend or are more than 128.
+    /// Takes the keys of a list. The list is handed back if they do not strictly ascend, or if they are more than
+    /// 128.
     pub fn from_vec(keys: Vec<Key>) -> Result<Keys, Vec<Key>>
         ensures { MatchResult result (λ taken. (taken ≡ keys.items) × (length keys.items ≤ 128)
             × IsTrue (ascends key_before keys.items))
@@ -54,7 +55,7 @@ impl Keys {
         Ok(Keys { keys })
     }
 
-    /// Equal keys with memory of their own.
+    /// Copies the list into memory of its own.
     pub fn copy(&self, alloc: Global) -> Result<Keys, Fault>
         ensures same { IfOk result (λ keys. keys ≡ self.now) }
         ensures memory { IfErr result (λ fault. fault ≡ Fault.Memory) }
@@ -63,7 +64,7 @@ impl Keys {
         Ok(Keys { keys })
     }
 
-    /// The keys in order.
+    /// Gives the keys in order.
     pub fn as_slice(&self) -> &[Key]
         ensures same { result.now ≡ self.now }
         ensures few { length result.now ≤ 128 }
@@ -73,7 +74,7 @@ impl Keys {
     }
 }
 
-/// Each key is before the next one.
+/// Tells whether each key is before the next one.
 pub(crate) fn ascend(keys: &[Key]) -> bool
     ensures { result ≡ ascends key_before keys.now }
 {

@@ -1,5 +1,5 @@
-//! The small words of the store: timestamps, ids of transactions, keys, values, shards, writes, locks, report lines and
-//! the refusals of every call. Each type keeps its limits.
+//! The small types of the store: timestamps, ids of transactions, keys, values, shards, writes, locks, report lines
+//! and the faults of every call. Each type keeps its limits.
 #![tactic(auto)]
 
 mod fault;

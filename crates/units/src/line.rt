@@ -1,14 +1,16 @@
-//! What looks and reports show.
+//! What looks and reports show, and the verdict on a report.
 use crate::{Key, Stamp, TxnId, Value};
 
-/// What a look saw: nothing, or a value of that many bytes at the front of the buffer.
+/// What a look saw: no value, or a value of so many bytes at the front of the buffer.
 #[derive(Clone, Copy, PartialEq, Eq)]
 pub enum Seen {
     Absent,
     Value(usize),
 }
 
-/// A line of a report, in the order of events. The last number of `Begin` and `Ack` is the event's.
+/// A line of a report, in the order of events. `Begin`: a transaction began, at the event of this number. `Ack`: its
+/// commit at a timestamp was acknowledged, at the event of this number. `Read`: a transaction read a key. `Look`: a
+/// look at a key and a timestamp was answered.
 pub enum Line {
     Begin(TxnId, u64),
     Ack(TxnId, Stamp, u64),
@@ -26,8 +28,10 @@ impl Drop for Line {
     }
 }
 
-/// The verdict on logs and lines: all is well, or the first fault. An id is not whole, or its acknowledged commit is
-/// missing; a line shows a wrong value; a begin line and an earlier acknowledgement are out of order.
+/// The verdict on logs and the lines of a report: `Yes`, or the first fault. `Torn`: the transaction of this id is
+/// not whole. `Lost`: its acknowledged commit is missing. `WrongRead`: the line at this place shows a wrong value.
+/// `WrongOrder`: the begin line at one place and the earlier acknowledgement at the other are out of order. Places
+/// count from 0.
 #[derive(Clone, Copy)]
 pub enum Verdict {
     Yes,

@@ -4,24 +4,24 @@ ghost use Rattle.std.specs.Prelude.{◌≡◌};
 use crate::{Key, TxnId};
 use std::marker::Model;
 
-/// The most transactions that a shard has rows and locks of at a time.
+/// The most transactions that may have rows and locks at a shard at the same time.
 pub const MOST_ROWS: usize = 1024;
 
-/// How a lock is held: several transactions may share a key, one alone holds it exclusively.
+/// How a lock is held: several transactions may share a key, but only one holds it exclusively.
 #[derive(Clone, Copy, PartialEq, Eq)]
 pub enum Mode {
     Shared,
     Exclusive,
 }
 
-/// A key with the way in which it is locked.
+/// A key, and how it is locked.
 #[derive(Clone, Copy)]
 pub struct Lock {
     pub key: Key,
     pub mode: Mode,
 }
 
-/// Ids of transactions, in ascending order.
+/// Ids of transactions, the oldest first. Nothing checks that they ascend.
 pub struct Ids {
     ids: Vec<TxnId>,
 }
@@ -42,14 +42,14 @@ impl Model for Ids {
 }
 
 impl Ids {
-    /// The ids of a list, which ascend.
+    /// Takes the ids of a list, which should ascend.
     pub fn from_vec(ids: Vec<TxnId>) -> Ids
         ensures { result ≡ ids.items }
     {
         Ids { ids }
     }
 
-    /// The ids, the oldest first.
+    /// Gives the ids, the oldest first.
     pub fn as_slice(&self) -> &[TxnId]
         ensures { result.now ≡ self.now }
     {
@@ -57,7 +57,8 @@ impl Ids {
     }
 }
 
-/// The answer to a request for locks: it is granted, it waits, or these younger holders are to be ended first.
+/// The answer to a request for locks. `Granted`: the transaction holds them. `Waits`: it waits for them. `Wounds`:
+/// these younger holders are to be ended first, and then the request is made again.
 #[derive(Drop)]
 pub enum Asked {
     Granted,

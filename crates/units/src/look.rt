@@ -1,12 +1,14 @@
-//! A look at a key and a timestamp: whether it is answered, and what it puts into the buffer of its caller.
+//! How a look at a key and a timestamp is answered: whether it may be, and what it puts into the buffer of its
+//! caller.
 ghost use Rattle.std.specs.Prelude.{◌≡◌, ◌⊎◌, ◌≤◌, ◌<◌, IsTrue, IsFalse, OnOk, IfErr, Some, length};
 ghost use Rattle.std.specs.Option.{option_copied};
 ghost use Rattle.units.specs.Looks.{IsRefusedLook, value_seen, buffer_filled};
 
 use crate::{Fault, Seen, Stamp, Value};
 
-/// Whether a look is answered, by where its key belongs, the horizon and the last timestamp that is served: a key of another shard is a
-/// `Stranger`, else a timestamp below the horizon is `TooOld`, else one above what is served is `NotYet`.
+/// Tells whether a look may be answered. `Stranger`: its key belongs to another shard. `TooOld`: its timestamp is
+/// below the horizon, so take a later one. `NotYet`: its timestamp is above the last one that is served, so try again
+/// later. If several hold, the first of them comes.
 pub fn may_look(is_here: bool, horizon: Stamp, safe: Stamp, at: Stamp) -> Result<(), Fault>
     ensures served { OnOk result (IsTrue is_here × (horizon ≤ at) × (at ≤ safe)) }
     ensures refused { IfErr result (IsRefusedLook is_here horizon safe at) }
@@ -23,8 +25,8 @@ pub fn may_look(is_here: bool, horizon: Stamp, safe: Stamp, at: Stamp) -> Result
     Ok(())
 }
 
-/// Puts the bytes of a value, where there is one, at the front of a buffer. Where they have no room it answers `Room`, and the buffer is as
-/// it was.
+/// Puts the bytes of a value, if there is one, at the front of a buffer. `Room` comes if the buffer is too short, and
+/// leaves it as it was: try again with a longer one.
 pub fn show(value: Option<&Value>, buffer: &mut [u8]) -> Result<Seen, Fault>
     ensures answer { result ≡ value_seen (option_copied value.entry) (length buffer.old) }
     ensures buffer { buffer.new ≡ buffer_filled (option_copied value.entry) buffer.old }
@@ -35,7 +37,7 @@ pub fn show(value: Option<&Value>, buffer: &mut [u8]) -> Result<Seen, Fault>
     }
 }
 
-// Puts the bytes at the front of a buffer, where they have room.
+// Puts the bytes at the front of a buffer, if they have room.
 fn put_in_front(bytes: &[u8], buffer: &mut [u8]) -> Result<Seen, Fault>
     ensures answer { result ≡ value_seen (Some bytes.now) (length buffer.old) }
     ensures buffer { buffer.new ≡ buffer_filled (Some bytes.now) buffer.old }

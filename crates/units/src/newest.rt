@@ -6,7 +6,7 @@ ghost use Rattle.units.specs.Newer.{newer, newest_upto};
 
 use crate::{Install, Key, Stamp, Value};
 
-/// The value of a key at a time.
+/// Finds the value of a key at a timestamp. `None` comes if the key is erased then, or has no version yet.
 #[tactic(auto, using(crate::proofs::Latest::value_of))]
 pub fn value_at<'a>(installs: &'a [Install], key: &Key, at: Stamp) -> Option<&'a Value>
     ensures { option_copied result ≡ at_time installs.now key.now at }
@@ -17,7 +17,7 @@ pub fn value_at<'a>(installs: &'a [Install], key: &Key, at: Stamp) -> Option<&'a
     }
 }
 
-// The newest version of the key up to the time.
+// Finds the newest version of the key up to the timestamp.
 fn newest_at<'a>(installs: &'a [Install], key: &Key, at: Stamp) -> Option<&'a Install>
     ensures { option_copied result ≡ newest_upto installs.now key.now at }
 {
@@ -30,7 +30,7 @@ fn newest_at<'a>(installs: &'a [Install], key: &Key, at: Stamp) -> Option<&'a In
     best
 }
 
-// The version itself, where it is of the key and of a time that has come, unless a later one is known.
+// Gives the version, if it is of the key and not above the timestamp, unless a later one is known.
 fn newer<'a>(
     one: &'a Install,
     best: Option<&'a Install>,

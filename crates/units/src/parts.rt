@@ -8,8 +8,8 @@ use crate::{Fault, ShardNo};
 use std::alloc::Global;
 use std::marker::Model;
 
-/// The shards that take part in a transaction, at least one. Shard n is the bit 2^n; a contract sees the numbers in
-/// ascending order.
+/// The shards that take part in a transaction, at least one. Its mask has the bit 2^n for shard n. A contract sees
+/// their numbers in ascending order.
 #[derive(Clone, Copy)]
 pub struct Parts {
     mask: u16,
@@ -33,7 +33,7 @@ impl Model for Parts {
 }
 
 impl Parts {
-    /// The shards of a mask, where there is at least one.
+    /// Makes the shards of a mask. `None` comes if the mask has no bit.
     pub fn from_mask(mask: u16) -> Option<Parts>
         ensures { result ≡ (if nat_eq mask 0 then None else Some (shards_of_mask mask)) }
     {
@@ -44,7 +44,7 @@ impl Parts {
         }
     }
 
-    /// One shard alone.
+    /// Makes a set of one shard alone.
     pub fn only(shard: ShardNo) -> Parts
         ensures { result ≡ shard ∷ [] }
     {
@@ -52,7 +52,7 @@ impl Parts {
         Parts { mask: 1 << number }
     }
 
-    /// The shards of a list, each once, where there is at least one.
+    /// Makes the shards of a list, each once. `None` comes if the list is empty.
     pub fn of(shards: &[ShardNo]) -> Option<Parts>
         ensures none { IfNone result (sorted nat_lt (once shards.now) ≡ []) }
         ensures some { IfSome result (λ parts. parts ≡ sorted nat_lt (once shards.now)) }
@@ -60,7 +60,7 @@ impl Parts {
         Parts::from_mask(mask_from(shards, 16, 0))
     }
 
-    /// The shards in ascending order.
+    /// Lists the shards in ascending order.
     pub fn shards(self, alloc: Global) -> Result<Vec<ShardNo>, Fault>
         ensures same { IfOk result (λ shards. shards.items ≡ self) }
         ensures memory { IfErr result (λ fault. fault ≡ Fault.Memory) }
@@ -76,7 +76,7 @@ impl Parts {
         Ok(shards)
     }
 
-    /// The least of them, which is the coordinator.
+    /// Gives the least of them, which is the coordinator.
     pub fn least(self) -> ShardNo
         ensures { head self ≡ Some result }
     {
@@ -89,21 +89,21 @@ impl Parts {
         ShardNo::of_count(number as usize)
     }
 
-    /// The shard is one of them.
+    /// Tells whether the shard is one of them.
     pub fn has(self, shard: ShardNo) -> bool
         ensures { result ≡ has self shard }
     {
         has_from(self.mask, 16, 0, shard.number())
     }
 
-    /// Another shard is one of them.
+    /// Tells whether another shard than this is one of them.
     pub fn has_others(self, shard: ShardNo) -> bool
         ensures { result ≡ list_any (λ n. not (nat_eq n shard)) self }
     {
         has_others_from(self.mask, 16, 0, shard.number())
     }
 
-    /// Their mask.
+    /// Gives their mask.
     pub fn mask(self) -> u16
         ensures value { result ≡ mask_of self }
         ensures shards { shards_of_mask result ≡ self }
@@ -113,7 +113,7 @@ impl Parts {
     }
 }
 
-// A shard is among those of some bits, from number n on.
+// Tells whether a shard is among those of some bits, from number n on.
 #[tactic(auto, using(crate::specs::Parts::no_shards))]
 fn has_from(mask: u16, bits: u32, n: u8, shard: u8) -> bool
     requires { bits + n ≡ 16 }
@@ -125,7 +125,7 @@ fn has_from(mask: u16, bits: u32, n: u8, shard: u8) -> bool
     (mask % 2 == 1 && shard == n) || has_from(mask / 2, bits - 1, n + 1, shard)
 }
 
-// Another shard is among those of some bits, from number n on.
+// Tells whether another shard is among those of some bits, from number n on.
 #[tactic(auto, using(crate::specs::Parts::no_shards))]
 fn has_others_from(mask: u16, bits: u32, n: u8, shard: u8) -> bool
     requires { bits + n ≡ 16 }
@@ -137,7 +137,7 @@ fn has_others_from(mask: u16, bits: u32, n: u8, shard: u8) -> bool
     (mask % 2 == 1 && n != shard) || has_others_from(mask / 2, bits - 1, n + 1, shard)
 }
 
-// The bits of the shards of a list, from number n on.
+// Gives the bits of the shards of a list, from number n on.
 fn mask_from(shards: &[ShardNo], bits: u32, n: u8) -> u16
     requires { bits + n ≡ 16 }
     ensures limit { result < 2 ^ bits }
@@ -152,7 +152,7 @@ fn mask_from(shards: &[ShardNo], bits: u32, n: u8) -> u16
     2 * above + bit
 }
 
-// The list has the shard of this number.
+// Tells whether the list has the shard of this number.
 fn is_among(shards: &[ShardNo], n: u8) -> bool
     ensures among { result ≡ has shards.now n }
     ensures small { list_all (λ k. nat_lt k 16) shards.now ≡ true }

@@ -28,7 +28,7 @@ impl Stride {
     /// The greatest stride, in microseconds.
     pub const MAX: u64 = 10_000_000;
 
-    /// The stride of this many microseconds, where it is within the limit.
+    /// Makes the stride of this many microseconds. `None` comes above `Stride::MAX`.
     pub fn new(micros: u64) -> Option<Stride>
         ensures value { IfSome result (λ stride. stride ≡ micros) }
         ensures limit { IsSome result ↔ (micros ≤ 10000000) }
@@ -40,7 +40,7 @@ impl Stride {
         }
     }
 
-    /// Its microseconds.
+    /// Gives its microseconds.
     pub fn micros(self) -> u64
         ensures same { result ≡ self }
         ensures limit { result ≤ 10000000 }
@@ -68,10 +68,10 @@ impl Model for Capacity {
 }
 
 impl Capacity {
-    /// The most inputs of a book.
+    /// The greatest capacity, in inputs.
     pub const MAX: u32 = 65_536;
 
-    /// Room for this many inputs, where it is within the limits.
+    /// Makes the capacity for this many inputs. `None` comes if it is not within the limits.
     pub fn new(entries: u32) -> Option<Capacity>
         ensures value { IfSome result (λ capacity. capacity ≡ entries) }
         ensures limits { IsSome result ↔ ((1 ≤ entries) × (entries ≤ 65536)) }
@@ -83,7 +83,7 @@ impl Capacity {
         }
     }
 
-    /// For how many inputs there is room.
+    /// Gives how many inputs there is room for.
     pub fn entries(self) -> usize
         ensures same { result ≡ self }
         ensures limits { (1 ≤ result) × (result ≤ 65536) }
@@ -92,7 +92,7 @@ impl Capacity {
     }
 }
 
-/// Whether a shard keeps a book of the inputs that it accepts, and for how many that has room.
+/// Whether a shard keeps a book of the inputs that it accepts, and how many it has room for.
 #[derive(Clone, Copy)]
 pub enum Book {
     Off,
@@ -121,7 +121,7 @@ impl Drop for Setup {
 impl Setup {
     ghost use Rattle.units.specs.Keys.{shard_of};
 
-    /// The same setup with memory of its own. It is refused for want of memory alone.
+    /// Copies the setup into memory of its own. It is refused for want of memory alone.
     pub fn copy(&self, alloc: Global) -> Result<Setup, Fault>
         ensures same { IfOk result (λ copied. copied ≡ self.now) }
         ensures memory { IfErr result (λ fault. fault ≡ Fault.Memory) }
@@ -134,14 +134,14 @@ impl Setup {
         })
     }
 
-    /// The key belongs to this shard.
+    /// Tells whether the key belongs to this shard.
     pub fn owns(&self, key: &Key) -> bool
         ensures { result ≡ nat_eq (shard_of self.now.splits key.now) self.now.shard }
     {
         self.splits.shard_of(key) == self.shard
     }
 
-    /// Each key that is written belongs to this shard.
+    /// Tells whether each key that is written belongs to this shard.
     pub fn owns_writes(&self, writes: &Writes) -> bool
         ensures { result ≡
             list_all (λ w. nat_eq (shard_of self.now.splits w.key) self.now.shard) writes.now }

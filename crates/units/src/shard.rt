@@ -24,7 +24,7 @@ impl Model for ShardNo {
 }
 
 impl ShardNo {
-    /// The shard of this number, where it is below 16.
+    /// Makes the number of a shard. `None` comes if it is not below 16.
     pub fn new(number: u8) -> Option<ShardNo>
         ensures { result ≡ (if nat_lt number 16 then Some number else None) }
     {
@@ -35,7 +35,7 @@ impl ShardNo {
         }
     }
 
-    /// The shard of a number that is known to be below 16.
+    /// Makes the number of a shard from a count that is below 16.
     pub(crate) fn of_count(count: usize) -> ShardNo
         requires { count < 16 }
         ensures { result ≡ count }
@@ -45,7 +45,7 @@ impl ShardNo {
         }
     }
 
-    /// Its number.
+    /// Gives its number.
     pub fn number(self) -> u8
         ensures same { result ≡ self }
         ensures limit { result < 16 }

@@ -1,4 +1,4 @@
-//! The keys that part the shards.
+//! The keys that divide all keys among the shards.
 ghost use Rattle.std.specs.Prelude.{◌≡◌, ◌≤◌, ◌<◌, ◌⊎◌, IsTrue, IsFalse, length, not, IsOk, IfOk, IfErr};
 ghost use Rattle.units.specs.Keys.{key_before, shard_of};
 ghost use Rattle.units.specs.Lists.{ascends, count};
@@ -8,7 +8,8 @@ use crate::{Fault, Key, Reason, ShardNo};
 use std::alloc::Global;
 use std::marker::Model;
 
-/// The keys that part the shards, at most 15, strictly ascending. There is one shard more than splits.
+/// The keys that divide all keys among the shards: at most 15, strictly ascending. There is one shard more than
+/// splits.
 pub struct Splits {
     keys: Vec<Key>,
 }
@@ -33,8 +34,8 @@ impl Model for Splits {
 }
 
 impl Splits {
-    /// The splits at these keys. More than 15 are `many`, also where they do not ascend; else keys that do not ascend are
-    /// `splits`.
+    /// Makes the splits at these keys. `BadRequest(Many)` comes if they are more than 15. `BadRequest(Splits)` comes
+    /// if they are at most 15 and do not strictly ascend.
     pub fn new(alloc: Global, keys: &[Key]) -> Result<Splits, Fault>
         ensures made { IfOk result (λ splits. splits ≡ keys.now) }
         ensures fits { IsOk result → (length keys.now ≤ 15) × IsTrue (ascends key_before keys.now) }
@@ -55,7 +56,7 @@ impl Splits {
         Ok(Splits { keys })
     }
 
-    /// The splits in order.
+    /// Gives the splits in order.
     pub fn as_slice(&self) -> &[Key]
         ensures same { result.now ≡ self.now }
         ensures few { length result.now ≤ 15 }
@@ -63,7 +64,7 @@ impl Splits {
         self.keys.as_slice()
     }
 
-    /// Equal splits with memory of their own.
+    /// Copies the splits into memory of their own.
     pub fn copy(&self, alloc: Global) -> Result<Splits, Fault>
         ensures same { IfOk result (λ splits. splits ≡ self.now) }
         ensures memory { IfErr result (λ fault. fault ≡ Fault.Memory) }
@@ -72,7 +73,7 @@ impl Splits {
         Ok(Splits { keys })
     }
 
-    /// The shard that a key belongs to: the number of splits that are not greater than the key.
+    /// Finds the shard of a key: its number is how many splits are not greater than the key.
     #[tactic(auto, unfolding(crate::specs::Keys::shard_of))]
     pub fn shard_of(&self, key: &Key) -> ShardNo
         ensures { result ≡ shard_of self.now key.now }
@@ -81,7 +82,7 @@ impl Splits {
     }
 }
 
-// How many splits are not greater than the key.
+// Counts the splits that are not greater than the key.
 fn count_up_to(splits: &[Key], key: &Key) -> usize
     ensures value { result ≡ count (λ split. not (key_before key.now split)) splits.now }
     ensures limit { result ≤ length splits.now }

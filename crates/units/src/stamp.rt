@@ -30,7 +30,7 @@ impl Stamp {
     /// The greatest timestamp, in microseconds.
     pub const MAX: u64 = 4_611_686_018_427_387_903;
 
-    /// The timestamp at this many microseconds.
+    /// Makes the timestamp of this many microseconds. `BadRequest(Stamp)` comes above `Stamp::MAX`.
     pub fn new(micros: u64) -> Result<Stamp, Fault>
         ensures { result ≡
             (if nat_lt micros (2 ^ 62) then Ok micros else Err (BadRequest stamp_reason)) }
@@ -42,14 +42,14 @@ impl Stamp {
         }
     }
 
-    /// The timestamp 0.
+    /// Gives the timestamp 0.
     pub fn zero() -> Stamp
         ensures { result ≡ 0 }
     {
         Stamp { micros: 0 }
     }
 
-    /// The next timestamp.
+    /// Gives the next timestamp, a microsecond later. `TimeSpent` comes after the greatest one.
     pub fn above(stamp: Stamp) -> Result<Stamp, Fault>
         ensures { MatchResult result (λ next. (next ≡ stamp + 1) × (stamp + 1 < 2 ^ 62))
             (λ fault. (fault ≡ TimeSpent) × (2 ^ 62 ≤ stamp + 1)) }
@@ -63,7 +63,7 @@ impl Stamp {
         }
     }
 
-    /// The later of two timestamps.
+    /// Gives the later of two timestamps.
     pub fn later(self, other: Stamp) -> Stamp
         ensures { result ≡ max self other }
     {
@@ -74,7 +74,7 @@ impl Stamp {
         }
     }
 
-    /// Its microseconds.
+    /// Gives its microseconds.
     pub fn micros(self) -> u64
         ensures same { result ≡ self }
         ensures limit { result < 2 ^ 62 }
@@ -92,7 +92,7 @@ impl fmt::Display for Stamp {
     }
 }
 
-/// The epoch of a shard: its openings are counted from 1 on, up to 2^62 - 1.
+/// The epoch of a shard: how often its log was opened, counted from 1 on, up to 2^62 - 1.
 #[derive(Clone, Copy, PartialEq, Eq, PartialOrd, Ord)]
 pub struct Epoch {
     number: u64,
@@ -111,7 +111,7 @@ impl Model for Epoch {
 }
 
 impl Epoch {
-    /// The epoch of this number, where it is within the limits.
+    /// Makes the epoch of this number. `None` comes if it is not within the limits.
     pub fn new(number: u64) -> Option<Epoch>
         ensures value { IfSome result (λ epoch. epoch ≡ number) }
         ensures limits { IsSome result ↔ ((1 ≤ number) × (number < 2 ^ 62)) }
@@ -123,14 +123,14 @@ impl Epoch {
         }
     }
 
-    /// The epoch of a shard's first opening.
+    /// Gives the epoch of a shard's first opening.
     pub fn first() -> Epoch
         ensures { result ≡ 1 }
     {
         Epoch { number: 1 }
     }
 
-    /// The epoch of the next opening.
+    /// Gives the epoch of the next opening. `TimeSpent` comes after the greatest one.
     pub fn next(self) -> Result<Epoch, Fault>
         ensures { MatchResult result (λ next. (next ≡ self + 1) × (self + 1 < 2 ^ 62))
             (λ fault. (fault ≡ TimeSpent) × (2 ^ 62 ≤ self + 1)) }
@@ -144,7 +144,7 @@ impl Epoch {
         }
     }
 
-    /// Its number.
+    /// Gives its number.
     pub fn number(self) -> u64
         ensures same { result ≡ self }
         ensures least { 1 ≤ result }

@@ -5,7 +5,7 @@ ghost use Rattle.units.specs.Texts.{txn_text};
 use std::fmt;
 use std::marker::Model;
 
-/// The number of a run, from 1 to 2^62 - 1.
+/// The number of a run, from 1 to 2^62 - 1. It tells the ids of one opening of a store from those of all others.
 #[derive(Clone, Copy, PartialEq, Eq)]
 pub struct Run {
     number: u64,
@@ -24,7 +24,7 @@ impl Model for Run {
 }
 
 impl Run {
-    /// The run of this number, where it is within the limits.
+    /// Makes the run of this number. `None` comes if it is not within the limits.
     pub fn new(number: u64) -> Option<Run>
         ensures value { IfSome result (λ run. run ≡ number) }
         ensures limits { IsSome result ↔ ((1 ≤ number) × (number < 2 ^ 62)) }
@@ -36,7 +36,7 @@ impl Run {
         }
     }
 
-    /// Its number.
+    /// Gives its number.
     pub fn number(self) -> u64
         ensures same { result ≡ self }
         ensures least { 1 ≤ result }
@@ -46,7 +46,7 @@ impl Run {
     }
 }
 
-/// A transaction's id: the run that made it, from 1 on, and its number in that run, both below 2^62. Its text is
+/// The id of a transaction: its run, from 1 on, and its number in that run, both below 2^62. Its text is
 /// `run.number`. Ids are ordered by run, then by number; a smaller id is an older transaction.
 #[derive(Clone, Copy, PartialEq, Eq, PartialOrd, Ord, Hash)]
 pub struct TxnId {
@@ -68,7 +68,7 @@ impl Model for TxnId {
 }
 
 impl TxnId {
-    /// The id, where both numbers are within their limits.
+    /// Makes an id. `None` comes if a number is not within its limits.
     pub fn new(run: u64, number: u64) -> Option<TxnId>
         ensures value { IfSome result (λ t. (t.run ≡ run) × (t.number ≡ number)) }
         ensures limits { IsSome result ↔ ((1 ≤ run) × (run < 2 ^ 62) × (number < 2 ^ 62)) }
@@ -80,7 +80,7 @@ impl TxnId {
         }
     }
 
-    /// The run that made it.
+    /// Gives the run that made it.
     pub fn run(self) -> u64
         ensures value { result ≡ self.run }
         ensures least { 1 ≤ result }
@@ -89,7 +89,7 @@ impl TxnId {
         self.run
     }
 
-    /// Its number in that run.
+    /// Gives its number in that run.
     pub fn number(self) -> u64
         ensures value { result ≡ self.number }
         ensures limit { result < 2 ^ 62 }

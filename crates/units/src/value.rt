@@ -7,7 +7,7 @@ use std::alloc::Global;
 use std::marker::Model;
 use std::sync::Arc;
 
-// So many bytes stand beside the count of the owners, in one block, and more in a second one.
+// At most so many bytes stand beside the count of the owners, in one block. Longer values stand in a second block.
 const SHORT: usize = 24;
 
 /// A value of at most 4,096 bytes. Copies share its bytes, and count who shares them.
@@ -15,7 +15,7 @@ pub struct Value {
     text: Text,
 }
 
-// The bytes. How many a short text has stands here, so that who copies them need not wait for its block.
+// The bytes. The length of a short text stands here, so that a copy need not wait for its block.
 #[derive(Drop)]
 enum Text {
     Short { bytes: Arc<[u8; SHORT]>, len: u8 },
@@ -40,7 +40,8 @@ impl Model for Value {
 }
 
 impl Value {
-    /// The value with these bytes.
+    /// Makes the value of these bytes. `BadRequest(Value)` comes if they are more than 4,096. `Memory` comes if there
+    /// is none for them.
     pub fn new(alloc: Global, bytes: &[u8]) -> Result<Value, Fault>
         ensures { MatchResult result (λ value. (value ≡ bytes.now) × (length bytes.now ≤ 4096))
             (λ fault. ((fault ≡ Fault.Memory) × (length bytes.now ≤ 4096))
@@ -57,7 +58,7 @@ impl Value {
         Ok(Value { text })
     }
 
-    /// Its bytes.
+    /// Gives its bytes.
     pub fn as_bytes(&self) -> &[u8]
         ensures same { result.now ≡ self.now }
         ensures limit { length result.now ≤ 4096 }
@@ -68,7 +69,7 @@ impl Value {
         }
     }
 
-    /// An equal value, which shares its bytes. `Memory` where their owners can't be counted any more.
+    /// Copies the value. Both share its bytes. `Memory` comes if their owners cannot be counted any more.
     pub fn copy(&self) -> Result<Value, Fault>
         ensures same { IfOk result (λ value. value ≡ self.now) }
         ensures memory { IfErr result (λ fault. fault ≡ Fault.Memory) }
@@ -84,7 +85,7 @@ impl Value {
     }
 }
 
-// The text of few bytes.
+// Makes the text of at most 24 bytes.
 fn short(alloc: Global, bytes: &[u8]) -> Result<Text, Fault>
     requires { length bytes.now ≤ 24 }
     ensures text { IfOk result (λ text. (bytes_of text ≡ bytes.now) × IsText text) }
@@ -98,7 +99,7 @@ fn short(alloc: Global, bytes: &[u8]) -> Result<Text, Fault>
     })
 }
 
-/// An equal value, where there is one.
+/// Copies a value, if there is one, as `Value::copy` does.
 pub fn copy_value(value: &Option<Value>) -> Result<Option<Value>, Fault>
     ensures same { IfOk result (λ copy. copy ≡ value.now) }
     ensures memory { IfErr result (λ fault. fault ≡ Fault.Memory) }

@@ -7,7 +7,7 @@ use crate::{Fault, Key, Stamp, Value, copy_value};
 use std::alloc::Global;
 use std::marker::Model;
 
-/// A write of a key: a value, or `None` for an erasure.
+/// A write of a key: a value, or `None` if the key is erased.
 #[derive(Drop)]
 pub struct Write {
     pub key: Key,
@@ -15,7 +15,7 @@ pub struct Write {
 }
 
 impl Write {
-    /// An equal write, which shares its value.
+    /// Copies the write. Both share the bytes of the value.
     pub fn copy(&self) -> Result<Write, Fault>
         ensures same { IfOk result (λ write. write ≡ self.now) }
         ensures memory { IfErr result (λ fault. fault ≡ Fault.Memory) }
@@ -27,7 +27,7 @@ impl Write {
     }
 }
 
-/// A version: what a key holds from a timestamp on, or `None` for its erasure.
+/// A version: what a key holds from a timestamp on, or `None` from its erasure on.
 #[derive(Drop)]
 pub struct Install {
     pub key: Key,
@@ -38,7 +38,7 @@ pub struct Install {
 impl Install {
     ghost use Rattle.units.specs.Versions.{version_before};
 
-    /// An equal version, which shares its value.
+    /// Copies the version. Both share the bytes of the value.
     pub fn copy(&self) -> Result<Install, Fault>
         ensures same { IfOk result (λ install. install ≡ self.now) }
         ensures memory { IfErr result (λ fault. fault ≡ Fault.Memory) }
@@ -50,7 +50,7 @@ impl Install {
         })
     }
 
-    /// It comes before another by key, and then by timestamp.
+    /// Tells whether it comes before another by key, and then by timestamp.
     pub fn is_before(&self, next: &Install) -> bool
         ensures { result ≡ version_before self.now next.now }
     {
@@ -58,7 +58,7 @@ impl Install {
     }
 }
 
-/// At most 128 writes, by strictly ascending keys.
+/// The writes of a transaction: at most 128, by strictly ascending keys.
 pub struct Writes {
     writes: Vec<Write>,
 }
@@ -84,7 +84,7 @@ impl Model for Writes {
 }
 
 impl Writes {
-    /// No write.
+    /// Makes an empty list of writes.
     pub fn none(alloc: Global) -> Writes
         ensures { result ≡ [] }
     {
@@ -93,7 +93,8 @@ impl Writes {
         }
     }
 
-    /// The writes of a list, which is handed back where their keys do not ascend or they are more than 128.
+    /// Takes the writes of a list. The list is handed back if its keys do not strictly ascend, or if it has more than
+    /// 128 writes.
     pub fn from_vec(writes: Vec<Write>) -> Result<Writes, Vec<Write>>
         ensures { MatchResult result (λ taken. (taken ≡ writes.items) × (length writes.items ≤ 128)
             × IsTrue (ascends write_before writes.items))
@@ -106,7 +107,7 @@ impl Writes {
         Ok(Writes { writes })
     }
 
-    /// Equal writes, in a list of their own.
+    /// Copies the list. Both share the bytes of the values.
     pub fn copy(&self, alloc: Global) -> Result<Writes, Fault>
         ensures same { IfOk result (λ writes. writes ≡ self.now) }
         ensures memory { IfErr result (λ fault. fault ≡ Fault.Memory) }
@@ -124,7 +125,7 @@ impl Writes {
         Ok(Writes { writes })
     }
 
-    /// The key is written.
+    /// Tells whether the key is written.
     pub fn writes_key(&self, key: &Key) -> bool
         ensures { result ≡ writes_key self.now key.now }
     {
@@ -136,7 +137,7 @@ impl Writes {
         false
     }
 
-    /// The writes in order.
+    /// Gives the writes in order.
     pub fn as_slice(&self) -> &[Write]
         ensures same { result.now ≡ self.now }
         ensures few { length result.now ≤ 128 }
@@ -145,7 +146,7 @@ impl Writes {
         self.writes.as_slice()
     }
 
-    /// The writes as a plain list.
+    /// Gives up the writes as a plain list.
     pub fn into_vec(self) -> Vec<Write>
         ensures same { result.items ≡ self }
         ensures few { vec_len result ≤ 128 }
@@ -156,7 +157,7 @@ impl Writes {
     }
 }
 
-// Each key is before the next one.
+// Tells whether each key is before the next one.
 fn ascend(writes: &[Write]) -> bool
     ensures { result ≡ ascends write_before writes.now }
 {
