@@ -52,9 +52,9 @@ impl FileDisk {
         Ok(FileDisk::over(file, 0, false))
     }
 
-    /// Opens a file that is there, for reads and writes. It is refused if nothing has that name; if it is a link, a
-    /// folder or a device; if another `FileDisk` has it open for writes; or if the system refuses. Once it has the
-    /// lock, it makes sure that the name is still that of this file.
+    /// Opens a file that is there, for reads and writes. It is refused if nothing has that name, or if a link, a
+    /// folder or a device has it. It is refused too if another `FileDisk` has the file open for writes, or if the
+    /// system refuses. Once it has the lock, it makes sure that the name is still that of this file.
     pub fn open<R: Files<File = File>>(rt: &R, path: &str) -> Result<FileDisk, Cause>
         ensures failures { IfOk result (λ disk. file_failures disk ≡ 0) }
         ensures whole { IfOk result (λ disk. file_is_torn disk ≡ false) }
@@ -69,8 +69,8 @@ impl FileDisk {
 
     /// Opens a file that is there for reads alone. It needs no right to write, takes no lock, and does not ask who
     /// has it. If somebody writes meanwhile, a read may mix the bytes of several moments. A link is followed. It is
-    /// refused if no plain file has that name, or if the system refuses. This is asked before the file is opened, so
-    /// it does not wait for a pipe. Each write and each cut is refused, and a sync does nothing.
+    /// refused if no plain file has that name, or if the system refuses. It looks at what has the name before it
+    /// opens it, so it does not wait for a pipe. Each write and each cut is refused, and a sync does nothing.
     pub fn open_to_read<R: Files<File = File>>(rt: &R, path: &str) -> Result<FileDisk, Cause>
         ensures failures { IfOk result (λ disk. file_failures disk ≡ 0) }
         ensures whole { IfOk result (λ disk. file_is_torn disk ≡ false) }

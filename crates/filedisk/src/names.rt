@@ -22,8 +22,9 @@ pub fn plain(found: io::Result<Metadata>) -> Result<(), Cause> {
     }
 }
 
-/// Locks the file that was opened. It is refused if another open one has the lock, or if the name is not its own any
-/// more: a link, or a file that was renamed or taken away before it was locked.
+/// Locks the file that was opened, and makes sure that the name is still its own. It is refused if another open one
+/// has the lock. It is refused too if the name is a link, or if the file was renamed or taken away before it was
+/// locked.
 pub fn locked<R: Files>(rt: &R, path: &str, opened: io::Result<File>) -> Result<File, Cause> {
     let file = or_cause(opened)?;
     match file.try_lock() {

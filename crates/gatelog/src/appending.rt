@@ -1,4 +1,4 @@
-//! A record is put behind a log.
+//! Putting a record at the end of a log.
 ghost use Rattle.std.specs.Prelude.{◌≡◌, ◌≤◌, ◌+◌, length, IsTrue, OnOk, ℕ, nat_lt};
 ghost use Rattle.disk.specs.Image.{IsSynced};
 ghost use Rattle.disk.specs.File.{surface};
@@ -18,7 +18,7 @@ use disk::Disk;
 use frames::open_behind;
 use units::Fault;
 
-/// Writes the frame of a record behind the closed gate of a log, and opens the gate once it is on the disk.
+/// Writes the frame of a record after the closed gate of a log, and opens the gate once it is on the disk.
 pub fn write_frame<D: Disk>(disk: &mut D, staged: &Staged) -> Result<(), Fault>
     requires synced { D.keeps_model → IsSynced (surface (D.file disk.old)) }
     requires whole { D.keeps_model

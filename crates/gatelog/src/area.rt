@@ -15,7 +15,7 @@ use std::alloc::Global;
 use std::marker::Model;
 use units::Fault;
 
-/// The records of a new area, spelled one by one. What it holds of them are these bytes alone.
+/// The records of a new area, spelled one by one. It holds only their bytes.
 #[derive(Drop)]
 pub struct Area {
     bytes: Vec<u8>,
@@ -38,7 +38,7 @@ impl Model for Area {
 }
 
 impl Area {
-    /// Of no record.
+    /// Makes an area of no record.
     pub fn new(alloc: Global) -> Area
         ensures { result ≡ [] }
     {
@@ -48,7 +48,7 @@ impl Area {
         }
     }
 
-    /// Adds a record behind the others. It is refused for want of memory alone, and then they are as they were.
+    /// Adds a record at the end. It is refused for want of memory alone, and then the area is as it was.
     pub fn push(&mut self, alloc: Global, item: &Record) -> Result<(), Fault>
         ensures added { OnOk result (self.new ≡ self.old ++ item.now ∷ []) }
         ensures same { OnErr result (self.new ≡ self.old) }
@@ -62,14 +62,14 @@ impl Area {
         Ok(())
     }
 
-    // How many bytes its frames have.
+    // Gives how many bytes its frames have.
     pub(crate) fn len(&self) -> u64
         ensures { result ≡ length (flat_map whole_frame self.now) }
     {
         self.bytes.len() as u64
     }
 
-    // With it behind a closed gate there, the file has no more than 2^40 bytes.
+    // Tells whether a file that has it after this closed gate has no more than 2^40 bytes.
     pub(crate) fn has_place(&self, gate: u64) -> bool
         ensures there { IsTrue result → end_from (gate + 1) self.now + 1 ≤ 2 ^ 40 }
         ensures full { IsFalse result → 2 ^ 40 < end_from (gate + 1) self.now + 1 }
@@ -107,7 +107,7 @@ impl Model for StagedArea {
 }
 
 impl StagedArea {
-    // The area for a log whose closed gate is at this offset, and whose next slot is this one.
+    // Makes the area for a log whose closed gate is at this offset, and whose next slot is this one.
     pub(crate) fn at(gate: u64, slot: u64, area: Area) -> Result<StagedArea, Fault>
         requires small { end_from (gate + 1) area + 1 ≤ 2 ^ 40 }
         requires within { slot < slot_count }
@@ -129,7 +129,7 @@ impl StagedArea {
         })
     }
 
-    // The closed gate behind which it is to stand.
+    // Gives the offset of the closed gate after which it is to stand.
     pub(crate) fn gate(&self) -> u64
         ensures gate { result ≡ self.now.gate }
         ensures small { result < 2 ^ 40 }
@@ -137,7 +137,7 @@ impl StagedArea {
         self.gate
     }
 
-    // The slot that is to name it.
+    // Gives the number of the slot that is to name it.
     pub(crate) fn slot(&self) -> u64
         ensures slot { result ≡ self.now.slot }
         ensures within { result < slot_count }
@@ -145,7 +145,7 @@ impl StagedArea {
         self.slot
     }
 
-    // Its bytes, with its closed gate.
+    // Gives its bytes, with its closed gate.
     pub(crate) fn bytes(&self) -> &[u8]
         ensures bytes { result.now ≡ area_bytes self.now.items }
         ensures fit { AllByRecursion IsRecord self.now.items }
@@ -153,7 +153,7 @@ impl StagedArea {
         &self.bytes
     }
 
-    // The offset of its closed gate.
+    // Gives the offset of its closed gate.
     pub(crate) fn end(&self) -> u64
         ensures end { result ≡ end_from (self.now.gate + 1) self.now.items }
         ensures small { result < 2 ^ 40 }
@@ -162,7 +162,7 @@ impl StagedArea {
     }
 }
 
-// The frame of a record, with its gate open.
+// Makes the frame of a record, with its gate open.
 fn frame_of(alloc: Global, item: &Record) -> Result<Vec<u8>, Fault>
     ensures bytes { IfOk result (λ bytes. bytes.items ≡ whole_frame item.now) }
     ensures fits { OnOk result (IsRecord item.now) }
@@ -178,7 +178,7 @@ fn frame_of(alloc: Global, item: &Record) -> Result<Vec<u8>, Fault>
     Ok(bytes)
 }
 
-// Puts the frame of a record, with its gate open. It says whether there was the memory.
+// Adds the frame of a record, with its gate open, and tells whether there was the memory.
 pub(crate) fn put_whole(bytes: &mut Vec<u8>, item: &Record) -> bool
     ensures bytes { IsTrue result → bytes.new.items ≡ bytes.old.items ++ whole_frame item.now }
     ensures fits { IsTrue result → IsRecord item.now }

@@ -1,5 +1,5 @@
-//! The log. A closed gate stands behind the last frame, on the disk before anything is written behind it. It is opened by
-//! a write of its own, once the frame behind it is on the disk.
+//! The log. Its last frame is followed by a closed gate, which is on the disk before anything is written after it.
+//! The gate is opened by a write of its own, once the frame after it is on the disk.
 ghost use Rattle.std.specs.Prelude.{◌≡◌, ◌⊎◌, ◌+◌, ◌≤◌, ◌<◌, ◌^◌, [], ◌∷◌, ◌++◌, length, IsTrue, IsFalse, IfOk, IfErr, OnOk, OnErr, ℕ, nat_lt, map, true, Ok, Err};
 ghost use Rattle.disk.specs.Image.{MayLeave, IsSynced, after_sync};
 ghost use Rattle.disk.specs.File.{surface, synced};
@@ -34,8 +34,8 @@ use spelling::encoded_len;
 use std::alloc::Global;
 use units::Fault;
 
-/// The log in a file on a disk. Once a device call has failed in it, it is stopped: it takes no record, and only
-/// `into_disk` and another opening go on.
+/// The log in a file on a disk. Once a device call has failed in it, it is stopped: it takes no record any more. Take
+/// the disk out with `into_disk`, and open the log again.
 #[derive(Drop)]
 pub struct GateLog<D: Disk> {
     disk: D,
@@ -51,7 +51,8 @@ pub struct GateLog<D: Disk> {
 impl<D: Disk> GateLog<D> {
     ghost use Rattle.gatelog.specs.Shown.{disk_of, gate_at, next_slot, is_stopped};
 
-    /// Makes an empty log of a file, whatever was in it. Refused for `Memory`, the file is as it was.
+    /// Makes an empty log of a file, whatever was in it. The disk is handed back with a fault. After `Memory` the
+    /// file is as it was.
     pub fn format(disk: D) -> Result<GateLog<D>, (Fault, D)>
         // From then on every crash leaves the empty log, and a read gives it.
         ensures empty { IfOk result
@@ -85,7 +86,7 @@ impl<D: Disk> GateLog<D> {
         Ok(GateLog::laid(disk, FIRST_GATE))
     }
 
-    // The log of a file that was laid out, whose closed gate is there and whose slots are closed.
+    // Takes up a file that was laid out, whose closed gate is at this offset and whose slots are closed.
     pub(crate) fn laid(disk: D, gate: u64) -> GateLog<D>
         requires synced { D.keeps_model → IsSynced (surface (D.file disk)) }
         requires whole { D.keeps_model → IsTrue (ends_at (surface (D.file disk)).seen gate) }
@@ -103,10 +104,11 @@ impl<D: Disk> GateLog<D> {
         }
     }
 
-    /// Takes up the log of a file, and hands its entries to a sink, one by one in order. It syncs before it reads, in pieces of
-    /// 65,536 bytes at most. `NotALog` where the file does not begin with the header; `Damaged` at a slot that is not whole or names
-    /// no area behind the former one's, and at the gate where a frame is due and none is whole. Of what a sink was handed by a scan that
-    /// is refused nothing is said.
+    /// Takes up the log of a file, and hands its entries to a sink, one by one in order. It syncs before it reads, in
+    /// pieces of at most 65,536 bytes. The disk is handed back with a fault. `NotALog`: the file does not begin with
+    /// the header. `Damaged` gives the offset of a slot or of a gate. The slot is missing, is open after a closed
+    /// one, or names no area after that of the slot before. The gate is missing, or is open without a whole frame.
+    /// Nothing is said of what a sink was handed by a scan that is refused.
     pub fn scan<S: Sink>(alloc: Global, disk: D, sink: &mut S) -> Result<GateLog<D>, (Fault, D)>
         requires fresh { S.taken sink.old ≡ [] }
         ensures told { S.told sink.new ≡ S.told sink.old }
@@ -169,7 +171,7 @@ impl<D: Disk> GateLog<D> {
         }
     }
 
-    /// Takes up the log of a file: its entries in order, as a scan hands them.
+    /// Takes up the log of a file, and gives its entries in order. Its faults are those of `scan`.
     pub fn open(alloc: Global, disk: D) -> Result<(GateLog<D>, Vec<Entry>), (Fault, D)>
         ensures entries { IfOk result
             (λ opened. D.keeps_model → log (surface (D.file disk)).seen ≡ Ok opened.1.items) }
@@ -234,21 +236,21 @@ impl<D: Disk> GateLog<D> {
         }
     }
 
-    /// The offset of the closed gate behind its last record.
+    /// Gives the offset of the closed gate after its last record.
     pub fn gate(&self) -> u64
         ensures { result ≡ gate_at self.now }
     {
         self.gate
     }
 
-    /// The number of its next free slot: 1,024 where none is left. Each turnover takes one.
+    /// Gives the number of its next free slot, which is 1,024 if none is left. Each turnover takes one.
     pub fn slot(&self) -> u64
         ensures { result ≡ next_slot self.now }
     {
         self.slot
     }
 
-    /// A device call has failed in it.
+    /// Tells whether a device call has failed in it.
     pub fn is_stopped(&self) -> bool
         ensures value { result ≡ is_stopped self.now }
         // Between two calls every crash leaves the log that a read gives.
@@ -262,7 +264,7 @@ impl<D: Disk> GateLog<D> {
         self.stopped
     }
 
-    /// The file may grow by this record: no further than 2^40 bytes.
+    /// Tells whether the file may grow by this record: to no more than 2^40 bytes.
     pub fn has_place(&self, item: &Record) -> bool
         ensures there { IsTrue result → next_gate (gate_at self.now) item.now + 1 ≤ 2 ^ 40 }
         ensures full { IsFalse result → IsFull (gate_at self.now) item.now }
@@ -270,7 +272,7 @@ impl<D: Disk> GateLog<D> {
         fits_behind(self.gate, item)
     }
 
-    /// The file ends so near its limit of 2^40 bytes that a record may be too long for it.
+    /// Tells whether the file ends so near its limit of 2^40 bytes that a record may be too long for it.
     pub fn is_near_limit(&self) -> bool
         ensures near { IsTrue result → IsNearLimit (gate_at self.now) }
         ensures far { IsFalse result → gate_at self.now + 2 ^ 20 + 6 ≤ 2 ^ 40 }
@@ -278,8 +280,8 @@ impl<D: Disk> GateLog<D> {
         (1 << 40) - (1 << 20) - 6 < self.gate
     }
 
-    /// Takes all the memory that an append of this record needs, the disk's too. `TimeSpent` where the file would grow
-    /// beyond 2^40 bytes.
+    /// Takes all the memory that an append of this record needs, the disk's too. `Stopped`: open the log again.
+    /// `TimeSpent`: the file would grow beyond 2^40 bytes.
     pub fn stage(&mut self, alloc: Global, item: Record) -> Result<Staged, Fault>
         ensures staged { IfOk result
             (λ staged. (staged.offset ≡ gate_at self.old) × (staged.item ≡ item)) }
@@ -321,7 +323,7 @@ impl<D: Disk> GateLog<D> {
         Staged::at(alloc, self.gate, item)
     }
 
-    /// Puts a record that was staged behind the last one. It takes no memory. After a refusal the log is stopped.
+    /// Appends a record that was staged. It takes no memory. After a refusal the log is stopped.
     pub fn append(&mut self, staged: Staged) -> Result<Logged, Fault>
         // No append came between.
         requires { staged.offset ≡ gate_at self.old }
@@ -400,15 +402,16 @@ impl<D: Disk> GateLog<D> {
         }
     }
 
-    /// A group of no record, for the place behind the last record.
+    /// Begins a group of no record, to be appended after the last record.
     pub fn group(&self, alloc: Global) -> Gathered
         ensures { result ≡ record { gate = gate_at self.now; items = [] } }
     {
         Gathered::none(alloc, self.gate)
     }
 
-    /// Adds a record to a group, with all the memory that an append of the group needs, the disk's too. `TimeSpent` where the file
-    /// would grow beyond 2^40 bytes. Refused, the group is as it was.
+    /// Adds a record to a group, with all the memory that an append of the group needs, the disk's too. `Stopped`:
+    /// open the log again. `TimeSpent`: the file would grow beyond 2^40 bytes. After a refusal the group is as it
+    /// was.
     pub fn gather(
         &mut self,
         alloc: Global,
@@ -464,8 +467,8 @@ impl<D: Disk> GateLog<D> {
         }
     }
 
-    /// Puts a group behind the last record, by the four calls of an append. It takes no memory. After a refusal the log is stopped. Of no
-    /// record, nothing is written.
+    /// Appends a group, by the four calls of an append. It takes no memory. After a refusal the log is stopped. If
+    /// the group has no record, nothing is written.
     pub fn append_all(&mut self, group: Gathered) -> Result<(), Fault>
         // No append came between.
         requires { group.gate ≡ gate_at self.old }
@@ -515,7 +518,7 @@ impl<D: Disk> GateLog<D> {
             × (D.file (disk_of self.new) ≡ appended (D.plan (disk_of self.old)) group.gate
             (group_bytes group.items) (D.file (disk_of self.old))) }
 
-        // Of no record, it does nothing.
+        // With no record, it does nothing.
         ensures none { IsFalse (is_stopped self.old) → group.items ≡ [] →
             OnOk result (self.new ≡ self.old) × IfErr result (λ _. ⊥) }
     {
@@ -541,8 +544,8 @@ impl<D: Disk> GateLog<D> {
         }
     }
 
-    /// Takes all the memory that a turnover to this area needs, the disk's too. `TimeSpent` where no slot is left, or the file
-    /// would grow beyond 2^40 bytes.
+    /// Takes all the memory that a turnover to this area needs, the disk's too. `Stopped`: open the log again.
+    /// `TimeSpent`: no slot is left, or the file would grow beyond 2^40 bytes.
     pub fn stage_area(&mut self, area: Area) -> Result<StagedArea, Fault>
         ensures staged { IfOk result (λ staged. (staged.items ≡ area)
             × (staged.gate ≡ gate_at self.old)
@@ -584,7 +587,8 @@ impl<D: Disk> GateLog<D> {
         StagedArea::at(self.gate, self.slot, area)
     }
 
-    /// Puts an area that was staged into the place of the log. It takes no memory. After a refusal the log is stopped.
+    /// Puts an area that was staged into the place of the log. It takes no memory. After a refusal the log is
+    /// stopped.
     pub fn turn_over(&mut self, staged: StagedArea) -> Result<(), Fault>
         // No append and no turnover came between.
         requires gate { staged.gate ≡ gate_at self.old }
@@ -666,7 +670,8 @@ impl<D: Disk> GateLog<D> {
         }
     }
 
-    /// For tests: the device call that comes that many calls after the next append begins fails once, or none does.
+    /// Plans a failure, for tests: the device call that comes so many calls after the next append begins fails once.
+    /// With `None` none does.
     pub fn arm(&mut self, call: Option<u64>)
         ensures plan { D.obeys → D.plan (disk_of self.new) ≡ armed call }
         ensures room { (calls bytes : ℕ) → D.has_room (disk_of self.old) calls bytes
@@ -682,7 +687,7 @@ impl<D: Disk> GateLog<D> {
         self.disk.arm(call);
     }
 
-    /// The disk as it is.
+    /// Gives up the disk as it is.
     pub fn into_disk(self) -> D
         ensures { result ≡ disk_of self }
     {
@@ -696,7 +701,7 @@ impl<D: Disk> GateLog<D> {
     }
 }
 
-// A record whose gate is there leaves the file no longer than 2^40 bytes.
+// Tells whether a record whose gate is at this offset leaves the file no longer than 2^40 bytes.
 fn fits_behind(gate: u64, item: &Record) -> bool
     ensures there { IsTrue result → next_gate gate item.now + 1 ≤ 2 ^ 40 }
     ensures full { IsFalse result → IsFull gate item.now }

@@ -13,8 +13,8 @@ use std::alloc::Global;
 use std::marker::Model;
 use units::Fault;
 
-/// Records that are to be appended together, with all the memory that this takes. What it holds of them are their bytes alone. It has to
-/// be spent, by `append_all`.
+/// Records that are to be appended together, with all the memory that this takes. It holds only their bytes. It has
+/// to be spent, by `append_all`.
 pub struct Gathered {
     gate: u64,
     bytes: Vec<u8>,
@@ -39,7 +39,7 @@ impl Model for Gathered {
 }
 
 impl Gathered {
-    // Of no record.
+    // Makes a group of no record.
     pub(crate) fn none(alloc: Global, gate: u64) -> Gathered
         ensures { result ≡ record { gate = gate; items = [] } }
     {
@@ -50,14 +50,14 @@ impl Gathered {
         }
     }
 
-    /// How many bytes its append writes behind the closed gate: none where it has no record.
+    /// Gives how many bytes its append writes after the closed gate: 0 if it has no record.
     pub fn len(&self) -> u64
         ensures { result ≡ length (group_bytes self.now.items) }
     {
         self.bytes.len() as u64
     }
 
-    /// Whether it has no record.
+    /// Tells whether it has no record.
     pub fn is_none(&self) -> bool
         ensures none { IsTrue result → self.now.items ≡ [] }
         ensures some { IsFalse result → 1 ≤ length self.now.items }
@@ -65,8 +65,8 @@ impl Gathered {
         self.bytes.is_empty()
     }
 
-    // Adds a record behind the others: the closed gate behind them is its own, and opens. It is refused for want of memory alone, and then
-    // all is as it was.
+    // Adds a record at the end: the closed gate after the others is its own, and opens. It is refused for want of
+    // memory alone, and then all is as it was.
     pub(crate) fn add(&mut self, alloc: Global, item: &Record) -> Result<(), Fault>
         requires { next_gate (end_from self.old.gate self.old.items) item.now + 1 ≤ 2 ^ 40 }
         ensures added { OnOk result (self.new ≡
@@ -84,7 +84,7 @@ impl Gathered {
         Ok(())
     }
 
-    // What is written behind the closed gate.
+    // Gives what is written after the closed gate.
     pub(crate) fn bytes(&self) -> &[u8]
         ensures bytes { result.now ≡ group_bytes self.now.items }
         ensures fit { AllByRecursion IsRecord self.now.items }
@@ -92,7 +92,7 @@ impl Gathered {
         &self.bytes
     }
 
-    // The closed gate behind which it is to stand.
+    // Gives the offset of the closed gate after which it is to stand.
     pub(crate) fn gate(&self) -> u64
         ensures gate { result ≡ self.now.gate }
         ensures small { 1 ≤ length self.now.items → result < 2 ^ 40 }
@@ -100,14 +100,14 @@ impl Gathered {
         self.gate
     }
 
-    // Where the closed gate behind its records is to be.
+    // Gives the offset that the closed gate after its records is to have.
     pub(crate) fn end(&self) -> u64
         ensures { result ≡ end_from self.now.gate self.now.items }
     {
         self.gate + self.bytes.len() as u64
     }
 
-    // Ends it.
+    // Ends the group.
     pub(crate) fn spend(self) {
         let Gathered {
             gate: _,
@@ -118,7 +118,7 @@ impl Gathered {
     }
 }
 
-// The gate before this place, where there is one, opens.
+// Opens the gate before this place, if there is one.
 fn open_before(bytes: &mut Vec<u8>, end: usize)
     requires { end ≤ length bytes.old.items }
     ensures { bytes.new.items ≡ opened_before end bytes.old.items }
@@ -128,7 +128,8 @@ fn open_before(bytes: &mut Vec<u8>, end: usize)
     }
 }
 
-/// A record that has its place in a group: it is logged once that is appended. Only `gather` makes it; it has to be spent.
+/// A token of a record that has its place in a group: it is logged once that is appended. Only `gather` makes it; it
+/// has to be spent.
 pub struct Joined {
     item: Record,
 }
@@ -150,14 +151,14 @@ impl Joined {
         Joined { item }
     }
 
-    /// Its record.
+    /// Gives its record.
     pub fn item(&self) -> &Record
         ensures { result.now ≡ self.now }
     {
         &self.item
     }
 
-    /// Spends the token.
+    /// Spends the token, and gives its record.
     pub fn spend(self) -> Record
         ensures { result ≡ self }
     {

@@ -1,4 +1,4 @@
-//! A group of records is put behind a log.
+//! Putting a group of records at the end of a log.
 ghost use Rattle.std.specs.Prelude.{◌≡◌, ◌≤◌, ◌+◌, length, IsTrue, OnOk, ℕ};
 ghost use Rattle.disk.specs.Image.{IsSynced};
 ghost use Rattle.disk.specs.File.{surface};
@@ -17,7 +17,7 @@ use disk::Disk;
 use frames::open_behind;
 use units::Fault;
 
-/// Writes the frames of a group behind the closed gate of a log, and opens that once they are on the disk.
+/// Writes the frames of a group after the closed gate of a log, and opens that gate once they are on the disk.
 pub fn write_group<D: Disk>(disk: &mut D, group: &Gathered) -> Result<(), Fault>
     requires some { 1 ≤ length group.now.items }
     requires synced { D.keeps_model → IsSynced (surface (D.file disk.old)) }

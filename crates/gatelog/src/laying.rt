@@ -1,4 +1,4 @@
-//! A log's file is laid out.
+//! Laying out a log's file.
 ghost use Rattle.std.specs.Prelude.{◌≡◌, ◌⊎◌, ◌≤◌, ◌<◌, ◌++◌, List, ℕ, length, drop, IfErr, OnOk};
 ghost use Rattle.disk.specs.File.{surface};
 ghost use Rattle.disk.specs.Image.{MayLeave, IsSynced};
@@ -11,8 +11,8 @@ use disk::Disk;
 use frames::write_and_sync;
 use units::Fault;
 
-/// Makes a file these bytes, synced, and then puts the header in the place of the first eight, and syncs. Refused for memory, it
-/// is as it was.
+/// Makes a file these bytes, synced, and then puts the header in the place of the first eight, and syncs. If it is
+/// refused for `Memory`, the file is as it was.
 pub fn lay_out<D: Disk>(disk: &mut D, bytes: &[u8]) -> Result<(), Fault>
     requires { 8 ≤ length bytes.now }
     ensures done { OnOk result

@@ -1,4 +1,4 @@
-//! A log's file of version 1 is copied into one of version 2.
+//! Copying a log's file of version 1 into one of version 2.
 ghost use Rattle.std.specs.Prelude.{◌≡◌, ◌⊎◌, ◌≤◌, ◌<◌, ◌+◌, ◌++◌, List, ℕ, length, map, true, Ok, Err, IsTrue, IsFalse, IfOk, IfErr, OnOk};
 ghost use Rattle.disk.specs.File.{surface};
 ghost use Rattle.disk.specs.Moments.{Elapses};
@@ -20,11 +20,12 @@ use disk::Disk;
 use std::alloc::Global;
 use units::Fault;
 
-// How much a copy has more: the slots, which stand before the frames.
+// How many bytes a copy has more: the slots, which stand before the frames.
 const MORE: u64 = 9216;
 
 /// Copies the log of a file of version 1, which stays as it is, into another file, of version 2, whatever was in it.
-/// `TimeSpent` where the copy would have more than 2^40 bytes. Refused, but for `Device`, the other file is as it was.
+/// `NotALog` or `Damaged` tells of the first file. `TimeSpent` comes if the copy would have more than 2^40 bytes.
+/// After a fault other than `Device`, the other file is as it was.
 pub fn migrate<D: Disk>(alloc: Global, from: &mut D, to: D) -> Result<GateLog<D>, (Fault, D)>
     ensures copied { IfOk result (λ made. D.keeps_model
         → (entries : List Placed) × HasCopied D.file D.clock D.since
@@ -42,7 +43,8 @@ pub fn migrate<D: Disk>(alloc: Global, from: &mut D, to: D) -> Result<GateLog<D>
         ⊎ (IsTrue (is_no_log refused.0) × (D.keeps_model
         → first_log (surface (D.file from.old)).seen ≡ Err refused.0))))))
         ⊎ ((refused.0 ≡ Fault.Device) × (D.failures to < D.failures refused.1))) }
-    // With a call armed that comes behind the first sync, counted from 0 in the first write: what it leaves where it fails.
+    // With a call armed that comes after the first sync, counted from 0 in the first write: what it leaves if it
+    // fails.
     ensures late { IfErr result (λ refused. (call : ℕ) → D.obeys → D.keeps_model
         → D.plan to ≡ AfterWrite call → 2 ≤ call
         → refused.0 ≡ Fault.Device → D.failures to < D.failures refused.1
@@ -67,7 +69,8 @@ pub fn migrate<D: Disk>(alloc: Global, from: &mut D, to: D) -> Result<GateLog<D>
     Ok(GateLog::laid(disk, gate))
 }
 
-/// Whether a file holds a log of version 1 that can be copied, as `migrate` would copy it.
+/// Checks that a file holds a log of version 1 that `migrate` would copy. Its faults are those that `migrate` would
+/// answer of that file.
 pub fn is_old<D: Disk>(alloc: Global, from: &mut D) -> Result<(), Fault>
     ensures whole { OnOk result (D.keeps_model
         → (entries : List Placed) × (first_log (surface (D.file from.old)).seen ≡ Ok entries)) }
@@ -87,7 +90,7 @@ pub fn is_old<D: Disk>(alloc: Global, from: &mut D) -> Result<(), Fault>
     Ok(())
 }
 
-// The bytes of a copy without its header, by a file of version 1.
+// Makes the bytes of a copy without its header, by a file of version 1.
 fn copy_of<D: Disk>(alloc: Global, disk: &mut D) -> Result<Vec<u8>, Fault>
     ensures spelled { IfOk result (λ bytes. (entries : List Placed) × AreSpelled entries bytes.items
         × (D.keeps_model → first_log (surface (D.file disk.old)).seen ≡ Ok entries)) }
@@ -121,7 +124,7 @@ fn copy_of<D: Disk>(alloc: Global, disk: &mut D) -> Result<Vec<u8>, Fault>
     }
 }
 
-// The bytes of a copy without its header, of a log whose closed gate is there.
+// Makes the bytes of a copy without its header, of a log whose closed gate is at this offset.
 fn spelled(alloc: Global, entries: &[Entry], gate: u64) -> Result<Vec<u8>, Fault>
     requires { placed_from 8 (map (λ e. e.item) entries.now) ≡ (entries.now, gate) }
     ensures spelled { IfOk result (λ bytes. AreSpelled entries.now bytes.items) }

@@ -24,9 +24,9 @@ use frames::{Front, Pieces, front_of};
 use std::alloc::Global;
 use units::Fault;
 
-/// What takes the entries of a log, one by one, the first first.
+/// Takes the entries of a log, one by one, in their order.
 pub trait Sink {
-    /// What of it no entry changes.
+    /// What no entry changes of it.
     ghost Told: { Type 0 };
 
     ghost told: { Self → Told };
@@ -41,7 +41,7 @@ pub trait Sink {
         ensures memory { IfErr result (λ fault. fault ≡ Fault.Memory) };
 }
 
-/// All entries of a log.
+/// All entries of a log, in a list.
 #[derive(Drop)]
 pub struct Found {
     pub entries: Vec<Entry>,
@@ -114,7 +114,7 @@ fn hand_next<D: Disk, S: Sink>(
     }
 }
 
-/// Hands the entries of an area over to a sink, which is read on from its front, and answers the offset of its closed gate.
+/// Hands the entries of an area over to a sink, from the front of the area on. Answers the offset of the closed gate.
 pub fn hand_on<D: Disk, S: Sink>(
     alloc: Global,
     disk: &mut D,
@@ -151,7 +151,8 @@ pub fn hand_on<D: Disk, S: Sink>(
     }
 }
 
-/// Hands the entries of a file over to a sink, and answers the offset of its closed gate, and the number of its next slot.
+/// Hands the entries of a file over to a sink. Answers the offset of its closed gate, and the number of its next
+/// slot.
 pub fn hand_over<D: Disk, S: Sink>(
     alloc: Global,
     disk: &mut D,
@@ -181,7 +182,8 @@ pub fn hand_over<D: Disk, S: Sink>(
     Ok((gate, slot))
 }
 
-/// Syncs a file, and hands its entries over to a sink. Answers the offset of its closed gate, and the number of its next slot.
+/// Syncs a file, and hands its entries over to a sink. Answers the offset of its closed gate, and the number of its
+/// next slot.
 pub fn scan_synced<D: Disk, S: Sink>(
     alloc: Global,
     disk: &mut D,
@@ -220,7 +222,7 @@ pub fn scan_synced<D: Disk, S: Sink>(
     hand_over(alloc, disk, sink)
 }
 
-// Reads on from the front of the area that the slots of a file name, and answers the number of its next slot too.
+// Begins at the front of the area that the slots of a file name, and answers the number of its next slot too.
 fn begin<D: Disk>(alloc: Global, disk: &mut D) -> Result<(Pieces, u64), Fault>
     ensures there { IfOk result (λ begun. D.keeps_model
         → IsAhead (surface (D.file disk.old)).seen begun.0) }
@@ -248,10 +250,10 @@ fn begin<D: Disk>(alloc: Global, disk: &mut D) -> Result<(Pieces, u64), Fault>
     Ok((ahead, slot))
 }
 
-/// Reads on from the front of a file behind its header. `NotALog` where it does not begin with this one.
+/// Begins to read a file after its header. `NotALog` comes if it does not begin with this header.
 pub fn headed<D: Disk>(alloc: Global, disk: &mut D, header: &[u8; 8]) -> Result<Pieces, Fault>
     ensures at { IfOk result (λ ahead. ahead.at ≡ 8) }
-    // All that is behind it was read, or 1,024 slots at least.
+    // All that follows it was read, or 1,024 slots at least.
     ensures enough { IfOk result
         (λ ahead. (9216 ≤ length ahead.bytes) ⊎ (ahead.left ≡ 0)) }
     ensures there { IfOk result (λ ahead. D.keeps_model

@@ -10,8 +10,8 @@ use byteorder::{BigEndian, ByteOrder};
 use frames::OPEN_GATE;
 use units::Fault;
 
-// The offset in a slot, where it is open. The slot begins at an offset of a file of that length, of which the slots before it
-// name an area.
+// Reads the offset in a slot, if the slot is open. The slot begins at this offset of a file of that length. The slots
+// before it name an area, and `shut` says whether one of them is closed.
 fn slot_of(slot: &[u8], at: u64, area: u64, shut: bool, len: u64) -> Result<Option<u64>, Fault>
     requires { length slot.now ≡ 9 }
     ensures opened { IfOk result (λ found. IfSome found (λ offset.
@@ -33,8 +33,8 @@ fn slot_of(slot: &[u8], at: u64, area: u64, shut: bool, len: u64) -> Result<Opti
     Ok(Some(offset))
 }
 
-/// The area that the slots name, in a file of this length. These bytes stand behind its header: all of them, or the slots at
-/// least.
+/// Finds the area that the slots name, in a file of this length. These bytes follow the header: all of them, or at
+/// least the slots. A fault means that the slots are no log's, as `Damaged` at the first bad slot.
 pub fn area_named(bytes: &[u8], len: u64) -> Result<u64, Fault>
     requires enough { (9216 ≤ length bytes.now) ⊎ (8 + length bytes.now ≡ len) }
     requires inside { 8 + length bytes.now ≤ len }
@@ -62,7 +62,7 @@ pub fn area_named(bytes: &[u8], len: u64) -> Result<u64, Fault>
     Ok(area)
 }
 
-/// How many slots stand before the first that is closed, or how many there are. These bytes stand behind the header.
+/// Counts the slots before the first that is closed. These bytes follow the header.
 pub fn open_slots(bytes: &[u8]) -> u64
     requires { 9216 ≤ length bytes.now }
     ensures within { result ≤ slot_count }

@@ -10,7 +10,7 @@ use std::alloc::Global;
 use std::marker::Model;
 use units::Fault;
 
-/// A record that a log holds, and where.
+/// A record that a log holds, and its offset.
 pub struct Entry {
     offset: u64,
     item: Record,
@@ -39,21 +39,21 @@ impl Entry {
         Entry { offset, item }
     }
 
-    /// The offset of its gate in the file.
+    /// Gives the offset of its gate in the file, in bytes.
     pub fn offset(&self) -> u64
         ensures { result ≡ self.now.offset }
     {
         self.offset
     }
 
-    /// Its record.
+    /// Gives its record.
     pub fn item(&self) -> &Record
         ensures { result.now ≡ self.now.item }
     {
         &self.item
     }
 
-    /// Its record, which stands in the log.
+    /// Gives up its record, as one that stands in the log.
     pub fn into_logged(self) -> Logged
         ensures { result ≡ self.item }
     {
@@ -61,7 +61,7 @@ impl Entry {
         Logged::new(item)
     }
 
-    /// An equal entry with memory of its own. It is refused for want of memory alone.
+    /// Copies the entry into memory of its own. It is refused for want of memory alone.
     pub fn copy(&self, alloc: Global) -> Result<Entry, Fault>
         ensures same { IfOk result (λ copy. copy ≡ self.now) }
         ensures memory { IfErr result (λ fault. fault ≡ Fault.Memory) }
@@ -71,7 +71,7 @@ impl Entry {
     }
 }
 
-/// A record that is ready to be appended at one place, with all the memory that this takes.
+/// A record that is ready to be appended at one place, with all the memory that the append takes.
 #[derive(Drop)]
 pub struct Staged {
     pub(crate) gate: u64,
@@ -93,7 +93,8 @@ impl Model for Staged {
 }
 
 impl Staged {
-    // The record for a log whose closed gate is at this offset, with all the memory that an append of it takes.
+    // Makes the record ready for a log whose closed gate is at this offset, with all the memory that an append of it
+    // takes.
     pub(crate) fn at(alloc: Global, gate: u64, item: Record) -> Result<Staged, Fault>
         requires { next_gate gate item + 1 ≤ 2 ^ 40 }
         ensures staged { IfOk result
@@ -110,7 +111,7 @@ impl Staged {
     }
 }
 
-// What an append of a record writes behind the closed gate.
+// Makes what an append of a record writes after the closed gate.
 pub(crate) fn bytes_for(alloc: Global, item: &Record) -> Result<Vec<u8>, Fault>
     ensures bytes { IfOk result (λ bytes. bytes.items ≡ staged_bytes item.now) }
     ensures fits { OnOk result (IsRecord item.now) }
@@ -126,7 +127,7 @@ pub(crate) fn bytes_for(alloc: Global, item: &Record) -> Result<Vec<u8>, Fault>
     Ok(bytes)
 }
 
-// Puts what stands behind the gate of a record, and a closed gate. It says whether there was the memory.
+// Adds what follows the gate of a record, and a closed gate. It tells whether there was the memory.
 fn put_frame(bytes: &mut Vec<u8>, item: &Record) -> bool
     requires { bytes.old.items ≡ [] }
     ensures bytes { IsTrue result → bytes.new.items ≡ staged_bytes item.now }
@@ -135,7 +136,7 @@ fn put_frame(bytes: &mut Vec<u8>, item: &Record) -> bool
     put_behind(bytes, item) && bytes.push(0).is_ok()
 }
 
-// Puts the length of a record's spelling, and the spelling. It says whether there was the memory.
+// Adds the length of a record's spelling, and the spelling. It tells whether there was the memory.
 pub(crate) fn put_behind(bytes: &mut Vec<u8>, item: &Record) -> bool
     ensures bytes { IsTrue result → bytes.new.items ≡ bytes.old.items ++ behind_gate item.now }
     ensures fits { IsTrue result → IsRecord item.now }
@@ -148,7 +149,8 @@ pub(crate) fn put_behind(bytes: &mut Vec<u8>, item: &Record) -> bool
     encode_into(bytes, item).is_ok()
 }
 
-/// A record that stands in the log for good. Only an append, or an entry that was read, makes it; it has to be spent.
+/// A token of a record that stands in the log for good. Only an append, or an entry that was read, makes it; it has
+/// to be spent.
 pub struct Logged {
     item: Record,
 }
@@ -170,14 +172,14 @@ impl Logged {
         Logged { item }
     }
 
-    /// Its record.
+    /// Gives its record.
     pub fn item(&self) -> &Record
         ensures { result.now ≡ self.now }
     {
         &self.item
     }
 
-    /// Spends the token.
+    /// Spends the token, and gives its record.
     pub fn spend(self) -> Record
         ensures { result ≡ self }
     {

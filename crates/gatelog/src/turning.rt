@@ -1,4 +1,4 @@
-//! A new area is put into the place of a log.
+//! Putting a new area into the place of a log.
 ghost use Rattle.std.specs.Prelude.{◌≡◌, ◌≤◌, ◌+◌, length, IsTrue, OnOk, Ok, ℕ, nat_lt};
 ghost use Rattle.disk.specs.Image.{IsSynced};
 ghost use Rattle.disk.specs.File.{surface};
@@ -19,7 +19,8 @@ use disk::Disk;
 use frames::open_behind;
 use units::Fault;
 
-/// Writes an area behind the closed gate of a log, and its offset into a slot, and opens this once both are on the disk.
+/// Writes an area after the closed gate of a log, and its offset into a slot. It opens the slot once both are on the
+/// disk.
 pub fn write_area<D: Disk>(disk: &mut D, staged: &StagedArea) -> Result<(), Fault>
     requires synced { D.keeps_model → IsSynced (surface (D.file disk.old)) }
     requires whole { D.keeps_model

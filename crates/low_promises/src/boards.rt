@@ -9,7 +9,7 @@ use board::{Publisher, Viewer};
 use std::sync::Wait;
 use units::{Fault, Install, Key, Seen, Stamp};
 
-/// A publisher accepts a version, which viewers see once it is published.
+/// Lets a publisher accept a version, which viewers see once it is published.
 pub fn install<R: Wait + Drop>(publisher: &mut Publisher<R>, install: Install) -> Result<(), Fault>
     requires { MayAccept publisher.old (BoardEntry.Installed install) }
     ensures { Takes publisher.old
@@ -18,7 +18,7 @@ pub fn install<R: Wait + Drop>(publisher: &mut Publisher<R>, install: Install) -
     publisher.install(install)
 }
 
-/// A viewer looks at a key at a timestamp: by one list, which begins with all that it saw and was told.
+/// Lets a viewer look at a key at a timestamp: by one list, which begins with all that it saw and was told.
 pub fn look(viewer: &mut Viewer, key: &Key, at: Stamp, buffer: &mut [u8]) -> Result<Seen, Fault>
     ensures same { (viewer.new.board ≡ viewer.old.board) × (viewer.new.home ≡ viewer.old.home)
         × (viewer.new.told ≡ viewer.old.told) }

@@ -1,5 +1,5 @@
-//! Promises of the low crates, each stated once more over the public call that keeps it. Wrong bodies of such a call are tried here,
-//! where a body is small: what refuses them is the contract of that call.
+//! Promises of the low crates, each stated once more over the public call that keeps it. Wrong bodies of such a call
+//! are tried here, since a body is small: the contract of the call refuses them.
 #![tactic(auto)]
 
 mod boards;

@@ -5,7 +5,8 @@ ghost use Rattle.units.specs.Locks.{shared, exclusive};
 use std::alloc::Global;
 use units::{Fault, Keys, Lock, Writes};
 
-/// What a transaction asks for: a shared lock of each key that it reads, and then an exclusive one of each that it writes.
+/// Makes what a transaction asks for: a shared lock of each key that it reads, and then an exclusive one of each that
+/// it writes.
 pub fn shared_and_exclusive(
     alloc: Global,
     reads: &Keys,

@@ -12,7 +12,8 @@ use frames::{Front, Pieces};
 use std::alloc::Global;
 use units::Fault;
 
-/// Bytes are on the disk behind a closed gate before the gate is opened: a crash leaves it closed, or all that stands behind it.
+/// Writes bytes after a closed gate, and opens the gate once they are on the disk. A crash leaves the gate closed, or
+/// open with all the bytes after it.
 pub fn open_behind<D: Disk>(disk: &mut D, at: u64, bytes: &[u8]) -> Result<(), Fault>
     requires small { at + 1 < 2 ^ 64 }
     requires inside { D.keeps_model → at + 1 ≤ length (surface (D.file disk.old)).seen }
@@ -27,7 +28,7 @@ pub fn open_behind<D: Disk>(disk: &mut D, at: u64, bytes: &[u8]) -> Result<(), F
     frames::open_behind(disk, at, bytes)
 }
 
-/// What was read and not passed stays, whatever is read behind it.
+/// Reads on: what was read and not passed stays.
 pub fn more<D: Disk>(pieces: &mut Pieces, alloc: Global, disk: &mut D) -> Result<(), Fault>
     requires left { 0 < pieces.old.left }
     requires there { D.keeps_model → IsAhead (surface (D.file disk.old)).seen pieces.old }
@@ -40,7 +41,7 @@ pub fn more<D: Disk>(pieces: &mut Pieces, alloc: Global, disk: &mut D) -> Result
     pieces.more(alloc, disk)
 }
 
-/// A frame stands behind an open gate, and nothing behind a closed one.
+/// Finds what stands at the front: a frame only after an open gate, and nothing after a closed one.
 pub fn front_of(alloc: Global, bytes: &[u8], left: u64) -> Result<Front, Fault>
     requires { length bytes.now + left < 2 ^ 64 }
     ensures { IfOk result (IsAtFront bytes.now left) }

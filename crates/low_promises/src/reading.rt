@@ -7,7 +7,7 @@ use record::Record;
 use std::alloc::Global;
 use units::Fault;
 
-/// The record that some bytes spell: there is one exactly for its one spelling.
+/// Reads the record that some bytes spell: there is one exactly for its one spelling.
 pub fn decode(alloc: Global, bytes: &[u8]) -> Result<Option<Record>, Fault>
     ensures spelled { IfOk result (λ found. (r : Record) → Spells bytes.now r ↔ (found ≡ Some r)) }
     ensures memory { IfErr result (λ fault. fault ≡ Fault.Memory) }

@@ -6,7 +6,7 @@ ghost use Rattle.units.specs.declared.stamp.Stamp.{Stamp};
 use record::Record;
 use units::{Stamp, Stride};
 
-/// What has to be logged before a time is served that is above the log's greatest timestamp.
+/// Makes the record that has to be logged before a time is served that is above the log's greatest timestamp.
 pub fn needed(floor: Stamp, to: Stamp, stride: Stride) -> Option<Record>
     ensures { result ≡
         (if nat_lt floor to then Some (Record.Ceiling (min (to + stride) Stamp.MAX)) else None) }

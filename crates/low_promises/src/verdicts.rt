@@ -6,7 +6,7 @@ use record::Record;
 use std::alloc::Global;
 use units::{Fault, Line, Verdict};
 
-/// The verdict on the logs of shards 0, 1 and so on, and on the lines of a report.
+/// Gives the verdict on the logs of shards 0, 1 and so on, and on the lines of a report.
 pub fn inspect(alloc: Global, logs: &[Vec<Record>], lines: &[Line]) -> Result<Verdict, Fault>
     ensures verdict { IfOk result
         (λ found. found ≡ verdict (map (λ log. log.items) logs.now) lines.now) }

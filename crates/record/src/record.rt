@@ -43,7 +43,7 @@ impl Prepared {
 }
 
 /// The decision to commit a transaction at a timestamp, with the shards that take part and what was read and written
-/// at this one. It stands in the log of the least of its parts.
+/// at this shard. It stands in the log of the least of its parts.
 pub struct Committed {
     pub txn: TxnId,
     pub at: Stamp,

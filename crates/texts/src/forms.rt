@@ -13,20 +13,20 @@ pub enum Kind {
     Txn,
     Key,
     Stamp,
-    /// The first end of a reading. The other end stands behind it.
+    /// The first end of a reading. The other end follows it.
     Earliest,
     Latest,
     Fate,
 }
 
-/// A form of line: its name, the kinds of the first words behind it, and what such a line is.
+/// A form of line: its name, the kinds of the first words after it, and what such a line is.
 pub struct Form<V> {
     pub name: &'static str,
     pub words: &'static [Kind],
     pub is: V,
 }
 
-/// The values of words, one of a kind. Those that were not read are the least ones.
+/// The values of words, one of each kind. Those that were not read are the least ones.
 #[derive(Clone, Copy)]
 pub struct Values {
     pub number: u64,
@@ -40,7 +40,7 @@ pub struct Values {
 }
 
 impl Values {
-    /// The values where no word was read.
+    /// Makes the values before any word is read.
     pub fn none() -> Values {
         let Some(shard) = ShardNo::new(0) else {
             unreachable!();
@@ -67,7 +67,8 @@ impl Values {
         }
     }
 
-    /// Reads the first words of some, each as its kind. The others are left; `None` where one is missing or is not of its kind.
+    /// Reads the first words of some, each as its kind, and gives the others. `None` means that one is missing or is
+    /// not of its kind.
     pub fn read<'w, 't>(&mut self, kinds: &[Kind], words: &'w [&'t str]) -> Option<&'w [&'t str]> {
         let mut left = words;
         for kind in kinds {
@@ -82,7 +83,7 @@ impl Values {
         Some(left)
     }
 
-    /// Reads one word, and says whether it is of the kind.
+    /// Reads one word, and tells whether it is of the kind.
     pub fn read_word(&mut self, kind: Kind, word: &str) -> bool {
         match kind {
             Kind::Number => match number(word) {
@@ -132,8 +133,8 @@ impl Values {
         }
     }
 
-    /// Reads the words of a line by the first form of its name that they have. It says what such a line is, and leaves the
-    /// words behind it.
+    /// Reads the words of a line by the first form of its name that they have. It gives what such a line is, and the
+    /// words that are left.
     pub fn read_form<'w, 't, V: Copy>(
         &mut self,
         forms: &[Form<V>],

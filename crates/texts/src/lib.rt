@@ -1,4 +1,4 @@
-//! The texts of schedules and reports: words and lines are read, and each thing is printed.
+//! The texts of schedules and reports: it reads their words and lines, and prints each thing of them.
 #![tactic(auto)]
 
 mod forms;

@@ -16,7 +16,7 @@ pub struct LineReader<'t> {
 }
 
 impl<'t> LineReader<'t> {
-    /// The lines of a text.
+    /// Begins to read the lines of a text.
     pub fn of(text: &'t str) -> LineReader<'t> {
         LineReader {
             lines: text.split_inclusive('\n'),
@@ -24,7 +24,8 @@ impl<'t> LineReader<'t> {
         }
     }
 
-    /// The words of the next line, where there is one. A line ends in a line feed, and its words are parted by one space.
+    /// Takes the words of the next line. `None` means that no line is left. A line ends in a line feed, and one space
+    /// stands between two words. A last line without a line feed is refused as `BadRequest(Syntax)`, with its number.
     pub fn next(&mut self, alloc: Global) -> Result<Option<Vec<&'t str>>, Fault>
         ensures { IfErr result IsNoText }
     {
@@ -38,7 +39,7 @@ impl<'t> LineReader<'t> {
         Ok(Some(line.split(' ').collect(alloc)?))
     }
 
-    /// The word behind a values one on the next line, where the two are all of it.
+    /// Takes the word that follows a given one on the next line, if these two words are all of it.
     pub fn head(&mut self, alloc: Global, name: &str) -> Result<Option<&'t str>, Fault>
         ensures { IfErr result IsNoText }
     {
@@ -53,7 +54,8 @@ impl<'t> LineReader<'t> {
         Ok(word)
     }
 
-    /// What the line of the last words is refused with, by what one of them was refused with.
+    /// Gives the fault of the line that was taken last, from the fault of one of its words: `BadRequest(Syntax)` with
+    /// its number, but for `Memory`.
     pub fn fault(&self, fault: Fault) -> Fault
         ensures { IsNoText result }
     {
@@ -64,7 +66,7 @@ impl<'t> LineReader<'t> {
     }
 }
 
-/// The lines of a report that a text tells. One outside the grammar is refused with its number, from 1.
+/// Reads the lines of a report. `BadRequest(Syntax)` gives the number of the first line outside the grammar, from 1.
 pub fn lines(alloc: Global, text: &str) -> Result<Vec<Line>, Fault>
     ensures { IfErr result IsNoText }
 {
@@ -79,7 +81,7 @@ pub fn lines(alloc: Global, text: &str) -> Result<Vec<Line>, Fault>
     }
 }
 
-// Puts in the lines that are left.
+// Adds the lines that are left.
 fn add_lines(alloc: Global, reader: &mut LineReader<'_>, lines: &mut Vec<Line>) -> Result<(), Fault>
     ensures { IfErr result IsNoText }
 {
@@ -97,8 +99,8 @@ fn add_lines(alloc: Global, reader: &mut LineReader<'_>, lines: &mut Vec<Line>) 
     Ok(())
 }
 
-// What a line tells: a session began, a commit was acknowledged, or a read of a session or a look at a timestamp showed
-// what the word behind its own says.
+// What a line tells. Either a session began, or a commit was acknowledged. Or a read of a session, or a look at a
+// timestamp, showed what the last word says.
 #[derive(Clone, Copy)]
 enum Told {
     Begin,

@@ -8,8 +8,8 @@ use crate::words::NO_WORD;
 use truetime::Reading;
 use units::{Fault, Reason, Stamp};
 
-/// The number that a word spells in decimal digits without leading zeros. One beyond 64 bits is refused as `stamp`, all else
-/// that is no number as `command`.
+/// Reads the number that a word spells in decimal digits without leading zeros. `BadRequest(Stamp)` comes if it is
+/// beyond 64 bits, and `BadRequest(Command)` if the word is no number.
 pub fn number(word: &str) -> Result<u64, Fault>
     ensures { result ≡ number_of word.now }
 {
@@ -22,14 +22,16 @@ pub fn number(word: &str) -> Result<u64, Fault>
     }
 }
 
-/// The timestamp in microseconds that a word spells.
+/// Reads the timestamp that a word spells, in microseconds. Its faults are those of `number`, and `BadRequest(Stamp)`
+/// above the greatest timestamp.
 pub fn stamp(word: &str) -> Result<Stamp, Fault>
     ensures { result ≡ stamp_of word.now }
 {
     Stamp::new(number(word)?)
 }
 
-/// The reading between two words.
+/// Reads the interval between the timestamps of two words. `BadRequest(Stamp)` comes too if the first is above the
+/// second.
 pub fn reading(earliest: &str, latest: &str) -> Result<Reading, Fault>
     ensures { MatchResult result (λ now. interval_of earliest.now latest.now ≡ Ok now)
         (λ fault. interval_of earliest.now latest.now ≡ Err fault) }
@@ -39,7 +41,7 @@ pub fn reading(earliest: &str, latest: &str) -> Result<Reading, Fault>
     Reading::new(earliest, latest)
 }
 
-// Decimal digits without leading zeros.
+// Tells whether it is decimal digits without leading zeros.
 fn is_decimal_word(word: &[u8]) -> bool
     ensures { result ≡ is_decimal word.now }
 {

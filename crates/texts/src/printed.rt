@@ -26,7 +26,7 @@ pub enum Word<'t> {
 
 const NO: Word<'static> = Word::Nothing;
 
-/// The words of a record.
+/// Gives the words of a record.
 pub fn record_words(record: &Record) -> [Word<'_>; 6] {
     match record {
         Record::Opened { epoch } => [Plain("opened"), Number(epoch.number()), NO, NO, NO, NO],
@@ -100,7 +100,7 @@ pub fn record_words(record: &Record) -> [Word<'_>; 6] {
     }
 }
 
-/// The words of where a message goes.
+/// Gives the words of where a message goes.
 pub fn address_words(address: Address) -> [Word<'static>; 2] {
     match address {
         Address::Shard(shard) => [Plain("shard"), Shard(shard)],
@@ -108,7 +108,7 @@ pub fn address_words(address: Address) -> [Word<'static>; 2] {
     }
 }
 
-/// The words of a message.
+/// Gives the words of a message.
 pub fn message_words(message: &Message) -> [Word<'_>; 6] {
     match message {
         Message::Read(m) => [Plain("read"), Txn(m.txn), Key(&m.key), NO, NO, NO],
@@ -178,7 +178,7 @@ fn commit_words(m: &Commit) -> [Word<'_>; 6] {
     ]
 }
 
-/// The words of a line of a report.
+/// Gives the words of a line of a report.
 pub fn line_words(line: &Line) -> [Word<'_>; 4] {
     match line {
         Line::Begin(txn, moment) => [Plain("begin"), Txn(*txn), Number(*moment), NO],

@@ -6,11 +6,12 @@ use record::Record;
 use std::fmt;
 use units::{Key, Keys, Line, Parts, Stamp, Value, Writes};
 
-/// A thing, to be printed. A byte of a key or a value that no word of a schedule has is printed as `\xHH`, in two hexadecimal digits.
+/// A thing, to be printed. A byte of a key or a value that no word of a schedule may have is printed as `\xHH`, in
+/// two hexadecimal digits.
 #[derive(Drop)]
 pub struct Text<'t, T>(pub &'t T);
 
-// A mark, and behind it each byte: itself, if a word of a schedule may have it, or `\xHH`.
+// Writes a mark, and after it each byte: itself, if a word of a schedule may have it, or `\xHH`.
 fn write_bytes<W: fmt::Write>(f: &mut fmt::Formatter<W>, mark: &str, bytes: &[u8]) -> fmt::Result {
     f.write_str(mark)?;
     for byte in bytes {
@@ -29,7 +30,7 @@ impl fmt::Display for Text<'_, Option<Value>> {
     }
 }
 
-// A value, or this text where there is none.
+// Writes a value, or this text if there is none.
 fn write_value<W: fmt::Write>(
     f: &mut fmt::Formatter<W>,
     value: &Option<Value>,
@@ -52,12 +53,12 @@ impl fmt::Display for Text<'_, Keys> {
     }
 }
 
-// What stands for a list where nothing was written of it.
+// Writes what stands for a list of which nothing was written.
 fn write_none<W: fmt::Write>(f: &mut fmt::Formatter<W>, mark: &str) -> fmt::Result {
     f.write_str(if mark.is_empty() { "-" } else { "" })
 }
 
-// The writes, parted by commas.
+// Writes the writes, with commas between them.
 fn write_writes<W: fmt::Write>(f: &mut fmt::Formatter<W>, writes: &Writes) -> fmt::Result {
     let mut mark = "";
     for write in writes.as_slice() {
@@ -67,7 +68,7 @@ fn write_writes<W: fmt::Write>(f: &mut fmt::Formatter<W>, writes: &Writes) -> fm
     write_none(f, mark)
 }
 
-// A mark, and behind it a key with its value, or its erasure.
+// Writes a mark, and after it a key with its value, or its erasure.
 fn write_one<W: fmt::Write>(
     f: &mut fmt::Formatter<W>,
     mark: &str,
@@ -78,7 +79,7 @@ fn write_one<W: fmt::Write>(
     write_value(f, value, "!")
 }
 
-// The numbers of the shards, parted by commas.
+// Writes the numbers of the shards, with commas between them.
 fn write_parts<W: fmt::Write>(f: &mut fmt::Formatter<W>, parts: &Parts) -> fmt::Result {
     let mut rest = parts.mask();
     let mut mark = "";
@@ -92,7 +93,7 @@ fn write_parts<W: fmt::Write>(f: &mut fmt::Formatter<W>, parts: &Parts) -> fmt::
     Ok(())
 }
 
-// How a transaction ended: at a timestamp, or aborted.
+// Writes how a transaction ended: at a timestamp, or aborted.
 fn write_outcome<W: fmt::Write>(f: &mut fmt::Formatter<W>, outcome: &Option<Stamp>) -> fmt::Result {
     match outcome {
         Some(at) => write!(f, "committed {at}"),
@@ -100,7 +101,7 @@ fn write_outcome<W: fmt::Write>(f: &mut fmt::Formatter<W>, outcome: &Option<Stam
     }
 }
 
-// A line: words that are parted by one space, up to the first that is none.
+// Writes a line: its words up to the first that is none, with one space between them.
 fn write_words<W: fmt::Write>(f: &mut fmt::Formatter<W>, words: &[Word<'_>]) -> fmt::Result {
     let mut space = "";
     for word in words {

@@ -1,4 +1,4 @@
-//! The words of a line, each read as a value. What is not such a word is refused.
+//! The words of a line, each read as a value. A word that is none is refused.
 ghost use Rattle.std.specs.Prelude.{◌<◌, IfErr, IfSome};
 ghost use Rattle.texts.specs.Refusals.{IsNoSpelling};
 
@@ -7,10 +7,10 @@ use disk::Fate;
 use std::alloc::Global;
 use units::{Fault, Key, Reason, ShardNo, TxnId, Value};
 
-/// What a word is refused with, before its line is known.
+/// The fault of a word that is not what it should be, as long as its line is not known.
 pub const NO_WORD: Fault = Fault::BadRequest(Reason::Command);
 
-/// A shard, by its number.
+/// Reads a shard, by its number.
 pub fn shard(word: &str) -> Result<ShardNo, Fault> {
     let number = number(word)?;
     if number > 15 {
@@ -19,7 +19,7 @@ pub fn shard(word: &str) -> Result<ShardNo, Fault> {
     ShardNo::new(number as u8).ok_or(NO_WORD)
 }
 
-/// An id: two numbers with a dot between them.
+/// Reads an id: two numbers with a dot between them.
 pub fn txn(word: &str) -> Result<TxnId, Fault> {
     let Some((run, count)) = word.split_once('.') else {
         return Err(NO_WORD);
@@ -27,17 +27,17 @@ pub fn txn(word: &str) -> Result<TxnId, Fault> {
     TxnId::new(number(run)?, number(count)?).ok_or(NO_WORD)
 }
 
-/// A key of ASCII letters, digits and underlines.
+/// Reads a key of ASCII letters, digits and underscores.
 pub fn key(word: &str) -> Result<Key, Fault> {
     Key::new(plain(word)?)
 }
 
-/// A value of ASCII letters, digits and underlines.
+/// Reads a value of ASCII letters, digits and underscores.
 pub fn value(alloc: Global, word: &str) -> Result<Value, Fault> {
     Value::new(alloc, plain(word)?)
 }
 
-/// What a look or a read shows: `none`, or `=` and a value.
+/// Reads what a look or a read shows: `none`, or `=` and a value.
 pub fn shown(alloc: Global, word: &str) -> Result<Option<Value>, Fault> {
     match word.strip_prefix('=') {
         Some(word) => Ok(Some(value(alloc, word)?)),
@@ -46,7 +46,7 @@ pub fn shown(alloc: Global, word: &str) -> Result<Option<Value>, Fault> {
     }
 }
 
-/// What a crash makes of a change: `old`, `new`, or a byte in two hexadecimal digits of either case.
+/// Reads what a crash makes of a change: `old`, `new`, or a byte in two hexadecimal digits of either case.
 pub fn fate(word: &str) -> Result<Fate, Fault> {
     match word.as_bytes() {
         b"old" => Ok(Fate::Old),
@@ -59,7 +59,7 @@ pub fn fate(word: &str) -> Result<Fate, Fault> {
     }
 }
 
-// A hexadecimal digit.
+// Reads a hexadecimal digit.
 fn digit(byte: u8) -> Option<u8>
     ensures { IfSome result (λ digit. digit < 16) }
 {
@@ -71,13 +71,13 @@ fn digit(byte: u8) -> Option<u8>
     }
 }
 
-/// A word of a schedule may have the byte: it is an ASCII letter, a digit or an underline.
+/// Tells whether a word of a schedule may have the byte: an ASCII letter, a digit or an underscore.
 pub(crate) fn is_letter(byte: u8) -> bool {
     byte.is_ascii_alphanumeric() || byte == b'_'
 }
 
-/// The bytes that a word spells: `\xHH` is the byte of these two hexadecimal digits, and each other byte stands for itself. A `\x` without
-/// them is refused as `command`.
+/// Reads the bytes that a word spells: `\xHH` is the byte of these two hexadecimal digits, and each other byte stands
+/// for itself. `BadRequest(Command)` comes if two digits do not follow a `\x`.
 pub fn unspelled(alloc: Global, word: &str) -> Result<Vec<u8>, Fault>
     ensures { IfErr result IsNoSpelling }
 {
@@ -93,7 +93,7 @@ pub fn unspelled(alloc: Global, word: &str) -> Result<Vec<u8>, Fault>
     Ok(bytes)
 }
 
-// Puts in the byte that the first two digits spell, and gives what stands behind them.
+// Adds the byte that the first two digits spell, and gives what follows them.
 fn push_spelled<'t>(bytes: &mut Vec<u8>, piece: &'t [u8]) -> Result<&'t [u8], Fault>
     ensures { IfErr result IsNoSpelling }
 {
@@ -107,7 +107,7 @@ fn push_spelled<'t>(bytes: &mut Vec<u8>, piece: &'t [u8]) -> Result<&'t [u8], Fa
     Ok(rest)
 }
 
-// Some ASCII letters, digits and underlines.
+// Gives the bytes of a word of ASCII letters, digits and underscores.
 fn plain(word: &str) -> Result<&[u8], Fault> {
     let bytes = word.as_bytes();
     for byte in bytes {
