@@ -145,6 +145,7 @@ impl Model for Joined {
 }
 
 impl Joined {
+    /// Makes the token of a record that was added to a group.
     pub(crate) fn new(item: Record) -> Joined
         ensures { result ≡ item }
     {

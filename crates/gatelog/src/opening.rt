@@ -8,7 +8,7 @@ ghost use Rattle.frames.specs.Calls.{waits};
 use disk::Disk;
 use units::Fault;
 
-// Syncs a file before it is read.
+/// Syncs a file before it is read. `Memory` leaves it as it was; `Device` means that the device failed.
 pub fn sync_first<D: Disk>(disk: &mut D) -> Result<(), Fault>
     ensures synced { OnOk result
         (D.keeps_model → surface (D.file disk.new) ≡ after_sync (surface (D.file disk.old))) }

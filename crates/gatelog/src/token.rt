@@ -33,6 +33,7 @@ impl Model for Entry {
 }
 
 impl Entry {
+    /// Makes the entry of a record whose gate is at this offset.
     pub(crate) fn new(offset: u64, item: Record) -> Entry
         ensures { result ≡ record { offset = offset; item = item } }
     {
@@ -166,6 +167,7 @@ impl Model for Logged {
 }
 
 impl Logged {
+    /// Makes the token of a record that stands in the log.
     pub(crate) fn new(item: Record) -> Logged
         ensures { result ≡ item }
     {

@@ -12,16 +12,16 @@ use units::Fault;
 // How many ceilings a log holds at first: more than are read at once.
 const FIRST: u32 = 7_000;
 
-// The ceiling behind which nothing is written.
+// The last ceiling that is written.
 const LAST: u32 = 7_240;
 
-// Each time that so many were written, the logs are renewed, if they are.
+// The logs are renewed each time that so many ceilings were written, if they are renewed at all.
 const TURN: u32 = 40;
 
-// How often they are read at most: more often than a test has time for, since a device may be slow.
+// The most reads, which is more than a test has time for, since a device may be slow.
 const MOST_READS: u32 = 2_000_000;
 
-// The record of a ceiling, in a frame whose gate is open.
+// Makes the record of a ceiling, in a frame whose gate is open.
 fn frame_of(number: u32) -> [u8; 14] {
     let [first, second, third, fourth] = number.to_be_bytes();
     [
@@ -29,7 +29,7 @@ fn frame_of(number: u32) -> [u8; 14] {
     ]
 }
 
-// The bytes of a log that holds the first ceilings.
+// Makes the bytes of a log that holds the first ceilings.
 fn first_bytes(alloc: Global) -> Result<Vec<u8>, Fault> {
     let mut told = Vec::new(alloc);
     told.extend_from_slice(b"SPNLOG02")?;
@@ -40,7 +40,7 @@ fn first_bytes(alloc: Global) -> Result<Vec<u8>, Fault> {
     Ok(with_slots(alloc, &told)?)
 }
 
-// A log that may be written to.
+// Opens a log that may be written to.
 fn opened(rt: &HostRuntime, path: &str) -> Result<GateLog<FileDisk>, Fault> {
     match GateLog::open(rt.alloc(), FileDisk::open(rt, path)?) {
         Ok((log, entries)) => {
@@ -54,7 +54,7 @@ fn opened(rt: &HostRuntime, path: &str) -> Result<GateLog<FileDisk>, Fault> {
     }
 }
 
-// A log takes a ceiling, and is renewed then, if it is: what it holds is that ceiling alone.
+// Logs a ceiling, and renews the log if it is to be: then it holds that ceiling alone.
 fn put(
     alloc: Global,
     log: &mut GateLog<FileDisk>,
@@ -73,7 +73,7 @@ fn put(
     Ok(())
 }
 
-// Both logs take the other ceilings, the second log each of them first.
+// Logs the other ceilings in both logs, each of them in the second log first.
 fn write(rt: &HostRuntime, paths: [&str; 2], renewed: bool) -> Result<(), Fault> {
     let alloc = rt.alloc();
     let mut low = opened(rt, paths[0])?;
@@ -87,7 +87,7 @@ fn write(rt: &HostRuntime, paths: [&str; 2], renewed: bool) -> Result<(), Fault>
     Ok(())
 }
 
-// The last ceiling of some entries.
+// Gives the last ceiling of some entries.
 fn last_of(entries: &[Entry]) -> Option<u64> {
     match entries.last()?.item() {
         Record::Ceiling { at } => Some(at.micros()),
@@ -95,7 +95,7 @@ fn last_of(entries: &[Entry]) -> Option<u64> {
     }
 }
 
-// The last ceiling of a log, which is read alone.
+// Gives the last ceiling of a log that is open for reads alone.
 fn last_in(alloc: Global, log: LogFile) -> Result<Option<u64>, Fault> {
     match GateLog::open(alloc, log) {
         Ok((log, entries)) => {
@@ -111,7 +111,7 @@ fn last_in(alloc: Global, log: LogFile) -> Result<Option<u64>, Fault> {
     }
 }
 
-// The log in a file, to be read alone.
+// Opens the log in a file, for reads alone.
 fn opened_to_read(rt: &HostRuntime, path: &str) -> Result<LogFile, Fault> {
     match LogFile::open(rt, rt.alloc(), path) {
         Ok(log) => Ok(log),
@@ -119,7 +119,7 @@ fn opened_to_read(rt: &HostRuntime, path: &str) -> Result<LogFile, Fault> {
     }
 }
 
-// The last ceilings of both logs, as they stand at one moment.
+// Gives the last ceilings of both logs, as they stand at one moment.
 fn read(rt: &HostRuntime, paths: [&str; 2]) -> Result<Option<(u64, u64)>, Fault> {
     let alloc = rt.alloc();
     let mut logs = [opened_to_read(rt, paths[0])?, opened_to_read(rt, paths[1])?];
@@ -133,7 +133,8 @@ fn read(rt: &HostRuntime, paths: [&str; 2]) -> Result<Option<(u64, u64)>, Fault>
     })
 }
 
-// Reads until all is there: each time the second log is where the first one is, or one ceiling on, and no log is where it was before.
+// Reads until all is there, and tells whether each read is of one moment. The second log is then as far as the first
+// one, or one ceiling ahead. The first log is never less far than before.
 fn read_all(rt: &HostRuntime, paths: [&str; 2]) -> bool {
     let mut former = 0;
     for _ in 0..MOST_READS {
@@ -151,7 +152,7 @@ fn read_all(rt: &HostRuntime, paths: [&str; 2]) -> bool {
     false
 }
 
-// Whether two logs of a folder, which one thread writes to, are each read as they stood at one moment.
+// Tells whether two logs of a folder, which one thread writes to, are each read as they stood at one moment.
 fn are_read<R: Threads + Sync>(
     rt: &HostRuntime,
     threads: &R,
@@ -176,7 +177,7 @@ fn are_read<R: Threads + Sync>(
     Ok(put && read)
 }
 
-/// Whether logs are read beside a thread that appends to them.
+/// Tells whether logs are read beside a thread that appends to them.
 pub fn are_read_beside_appends<R: Threads + Sync>(
     rt: &HostRuntime,
     threads: &R,
@@ -185,7 +186,7 @@ pub fn are_read_beside_appends<R: Threads + Sync>(
     are_read(rt, threads, folder, false) == Ok(true)
 }
 
-/// Whether logs are read beside a thread that renews them too.
+/// Tells whether logs are read beside a thread that renews them too.
 pub fn are_read_beside_turnovers<R: Threads + Sync>(
     rt: &HostRuntime,
     threads: &R,

@@ -1,4 +1,4 @@
-//! What the tests end with, and what more than one asks.
+//! What the tests end with, and the checks that several of them use.
 use made::WrongRows;
 use message::Envelope;
 use record::Record;
@@ -9,19 +9,19 @@ use std::process::Abort;
 use texts::Text;
 use units::{Line, Value};
 
-/// Ends the test where rows are wrong, with all of them.
+/// Ends the test with all wrong rows, if there are any.
 pub fn end(rt: &impl Abort, wrong: WrongRows) {
     assert!(rt; wrong.is_none(), "{}", wrong.text());
     drop(wrong);
 }
 
-/// A row of a table.
+/// A row of a table of tests.
 pub trait Row {
-    /// Tells the row by its name where it does not hold.
+    /// Notes the row by its name if it does not hold.
     fn tell(&self, wrong: &mut WrongRows, rt: &HostRuntime);
 }
 
-/// Goes over the rows of an area.
+/// Checks the rows of an area.
 pub fn go_over<R: Row>(wrong: &mut WrongRows, rt: &HostRuntime, area: &'static str, rows: &[R]) {
     let wrong = wrong.of(area);
     for row in rows {
@@ -29,7 +29,7 @@ pub fn go_over<R: Row>(wrong: &mut WrongRows, rt: &HostRuntime, area: &'static s
     }
 }
 
-/// Goes over the rows of an area that stand in several tables.
+/// Checks the rows of an area that stand in several tables.
 pub fn go_over_all<R: Row>(
     wrong: &mut WrongRows,
     rt: &HostRuntime,
@@ -41,7 +41,7 @@ pub fn go_over_all<R: Row>(
     }
 }
 
-/// Whether there is memory for the text, and it is this one.
+/// Tells whether there is memory for the text, and it is this one.
 pub fn is_text(text: Result<String, AllocError>, wanted: &str) -> bool {
     match text {
         Ok(text) => {
@@ -53,7 +53,7 @@ pub fn is_text(text: Result<String, AllocError>, wanted: &str) -> bool {
     }
 }
 
-/// Whether the thing is printed as this text.
+/// Tells whether the thing is printed as this text.
 pub fn is_printed(alloc: Global, thing: &impl Display, text: &str) -> bool {
     is_text(thing.to_string(alloc), text)
 }
@@ -81,7 +81,7 @@ impl Printed for Envelope {
     }
 }
 
-/// Whether these are printed as the lines of a text, one after another.
+/// Tells whether these are printed as the lines of a text, one after another.
 pub fn are_printed<T: Printed>(alloc: Global, items: &[T], text: &str) -> bool {
     let mut wanted = text.lines();
     for item in items {
@@ -93,7 +93,7 @@ pub fn are_printed<T: Printed>(alloc: Global, items: &[T], text: &str) -> bool {
     wanted.next().is_none()
 }
 
-/// Whether these are the bytes of a record.
+/// Tells whether these are the bytes of a record.
 pub fn is_spelled(alloc: Global, item: &Record, bytes: &[u8]) -> bool {
     let Ok(found) = encode(alloc, item) else {
         return false;
@@ -103,7 +103,7 @@ pub fn is_spelled(alloc: Global, item: &Record, bytes: &[u8]) -> bool {
     same
 }
 
-/// The one byte of a value that was found.
+/// Gives the one byte of a value that was found.
 pub fn byte(found: Option<&Value>) -> Option<u8> {
     let Some(value) = found else {
         return None;

@@ -7,7 +7,8 @@ use std::alloc::Global;
 use truetime::{Reading, pass};
 use units::{Fault, Reason, Stamp, Stride};
 
-/// A reading, and how a timestamp stands beside it. Commit wait for the timestamp passes once all of the reading is after it.
+/// A reading, and whether a timestamp is after or before it. Commit wait for the timestamp passes once all of the
+/// reading is after it.
 pub struct Beside {
     name: &'static str,
     earliest: u32,
@@ -122,7 +123,7 @@ static BESIDE: [Beside; 10] = [
     },
 ];
 
-// Whether a timestamp has passed, or else is early.
+// Tells whether a timestamp has passed, or else is early.
 fn has_passed(at: Stamp, now: &Reading) -> Option<bool> {
     match pass(at, now) {
         Ok(waited) => {
@@ -149,7 +150,7 @@ impl Row for Beside {
     }
 }
 
-/// The record that is needed for a timestamp, where one is: a ceiling by strides above a floor.
+/// The ceiling that a timestamp needs, if it needs one: a stride above it, by a floor.
 pub struct Ahead {
     name: &'static str,
     floor: u32,
@@ -158,7 +159,7 @@ pub struct Ahead {
     ceiling: Option<u64>,
 }
 
-// Above the floor alone, and not past the greatest timestamp.
+// A ceiling is needed above the floor alone, and is not above the greatest timestamp.
 static AHEAD: [Ahead; 5] = [
     Ahead {
         name: "0 to 110",
@@ -217,7 +218,7 @@ fn stands(times: &SafeTime, last: u64, safe: u64) -> bool {
     (times.last().micros() == last) & (times.safe().micros() == safe)
 }
 
-/// The safe time stays below a promise until that is settled.
+/// Shows that the safe time stays below a promise until that is settled.
 pub fn is_held_below(alloc: Global) -> bool {
     let Ok(mut times) = SafeTime::new(alloc, Stamp::zero()) else {
         return false;
@@ -234,7 +235,7 @@ pub fn is_held_below(alloc: Global) -> bool {
     held & raised & lifted
 }
 
-/// Each lift takes one hold of two, and a third takes none.
+/// Shows that each lift takes one hold of two, and a third takes none.
 pub fn are_lifted(alloc: Global) -> bool {
     let at = stamp(111);
     let Ok(mut times) = SafeTime::new(alloc, at) else {
@@ -254,10 +255,12 @@ pub fn are_lifted(alloc: Global) -> bool {
     two & one & none & still
 }
 
+/// Checks readings, and commit wait, beside timestamps.
 pub fn tell_readings(wrong: &mut WrongRows, rt: &HostRuntime) {
     go_over(wrong, rt, "clocks", &BESIDE);
 }
 
+/// Checks the ceilings that timestamps need.
 pub fn tell_ceilings(wrong: &mut WrongRows, rt: &HostRuntime) {
     go_over(wrong, rt, "ceilings", &AHEAD);
 }

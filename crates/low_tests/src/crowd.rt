@@ -1,4 +1,4 @@
-//! The lock table with a crowd in it: a thousand waiters behind one holder, and behind a thousand.
+//! The lock table with a crowd in it: a thousand transactions wait for one holder, or for a thousand.
 use crate::checks::Row;
 use crate::tokens::{Acts, act_out, enters, leaves, release_all};
 use locks::{Held, Table};
@@ -6,10 +6,10 @@ use made::{WrongRows, id};
 use std::alloc::Global;
 use units::{Asked, Key, Lock, Mode};
 
-// So many wait.
+// How many wait.
 const CROWD: u16 = 1_000;
 
-/// Keys that begin alike.
+/// Makes the key of an account: these keys begin alike.
 pub fn account(number: u16) -> Key {
     let [high, low] = number.to_be_bytes();
     match Key::new(&[b'a', b'c', b'c', b'o', b'u', b'n', b't', b'/', high, low]) {
@@ -29,7 +29,7 @@ pub enum Gets {
     Nothing,
 }
 
-/// Whether this comes of what a transaction does.
+/// Tells whether this comes of what a transaction does.
 pub fn comes_to(
     table: &mut Table,
     alloc: Global,
@@ -51,19 +51,20 @@ pub fn comes_to(
     came == wanted
 }
 
-/// So many hold an account each, exclusive, and a thousand others wait for these in turn.
+/// So many transactions hold an account each, exclusive, and a thousand others wait for these in turn.
 pub struct Crowd {
     name: &'static str,
     holders: u16,
     mode: Mode,
-    // All go on when the one holder is released, and not each when the one before it is.
+    // All go on when the one holder is released, and not one after another.
     at_once: bool,
-    // In which turn they are released: each of a thousand numbers comes once.
+    // The order in which they are released: each of a thousand numbers comes once.
     apart: u16,
 }
 
+/// Crowds whose waiters go on in turn, at once and apart.
 pub static CROWDS: [Crowd; 3] = [
-    // Who writes goes on when the one before it is released, the oldest first.
+    // A transaction that writes goes on when the one before it is released, the oldest first.
     Crowd {
         name: "write in turn",
         holders: 1,
@@ -71,7 +72,7 @@ pub static CROWDS: [Crowd; 3] = [
         at_once: false,
         apart: 1,
     },
-    // Who reads goes on with all others that read, the oldest first.
+    // A transaction that reads goes on with all others that read, the oldest first.
     Crowd {
         name: "read at once",
         holders: 1,
@@ -79,7 +80,7 @@ pub static CROWDS: [Crowd; 3] = [
         at_once: true,
         apart: 1,
     },
-    // Whose holder is released goes on, and nobody else.
+    // The waiter whose holder is released goes on, and nobody else.
     Crowd {
         name: "go on apart",
         holders: CROWD,
@@ -89,7 +90,7 @@ pub static CROWDS: [Crowd; 3] = [
     },
 ];
 
-// All that hold an account come, or else all that wait for one, and each request gets that.
+// Lets all come that hold an account, or else all that wait for one, and tells whether each request gets that.
 fn all_come(
     table: &mut Table,
     alloc: Global,
@@ -115,7 +116,7 @@ fn all_come(
     true
 }
 
-// The waiters go on, each in its turn.
+// Lets the waiters go on, each in its turn.
 fn all_go_on(table: &mut Table, alloc: Global, tokens: &mut Vec<Held>, crowd: &Crowd) -> bool {
     for turn in 0..CROWD {
         let number = turn.wrapping_mul(crowd.apart) % CROWD;
@@ -133,7 +134,7 @@ fn all_go_on(table: &mut Table, alloc: Global, tokens: &mut Vec<Held>, crowd: &C
     table.ready().is_none()
 }
 
-// In a new table, in which nobody is left at the end.
+// Each crowd comes in a new table, in which nobody is left at the end.
 impl Row for Crowd {
     fn tell(&self, wrong: &mut WrongRows, rt: &HostRuntime) {
         let alloc = rt.alloc();

@@ -14,11 +14,11 @@ enum Call {
     Other,
 }
 
-/// A plan, and calls with whether each fails. Then no call is to fail any more.
+/// A plan, and calls with whether each fails. After them no call is to fail any more.
 pub struct Failing {
     what: &'static str,
     plan: FailurePlan,
-    // The call by which `armed` makes that plan, where it does.
+    // The call for which `armed` makes that plan, if it makes it.
     armed_by: Option<Option<u64>>,
     calls: &'static [(Call, bool)],
 }
@@ -73,7 +73,7 @@ impl Row for Failing {
     }
 }
 
-/// A disk may go to another thread.
+/// Passes a value on, and shows that it may go to another thread.
 pub fn sent<T: Send>(value: T) -> T {
     value
 }
@@ -100,13 +100,14 @@ impl Stepped for SimDisk {
     }
 }
 
-/// A file of six letters, `abcdef`, that is synced, and changes of it; and what comes then, each told by its name.
+/// A file of six letters, `abcdef`, that is synced, and changes of it. Each end has a name and the steps that follow
+/// the changes.
 pub struct Life {
     changes: &'static [Step],
     ends: &'static [(&'static str, &'static [Step])],
 }
 
-// `XY` over the second and third letter, `gh` and `ij` behind all.
+// `XY` over the second and third letter, `gh` and `ij` at the end.
 static WRITTEN: [Life; 1] = [Life {
     changes: &[
         Step::Write(0, b"abcdef"),
@@ -149,7 +150,7 @@ static WRITTEN: [Life; 1] = [Life {
     ],
 }];
 
-// `Z` behind the first two letters alone.
+// A cut after two letters, and `Z` at the end.
 static CUT: [Life; 1] = [Life {
     changes: &[
         Step::Write(0, b"abcdef"),
@@ -269,11 +270,12 @@ impl Row for Life {
     }
 }
 
+/// Checks which calls a plan lets fail.
 pub fn tell_failing(wrong: &mut WrongRows, rt: &HostRuntime) {
     go_over(wrong, rt, "failing calls", &FAILING);
 }
 
-// A body that names a table costs much to prove, so each is handed on.
+// A body that names a table costs much to prove, so a function hands each on.
 fn written() -> &'static [Life] {
     &WRITTEN
 }
@@ -286,6 +288,7 @@ fn synced() -> &'static [Life] {
     &SYNCED
 }
 
+/// Checks what is read of a disk in memory, and what a crash leaves of it.
 pub fn tell_lives(wrong: &mut WrongRows, rt: &HostRuntime) {
     go_over_all(wrong, rt, "disks in memory", &[written(), cut(), synced()]);
 }

@@ -10,7 +10,7 @@ use std::alloc::Global;
 use std::{env, fs};
 use units::Fault;
 
-// What is there under a name.
+// What has a name already.
 enum There {
     Nothing,
     File,
@@ -22,7 +22,7 @@ enum There {
 enum Call {
     Create,
     Open,
-    // To read alone.
+    // For reads alone.
     Read,
 }
 
@@ -37,17 +37,17 @@ enum Left {
     Long,
 }
 
-// The last 16 bytes of a long file, of which each is another one.
+// The last 16 bytes of a long file. No two of them are alike.
 const MARKS: &[u8] = b"0123456789abcdef";
 
-/// A call in a folder of its own, with the folder `logs` in it, and what is done with the disk.
+/// A call that takes a file, in a folder of its own with the folder `logs` in it, and what is done with the disk.
 pub struct Asked {
     what: &'static str,
-    // From that folder; and else the path of a log there.
+    // A path in that folder; `None` is the path of a log there.
     path: Option<&'static str>,
     there: There,
     call: Call,
-    // The length of the file that is taken, or how it is refused.
+    // The length of the file that is taken, or why it is refused.
     wanted: Result<u64, Cause>,
     steps: &'static [Step],
     left: Left,
@@ -351,7 +351,7 @@ impl Stepped for FileDisk {
     }
 }
 
-// The file is taken with that length, and each step on it goes well.
+// Tells whether the file is taken with that length, and each step on it goes well.
 fn goes_on(alloc: Global, taken: FileDisk, row: &Asked) -> bool {
     let mut disk = sent(taken);
     let went = row.wanted == Ok(disk.len()) && go_well(alloc, &mut disk, row.steps);
@@ -359,7 +359,7 @@ fn goes_on(alloc: Global, taken: FileDisk, row: &Asked) -> bool {
     went
 }
 
-// The call is answered so at a path where nothing is yet.
+// Tells whether the call is answered so at a path that nothing has yet.
 fn is_answered_so(rt: &HostRuntime, path: &str, row: &Asked) -> bool {
     if !is_put(rt, path, &row.there) {
         return false;
@@ -381,7 +381,7 @@ fn is_answered_so(rt: &HostRuntime, path: &str, row: &Asked) -> bool {
     answered
 }
 
-/// Whether the file, when it is opened, has these bytes.
+/// Tells whether the file has these bytes when it is opened.
 pub fn keeps(rt: &HostRuntime, path: &str, bytes: &[u8]) -> bool {
     let Ok(mut disk) = FileDisk::open(rt, path) else {
         return false;
@@ -391,7 +391,7 @@ pub fn keeps(rt: &HostRuntime, path: &str, bytes: &[u8]) -> bool {
     kept
 }
 
-// The file takes the bytes by one write, and they are read back from the disk.
+// Writes the bytes to the file by one write, and tells whether they are read back from the disk.
 fn takes(rt: &HostRuntime, path: &str, bytes: &[u8]) -> bool {
     let Ok(mut disk) = FileDisk::open(rt, path) else {
         return false;
@@ -403,7 +403,7 @@ fn takes(rt: &HostRuntime, path: &str, bytes: &[u8]) -> bool {
     taken
 }
 
-// The file is as long as those bytes, and ends with the marks.
+// Tells whether the file is as long as those bytes, and ends with the marks.
 fn ends_so(rt: &HostRuntime, path: &str) -> bool {
     match fs::read(rt, path) {
         Ok(found) => {
@@ -415,7 +415,7 @@ fn ends_so(rt: &HostRuntime, path: &str) -> bool {
     }
 }
 
-// The file takes 1 MiB of one byte and the marks behind them, and keeps them.
+// Writes 1 MiB of one byte and the marks after them, and tells whether the file keeps them.
 fn is_long(rt: &HostRuntime, path: &str) -> bool {
     let Ok(mut bytes) = Vec::from_elem(rt.alloc(), 0x5au8, 1_048_576) else {
         return false;
@@ -438,7 +438,7 @@ fn is_left(rt: &HostRuntime, path: &str, left: &Left) -> bool {
     }
 }
 
-// In that folder the call is answered so, and the file is left so.
+// Tells whether in that folder the call is answered so, and the file is left so.
 fn is_so(rt: &HostRuntime, folder: &Folder, row: &Asked) -> bool {
     let (Ok(dir), Ok(log)) = (
         folder.path(rt.alloc(), "."),
@@ -466,6 +466,7 @@ impl Row for Asked {
     }
 }
 
+/// Checks how files are made and opened, and what the disks over them do.
 pub fn tell_files(wrong: &mut WrongRows, rt: &HostRuntime) {
     go_over(wrong, rt, "disks over files", &ROWS);
 }

@@ -4,7 +4,7 @@ use settings::{Settings, Unread};
 use std::alloc::Global;
 use units::{Fault, Key, Reason};
 
-// The settings that a document is to give.
+// The settings that a document should give.
 struct Wanted {
     splits: &'static [&'static [u8]],
     stride: u64,
@@ -143,7 +143,8 @@ static LINES: [&str; 7] = [
     "keys = 10",
 ];
 
-// Texts in place of one of its lines: those that are taken, and those that are refused with what is told of each behind the name of the file.
+// Texts in place of one of its lines. Some are taken; others are refused, each with what is told of it after the name
+// of the file.
 struct Changed {
     line: usize,
     taken: &'static [&'static str],
@@ -337,7 +338,7 @@ static CHANGED: [Changed; 7] = [
     },
 ];
 
-// The document that has a text in place of one line. A line that memory is wanting for is left out.
+// Makes the document that has a text in place of one line. A line is left out if there is no memory for it.
 fn whole(alloc: Global, at: usize, text: &str) -> String {
     let mut whole = String::new(alloc);
     for (n, line) in LINES.iter().enumerate() {
@@ -347,7 +348,7 @@ fn whole(alloc: Global, at: usize, text: &str) -> String {
     whole
 }
 
-// Whether it is refused as settings, and this is told of it.
+// Tells whether it is refused as settings, and this is told of it.
 fn is_refused(alloc: Global, text: &str, wanted: &str) -> bool {
     let Err(Unread::Wrong(wrong)) = Settings::read_or_tell(alloc, text) else {
         return false;
@@ -360,7 +361,7 @@ fn is_refused(alloc: Global, text: &str, wanted: &str) -> bool {
     right && Settings::read(alloc, text).err() == Some(Fault::BadRequest(Reason::Settings))
 }
 
-// Goes over texts for a line, of which the first are taken and the others refused.
+// Checks texts for a line, of which the first are taken and the others refused.
 fn go_over_texts(wrong: &mut WrongRows, alloc: Global, row: &Changed) {
     for text in row.taken {
         let document = whole(alloc, row.line, *text);
@@ -376,7 +377,7 @@ fn go_over_texts(wrong: &mut WrongRows, alloc: Global, row: &Changed) {
     }
 }
 
-// Whether the document is taken, and gives what it should.
+// Tells whether the document is taken, and gives what it should.
 fn is_taken(alloc: Global, row: &Taken) -> bool {
     match Settings::read(alloc, row.text) {
         Ok(settings) => {
@@ -388,7 +389,7 @@ fn is_taken(alloc: Global, row: &Taken) -> bool {
     }
 }
 
-/// Goes over all rows.
+/// Checks all rows.
 pub fn go_over(wrong: &mut WrongRows, alloc: Global) {
     for row in &TAKEN {
         wrong.unless(is_taken(alloc, row), row.what);

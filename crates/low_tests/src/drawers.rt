@@ -8,7 +8,7 @@ use std::thread::Threads;
 use tickets::{Drawer, Tickets};
 use units::{Fault, Reason};
 
-// A thousand draws. Those that memory is wanting for are not in the list.
+// Draws a thousand numbers. Those for which there is no memory are not in the list.
 fn draw_many(tickets: &Tickets, alloc: Global, mut drawer: Drawer) -> Vec<u64>
     requires { drawer.source ≡ tickets.now }
 {
@@ -22,7 +22,7 @@ fn draw_many(tickets: &Tickets, alloc: Global, mut drawer: Drawer) -> Vec<u64>
     drawn
 }
 
-// What all of them draw, each on a thread of its own.
+// Gives what all of them draw, each on a thread of its own.
 fn draw_all<R: Threads + Sync>(
     rt: &R,
     alloc: Global,
@@ -42,7 +42,7 @@ fn draw_all<R: Threads + Sync>(
     all
 }
 
-// Whether these are 0, 1, 2 .. in turn.
+// Tells whether these are 0, 1, 2 and so on.
 fn count_up(numbers: &[u64]) -> bool {
     for (i, number) in numbers.iter().enumerate() {
         if i as u64 != *number {
@@ -52,7 +52,8 @@ fn count_up(numbers: &[u64]) -> bool {
     true
 }
 
-// So many drawers draw on threads of their own, and these draws there are then, where so many drawers may be.
+// So many drawers, which draw on threads of their own, and how many numbers are drawn then. `None` means that there
+// may not be so many.
 struct Row {
     name: &'static str,
     drawers: usize,
@@ -82,7 +83,7 @@ static ROWS: [Row; 4] = [
     },
 ];
 
-// Whether so many drawers may be, and draw each number once.
+// Tells whether so many drawers may be, and draw each number once.
 fn are_drawn<R: Threads + Sync>(rt: &R, alloc: Global, row: &Row) -> bool {
     match Tickets::new(alloc, row.drawers) {
         Ok((tickets, drawers)) => {
@@ -97,7 +98,7 @@ fn are_drawn<R: Threads + Sync>(rt: &R, alloc: Global, row: &Row) -> bool {
     }
 }
 
-/// Goes over all rows.
+/// Checks all rows.
 pub fn go_over<R: Threads + Sync>(wrong: &mut WrongRows, rt: &R, alloc: Global) {
     for row in &ROWS {
         wrong.unless(are_drawn(rt, alloc, row), row.name);

@@ -1,4 +1,4 @@
-//! Drawn requests for one account each, answered by the rows and by a plain table that goes over everybody.
+//! Drawn requests for one account each. The rows answer them, and so does a plain table that goes over everybody.
 use crate::crowd::account;
 use crate::ids::{admits, ask, needs};
 use crate::plain::{Modes, NOTHING, Plains, ends, first_ready, gives_way, is_granted, opens};
@@ -7,8 +7,8 @@ use rows::Rows;
 use std::alloc::Global;
 use units::Mode;
 
-// The younger ones in the way are ended, and the request is granted or waits. One that holds nothing and waits for nothing may have
-// no row.
+// Ends the younger ones in the way, and then grants the request or lets it wait. One that holds nothing and waits for
+// nothing may have no row.
 fn goes_on(plains: &mut Plains, number: usize, wanted: &Modes, granted: bool) {
     for at in 0..7 {
         if gives_way(plains, at, number, wanted) {
@@ -23,7 +23,8 @@ fn goes_on(plains: &mut Plains, number: usize, wanted: &Modes, granted: bool) {
     }
 }
 
-// What the rows answer is what the plain table says, and both go on by it. Nobody waits for what is not shared.
+// Tells whether the rows answer what the plain table says, and lets both go on by it. Nobody waits for what is not
+// shared.
 fn agrees_on(
     rows: &mut Rows,
     alloc: Global,
@@ -51,7 +52,7 @@ fn agrees_on(
     same && ask(rows, alloc, txn, key, mode) == Some(free)
 }
 
-// The transaction's row goes, if it has one.
+// Takes out the transaction's row, if it has one.
 fn leaves(rows: &mut Rows, plains: &mut Plains, number: usize) {
     let txn = id((number % 7) as u16);
     if rows.is_reading(txn) {
@@ -60,7 +61,7 @@ fn leaves(rows: &mut Rows, plains: &mut Plains, number: usize) {
     plains[number % 7] = NOTHING;
 }
 
-/// The rows and the plain table agree on so many drawn requests and on who is ready.
+/// Tells whether the rows and the plain table agree on so many drawn requests and on who is ready.
 pub fn agrees(rows: &mut Rows, alloc: Global, turns: u64) -> bool {
     let mut plains: Plains = [NOTHING; 7];
     let mut state = 1u64;

@@ -1,17 +1,17 @@
-//! Lines of a drive, and its table.
+//! The lines that a drive shows, and its table.
 use crate::checks::{Row, go_over_all, is_text};
 use made::WrongRows;
 use progress::{Ended, Progress, Turn};
 
-// So many turns that ended alike, or looks, that took as long.
+// So many turns that ended alike, or so many looks, which all took as long.
 struct Group {
     ended: Option<Ended>,
     micros: u64,
     times: u64,
 }
 
-/// Some turns of a drive, and looks behind them, of which no more count than there are turns, its line after so many microseconds, and its
-/// table.
+/// Some turns of a drive and then looks, of which no more count than there are turns. They give its line after so
+/// many microseconds, and its table.
 pub struct Drive {
     name: &'static str,
     turns: u64,
@@ -105,7 +105,7 @@ static KINDS: [Drive; 3] = [
     },
 ];
 
-// What stands in the columns of the table.
+// What the columns of the table hold.
 static COLUMNS: [Drive; 3] = [
     Drive {
         name: "none committed",
@@ -204,7 +204,7 @@ fn count(progress: &mut Progress, group: &Group) {
     }
 }
 
-// No line has more than 50 columns, or more than 80 where a number has more than seven digits.
+// Tells whether no line has more than 50 columns, or more than 80 if a number has more than seven digits.
 fn is_narrow(row: &Drive, text: &str) -> bool {
     let mut most: usize = 50;
     for group in row.groups {
@@ -236,7 +236,7 @@ impl Row for Drive {
     }
 }
 
-// A body that names a table costs much to prove, so each is handed on.
+// A body that names a table costs much to prove, so a function hands each on.
 fn kinds() -> &'static [Drive] {
     &KINDS
 }
@@ -245,6 +245,7 @@ fn columns() -> &'static [Drive] {
     &COLUMNS
 }
 
+/// Checks the lines and the tables of drives.
 pub fn tell_drives(wrong: &mut WrongRows, rt: &HostRuntime) {
     go_over_all(wrong, rt, "lines", &[kinds(), columns()]);
 }

@@ -2,7 +2,7 @@
 use made::WrongRows;
 use progress::{per_second, percentile};
 
-// So many in some microseconds, and how many a second that is.
+// A count in some microseconds, and how many that is a second.
 struct Rate {
     what: &'static str,
     count: u64,
@@ -43,7 +43,7 @@ static RATES: [Rate; 5] = [
     },
 ];
 
-// Numbers in order, and one that so many of a hundred do not exceed.
+// Numbers in order, and the one that so many of a hundred do not exceed.
 struct Rank {
     what: &'static str,
     sorted: &'static [u64],
@@ -102,7 +102,7 @@ static RANKS: [Rank; 8] = [
     },
 ];
 
-// The percentile of a row, whose numbers are in order.
+// Gives the percentile of a row, whose numbers are in order.
 fn ranked(row: &Rank) -> Option<u64> {
     if !row.sorted.is_sorted() || row.percent < 1 || row.percent > 100 {
         return None;
@@ -110,7 +110,7 @@ fn ranked(row: &Rank) -> Option<u64> {
     percentile(row.sorted, row.percent)
 }
 
-/// Goes over all rows.
+/// Checks all rows.
 pub fn go_over(wrong: &mut WrongRows) {
     for row in &RATES {
         let right = per_second(row.count, row.micros) == row.want;

@@ -13,13 +13,13 @@ const TWO_OPENINGS: &[u8] = &[
     0xa5, 0, 0, 0, 9, 1, 0, 0, 0, 0, 0, 0, 0, 2, 0,
 ];
 
-// The entries of the same.
+// The entries of this file.
 const OPENINGS: &[Place] = &[
     (FIRST_GATE, OPENED),
     (FIRST_GATE + 14, &[1, 0, 0, 0, 0, 0, 0, 0, 2]),
 ];
 
-// The log is made in a file, takes its first record, and is not opened meanwhile.
+// Tells whether a log is made in the file and takes its first record, and the file cannot be opened meanwhile.
 fn begins(rt: &HostRuntime, path: &str) -> bool {
     let Ok(disk) = FileDisk::open(rt, path) else {
         return false;
@@ -32,7 +32,7 @@ fn begins(rt: &HostRuntime, path: &str) -> bool {
     begun
 }
 
-// It is opened with these entries, and takes more.
+// Tells whether it is opened with these entries, and takes more.
 fn goes_on(rt: &HostRuntime, path: &str, places: &[Place], more: &str) -> bool {
     let Ok(disk) = FileDisk::open(rt, path) else {
         return false;
@@ -45,7 +45,7 @@ fn goes_on(rt: &HostRuntime, path: &str, places: &[Place], more: &str) -> bool {
     went
 }
 
-/// Whether the file is refused, as one that is no log.
+/// Tells whether the file is refused, as one that is no log.
 pub fn is_no_log(rt: &HostRuntime, path: &str) -> bool {
     match FileDisk::open(rt, path) {
         Ok(disk) => open(rt.alloc(), disk, &[]).err() == Some(Fault::NotALog),
@@ -53,7 +53,7 @@ pub fn is_no_log(rt: &HostRuntime, path: &str) -> bool {
     }
 }
 
-// The file has the bytes of both openings.
+// Tells whether the file has the bytes of both openings.
 fn is_kept(rt: &HostRuntime, path: &str) -> bool {
     match with_slots(rt.alloc(), TWO_OPENINGS) {
         Ok(bytes) => {
@@ -65,7 +65,8 @@ fn is_kept(rt: &HostRuntime, path: &str) -> bool {
     }
 }
 
-/// Whether the file, once it was formatted, is opened as a log, and opened again with what was put behind.
+/// Tells whether the file, once it was formatted, is opened as a log, and opened again with the record that was
+/// added.
 pub fn is_opened_again(rt: &HostRuntime, path: &str) -> bool {
     begins(rt, path)
         && goes_on(rt, path, &[(FIRST_GATE, OPENED)], "opened 2")

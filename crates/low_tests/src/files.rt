@@ -13,7 +13,7 @@ use simdisk::SimDisk;
 use std::alloc::Global;
 use units::Fault;
 
-/// Where an entry stands, and the bytes of its record.
+/// The offset of an entry, and the bytes of its record.
 pub type Place = (u64, &'static [u8]);
 
 fn are_entries(alloc: Global, entries: &[Entry], places: &[Place]) -> bool {
@@ -27,7 +27,7 @@ fn are_entries(alloc: Global, entries: &[Entry], places: &[Place]) -> bool {
     entries.len() == places.len()
 }
 
-/// The log on a disk, with these entries: where they are others, there is no room for them.
+/// Opens the log on a disk. `Room` means that its entries are not these.
 pub fn open<D: Disk + Drop>(alloc: Global, disk: D, places: &[Place]) -> Result<GateLog<D>, Fault> {
     match GateLog::open(alloc, disk) {
         Ok((log, entries)) => {
@@ -46,7 +46,7 @@ pub fn open<D: Disk + Drop>(alloc: Global, disk: D, places: &[Place]) -> Result<
     }
 }
 
-/// Logs a record, while that call of the append is to fail, where one is.
+/// Logs a record, while that call of the append is to fail, if one is.
 pub fn put<D: Disk>(
     alloc: Global,
     log: &mut GateLog<D>,
@@ -60,7 +60,7 @@ pub fn put<D: Disk>(
     Ok(())
 }
 
-/// Whether all of these records were logged.
+/// Tells whether all of these records were logged.
 pub fn put_lines<D: Disk>(alloc: Global, log: &mut GateLog<D>, lines: &str) -> bool {
     for line in lines.lines() {
         let Some(item) = record_of(alloc, line) else {
@@ -87,33 +87,33 @@ pub enum Does {
 pub struct Case {
     pub what: &'static str,
     pub lines: &'static str,
-    /// What it does then, each time while that call of it is to fail, where one is, and how this is answered.
+    /// What it does then, the call of it that is to fail, if one is, and how this is answered.
     pub does: &'static [(Does, Option<u64>, Result<(), Fault>)],
-    /// Records that are logged behind that.
+    /// Records that are logged after that.
     pub behind: &'static str,
     pub is_stopped: bool,
-    /// The fate of what is not synced, where there is a crash then.
+    /// The fate of what is not synced, if there is a crash then.
     pub fate: Option<Fate>,
-    /// All bytes of the file, told without its slots.
+    /// All bytes of the file without its slots.
     pub bytes: Option<&'static [u8]>,
-    /// All that its first two slots hold, and how many bytes it has.
+    /// All that its first two slots hold, and how many bytes the file has.
     pub slots: Option<(&'static [u8; 18], u64)>,
     pub places: &'static [Place],
-    /// Where its closed gate stands, and how many slots are open.
+    /// The offset of its closed gate, and how many slots are open.
     pub ends: Option<(u64, u64)>,
-    /// More records that are logged then, and the entries with these.
+    /// More records that are logged then.
     pub more: &'static str,
     pub places_with_more: &'static [Place],
 }
 
 const AT_FIRST: &[Place] = &[(FIRST_GATE, OPENED)];
 
-// The closed gate of a log that was opened once.
+// The offset of the closed gate of a log that was opened once.
 const BEHIND_ONE: u64 = FIRST_GATE + 14;
 
 const WITH_CEILING: &[Place] = &[(FIRST_GATE, OPENED), (BEHIND_ONE, CEILING)];
 
-// Ceiling 300, where the closed gate was.
+// Ceiling 300, at the offset of the closed gate.
 const WITH_HIGHER: &[Place] = &[
     (FIRST_GATE, OPENED),
     (BEHIND_ONE, &[2, 0, 0, 0, 0, 0, 0, 1, 0x2c]),
@@ -219,7 +219,7 @@ static FAILING: [Case; 7] = [
     },
 ];
 
-// What comes behind a failure.
+// What comes after a failure.
 static BEHIND: [Case; 2] = [
     Case {
         what: "a closed gate is used again",
@@ -244,7 +244,7 @@ static BEHIND: [Case; 2] = [
     },
 ];
 
-// The row's records are logged, and what it does then is answered so.
+// Logs the row's records, and tells whether what it does then is answered so.
 fn is_filled(alloc: Global, log: &mut GateLog<SimDisk>, row: &Case) -> bool {
     if !put_lines(alloc, log, row.lines) {
         return false;
@@ -261,7 +261,7 @@ fn is_filled(alloc: Global, log: &mut GateLog<SimDisk>, row: &Case) -> bool {
     put_lines(alloc, log, row.behind) && log.is_stopped() == row.is_stopped
 }
 
-/// The file on the disk is the one that is told without its slots.
+/// Tells whether the file on the disk is this one, which is given without its slots.
 pub fn is_file<D: Disk>(alloc: Global, disk: &mut D, told: &[u8]) -> bool {
     match with_slots(alloc, told) {
         Ok(bytes) => {
@@ -273,7 +273,7 @@ pub fn is_file<D: Disk>(alloc: Global, disk: &mut D, told: &[u8]) -> bool {
     }
 }
 
-// The file is left so, by the crash where there is one.
+// Tells whether the file is left so, after a crash if there is one.
 fn is_left(alloc: Global, disk: &mut SimDisk, row: &Case) -> bool {
     if let Some(fate) = row.fate {
         crash(alloc, disk, &[fate]);
@@ -312,8 +312,8 @@ impl Row for Case {
     }
 }
 
-/// A file that is told without its slots, what these begin with, and how many of its bytes are left, where they are not all. Then its log
-/// has these entries, or is refused.
+/// A file, given without its slots, and what these begin with. `len` is how many of its bytes are left, if not all
+/// are. Then its log has these entries, or is refused.
 pub struct File {
     what: &'static str,
     told: &'static [u8],
@@ -449,7 +449,8 @@ static FILES: [File; 17] = [
     },
 ];
 
-/// A disk with a file that is told without its slots, and which is cut to so many bytes, where it is; nothing where memory is wanting.
+/// Makes a disk with a file that is given without its slots. If a length is given, the file is cut to so many bytes.
+/// `None` means that there is no memory.
 pub fn disk_of(alloc: Global, told: &[u8], len: Option<u64>) -> Option<SimDisk> {
     let Ok(bytes) = with_slots(alloc, told) else {
         return None;
@@ -482,7 +483,7 @@ impl Row for File {
     }
 }
 
-// A body that names a table costs much to prove, so each is handed on.
+// A body that names a table costs much to prove, so a function hands each on.
 fn whole() -> &'static [Case] {
     &WHOLE
 }
@@ -495,6 +496,7 @@ fn behind() -> &'static [Case] {
     &BEHIND
 }
 
+/// Checks logs that are written in a file and opened again, with and without failures.
 pub fn tell_cases(wrong: &mut WrongRows, rt: &HostRuntime) {
     go_over_all(
         wrong,
@@ -504,6 +506,7 @@ pub fn tell_cases(wrong: &mut WrongRows, rt: &HostRuntime) {
     );
 }
 
+/// Checks which files are opened as logs, and which are refused.
 pub fn tell_files(wrong: &mut WrongRows, rt: &HostRuntime) {
     go_over(wrong, rt, "files that are logs, or none", &FILES);
 }

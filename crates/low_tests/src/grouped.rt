@@ -1,4 +1,5 @@
-//! Groups of records that join a log: what is read of one while one of its device calls fails, and what a crash leaves of it.
+//! Groups of records that join a log: what is read of a group while one of its device calls fails, and what a crash
+//! leaves of it.
 use crate::checks::{Row, go_over};
 use crate::devices::crash;
 use crate::files::{Place, is_file, open, put_lines};
@@ -11,8 +12,8 @@ use simdisk::SimDisk;
 use std::alloc::Global;
 use units::Fault;
 
-/// Records that join a log which was opened once, and its entries with them. All bytes of the file then, told without its slots, where
-/// these are known.
+/// Records that join a log which was opened once, its entries with them, and all bytes of the file then without its
+/// slots, if these are known.
 pub struct Group {
     what: &'static str,
     lines: &'static str,
@@ -79,8 +80,9 @@ static GROUPS: [Group; 5] = [
     },
 ];
 
-// The call that fails, counted from the group's first write; how the group is answered; whether all of it is read then; and whether a crash
-// leaves all of it, by what it makes of the change that is not synced. What is not whole has no record of the group.
+// A call that fails, counted from the group's first write. The row has how the group is answered, and whether all of
+// it is read then. It has also whether a crash leaves all of it, by the fate of the change that is not synced. A
+// group that is not whole leaves no record.
 struct Stop {
     what: &'static str,
     call: u64,
@@ -89,7 +91,7 @@ struct Stop {
     is_left: &'static [(Fate, bool)],
 }
 
-// Behind a closed gate nothing counts.
+// After a closed gate nothing counts.
 const NEVER: &[(Fate, bool)] = &[
     (Fate::Old, false),
     (Fate::New, false),
@@ -153,7 +155,7 @@ static STOPS: [Stop; 5] = [
     },
 ];
 
-// These records join a log in one group, while that call of it is to fail.
+// Appends these records to a log in one group, while that call of it is to fail.
 fn join(alloc: Global, log: &mut GateLog<SimDisk>, lines: &str, call: u64) -> Result<(), Fault> {
     let mut group = log.group(alloc);
     let mut is_whole = true;
@@ -172,7 +174,8 @@ fn join(alloc: Global, log: &mut GateLog<SimDisk>, lines: &str, call: u64) -> Re
 }
 
 impl Group {
-    // How the group ends with one of its calls failing, behind a crash where there is one: whole or not at all.
+    // Tells whether the group is whole or not there at all, as wanted, after one of its calls fails and then a crash,
+    // if there is one.
     fn ends_so(&self, alloc: Global, stop: &Stop, fate: Option<Fate>, is_whole: bool) -> bool {
         let Ok(mut log) = GateLog::format(SimDisk::new(alloc)) else {
             return false;
@@ -204,7 +207,7 @@ impl Group {
     }
 }
 
-// A body that names a table costs much to prove, so it is handed on.
+// A body that names a table costs much to prove, so a function hands it on.
 fn stops() -> &'static [Stop] {
     &STOPS
 }
@@ -218,6 +221,7 @@ impl Row for Group {
     }
 }
 
+/// Checks groups of which each call fails in turn.
 pub fn tell_groups(wrong: &mut WrongRows, rt: &HostRuntime) {
     go_over(wrong, rt, "groups that join a log", &GROUPS);
 }

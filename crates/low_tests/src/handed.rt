@@ -97,7 +97,7 @@ static HANDED: [Renewal; 8] = [
     },
 ];
 
-// An outcome is above the versions of the keys that it writes.
+// Tells whether an outcome is above the versions of the keys that it writes.
 fn can_install(ledger: &Ledger, item: &Record) -> bool
     ensures { IsTrue result → CanInstall ledger.now.facts item.now }
 {
@@ -117,7 +117,7 @@ fn can_install(ledger: &Ledger, item: &Record) -> bool
     }
 }
 
-/// Whether the ledger learns all of these records: each may come next.
+/// Tells whether the ledger learns all of these records: each may come next.
 pub fn all_come(alloc: Global, ledger: &mut Ledger, lines: &str) -> bool {
     for line in lines.lines() {
         let Ok(()) = ledger.reserve() else {
@@ -136,7 +136,7 @@ pub fn all_come(alloc: Global, ledger: &mut Ledger, lines: &str) -> bool {
     true
 }
 
-// Whether the ledger hands on these records, and no others.
+// Tells whether the ledger hands on these records, and no others.
 fn hands_on(alloc: Global, ledger: &Ledger, lines: &str) -> bool {
     if ledger.epoch() == 0 {
         return false;
@@ -163,6 +163,7 @@ impl Row for Renewal {
     }
 }
 
+/// Checks which records renewed logs are made of.
 pub fn tell_handed(wrong: &mut WrongRows, rt: &HostRuntime) {
     go_over(wrong, rt, "records that are handed on", &HANDED);
 }

@@ -8,8 +8,8 @@ use std::ops::Range;
 use units::Key;
 use versions::Versions;
 
-/// So many versions, one at each timestamp from 1 on, of so many keys in turn that begin alike; a horizon, how many it leaves, and
-/// how many come behind it.
+/// So many versions, one at each timestamp from 1 on. They are of so many keys in turn, which begin alike. A horizon
+/// leaves so many of them, and so many more come then.
 pub struct Many {
     what: &'static str,
     versions: u32,
@@ -19,8 +19,9 @@ pub struct Many {
     behind: u32,
 }
 
+/// Versions of one to five keys.
 pub static MANY: [Many; 4] = [
-    // 4,500 and the 500 behind it.
+    // 4,500 and the 500 after it.
     Many {
         what: "of one key",
         versions: 5_000,
@@ -37,7 +38,7 @@ pub static MANY: [Many; 4] = [
         left: 1,
         behind: 3,
     },
-    // 8,997, 8,998 and 8,999, and the one behind them.
+    // 8,997, 8,998 and 8,999, and the one after them.
     Many {
         what: "of three keys",
         versions: 9_000,
@@ -46,7 +47,7 @@ pub static MANY: [Many; 4] = [
         left: 4,
         behind: 9_000,
     },
-    // 4,093 to 4,097, and the 4,903 behind them.
+    // 4,093 to 4,097, and the 4,903 after them.
     Many {
         what: "of five keys, in two pieces",
         versions: 9_000,
@@ -57,12 +58,12 @@ pub static MANY: [Many; 4] = [
     },
 ];
 
-// The value that is written at a turn.
+// Gives the value that is written at a turn.
 fn value_in(turn: u32) -> Option<u8> {
     Some((turn % 251) as u8)
 }
 
-// The key whose turn it is, and what it is given then.
+// Gives the key whose turn it is, and its value then.
 fn in_turn(turn: u32, keys: u32) -> Plain {
     let last = (turn % keys.clamp(1, 200)) as u8;
     let bytes = [b'a', b'c', b'c', b'o', b'u', b'n', b't', b' ', last];
@@ -85,7 +86,8 @@ fn install_turns(alloc: Global, versions: &mut Versions, keys: u32, turns: Range
     true
 }
 
-// At each of these timestamps the key whose turn it is has what it is given then, and the next one what it was given last.
+// Tells whether at each of these timestamps the key whose turn it is has its value of this turn, and the next key
+// that of its last one.
 fn show_turns(versions: &Versions, keys: u32, turns: Range<u32>) -> bool {
     for turn in turns {
         let at = stamp(turn);
@@ -121,7 +123,7 @@ impl Row for Many {
     }
 }
 
-// A later version of the key is not above the horizon.
+// Tells whether a later version of the key is not above the horizon.
 fn has_later(all: &[Plain], one: &Plain, horizon: u32) -> bool {
     for other in all {
         if other.key == one.key && one.at < other.at && other.at <= horizon {
@@ -131,7 +133,7 @@ fn has_later(all: &[Plain], one: &Plain, horizon: u32) -> bool {
     false
 }
 
-// The plain list without what goes.
+// Makes the plain list without the versions that a horizon drops.
 fn without(alloc: Global, all: &[Plain], horizon: u32) -> Option<Vec<Plain>> {
     let mut kept = Vec::new(alloc);
     for one in all {
@@ -142,7 +144,8 @@ fn without(alloc: Global, all: &[Plain], horizon: u32) -> Option<Vec<Plain>> {
     Some(kept)
 }
 
-/// Versions and the plain list forget what is below the horizon, and say the same of each version that there was.
+/// Forgets what is below the horizon, in versions and in the plain list. It tells whether both say the same of each
+/// version that there was.
 pub fn forget_both(
     alloc: Global,
     versions: &mut Versions,

@@ -5,7 +5,7 @@ use rows::{Rows, Wait};
 use std::alloc::Global;
 use units::{Key, Lock, Mode, TxnId};
 
-/// A need of one key.
+/// Makes a need of one key.
 pub fn needs(key: Key, mode: Mode) -> [Lock; 1]
     ensures { result ≡ record { key = key; mode = mode } ∷ [] }
 {
@@ -17,7 +17,7 @@ pub fn admits(rows: &mut Rows, alloc: Global, txn: TxnId) -> bool {
     rows.find(txn).is_none() && !rows.is_full() && rows.admit(alloc, txn).is_ok()
 }
 
-/// Asks for a key, and says whether it is granted. Where it is not, the transaction waits if it only reads the key.
+/// Asks for a key, and tells whether it is granted. If it is not, a transaction that only reads the key waits for it.
 pub fn ask(rows: &mut Rows, alloc: Global, txn: TxnId, key: Key, mode: Mode) -> Option<bool> {
     if !rows.is_reading(txn) {
         return None;

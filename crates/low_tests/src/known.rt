@@ -7,8 +7,8 @@ use record::{Committed, Prepared};
 use std::alloc::Global;
 use units::{Fault, Install, Stamp};
 
-// Learns a record, where it may come next; where not, it is refused as damage, handed back, and does not follow. Whether it is as
-// wanted.
+// Learns a record if it may come next, and tells whether this is as wanted. If it may not come, it is refused as
+// damage, handed back, and does not follow.
 fn comes(alloc: Global, facts: &mut Facts, line: &str, learnt: bool) -> bool {
     let Ok(()) = facts.reserve() else {
         return false;
@@ -26,7 +26,7 @@ fn comes(alloc: Global, facts: &mut Facts, line: &str, learnt: bool) -> bool {
     }
 }
 
-// Whether each is learnt, or each refused.
+// Tells whether each is learnt, or each refused.
 fn all_come(alloc: Global, facts: &mut Facts, lines: &str, learnt: bool) -> bool {
     for line in lines.lines() {
         if !comes(alloc, facts, line, learnt) {
@@ -39,8 +39,8 @@ fn all_come(alloc: Global, facts: &mut Facts, lines: &str, learnt: bool) -> bool
 // The timestamps of a transaction's promise and of its decision, and its outcome.
 type Standing = (Option<u64>, Option<u64>, Option<Option<u64>>);
 
-// How it stands with a transaction: the timestamps of its promise and of its decision, whether it was aborted, its outcome, and
-// whether it was settled where it was decided.
+// How a transaction stands: the timestamps of its promise and of its decision, whether it was aborted, its outcome,
+// and whether it was settled by the shard that decided it.
 #[derive(Clone, Copy)]
 struct Known {
     number: u16,
@@ -60,7 +60,7 @@ const UNKNOWN: Known = Known {
     settled: false,
 };
 
-// What a log determines, whatever the turn of the ids in it. An install is its timestamp and the letter of its key.
+// What a log determines, whatever the order of the ids in it. An install is its timestamp and the letter of its key.
 struct Determined {
     epoch: u64,
     floor: u64,
@@ -69,7 +69,7 @@ struct Determined {
     known: &'static [Known],
 }
 
-/// The log of a shard, records of which none may come next, and what it determines where that is looked at.
+/// The log of a shard, records of which none may come next, and what the log determines, if that is checked.
 pub struct Case {
     what: &'static str,
     shard: u8,
@@ -291,9 +291,10 @@ static HORIZONS: [Case; 7] = [
     },
 ];
 
-// What may not come behind promises, decisions and ends.
+// What may not follow promises, decisions and ends.
 static ENDS: [Case; 6] = [
-    // A timestamp 0, a coordinator that is not below the shard, a least part that is another shard, an end of nothing.
+    // A timestamp 0, a coordinator that is not below the shard, a least part that is another shard, an end of
+    // nothing.
     Case {
         what: "behind an opening of shard 1",
         shard: 1,
@@ -406,7 +407,7 @@ static RENEWED: [Case; 3] = [
     },
 ];
 
-// By what readers find.
+// Tells how a transaction stands by what readers find.
 fn stands_as(
     prepared: Option<&Prepared>,
     decided: Option<&Committed>,
@@ -428,7 +429,7 @@ fn stands_as(
     (prepared, decided, outcome)
 }
 
-// It stands so by the readers of the facts, and by those of its status.
+// Tells whether it stands so by the readers of the facts, and by those of its status.
 fn is_known(facts: &Facts, row: &Known) -> bool {
     let txn = id(row.number);
     let status = facts.status(txn);
@@ -490,7 +491,7 @@ impl Row for Case {
     }
 }
 
-// A body that names a table costs much to prove, so each is handed on.
+// A body that names a table costs much to prove, so a function hands each on.
 fn transactions() -> &'static [Case] {
     &TRANSACTIONS
 }
@@ -507,6 +508,7 @@ fn renewed() -> &'static [Case] {
     &RENEWED
 }
 
+/// Checks what logs determine, and which records may come next.
 pub fn tell_cases(wrong: &mut WrongRows, rt: &HostRuntime) {
     go_over_all(
         wrong,

@@ -5,7 +5,8 @@ use ledger::Ledger;
 use made::{key, shard, stamp};
 use std::alloc::Global;
 
-// What the key `a` holds before, at and after the outcome, and what the ledger has of its records.
+// Tells whether the key `a` holds the right values before, at and after the outcome, and the ledger has the facts of
+// its records.
 fn is_settled(ledger: &Ledger) -> bool {
     let (key, early, late) = (key(b'a'), stamp(119), stamp(120));
     if early < ledger.horizon() || late < ledger.horizon() {
@@ -21,7 +22,7 @@ fn is_settled(ledger: &Ledger) -> bool {
 // Transaction 1 promises at 111 to write to `a`, and committed at 120.
 const LINES: &str = "opened 1\nprepare 1.1 0 111 - a=1\noutcome 1.1 committed 120";
 
-/// Whether shard 1 is opened once, and its one promise is settled.
+/// Tells whether shard 1 is opened once, and its one promise is settled.
 pub fn is_installed(alloc: Global) -> bool {
     let mut ledger = Ledger::new(alloc, shard(1));
     let installed = all_come(alloc, &mut ledger, LINES) && is_settled(&ledger);

@@ -9,8 +9,9 @@ use simdisk::SimDisk;
 use std::alloc::Global;
 use units::{Book, Fault, Setup, ShardNo, Splits, Stamp, Stride, TxnId};
 
-/// What a log leaves: the first that is prepared and the first that is decided, each by its number and timestamp (0 where there
-/// is none), the greatest timestamp, the safe time, the horizon, the epoch, and how many versions there are.
+/// What a log leaves. It has the first transaction that is prepared and the first that is decided, each by its number
+/// and timestamp, or 0 if there is none. It has the greatest timestamp, the safe time, the horizon, the epoch, and
+/// how many versions there are.
 #[derive(Clone, Copy, PartialEq, Eq)]
 pub struct Shown {
     pub prepared: (u64, u64),
@@ -287,7 +288,7 @@ static REOPENED: [Reopened; 23] = [
             ..NOTHING
         })),
     },
-    // Each frame has 45 bytes; the first stands behind that of the opening, of 14.
+    // Each frame has 45 bytes; the first follows that of the opening, of 14.
     Reopened {
         what: "too many rows",
         shard: 1,
@@ -299,7 +300,7 @@ static REOPENED: [Reopened; 23] = [
     },
 ];
 
-// Each 1.number promises at 200 to write a key of its own of five bytes.
+// Logs promises at 200, each of a transaction 1.number that writes a key of its own of five bytes.
 fn put_promises(alloc: Global, log: &mut GateLog<SimDisk>, count: u16) -> bool {
     for number in 0..count {
         let key = u32::from(number) + 1_000;
@@ -315,7 +316,8 @@ fn put_promises(alloc: Global, log: &mut GateLog<SimDisk>, count: u16) -> bool {
     true
 }
 
-// What the entries of its log leave of a shard, or why they are refused. It is one of two, which are split at `m`.
+// Gives what the entries of its log leave of a shard, or why they are refused. It is one of two, which are split at
+// `m`.
 fn rebuilt(alloc: Global, number: u8, entries: &[Entry]) -> Rebuilt {
     let (Some(shard), Some(stride)) = (ShardNo::new(number), Stride::new(0)) else {
         return Err(Fault::Memory);
@@ -363,6 +365,7 @@ impl Row for Reopened {
     }
 }
 
+/// Checks what logs leave that are opened again, and which are refused.
 pub fn tell_reopened(wrong: &mut WrongRows, rt: &HostRuntime) {
     go_over(wrong, rt, "logs that are opened again", &REOPENED);
 }

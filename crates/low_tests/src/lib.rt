@@ -1,5 +1,5 @@
-//! Tests of the low crates, of disks and logs, and of what a shard keeps of its log in memory: what their clauses do not say, and drawn
-//! calls beside plain models.
+//! Tests of the low crates, of disks and logs, and of what a shard keeps of its log in memory. They test what the
+//! clauses of these do not say, and compare drawn calls with plain models.
 #![tactic(auto)]
 
 #[cfg(test)]

@@ -40,7 +40,7 @@ static PRINTED: [Printed; 6] = [
 
 // What is made of a number.
 enum Made {
-    // Of so many bytes.
+    // A key of so many bytes.
     Key,
     Value,
     Stamp,
@@ -49,7 +49,7 @@ enum Made {
     ShardNo,
 }
 
-// The numbers at the limits, and with which fault those beyond are refused, where one is told.
+// The numbers at the limits, and the fault with which those beyond are refused, if there is one.
 struct Limit {
     what: &'static str,
     made: Made,
@@ -103,7 +103,7 @@ static LIMITS: [Limit; 6] = [
     },
 ];
 
-// The fault of a key of so many bytes, or else of a value, where it is refused.
+// Gives the fault of a key of so many bytes, or else of a value, if it is refused.
 fn fault_of(alloc: Global, len: usize, key: bool) -> Option<Fault> {
     let Ok(bytes) = vec![in alloc; 7u8; len] else {
         return Some(Fault::Memory);
@@ -117,7 +117,7 @@ fn fault_of(alloc: Global, len: usize, key: bool) -> Option<Fault> {
     fault
 }
 
-// Whether it is made, and the fault where it is refused with one.
+// Tells whether it is made, and gives the fault if it is refused with one.
 fn answer_of(alloc: Global, made: &Made, number: u64) -> (bool, Option<Fault>) {
     let fault = match made {
         Made::Key => fault_of(alloc, number as usize, true),
@@ -149,7 +149,7 @@ fn are_ordered(alloc: Global) -> bool {
         & is_printed(alloc, &old, "1.10")
 }
 
-// The shards of `a`, `ab` and `b`, where these keys may split so.
+// Gives the shards of `a`, `ab` and `b`, if these keys may be the splits.
 fn shards(alloc: Global, first: Key, second: Key) -> Option<[u8; 3]> {
     match Splits::new(alloc, &[first, second]) {
         Ok(splits) => {
@@ -165,7 +165,7 @@ fn shards(alloc: Global, first: Key, second: Key) -> Option<[u8; 3]> {
     }
 }
 
-// A list of keys is printed so. Keys that do not ascend are no list.
+// Tells whether a list of keys is printed so. Keys that do not ascend are no list.
 fn are_listed(alloc: Global, keys: &str, text: &str) -> bool {
     let keys = keys_of(alloc, keys);
     let printed = is_printed(alloc, &Text(&keys), text);
@@ -186,7 +186,7 @@ fn go_by_bytes(alloc: Global) -> bool {
         & are_listed(alloc, "b,a", "-")
 }
 
-// The number of a fault stands first in its text.
+// Tells whether the number of a fault stands first in its text.
 fn is_numbered(row: &Printed) -> bool {
     let word = match row.text.split_once(' ') {
         Some((word, _)) => word,
@@ -195,7 +195,7 @@ fn is_numbered(row: &Printed) -> bool {
     number(word) == Ok(u64::from(row.fault.number()))
 }
 
-/// Goes over all rows.
+/// Checks all rows.
 pub fn go_over(wrong: &mut WrongRows, alloc: Global) {
     for row in &PRINTED {
         let printed = is_printed(alloc, &row.fault, row.text);

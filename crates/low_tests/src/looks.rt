@@ -1,4 +1,4 @@
-//! What viewers are answered, by a publisher beside them.
+//! What viewers are answered, while a publisher publishes.
 ghost use Rattle.std.specs.Prelude.{◌≡◌, [], ◌∷◌, IfOk};
 ghost use Rattle.board.specs.declared.entry.BoardEntry.TheVariants.{Horizon, Safe};
 
@@ -11,7 +11,7 @@ use std::thread::Threads;
 use truetime::Reading;
 use units::{Fault, Install, Reason, Seen, Splits, Value};
 
-// A look for a key of one byte, in a buffer of so many bytes.
+// A look for a key of one byte, with a buffer of so many bytes.
 struct Look {
     key: u8,
     at: u32,
@@ -81,7 +81,7 @@ static AFTER_ONE: [Look; 5] = [
     },
 ];
 
-// The answer, and what the buffer holds then, are those of the row: a value is `xyz`.
+// Tells whether the answer, and what the buffer holds then, are those of the row: a value is `xyz`.
 fn is_answer(seen: Result<Seen, Fault>, buffer: [u8; 3], answer: Result<Seen, Fault>) -> bool {
     let bytes = if matches!(seen, Ok(Seen::Value(3))) {
         *b"xyz"
@@ -98,7 +98,7 @@ fn is_seen(viewer: &mut Viewer, look: &Look) -> bool {
     is_answer(seen, buffer, look.answer)
 }
 
-// The viewer of a number sees these.
+// Tells whether the viewer of a number sees these.
 fn sees(viewers: &mut [Viewer], number: usize, looks: &[Look]) -> bool {
     let Some(viewer) = viewers.get_mut(number) else {
         return false;
@@ -145,7 +145,7 @@ fn accepts<R: Wait + Drop>(publisher: &mut Publisher<R>, alloc: Global) -> bool
     publisher.install(install).is_ok() && publisher.safe(stamp(9)).is_ok()
 }
 
-// What is shown is served up to 9.
+// Publishes, and tells whether what is shown is served up to 9.
 fn publishes<R: Wait + Drop>(publisher: &mut Publisher<R>) -> bool {
     match publisher.publish() {
         Ok(told) => {
@@ -157,7 +157,7 @@ fn publishes<R: Wait + Drop>(publisher: &mut Publisher<R>) -> bool {
     }
 }
 
-// The look of viewer 1 for `a` at the snapshot has this answer.
+// Tells whether the look of viewer 1 for `a` at the snapshot has this answer.
 fn shows(snapshot: &Snapshot, viewers: &mut [Viewer], answer: Result<Seen, Fault>) -> bool {
     let Some(viewer) = viewers.get_mut(1) else {
         return false;
@@ -193,8 +193,8 @@ fn publishes_again<R: Wait + Drop>(publisher: &mut Publisher<R>, times: u32) -> 
     true
 }
 
-// So many looks on another thread, which see what was published here before that thread began, are answered while this one publishes
-// so many times.
+// Makes so many looks on another thread while this one publishes so many times. They see what was published here
+// before that thread began.
 fn goes_on<R: Threads + Sync, W: Wait + Drop>(
     rt: &R,
     publisher: &mut Publisher<W>,
@@ -210,8 +210,9 @@ fn goes_on<R: Threads + Sync, W: Wait + Drop>(
     sees && publishes
 }
 
-// Looks change with the publication, and not before; a snapshot is answered once its timestamp is served. Each of three
-// viewers looks for the first time after it, and one of them on another thread, also while publications go on.
+// Tells whether looks change with the publication, and not before; a snapshot is answered once its timestamp is
+// served. Each of three viewers looks for the first time after it, and one of them on another thread, also while
+// publications go on.
 fn follow<R: Threads + Sync, W: Wait + Drop>(
     rt: &R,
     publisher: &mut Publisher<W>,
@@ -339,7 +340,8 @@ fn accepts_from_8<R: Wait + Drop>(publisher: &mut Publisher<R>, alloc: Global) -
         && publisher.horizon(stamp(8)).is_ok()
 }
 
-// Looks are too old below the horizon that the board began with, and once another is published below that.
+// Tells whether looks are too old below the horizon that the board began with, and below a greater one once it is
+// published.
 fn forgets<R: Wait + Drop>(rt: R, alloc: Global) -> bool {
     match board_from_3(rt, alloc) {
         Ok((mut publisher, mut viewers)) => {
@@ -398,7 +400,7 @@ static BOARDS: [Board; 6] = [
     },
 ];
 
-// A viewer of each board that is made sees it at first, and is stopped once the publisher has ended.
+// Tells whether a viewer of each board that is made sees it at first, and is stopped once the publisher has ended.
 fn is_so<R: Threads + Wait + Sync>(rt: &R, alloc: Global, row: &Board) -> bool {
     match new_board(rt, alloc, row.viewers) {
         Ok((mut publisher, mut viewers)) => {
@@ -414,7 +416,7 @@ fn is_so<R: Threads + Wait + Sync>(rt: &R, alloc: Global, row: &Board) -> bool {
     }
 }
 
-/// Goes over all rows.
+/// Checks all rows.
 pub fn go_over<R: Threads + Wait + Sync>(wrong: &mut WrongRows, rt: &R, alloc: Global) {
     for row in &BOARDS {
         wrong.unless(is_so(rt, alloc, row), row.name);

@@ -1,4 +1,4 @@
-//! Messages as they are printed, and the bag that they are put into.
+//! Messages as they are printed, and the bag that takes them.
 use crate::checks::is_printed;
 use crate::text_logs::{keys_of, parts_of, value_of, writes_of};
 use made::{WrongRows, id, key, shard, stamp};
@@ -122,7 +122,7 @@ fn epoch(number: u64) -> Epoch {
     Epoch::new(number).unwrap_or(Epoch::first())
 }
 
-// No key is read in no epoch.
+// Makes the reads of these keys in an epoch, or none if there is no key.
 fn reads(alloc: Global, number: u64, keys: &str) -> Reads {
     match Reads::new(epoch(number), keys_of(alloc, keys)) {
         Ok(reads) => reads,
@@ -195,7 +195,7 @@ fn envelope(alloc: Global, row: &Row) -> Envelope {
     }
 }
 
-// Puts a message into the bag, where it gets the next number.
+// Puts a message into the bag, and tells whether it gets the next number.
 fn is_put(bag: &mut Bag, envelope: Envelope) -> bool {
     let number = bag.len();
     match bag.put(envelope) {
@@ -211,7 +211,7 @@ fn has(alloc: Global, bag: &Bag, number: u64, line: &str) -> bool {
     }
 }
 
-/// Goes over all rows, in one bag. Messages have numbers from 0 on.
+/// Checks all rows, in one bag. Messages have numbers from 0 on.
 pub fn go_over(wrong: &mut WrongRows, alloc: Global) {
     let mut bag = Bag::new(alloc);
     wrong.unless(bag.len() == 0, "no message");

@@ -10,7 +10,8 @@ use simdisk::SimDisk;
 use std::alloc::Global;
 use units::Fault;
 
-/// A file, what stands on the second disk before, and the file that is there then, told without its slots; or why it is refused.
+/// A file, what the second disk holds before, and the file that it holds then, given without its slots; or why the
+/// first is refused.
 pub struct Migrated {
     what: &'static str,
     old: &'static [u8],
@@ -59,7 +60,7 @@ static MIGRATED: [Migrated; 13] = [
         before: &[0xa5; 10_000],
         ..EMPTY
     },
-    // Whether its records follow one another is not asked: an opening does.
+    // It is not checked whether its records follow one another: an opening checks it.
     Migrated {
         what: "a record out of turn",
         old: b"SPNLOG01\xa5\0\0\0\x09\x01\0\0\0\0\0\0\0\x07\0",
@@ -110,7 +111,7 @@ static MIGRATED: [Migrated; 13] = [
     },
 ];
 
-// A disk with these bytes.
+// Makes a disk with these bytes.
 fn disk_of(alloc: Global, bytes: &[u8]) -> Option<SimDisk> {
     let mut disk = SimDisk::new(alloc);
     if disk.write_at(0, bytes).is_ok() {
@@ -121,7 +122,7 @@ fn disk_of(alloc: Global, bytes: &[u8]) -> Option<SimDisk> {
     }
 }
 
-// The file on the disk is the one that is told, and a crash leaves it.
+// Tells whether the file on the disk is this one, and a crash leaves it.
 fn is_left(alloc: Global, disk: SimDisk, told: &[u8]) -> bool {
     let mut disk = disk;
     let read = is_file(alloc, &mut disk, told);
@@ -131,7 +132,7 @@ fn is_left(alloc: Global, disk: SimDisk, told: &[u8]) -> bool {
     read && kept
 }
 
-// The second disk is as the row says.
+// Tells whether the second disk is as the row says.
 fn is_right(
     alloc: Global,
     answer: Result<GateLog<SimDisk>, (Fault, SimDisk)>,
@@ -173,7 +174,7 @@ impl Row for Migrated {
     }
 }
 
-/// Which disk has a call that fails, and with which fate of its oldest change that is not synced it crashes then.
+/// The disk of which a call fails, and the fate of its oldest change that is not synced, in a crash after it.
 pub struct Failing {
     what: &'static str,
     is_old: bool,
@@ -203,7 +204,7 @@ static FAILING: [Failing; 4] = [
     },
 ];
 
-// What a disk has behind a crash: no log, or the whole.
+// Tells whether a disk has no log or the whole one after a crash.
 fn is_none_or_whole(alloc: Global, disk: SimDisk, fate: Fate) -> bool {
     let mut disk = disk;
     crash(alloc, &mut disk, &[fate]);
@@ -221,7 +222,7 @@ fn is_none_or_whole(alloc: Global, disk: SimDisk, fate: Fate) -> bool {
     }
 }
 
-// What becomes of the disks where that call fails: what came of the file, where none did.
+// Tells whether both disks are right after that call fails. `None` means that no call failed.
 fn goes(alloc: Global, row: &Failing, call: u64) -> Option<bool> {
     let Some(mut old) = disk_of(alloc, &in_version_1(ONE_COMMIT)) else {
         return Some(false);
@@ -248,7 +249,7 @@ fn goes(alloc: Global, row: &Failing, call: u64) -> Option<bool> {
 }
 
 impl Row for Failing {
-    // A call more each time, until none fails.
+    // A later call fails each time, until none does.
     fn tell(&self, wrong: &mut WrongRows, rt: &HostRuntime) {
         for call in 0..20 {
             match goes(rt.alloc(), self, call) {
@@ -261,10 +262,12 @@ impl Row for Failing {
     }
 }
 
+/// Checks what files of version 1 are copied to.
 pub fn tell_migrated(wrong: &mut WrongRows, rt: &HostRuntime) {
     go_over(wrong, rt, "files of version 1", &MIGRATED);
 }
 
+/// Checks what is left if a call of one of the disks fails.
 pub fn tell_failing(wrong: &mut WrongRows, rt: &HostRuntime) {
     go_over(wrong, rt, "migrations that fail", &FAILING);
 }

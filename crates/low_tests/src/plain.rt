@@ -1,4 +1,5 @@
-//! Drawn requests for several accounts, answered by the lock table and by a plain table that goes over everybody.
+//! Drawn requests for several accounts. The lock table answers them, and so does a plain table that goes over
+//! everybody.
 use crate::crowd::{Gets, account, comes_to};
 use crate::tokens::{Acts, act_out, enters, leaves, release_all};
 use locks::{Held, Table};
@@ -9,7 +10,7 @@ use units::{Asked, Lock, Mode, TxnId};
 /// How a transaction holds or wants each account.
 pub type Modes = [Option<Mode>; 5];
 
-/// A transaction, by place in the plain table its number. Each has a claim all the time.
+/// A transaction. Its place in the plain table is its number, and it has a claim all the time.
 #[derive(Clone, Copy)]
 pub struct Plain {
     held: Modes,
@@ -17,15 +18,17 @@ pub struct Plain {
     firm: bool,
 }
 
+/// Holds nothing, waits for nothing, and is not firm.
 pub const NOTHING: Plain = Plain {
     held: [None; 5],
     waits: [None; 5],
     firm: false,
 };
 
+/// The plain table, of seven transactions.
 pub type Plains = [Plain; 7];
 
-// Some account is held by the one and wanted by the other, and not shared by both.
+// Tells whether one holds some account that the other wants, and they do not share it.
 fn clash(held: &Modes, wanted: &Modes) -> bool {
     for at in 0..5 {
         if let Some(held) = held[at] {
@@ -39,19 +42,19 @@ fn clash(held: &Modes, wanted: &Modes) -> bool {
     false
 }
 
-/// The one at a place is ended by a request of another.
+/// Tells whether the one at a place is ended by a request of another.
 pub fn gives_way(plains: &Plains, at: usize, number: usize, wanted: &Modes) -> bool {
     let other = &plains[at % 7];
     number < at && !other.firm && clash(&other.held, wanted)
 }
 
-// A request of another waits for the one at a place, whether it ends it or not.
+// Tells whether a request of another waits for the one at a place, whether it ends it or not.
 fn is_in_way(plains: &Plains, at: usize, number: usize, wanted: &Modes) -> bool {
     let other = &plains[at % 7];
     at != number && (clash(&other.held, wanted) || (at < number && clash(&other.waits, wanted)))
 }
 
-/// These are the ones that a request ends, by ascending number.
+/// Tells whether these are the ones that a request ends, by ascending number.
 pub fn ends(plains: &Plains, number: usize, wanted: &Modes, ids: &[TxnId]) -> bool {
     let mut count = 0;
     for at in 0..7 {
@@ -65,7 +68,7 @@ pub fn ends(plains: &Plains, number: usize, wanted: &Modes, ids: &[TxnId]) -> bo
     count == ids.len()
 }
 
-/// Whether nobody is in the way but those that are ended.
+/// Tells whether nobody is in the way but those that are ended.
 pub fn opens(plains: &Plains, number: usize, wanted: &Modes) -> bool {
     for at in 0..7 {
         if is_in_way(plains, at, number, wanted) && !gives_way(plains, at, number, wanted) {
@@ -75,7 +78,7 @@ pub fn opens(plains: &Plains, number: usize, wanted: &Modes) -> bool {
     true
 }
 
-/// The first that waits, with nobody in its way.
+/// Finds the first that waits, with nobody in its way.
 pub fn first_ready(plains: &Plains) -> Option<TxnId> {
     for number in 0..7 {
         let waits = plains[number].waits;
@@ -90,7 +93,7 @@ pub fn first_ready(plains: &Plains) -> Option<TxnId> {
     None
 }
 
-/// It holds what it wants, and waits no longer.
+/// Gives it what it wants, and ends its wait.
 pub fn is_granted(plain: &mut Plain, wanted: &Modes) {
     for at in 0..5 {
         if plain.held[at] != Some(Mode::Exclusive) && wanted[at].is_some() {
@@ -113,7 +116,7 @@ fn locks_of(alloc: Global, wanted: &Modes) -> Option<Vec<Lock>> {
     Some(locks)
 }
 
-// What the table says of a request beforehand is what the plain one does.
+// Tells whether the table says the same of a request beforehand as the plain one.
 fn agrees_before(
     table: &Table,
     alloc: Global,
@@ -133,7 +136,7 @@ fn agrees_before(
     }
 }
 
-// Those that a request ends go, and come again with nothing.
+// Releases those that a request ends, and lets them come again with nothing.
 fn starts_anew(
     table: &mut Table,
     alloc: Global,
@@ -163,7 +166,7 @@ fn ends_all(
     true
 }
 
-// The answer to a request is the plain table's, which goes on by it.
+// Tells whether the answer to a request is the plain table's, and lets that go on by it.
 fn agrees_on(
     table: &mut Table,
     alloc: Global,
@@ -210,7 +213,7 @@ fn drawn_modes(drawn: u64) -> Modes {
     modes
 }
 
-// A transaction asks for what is drawn.
+// Lets a transaction ask for what is drawn.
 fn asks(
     table: &mut Table,
     alloc: Global,
@@ -230,7 +233,7 @@ fn asks(
     }
 }
 
-// Whoever is ready goes on.
+// Lets whoever is ready go on.
 fn resumes(table: &mut Table, alloc: Global, tokens: &mut Vec<Held>, plains: &mut Plains) -> bool {
     match first_ready(plains) {
         Some(txn) => {
@@ -304,7 +307,7 @@ fn agrees(table: &mut Table, alloc: Global, tokens: &mut Vec<Held>, turns: u64) 
     true
 }
 
-/// Goes over the drawn requests.
+/// Checks the drawn requests.
 pub fn go_over(wrong: &mut WrongRows, alloc: Global) {
     let mut table = Table::new(alloc);
     let mut tokens = Vec::new(alloc);

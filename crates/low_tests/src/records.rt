@@ -28,7 +28,7 @@ closed 1.2 0 committed 200
 closed 7.3 15 aborted
 ";
 
-// How many lines a text has, or else which of them is refused. A value may be empty of bytes only where there is none.
+// How many lines a text has, or else the number of the line that is refused, from 1.
 struct Row {
     text: &'static str,
     read: Result<usize, u64>,
@@ -88,7 +88,7 @@ look key_1 0 =1
     },
 ];
 
-// So many lines are read, and each is printed as it was; or the text is refused.
+// Tells whether so many lines are read, and each is printed as it was; or whether the text is refused.
 fn is_read(alloc: Global, row: &Row) -> bool {
     match lines(alloc, row.text) {
         Ok(found) => {
@@ -104,7 +104,7 @@ fn is_read(alloc: Global, row: &Row) -> bool {
     }
 }
 
-/// Goes over all rows.
+/// Checks all rows.
 pub fn go_over(wrong: &mut WrongRows, alloc: Global) {
     let mut log = Vec::new(alloc);
     let printed = reads(alloc, RECORDS, &mut log) && log.len() == 19;

@@ -104,7 +104,7 @@ fn are_same(read: Option<Fate>, told: Option<Fate>) -> bool {
     }
 }
 
-/// Goes over all rows.
+/// Checks all rows.
 pub fn go_over(wrong: &mut WrongRows) {
     for row in &FATES {
         wrong.unless(are_same(fate(row.word).ok(), row.fate), row.word);

@@ -484,7 +484,7 @@ static MISPLACED: [Reopened; 10] = [
     },
 ];
 
-// A body that names a table costs much to prove, so each is handed on.
+// A body that names a table costs much to prove, so a function hands each on.
 fn left() -> &'static [Reopened] {
     &LEFT
 }
@@ -501,6 +501,7 @@ fn misplaced() -> &'static [Reopened] {
     &MISPLACED
 }
 
+/// Checks renewed logs that are opened again.
 pub fn tell_renewed(wrong: &mut WrongRows, rt: &HostRuntime) {
     go_over_all(
         wrong,

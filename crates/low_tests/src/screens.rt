@@ -26,8 +26,8 @@ impl Write for Paper {
     }
 }
 
-/// The moments at which turns commit of a drive of three, in microseconds, of which a fourth is one too many, and what is written
-/// where so many writes fail. Behind the first two turns looks are answered.
+/// The moments, in microseconds, at which turns of a drive of three commit. A fourth turn is one too many. After each
+/// of the first two, a look is answered. The row has what is written if so many writes fail.
 pub struct Shown {
     name: &'static str,
     moments: &'static [u64],
@@ -140,6 +140,7 @@ impl Row for Shown {
     }
 }
 
+/// Checks what screens write.
 pub fn tell_screens(wrong: &mut WrongRows, rt: &HostRuntime) {
     go_over(wrong, rt, "screens", &ROWS);
 }

@@ -12,7 +12,7 @@ use std::alloc::Global;
 use texts::Text;
 use units::{Fault, Keys, Mode, Parts, Stamp, TxnId, Writes};
 
-// A step of a story, or what stands then.
+// A step of a story, or what must hold then.
 enum Step {
     // 1.number is taken in.
     IsAdmitted(u16),
@@ -116,7 +116,7 @@ static STORIES: [Story; 6] = [
 
 type Log = GateLog<SimDisk>;
 
-// The record, once it stands in the log.
+// Logs a record.
 fn logged(log: &mut Log, alloc: Global, record: Record) -> Option<Logged> {
     let Ok(staged) = log.stage(alloc, record) else {
         return None;
@@ -127,7 +127,7 @@ fn logged(log: &mut Log, alloc: Global, record: Record) -> Option<Logged> {
     }
 }
 
-// 1.1 goes on by a record of its own, if it is in a state for it, and hands the record back.
+// Lets 1.1 go on by a record of its own, if it is in a state for it, and gives the record back.
 fn spend(rows: &mut Rows, logged: Logged) -> Record {
     let own = id(1);
     match (logged.item(), rows.find(own)) {
@@ -146,7 +146,7 @@ fn spend(rows: &mut Rows, logged: Logged) -> Record {
     }
 }
 
-// The record of a line is logged, and is the one that 1.1 hands back.
+// Logs the record of a line, and tells whether 1.1 hands it back.
 fn goes_by(rows: &mut Rows, log: &mut Log, alloc: Global, line: &str) -> bool {
     let Some(record) = record_of(alloc, line) else {
         return false;
@@ -160,7 +160,7 @@ fn goes_by(rows: &mut Rows, log: &mut Log, alloc: Global, line: &str) -> bool {
     printed
 }
 
-// 1.1 begins to collect votes, if it is idle. It came at 105.
+// Lets 1.1 begin to collect votes, if it is idle. It came at 105.
 fn collects(rows: &mut Rows, alloc: Global) -> bool {
     let own = id(1);
     match rows.find(own) {
@@ -185,7 +185,7 @@ fn gathering(alloc: Global) -> Result<Gathering, Fault> {
     Gathering::new(alloc, request)
 }
 
-// A vote of shard 1 comes to 1.1, if it collects votes.
+// Gives 1.1 a vote of shard 1, if it collects votes.
 fn votes(rows: &mut Rows, at: u32) -> bool {
     let own = id(1);
     match rows.find(own) {
@@ -197,7 +197,7 @@ fn votes(rows: &mut Rows, at: u32) -> bool {
     }
 }
 
-// 1.1 came at 105, and has the vote at 108 alone.
+// Tells whether 1.1 came at 105, and has the vote at 108 alone.
 fn has_one_vote(rows: &Rows) -> bool {
     let Some(Row::Collecting(state)) = rows.find(id(1)) else {
         return false;
@@ -209,7 +209,7 @@ fn has_one_vote(rows: &Rows) -> bool {
         && votes[0].at.micros() == 108
 }
 
-// 1.1 reads no more.
+// Ends 1.1 if it is reading, and tells whether it was.
 fn ends(rows: &mut Rows) -> bool {
     let own = id(1);
     let reads = rows.is_reading(own);
@@ -219,7 +219,7 @@ fn ends(rows: &mut Rows) -> bool {
     reads
 }
 
-// 1.1 at a timestamp, or nobody.
+// Tells whether this is 1.1 at a timestamp, or nobody.
 fn is_first(found: Option<(TxnId, Stamp)>, at: Option<u64>) -> bool {
     match (found, at) {
         (Some((txn, found)), Some(at)) => txn == id(1) && found.micros() == at,
@@ -228,7 +228,7 @@ fn is_first(found: Option<(TxnId, Stamp)>, at: Option<u64>) -> bool {
     }
 }
 
-// 1.1 alone stands, and holds `a`.
+// Tells whether 1.1 alone stands, and holds `a`.
 fn holds_alone(rows: &Rows, alloc: Global) -> bool {
     let keys = keys_of(alloc, "a");
     let holds = rows.holds_all(id(1), &keys) && !rows.holds_all(id(2), &keys);
@@ -265,12 +265,12 @@ fn goes_on(rows: &mut Rows, alloc: Global, step: &Step) -> bool {
     }
 }
 
-// A body that names a table costs much to prove, so the table is handed on.
+// A body that names a table costs much to prove, so a function hands the table on.
 fn stories() -> &'static [Story] {
     &STORIES
 }
 
-/// Goes over all rows, with a log of all records. Each story is one of new rows, and each step is as it is told.
+/// Checks all rows, with a log of all records. Each story begins with new rows.
 pub fn go_over(wrong: &mut WrongRows, alloc: Global) {
     let Ok(mut log) = GateLog::format(SimDisk::new(alloc)) else {
         return wrong.unless(false, "no log");

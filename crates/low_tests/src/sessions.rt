@@ -19,8 +19,8 @@ enum Does {
     Hears(u8, u64, &'static [u8]),
 }
 
-// What it does behind its closing: it is given up; it hears its end; or it is given up and asks once more, and then hears its end, at a
-// timestamp or aborted.
+// What it does after its closing: it is given up; it hears its end; or it is given up and asks once more, and then
+// hears its end, at a timestamp or aborted.
 enum Then {
     GivesUp,
     Hears,
@@ -122,7 +122,7 @@ static STORIES: [Story; 7] = [
     },
 ];
 
-// The messages are printed so.
+// Tells whether the messages are printed so.
 fn says(alloc: Global, out: Outbox, lines: &str) -> bool {
     let said = are_printed(alloc, out.as_slice(), lines);
     drop(out);
@@ -168,7 +168,7 @@ fn hears(tx: &mut Tx<'_, Open>, alloc: Global, answer: ReadAnswer, gets: &str) -
     }
 }
 
-// An answer of shard 1. A value that memory is wanting for is none.
+// Makes an answer of shard 1. A value is left out if there is no memory for it.
 fn answer(alloc: Global, key: Key, epoch: u64, bytes: &[u8]) -> ReadAnswer {
     ReadAnswer {
         from: shard(1),
@@ -209,7 +209,7 @@ fn gives_up<S: Ongoing>(tx: Tx<'_, S>, alloc: Global, lines: &str) -> bool {
     }
 }
 
-// It says so as it quits and as it asks once more, and takes its end then.
+// Tells whether it says so as it quits and as it asks once more, and takes its end then.
 fn quits(tx: Tx<'_, Closing>, alloc: Global, story: &Story, at: u32) -> bool {
     match tx.quit(alloc) {
         Ok((tx, out)) => {
@@ -223,7 +223,7 @@ fn quits(tx: Tx<'_, Closing>, alloc: Global, story: &Story, at: u32) -> bool {
     }
 }
 
-// The end of a transaction of this number, at a timestamp, or aborted where that is 0.
+// Makes the end of a transaction of this number, at a timestamp, or aborted if that is 0.
 fn end_of(number: u16, at: u32) -> Done {
     if at == 0 {
         Done::aborted(id(number))
@@ -284,7 +284,7 @@ fn closes(tx: Tx<'_, Open>, alloc: Global, story: &Story) -> bool {
     }
 }
 
-// A new transaction of run 7 asks for `a` by this line.
+// Tells whether a new transaction of run 7 asks for `a` by this line.
 fn asks(alloc: Global, splits: &Splits, tickets: &Tickets, drawer: &mut Drawer, line: &str) -> bool
     requires { drawer.old.source ≡ tickets.now }
     ensures { drawer.new.source ≡ drawer.old.source }
@@ -302,7 +302,7 @@ fn asks(alloc: Global, splits: &Splits, tickets: &Tickets, drawer: &mut Drawer, 
     }
 }
 
-// The first transactions of a source are 7.0 and 7.1.
+// Tells whether the first transactions of a source are 7.0 and 7.1.
 fn are_drawn(alloc: Global, splits: &Splits) -> bool {
     let Ok((tickets, mut drawers)) = Tickets::new(alloc, 1) else {
         return false;
@@ -321,7 +321,7 @@ fn are_drawn(alloc: Global, splits: &Splits) -> bool {
     drawn
 }
 
-/// Goes over all rows.
+/// Checks all rows.
 pub fn go_over(wrong: &mut WrongRows, alloc: Global) {
     let Ok(splits) = Splits::new(alloc, &[key(b'm')]) else {
         return wrong.unless(false, "no splits");

@@ -150,7 +150,7 @@ fn is_read_back(alloc: Global, bytes: &[u8]) -> bool {
     read
 }
 
-// It is spelled so, is read from that, and its copy is spelled so too.
+// The record is spelled so and is read from these bytes, and its copy is spelled so too.
 impl Row for Vector {
     fn tell(&self, wrong: &mut WrongRows, rt: &HostRuntime) {
         let alloc = rt.alloc();
@@ -540,7 +540,7 @@ impl Row for Read {
     }
 }
 
-// A body that names a table costs much to prove, so each is handed on.
+// A body that names a table costs much to prove, so a function hands each on.
 fn numbers() -> &'static [Read] {
     &NUMBERS
 }
@@ -561,10 +561,12 @@ fn ended() -> &'static [Read] {
     &ENDED
 }
 
+/// Checks how records are spelled.
 pub fn tell_vectors(wrong: &mut WrongRows, rt: &HostRuntime) {
     go_over(wrong, rt, "spellings", &VECTORS);
 }
 
+/// Checks which bytes are records.
 pub fn tell_read(wrong: &mut WrongRows, rt: &HostRuntime) {
     go_over_all(
         wrong,

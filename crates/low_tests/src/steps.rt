@@ -12,25 +12,25 @@ pub enum Step {
     Arm(Option<u64>),
     /// These bytes are read, and they are all.
     Holds(&'static [u8]),
-    /// The device fails, or the system refuses.
+    /// It fails with `Device`: the device fails, or the system refuses.
     Fails(&'static Step),
-    /// In memory alone: the call after so many more fails.
+    /// In memory alone: the call that comes so many calls later fails.
     FailNext(u64),
     /// In memory alone: a crash, by these fates of the changes that are not synced.
     Crash(&'static [Fate]),
-    /// Of a file alone: a read of at most 4 bytes, a write and a cut, wherever its end is.
+    /// On a file alone: a read of at most 4 bytes, a write and a cut, wherever its end is.
     ReadAnywhere(u64, usize),
     WriteAnywhere(u64, &'static [u8]),
     CutAnywhere(u64),
 }
 
-/// A disk on which a step is done in its own way, or as on any.
+/// A disk that does a step in its own way, or as any disk does.
 pub trait Stepped: Disk {
-    /// What the call of the step answers.
+    /// Does the step, and gives the answer of its call.
     fn called(&mut self, alloc: Global, step: &Step) -> Result<(), Fault>;
 }
 
-/// Whether these are all the bytes that are read of a disk: where not, there is no room for them.
+/// Checks that these are all the bytes that are read of a disk. `Room` means that they are not.
 pub fn read_back<D: Disk>(alloc: Global, disk: &mut D, bytes: &[u8]) -> Result<(), Fault> {
     let Ok(mut found) = Vec::from_elem(alloc, 0u8, disk.len() as usize) else {
         return Err(Fault::Memory);
@@ -41,7 +41,8 @@ pub fn read_back<D: Disk>(alloc: Global, disk: &mut D, bytes: &[u8]) -> Result<(
     if same { read } else { Err(Fault::Room) }
 }
 
-/// What the call of a step answers on any disk. Past its end there is no room, nor for a step that is not for any.
+/// Does a step as any disk does, and gives the answer of its call. `Room` comes past the end of the file, and for a
+/// step that is not for any disk.
 pub fn call_any<D: Disk>(alloc: Global, disk: &mut D, step: &Step) -> Result<(), Fault> {
     match step {
         Step::Write(at, bytes) if *at <= disk.len() => disk.write_at(*at, bytes),
@@ -57,7 +58,7 @@ pub fn call_any<D: Disk>(alloc: Global, disk: &mut D, step: &Step) -> Result<(),
     }
 }
 
-/// Whether each step goes as it says.
+/// Tells whether each step goes as it says.
 pub fn go_well<D: Stepped>(alloc: Global, disk: &mut D, steps: &[Step]) -> bool {
     for step in steps {
         let went = match step {

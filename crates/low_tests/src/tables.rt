@@ -184,7 +184,7 @@ static STORIES: [Story; 5] = [
     },
 ];
 
-// What a transaction does goes as it is told, where it is in the table.
+// Lets a transaction do a step, and tells whether it goes as wanted, if the transaction is in the table.
 fn goes(table: &mut Table, alloc: Global, tokens: &mut Vec<Held>, step: &Step) -> bool {
     let number = step.number;
     let act = match step.does {
@@ -226,6 +226,7 @@ impl Row for Story {
     }
 }
 
+/// Checks the stories of lock tables.
 pub fn tell_stories(wrong: &mut WrongRows, rt: &HostRuntime) {
     go_over(wrong, rt, "the lock table", &STORIES);
 }

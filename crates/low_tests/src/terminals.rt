@@ -6,7 +6,7 @@ use std::sync::Wait;
 use std::thread::Threads;
 use std::{thread, time};
 
-// Two threads of ten turns each, with a look behind each turn.
+// Runs two threads of ten turns each, with a look after each turn.
 fn work<R: Threads, W: Watch + Sync>(rt: &R, watch: &W) {
     thread::join(rt, || tell(watch), || tell(watch));
 }
@@ -31,7 +31,7 @@ fn is_last(text: &str) -> bool {
     text.contains("\r20 of 20 done, ") && text.ends_with(TABLE)
 }
 
-// The last lines of a drive of twenty turns, on a terminal that may be absent.
+// Tells whether the last lines of a drive of twenty turns are right, on a terminal that may be absent.
 fn counts<R: Threads + Wait + time::Clock + Sync>(rt: &R, alloc: Global) -> bool {
     let terminal = Some(Terminal::new(rt, alloc, Vec::new(alloc), 20));
     work(rt, &terminal);
@@ -47,7 +47,7 @@ fn counts<R: Threads + Wait + time::Clock + Sync>(rt: &R, alloc: Global) -> bool
     counts
 }
 
-/// Goes over the one story. A watch may be absent.
+/// Checks the one story. A watch may be absent.
 pub fn go_over<R: Threads + Wait + time::Clock + Sync>(
     wrong: &mut WrongRows,
     rt: &R,

@@ -1,4 +1,5 @@
-//! The tests, each of some areas. A body that names several tables costs much to prove, so most tables have a function of their own.
+//! The tests, each of some areas. A body that names several tables costs much to prove, so most tables have a
+//! function of their own.
 use crate::checks::{end, go_over};
 use crate::{
     beside, clocks, crowd, devices, disks, documents, drawers, drive_lines, figures, files,
@@ -8,6 +9,7 @@ use crate::{
 };
 use made::{Folder, WrongRows};
 
+/// Shows the limits and texts of the small types, verdicts, readings, ceilings and safe times.
 #[test]
 fn small_types_and_texts(rt: HostRuntime) {
     let alloc = rt.alloc();
@@ -28,6 +30,7 @@ fn small_types_and_texts(rt: HostRuntime) {
     end(&rt, wrong);
 }
 
+/// Shows lock tables, rows, sessions, tickets, boards, and what a drive shows at the terminal.
 #[test]
 fn stories_and_what_is_shown(rt: HostRuntime) {
     let alloc = rt.alloc();
@@ -44,6 +47,7 @@ fn stories_and_what_is_shown(rt: HostRuntime) {
     end(&rt, wrong);
 }
 
+/// Shows lock tables with a thousand waiters, and drawn requests that a plain table answers alike.
 #[test]
 fn crowded_lock_tables(rt: HostRuntime) {
     let alloc = rt.alloc();
@@ -53,6 +57,7 @@ fn crowded_lock_tables(rt: HostRuntime) {
     end(&rt, wrong);
 }
 
+/// Shows disks in memory and in files, the spelling of records, and logs that are written, torn and opened again.
 #[test]
 fn disks_and_logs(rt: HostRuntime) {
     let mut wrong = WrongRows::none(rt.alloc());
@@ -67,6 +72,7 @@ fn disks_and_logs(rt: HostRuntime) {
     end(&rt, wrong);
 }
 
+/// Shows logs that are turned over, and files of version 1 that are copied.
 #[test]
 fn turned_and_migrated_logs(rt: HostRuntime) {
     let mut wrong = WrongRows::none(rt.alloc());
@@ -77,6 +83,7 @@ fn turned_and_migrated_logs(rt: HostRuntime) {
     end(&rt, wrong);
 }
 
+/// Shows that logs are read at one moment while another thread appends to them or renews them.
 #[test]
 fn logs_that_are_written_to(rt: HostRuntime) {
     let folder = Folder::new(&rt).ok().expect(&rt, "a folder");
@@ -93,6 +100,7 @@ fn logs_that_are_written_to(rt: HostRuntime) {
     end(&rt, wrong);
 }
 
+/// Shows what is found of versions, also of drawn ones, and which a horizon leaves.
 #[test]
 fn versions(rt: HostRuntime) {
     let mut wrong = WrongRows::none(rt.alloc());
@@ -107,6 +115,7 @@ fn versions(rt: HostRuntime) {
     end(&rt, wrong);
 }
 
+/// Shows what a log determines, what a renewed log is made of, and what logs leave when they are opened again.
 #[test]
 fn what_is_kept_of_logs(rt: HostRuntime) {
     let mut wrong = WrongRows::none(rt.alloc());

@@ -1,5 +1,5 @@
-//! Logs that are read from the text of their records. A word that cannot be read stands for something else, so that the
-//! record is not printed as it was written.
+//! Logs that are read from the text of their records. If a word cannot be read, another value takes its place, so
+//! that the record is not printed as it was written.
 use crate::checks::is_printed;
 use made::shard;
 use record::{Committed, Prepared, Record};
@@ -7,7 +7,7 @@ use std::alloc::Global;
 use texts::Text;
 use units::{Epoch, Install, Key, Keys, Parts, ShardNo, Stamp, TxnId, Value, Write, Writes};
 
-/// Adds the records of a text to a log, one a line. Says whether each is printed as its line.
+/// Adds the records of a text to a log, one a line, and tells whether each is printed as its line.
 pub fn reads(alloc: Global, text: &str, log: &mut Vec<Record>) -> bool {
     for line in text.lines() {
         let Some(record) = record_of(alloc, line) else {
@@ -20,7 +20,7 @@ pub fn reads(alloc: Global, text: &str, log: &mut Vec<Record>) -> bool {
     true
 }
 
-/// The record of a line, where it is printed as that line.
+/// Reads the record of a line, if it is printed as that line.
 pub fn record_of(alloc: Global, line: &str) -> Option<Record> {
     let record = read(alloc, line);
     if is_printed(alloc, &Text(&record), line) {
@@ -31,7 +31,7 @@ pub fn record_of(alloc: Global, line: &str) -> Option<Record> {
     }
 }
 
-// The pieces of a text between separators, and empty ones behind them. One of `-` is empty.
+// Gives the pieces of a text between separators, and then empty ones. One of `-` is empty.
 fn pieces(text: &str, separator: char) -> [&str; 6] {
     let mut pieces = [""; 6];
     let mut count = 0;
@@ -44,7 +44,7 @@ fn pieces(text: &str, separator: char) -> [&str; 6] {
     pieces
 }
 
-// The record of a line, as far as its words can be read.
+// Reads the record of a line, as far as its words can be read.
 fn read(alloc: Global, line: &str) -> Record {
     let [kind, first, second, third, fourth, fifth] = pieces(line, ' ');
     match kind {
@@ -75,7 +75,7 @@ fn read(alloc: Global, line: &str) -> Record {
     }
 }
 
-// A record of an end, or one that a renewed log alone has.
+// Reads a record of an end, or one that a renewed log alone has.
 fn short(alloc: Global, kind: &str, words: [&str; 4]) -> Record {
     let [first, second, third, fourth] = words;
     match kind {
@@ -107,7 +107,7 @@ fn short(alloc: Global, kind: &str, words: [&str; 4]) -> Record {
     }
 }
 
-// What two words tell of an end.
+// Reads the outcome that two words tell.
 fn outcome_of(word: &str, at: &str) -> Option<Stamp> {
     if word == "committed" {
         Some(stamp_of(at))
@@ -116,7 +116,7 @@ fn outcome_of(word: &str, at: &str) -> Option<Stamp> {
     }
 }
 
-/// The id of a word.
+/// Reads the id of a word.
 pub fn txn_of(word: &str) -> TxnId {
     texts::txn(word).unwrap_or(made::id(0))
 }
@@ -137,17 +137,17 @@ fn number(word: &str) -> u64 {
     texts::number(word).unwrap_or(0)
 }
 
-/// The key of a word.
+/// Reads the key of a word.
 pub fn key_of(word: &str) -> Key {
     texts::key(word).unwrap_or(made::key(b'?'))
 }
 
-/// The value of a word, if it is one.
+/// Reads the value of a word, if it is one.
 pub fn value_of(alloc: Global, word: &str) -> Option<Value> {
     texts::value(alloc, word).ok()
 }
 
-/// Shards between commas.
+/// Reads shards between commas.
 pub fn parts_of(word: &str) -> Parts {
     let mut mask = 0;
     for part in &pieces(word, ',') {
@@ -158,7 +158,7 @@ pub fn parts_of(word: &str) -> Parts {
     Parts::from_mask(mask).unwrap_or(Parts::only(shard(15)))
 }
 
-/// Keys between commas.
+/// Reads keys between commas.
 pub fn keys_of(alloc: Global, word: &str) -> Keys {
     let mut keys = Vec::new(alloc);
     for part in &pieces(word, ',') {
@@ -169,7 +169,7 @@ pub fn keys_of(alloc: Global, word: &str) -> Keys {
     Keys::from_vec(keys).unwrap_or(Keys::none(alloc))
 }
 
-/// Writes between commas, each a key with `=` and a value or with `!`.
+/// Reads writes between commas, each a key with `=` and a value or with `!`.
 pub fn writes_of(alloc: Global, word: &str) -> Writes {
     let mut writes = Vec::new(alloc);
     for part in &pieces(word, ',') {

@@ -1,4 +1,4 @@
-//! The tokens of the transactions of a lock table. Each is used only where the table has its claim.
+//! The tokens of the transactions of a lock table. Each is used only while the table has its claim.
 use locks::{Held, Table};
 use made::id;
 use std::alloc::Global;
@@ -22,7 +22,7 @@ pub fn enters(table: &mut Table, alloc: Global, tokens: &mut Vec<Held>, number: 
     }
 }
 
-// The place of a transaction's token.
+// Finds the place of a transaction's token.
 fn place(tokens: &[Held], number: u16) -> Option<usize> {
     for (at, held) in tokens.iter().enumerate() {
         if held.txn() == id(number) {
@@ -36,14 +36,15 @@ fn place(tokens: &[Held], number: u16) -> Option<usize> {
 #[derive(Clone, Copy)]
 pub enum Acts<'a> {
     Asks(&'a [Lock]),
-    /// From now on nobody ends it.
+    /// It becomes firm: from now on nobody ends it.
     BecomesFirm,
     GivesItsWaitUp,
     /// It is ready, and gets what it waits for.
     GoesOn,
 }
 
-/// What comes of it, where the transaction has a token: of all but a request, that it is granted.
+/// Lets a transaction act, and gives what comes of it, if the transaction has a token. Of all but a request, that is
+/// that it is granted.
 pub fn act_out(
     table: &mut Table,
     alloc: Global,
@@ -70,7 +71,7 @@ pub fn act_out(
     None
 }
 
-/// The transaction is released, if it has a token.
+/// Releases the transaction, if it has a token.
 pub fn leaves(table: &mut Table, tokens: &mut Vec<Held>, number: u16) {
     match place(tokens, number) {
         Some(at) => {
@@ -82,7 +83,7 @@ pub fn leaves(table: &mut Table, tokens: &mut Vec<Held>, number: u16) {
     }
 }
 
-/// All are released.
+/// Releases all.
 pub fn release_all(table: &mut Table, tokens: Vec<Held>) {
     let mut tokens = tokens;
     for _ in 0..tokens.len() {

@@ -19,7 +19,7 @@ const OLD: &[Place] = &[
     (FIRST_GATE + 56, OUTCOME),
 ];
 
-// The area behind it, and then another behind this one.
+// The area after it, and then another one after that.
 const AREA: &str = "opened 2\nceiling 300";
 
 const SECOND: &[u8] = &[1, 0, 0, 0, 0, 0, 0, 0, 2];
@@ -57,7 +57,7 @@ const FAILED: Case = Case {
     ..WHOLE
 };
 
-// Turnovers that go well, and what comes behind them.
+// Turnovers that go well, and what comes after them.
 static TURNED: [Case; 5] = [
     Case {
         what: "one turnover, byte for byte",
@@ -184,7 +184,7 @@ static LATE: [Case; 4] = [
     },
 ];
 
-// A new area of these records.
+// Makes a new area of these records.
 fn area_of(alloc: Global, lines: &str) -> Option<Area> {
     let mut area = Area::new(alloc);
     for line in lines.lines() {
@@ -202,7 +202,7 @@ fn area_of(alloc: Global, lines: &str) -> Option<Area> {
     Some(area)
 }
 
-/// Turns a log over to an area of these records, while that call is to fail, where one is.
+/// Turns a log over to an area of these records, while that call is to fail, if one is.
 pub fn turn(
     alloc: Global,
     log: &mut GateLog<SimDisk>,
@@ -217,7 +217,7 @@ pub fn turn(
     log.turn_over(staged)
 }
 
-/// Whether the first slots of the file hold this, and it has so many bytes.
+/// Tells whether the first slots of the file hold this, and it has so many bytes.
 pub fn has_slots(disk: &mut SimDisk, slots: &[u8; 18], len: u64) -> bool {
     let size = disk.len();
     if size < 26 {
@@ -227,8 +227,8 @@ pub fn has_slots(disk: &mut SimDisk, slots: &[u8; 18], len: u64) -> bool {
     disk.read_at(8, &mut found).is_ok() && found == *slots && size == len
 }
 
-/// Behind the last slot there is no turnover, and it is no failure: of a file whose slots are all open, each of which names an area of no
-/// record.
+/// Tells whether a turnover is refused after the last slot, and stops nothing. All slots of the file are open, and
+/// each of them names an area of no record.
 pub fn ends(rt: &HostRuntime) -> bool {
     let alloc = rt.alloc();
     let mut disk = SimDisk::new(alloc);
@@ -252,7 +252,7 @@ pub fn ends(rt: &HostRuntime) -> bool {
     whole & last & spent & goes_on
 }
 
-// A body that names a table costs much to prove, so each is handed on.
+// A body that names a table costs much to prove, so a function hands each on.
 fn turned() -> &'static [Case] {
     &TURNED
 }
@@ -265,6 +265,7 @@ fn late() -> &'static [Case] {
     &LATE
 }
 
+/// Checks logs that are turned over.
 pub fn tell_turned(wrong: &mut WrongRows, rt: &HostRuntime) {
     go_over_all(
         wrong,

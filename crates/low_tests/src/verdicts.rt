@@ -247,7 +247,7 @@ static LOOKED: [Case; 4] = [
     },
 ];
 
-// Of renewed logs nothing is read. The places of lines are those of all lines.
+// Over renewed logs the values that lines read are not checked. The places of lines are those of all lines.
 static RENEWED_LOGS: [Case; 10] = [
     Case {
         name: "a renewed log",
@@ -376,7 +376,7 @@ static ENDED: [Case; 7] = [
     },
 ];
 
-// The logs of all shards.
+// Reads the logs of all shards.
 fn read_logs(alloc: Global, texts: &[&str], logs: &mut Vec<Vec<Record>>) -> bool {
     let mut read = true;
     for text in texts {
@@ -405,7 +405,7 @@ fn has_its_verdict(alloc: Global, case: &Case) -> bool {
     read && given
 }
 
-// A body that names a table costs much to prove, so each is handed on.
+// A body that names a table costs much to prove, so a function hands each on.
 fn single() -> &'static [Case] {
     &SINGLE
 }
@@ -430,7 +430,7 @@ fn ended() -> &'static [Case] {
     &ENDED
 }
 
-/// Goes over all rows.
+/// Checks all rows.
 pub fn go_over(wrong: &mut WrongRows, alloc: Global) {
     let tables = [
         single(),

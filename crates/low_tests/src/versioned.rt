@@ -10,18 +10,18 @@ use std::cmp::Ordering;
 use units::{Key, Stamp, Value, Write, Writes};
 use versions::Versions;
 
-/// A version of a key, by its letter: the timestamp, and a value of one letter or an erasure.
+/// A version: the letter of its key, its timestamp, and a value of one letter or an erasure.
 type Version = (u8, u32, Option<u8>);
 
-// A version in a plain list of all, ascending by key and timestamp.
 #[derive(Clone, Copy)]
+/// A version in a plain list of all, ascending by key and timestamp.
 pub struct Plain {
     pub key: Key,
     pub at: u32,
     pub value: Option<u8>,
 }
 
-// Installs the version where its key takes it, and says whether it does.
+/// Installs the version if its key takes it, and tells whether it does. `None` means that there is no memory.
 pub fn install(alloc: Global, versions: &mut Versions, new: &Plain) -> Option<bool> {
     let Ok(()) = versions.reserve(1) else {
         return None;
@@ -58,7 +58,7 @@ fn install_rows(alloc: Global, versions: &mut Versions, rows: &[Version]) -> boo
     true
 }
 
-// `1` is written to `a` and `z` is erased, both at 200.
+// Installs, at 200, `1` of `a` and the erasure of `z`.
 fn install_two(alloc: Global, versions: &mut Versions) -> bool
     requires none { versions.old.installs ≡ [] }
 {
@@ -87,11 +87,12 @@ fn install_two(alloc: Global, versions: &mut Versions) -> bool
     true
 }
 
-/// The letter of a key, a timestamp or none for the latest, and the value that is found; and where that is looked at, how many
-/// versions stand up to there, and how many of all are compared at most.
+/// The letter of a key, a timestamp or `None` for the latest, and the value that is found. If the place is checked:
+/// how many versions stand up to there, and how many are compared at most.
 type Lookup = (u8, Option<u64>, Option<u8>, Option<(usize, u32)>);
 
-/// Versions, the horizons below which they are forgotten one after another, versions that come behind that, and what is found.
+/// Versions, the horizons below which they are forgotten one after another, versions that come then, and what is
+/// found.
 #[derive(Clone, Copy)]
 pub struct Looked {
     pub what: &'static str,
@@ -204,7 +205,7 @@ static FOUND: [Looked; 5] = [
     },
 ];
 
-// Those below a horizon are forgotten.
+// Versions below a horizon are forgotten.
 static FORGOTTEN: [Looked; 7] = [
     Looked {
         what: "the older of two goes",
@@ -293,7 +294,7 @@ static FORGOTTEN: [Looked; 7] = [
     },
 ];
 
-// Horizons over several keys, over none, and one behind another.
+// Horizons over several keys, over none, and one after another.
 static HORIZONS: [Looked; 6] = [
     Looked {
         what: "each key by itself",
@@ -382,6 +383,7 @@ static HORIZONS: [Looked; 6] = [
     },
 ];
 
+/// Tells whether each look-up finds what it should, and compares no more versions than it may.
 pub fn all_found(versions: &Versions, rows: &[Lookup]) -> bool {
     for (letter, at, value, place) in rows {
         let key = key(*letter);
@@ -443,10 +445,10 @@ fn draw(state: &mut u64, limit: u64) -> u64
     (*state >> 33) % limit
 }
 
-// Few bytes, the least and the greatest among them, so that keys begin alike and end in zeros.
+// A few byte values, the least and the greatest among them, so that keys begin alike and end in zeros.
 static BYTES: [u8; 4] = [0, 1, b'c', 255];
 
-// Draws a key of so many letters, mostly with up to three bytes behind them, and at times up to 64 in all.
+// Draws a key of so many letters, mostly followed by up to three bytes, and at times by up to 64 bytes in all.
 fn draw_key(state: &mut u64, letters: usize) -> Key {
     let mut bytes = *b"abcdefghijklmnopqrstuvwxyzabcdefghijklmnopqrstuvwxyzabcdefghijkl";
     let letters = letters.min(20);
@@ -465,7 +467,7 @@ fn draw_key(state: &mut u64, letters: usize) -> Key {
     }
 }
 
-// Draws a version of a key behind that many letters, one of these numbers.
+// Draws a version of a key that begins with so many letters, one of these numbers.
 fn draw_version(state: &mut u64, letters: &[usize; 5], turn: u32) -> Plain {
     let chosen = draw(state, 5) as usize;
     let key = draw_key(state, letters[chosen]);
@@ -511,7 +513,7 @@ fn told(all: &[Plain], key: &Key, at: u32) -> Listed {
     listed
 }
 
-// The versions and the plain list take the new one, or neither does.
+// Adds the new version to the versions and to the plain list, and tells whether both take it or neither does.
 fn take(alloc: Global, versions: &mut Versions, all: &mut Vec<Plain>, new: &Plain) -> bool {
     let listed = told(all, &new.key, new.at);
     match install(alloc, versions, new) {
@@ -521,6 +523,8 @@ fn take(alloc: Global, versions: &mut Versions, all: &mut Vec<Plain>, new: &Plai
     }
 }
 
+/// Tells whether the versions and the plain list say the same of a key at a timestamp, and the search compares no
+/// more than it should.
 pub fn agree_at(versions: &Versions, all: &[Plain], sought: &Plain) -> bool {
     let (key, at) = (&sought.key, stamp(sought.at));
     let listed = told(all, key, sought.at);
@@ -533,8 +537,9 @@ pub fn agree_at(versions: &Versions, all: &[Plain], sought: &Plain) -> bool {
         & (digits.wrapping_sub(probes) <= 1)
 }
 
-/// So many drawn versions of keys behind one of these numbers of letters. At each so many-th turn the new one is looked for, and
-/// another drawn one; or those below a drawn horizon are forgotten, and each that there was is looked for.
+/// So many drawn versions of keys that begin with so many letters, one of these numbers. At some turns the new
+/// version is looked for, and another drawn one. Or those below a drawn horizon are forgotten, and each that there
+/// was is looked for.
 pub struct Drawn {
     what: &'static str,
     forgets: bool,
@@ -546,6 +551,7 @@ pub struct Drawn {
 // Lengths of what keys begin with.
 const PREFIXES: [usize; 5] = [0, 3, 8, 9, 20];
 
+/// Drawn versions of keys that begin alike in few or many letters.
 pub static DRAWN: [Drawn; 8] = [
     Drawn {
         what: "behind no letter",
@@ -638,7 +644,7 @@ impl Row for Drawn {
     }
 }
 
-// A body that names a table costs much to prove, so each is handed on.
+// A body that names a table costs much to prove, so a function hands each on.
 fn found() -> &'static [Looked] {
     &FOUND
 }
@@ -651,6 +657,7 @@ fn horizons() -> &'static [Looked] {
     &HORIZONS
 }
 
+/// Checks what is found of versions, at timestamps and after horizons.
 pub fn tell_looked(wrong: &mut WrongRows, rt: &HostRuntime) {
     go_over_all(wrong, rt, "versions", &[found(), forgotten(), horizons()]);
 }
