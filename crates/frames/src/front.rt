@@ -8,8 +8,8 @@ use spelling::{Record, decode};
 use std::alloc::Global;
 use units::Fault;
 
-/// What stands at the place of a gate: a closed gate; a frame with its gate, of so many bytes; too little to tell; or
-/// no frame.
+/// What stands at the place of a gate. `Closed`: a closed gate. `Whole`: a frame of a record, of so many bytes with
+/// its gate. `Part`: too few bytes were read to tell. `Broken`: no frame.
 #[derive(Drop)]
 pub enum Front {
     Closed,

@@ -18,10 +18,10 @@ pub fn lay_out<D: Disk>(disk: &mut D, bytes: &[u8]) -> Result<(), Fault>
     ensures done { OnOk result
         (D.keeps_model → ((surface (D.file disk.new)).seen ≡ header ++ drop 8 bytes.now)
         × IsSynced (surface (D.file disk.new))) }
-    // Behind the first sync a crash leaves the bytes behind the first eight.
+    // After the first sync a crash leaves the bytes that follow the first eight.
     ensures laid { OnOk result (D.keeps_model → WasLaid D.file D.clock D.since bytes.now
         (HoldsBehind bytes.now) disk.old disk.new) }
-    // So does one behind a call that is armed there, and fails.
+    // So does a crash after a call that is armed there, and fails.
     ensures late { (call : ℕ) → D.obeys → D.keeps_model → D.plan disk.old ≡ AfterWrite call
         → 2 ≤ call → IfErr result (λ fault. fault ≡ Fault.Device → (image : List ℕ)
         → MayLeave (surface (D.file disk.new)) image → HoldsBehind bytes.now image) }

@@ -23,9 +23,9 @@ use units::Fault;
 // How many bytes a copy has more: the slots, which stand before the frames.
 const MORE: u64 = 9216;
 
-/// Copies the log of a file of version 1, which stays as it is, into another file, of version 2, whatever was in it.
-/// `NotALog` or `Damaged` tells of the first file. `TimeSpent` comes if the copy would have more than 2^40 bytes.
-/// After a fault other than `Device`, the other file is as it was.
+/// Copies the log of a file of version 1 into another file, of version 2, whatever was in it. The first file stays as
+/// it is. `NotALog` or `Damaged` tells of the first file. `TimeSpent` comes if the copy would have more than 2^40
+/// bytes. After a fault other than `Device`, the other file is as it was.
 pub fn migrate<D: Disk>(alloc: Global, from: &mut D, to: D) -> Result<GateLog<D>, (Fault, D)>
     ensures copied { IfOk result (λ made. D.keeps_model
         → (entries : List Placed) × HasCopied D.file D.clock D.since

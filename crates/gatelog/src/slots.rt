@@ -34,7 +34,7 @@ fn slot_of(slot: &[u8], at: u64, area: u64, shut: bool, len: u64) -> Result<Opti
 }
 
 /// Finds the area that the slots name, in a file of this length. These bytes follow the header: all of them, or at
-/// least the slots. A fault means that the slots are no log's, as `Damaged` at the first bad slot.
+/// least the slots. `Damaged` gives the offset of the first bad slot.
 pub fn area_named(bytes: &[u8], len: u64) -> Result<u64, Fault>
     requires enough { (9216 ≤ length bytes.now) ⊎ (8 + length bytes.now ≡ len) }
     requires inside { 8 + length bytes.now ≤ len }

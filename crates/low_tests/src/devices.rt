@@ -73,7 +73,7 @@ impl Row for Failing {
     }
 }
 
-/// Passes a value on, and shows that it may go to another thread.
+/// Passes a value on, and shows by its type that it may go to another thread.
 pub fn sent<T: Send>(value: T) -> T {
     value
 }

@@ -174,8 +174,8 @@ fn join(alloc: Global, log: &mut GateLog<SimDisk>, lines: &str, call: u64) -> Re
 }
 
 impl Group {
-    // Tells whether the group is whole or not there at all, as wanted, after one of its calls fails and then a crash,
-    // if there is one.
+    // Tells whether the group is there, whole or not at all as wanted. First one of its calls fails, and then the
+    // disk crashes, if a fate is given.
     fn ends_so(&self, alloc: Global, stop: &Stop, fate: Option<Fate>, is_whole: bool) -> bool {
         let Ok(mut log) = GateLog::format(SimDisk::new(alloc)) else {
             return false;

@@ -86,8 +86,8 @@ fn install_turns(alloc: Global, versions: &mut Versions, keys: u32, turns: Range
     true
 }
 
-// Tells whether at each of these timestamps the key whose turn it is has its value of this turn, and the next key
-// that of its last one.
+// Tells whether the keys have their values at each of these timestamps. The key whose turn it is has that of this
+// turn, and the next key that of its last one.
 fn show_turns(versions: &Versions, keys: u32, turns: Range<u32>) -> bool {
     for turn in turns {
         let at = stamp(turn);

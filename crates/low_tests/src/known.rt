@@ -39,8 +39,8 @@ fn all_come(alloc: Global, facts: &mut Facts, lines: &str, learnt: bool) -> bool
 // The timestamps of a transaction's promise and of its decision, and its outcome.
 type Standing = (Option<u64>, Option<u64>, Option<Option<u64>>);
 
-// How a transaction stands: the timestamps of its promise and of its decision, whether it was aborted, its outcome,
-// and whether it was settled by the shard that decided it.
+// How a transaction stands. It has the timestamps of its promise and of its decision, whether it was aborted, its
+// outcome, and whether it was settled by the shard that decided it.
 #[derive(Clone, Copy)]
 struct Known {
     number: u16,

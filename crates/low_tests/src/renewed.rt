@@ -4,8 +4,8 @@ use crate::left::{NOTHING, Reopened, Shown};
 use made::{FIRST_GATE, WrongRows};
 use units::Fault;
 
-// A frame has 5 bytes and its record: an opening takes 14, a base 30, a version of one letter 20, what is settled 32, what is closed
-// by an abort 24, an abort 22, a decision of one letter 42, a promise of one letter 41.
+// A frame has 5 bytes and its record. An opening takes 14, a base 30, a version of one letter 20, what is settled 32,
+// what is closed by an abort 24. An abort takes 22, a decision of one letter 42, and a promise of one letter 41.
 
 // Renewed logs that leave something.
 static LEFT: [Reopened; 11] = [

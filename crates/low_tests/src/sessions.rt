@@ -19,7 +19,7 @@ enum Does {
     Hears(u8, u64, &'static [u8]),
 }
 
-// What it does after its closing: it is given up; it hears its end; or it is given up and asks once more, and then
+// What it does after its closing. It is given up; or it hears its end. Or it is given up and asks once more, and then
 // hears its end, at a timestamp or aborted.
 enum Then {
     GivesUp,

@@ -479,8 +479,8 @@ fn draw_version(state: &mut u64, letters: &[usize; 5], turn: u32) -> Plain {
     Plain { key, at, value }
 }
 
-// What a plain list says of a key at a timestamp: how many of all are not after it, the value by then, the latest value, and
-// whether none of the key is as late.
+// What a plain list says of a key at a timestamp. It has how many of all are not after it, the value by then, the
+// latest value, and whether none of the key is as late.
 #[derive(Clone, Copy)]
 struct Listed {
     count: usize,

@@ -54,8 +54,8 @@ impl<'t> LineReader<'t> {
         Ok(word)
     }
 
-    /// Gives the fault of the line that was taken last, from the fault of one of its words: `BadRequest(Syntax)` with
-    /// its number, but for `Memory`.
+    /// Gives the fault of the line that was taken last, from the fault of one of its words. `Memory` stays; any other
+    /// becomes `BadRequest(Syntax)` with the line's number.
     pub fn fault(&self, fault: Fault) -> Fault
         ensures { IsNoText result }
     {

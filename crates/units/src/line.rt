@@ -29,9 +29,9 @@ impl Drop for Line {
 }
 
 /// The verdict on logs and the lines of a report: `Yes`, or the first fault. `Torn`: the transaction of this id is
-/// not whole. `Lost`: its acknowledged commit is missing. `WrongRead`: the line at this place shows a wrong value.
-/// `WrongOrder`: the begin line at one place and the earlier acknowledgement at the other are out of order. Places
-/// count from 0.
+/// not whole. `Lost`: the acknowledged commit of this id is missing. `WrongRead`: the line at this place shows a
+/// wrong value. `WrongOrder`: the begin line at one place and the earlier acknowledgement at the other are out of
+/// order. Places count from 0.
 #[derive(Clone, Copy)]
 pub enum Verdict {
     Yes,
