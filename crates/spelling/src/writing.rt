@@ -307,8 +307,8 @@ pub fn encode(alloc: Global, record: &Record) -> Result<Vec<u8>, Fault>
     Ok(out)
 }
 
-/// Writes the one spelling of a record at the end of a buffer. It is refused for want of memory alone; the buffer may
-/// then end with a part of the spelling.
+/// Writes the one spelling of a record at the end of a buffer. It is refused for want of memory alone, and then nothing
+/// is said of the buffer.
 pub fn encode_into(out: &mut Vec<u8>, record: &Record) -> Result<(), Fault>
     ensures spelling { OnOk result (out.new.items ≡ out.old.items ++ spelling «record».now) }
     ensures fits { OnOk result (IsRecord «record».now) }
