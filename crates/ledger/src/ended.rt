@@ -8,8 +8,8 @@ use std::alloc::Global;
 use std::marker::Model;
 use units::{Fault, TxnId};
 
-/// The ids of the transactions that were ended since the opening. Contracts see them ascending, each once, beside the room
-/// for more.
+/// The ids of the transactions that were ended since the opening. Contracts see them in ascending order, each once, with the
+/// room for more.
 #[derive(Drop)]
 pub struct Ended {
     ids: Vec<TxnId>,
@@ -28,7 +28,7 @@ impl Model for Ended {
 }
 
 impl Ended {
-    /// No id, and no room.
+    /// Makes a list without an id and without room.
     pub fn none(alloc: Global) -> Ended
         ensures { result.ids ≡ [] }
     {
@@ -37,7 +37,7 @@ impl Ended {
         }
     }
 
-    /// Makes room for so many more.
+    /// Makes room for this many more ids. `Memory` leaves the list as it was.
     pub fn reserve(&mut self, more: usize) -> Result<(), Fault>
         ensures room { OnOk result (more ≤ self.new.room) }
         ensures ids { self.new.ids ≡ self.old.ids }
@@ -49,7 +49,7 @@ impl Ended {
         Ok(())
     }
 
-    /// Adds an id, where it is not there. It takes no memory.
+    /// Adds an id, unless it is there. It takes no memory.
     pub fn add(&mut self, txn: TxnId)
         requires { 1 ≤ self.old.room }
         ensures ids { self.new.ids ≡ with_id self.old.ids txn }
@@ -58,14 +58,14 @@ impl Ended {
         put(&mut self.ids, txn);
     }
 
-    /// The id is among them. It is found by halves.
+    /// Tells whether the id is in the list, by a binary search.
     pub fn has(&self, txn: TxnId) -> bool
         ensures { result ≡ has_id self.now.ids txn }
     {
         is_among(&self.ids, txn)
     }
 
-    /// The ids, ascending.
+    /// Returns the ids in ascending order.
     pub fn as_slice(&self) -> &[TxnId]
         ensures same { result.now ≡ self.now.ids }
         ensures ascending { IsById (λ id. id) result.now }
@@ -74,7 +74,7 @@ impl Ended {
     }
 }
 
-// How many ids are older. They ascend.
+// The number of ids in the list that are older.
 fn place_of(ids: &[TxnId], txn: TxnId) -> usize
     requires { IsById (λ id. id) ids.now }
     ensures place { result ≡ front (λ id. older id txn) ids.now }
@@ -83,7 +83,7 @@ fn place_of(ids: &[TxnId], txn: TxnId) -> usize
     ids.partition_point(|id| *id < txn)
 }
 
-// The id is among some that ascend.
+// Whether the id is in a list that ascends.
 fn is_among(ids: &[TxnId], txn: TxnId) -> bool
     requires { IsById (λ id. id) ids.now }
     ensures { result ≡ has_id ids.now txn }
@@ -92,7 +92,7 @@ fn is_among(ids: &[TxnId], txn: TxnId) -> bool
     place < ids.len() && ids[place] == txn
 }
 
-// Puts an id in its place, where it is not there. There is room.
+// Puts an id in its place, unless it is there. The list has room.
 fn put(ids: &mut Vec<TxnId>, txn: TxnId)
     requires order { IsById (λ id. id) ids.old.items }
     requires room { vec_len ids.old < vec_capacity ids.old }

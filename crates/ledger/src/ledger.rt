@@ -1,4 +1,4 @@
-//! The facts of a log beside the versions by key.
+//! The facts of a log, with the versions by key.
 ghost use Rattle.std.specs.Prelude.{◌≡◌, ℕ, ◌<◌, ◌≤◌, ◌^◌, ◌++◌, [], length, IsTrue, IsOk, IfErr, OnOk};
 ghost use Rattle.std.specs.Option.{option_copied};
 ghost use Rattle.units.specs.Versions.{latest, at_time, above_versions};
@@ -19,10 +19,10 @@ use std::marker::Model;
 use units::{Fault, Install, Key, ShardNo, Stamp, TxnId, Value, Write, Writes};
 use versions::Places;
 
-// How many versions a record installs at most.
+// The most versions that a record installs.
 const MOST_INSTALLS: usize = 128;
 
-/// The facts of a shard's log, and the places of its versions by key, for the look-ups. A version stands once, in the log's order.
+/// The facts of a shard's log, and for look-ups the places of its versions by key. Each version stands once, in the log's order.
 pub struct Ledger {
     facts: Facts,
     places: Places,
@@ -60,7 +60,7 @@ impl Model for Ledger {
 }
 
 impl Ledger {
-    /// What is known of no record.
+    /// Makes the ledger of a log without a record.
     pub fn new(alloc: Global, shard: ShardNo) -> Ledger
         ensures shard { result.shard ≡ shard }
         ensures facts { result.facts ≡ facts_of [] }
@@ -72,14 +72,14 @@ impl Ledger {
         }
     }
 
-    /// The shard whose log it is.
+    /// Returns the shard whose log it is.
     pub fn shard(&self) -> ShardNo
         ensures { result ≡ self.now.shard }
     {
         self.facts.shard()
     }
 
-    /// The epoch of the last opening, 0 before the first.
+    /// Returns the epoch of the last opening, 0 before the first.
     pub fn epoch(&self) -> u64
         ensures value { result ≡ self.now.facts.epoch }
         ensures limit { result < 2 ^ 62 }
@@ -87,42 +87,42 @@ impl Ledger {
         self.facts.epoch()
     }
 
-    /// The greatest timestamp, 0 where there is none.
+    /// Returns the greatest timestamp in the log, 0 if there is none.
     pub fn floor(&self) -> Stamp
         ensures { result ≡ self.now.facts.floor }
     {
         self.facts.floor()
     }
 
-    /// How a transaction stands, where it has a record.
+    /// Returns how a transaction stands by its records, if it has any.
     pub fn status(&self, txn: TxnId) -> Option<&Status>
         ensures { meant (option_copied result) ≡ recorded self.now.facts txn }
     {
         self.facts.status(txn)
     }
 
-    /// The versions, in the log's order.
+    /// Returns the versions, in the log's order.
     pub fn installs(&self) -> &[Install]
         ensures { result.now ≡ self.now.facts.installs }
     {
         self.facts.installs()
     }
 
-    /// The most recent value of a key: none where there is none or it was erased.
+    /// Returns the newest value of a key. `None` if it never had one, or was erased.
     pub fn latest(&self, key: &Key) -> Option<&Value>
         ensures { option_copied result ≡ latest self.now.facts.installs key.now }
     {
         self.places.latest(self.facts.installs(), key)
     }
 
-    /// The horizon, below which no value is read: 0 where there is none.
+    /// Returns the horizon, below which no value is read, 0 if there is none.
     pub fn horizon(&self) -> Stamp
         ensures { result ≡ self.now.facts.horizon }
     {
         self.facts.horizon()
     }
 
-    /// The value that a key has at a timestamp from the horizon up: none where there is none or it was erased.
+    /// Returns the value of a key at a timestamp from the horizon up. `None` if it had none then, or was erased.
     pub fn at(&self, key: &Key, at: Stamp) -> Option<&Value>
         requires { self.now.facts.horizon ≤ at }
         ensures { option_copied result ≡ at_time self.now.facts.installs key.now at }
@@ -130,7 +130,7 @@ impl Ledger {
         self.places.at(self.facts.installs(), key, at)
     }
 
-    /// The record may come next in the log.
+    /// Tells whether the record may come next in the log.
     pub fn may_come(&self, item: &Record) -> bool
         ensures { result ≡
             follows_next self.now.shard self.now.stage self.now.facts item.now }
@@ -138,14 +138,14 @@ impl Ledger {
         self.facts.may_come(item)
     }
 
-    /// The record is of a kind that steps log, and may come next in the log, by the rules of one transaction and of openings.
+    /// Tells whether steps log this kind of record, and it may come next by the rules of one transaction and of openings.
     pub fn follows(&self, item: &Record) -> bool
         ensures { result ≡ follows_facts self.now.shard self.now.facts item.now }
     {
         self.facts.follows(item)
     }
 
-    /// The record is of a kind of a renewed log's head, and may come next in the log.
+    /// Tells whether the record is of a kind of a renewed log's head, and may come next in the log.
     pub fn follows_head(&self, item: &Record) -> bool
         ensures { result ≡
             follows_head self.now.shard self.now.stage self.now.facts item.now }
@@ -153,14 +153,15 @@ impl Ledger {
         self.facts.follows_head(item)
     }
 
-    /// The timestamp is above all versions of the keys that are written.
+    /// Tells whether the timestamp is above all versions of the keys that are written.
     pub fn takes(&self, writes: &Writes, at: Stamp) -> bool
         ensures { result ≡ above_versions self.now.facts.installs at writes.now }
     {
         are_above(self.facts.installs(), &self.places, writes.as_slice(), at)
     }
 
-    /// The timestamp is above all versions of the keys that a promise or decision of the transaction writes, where one stands.
+    /// Tells whether the timestamp is above all versions of the keys that the transaction's promise or decision writes. It says yes
+    /// if neither stands.
     pub fn takes_standing(&self, txn: TxnId, at: Stamp) -> bool
         ensures { result ≡ above_versions self.now.facts.installs at
             (writes_standing (recorded self.now.facts txn)) }
@@ -172,7 +173,7 @@ impl Ledger {
         }
     }
 
-    /// Takes the memory in which one more record is learnt.
+    /// Takes the memory to learn one more record. `Memory` leaves what is known as it was.
     pub fn reserve(&mut self) -> Result<(), Fault>
         ensures room { OnOk result (1 ≤ self.new.room) }
         ensures same { (self.new.facts ≡ self.old.facts) × (self.new.shard ≡ self.old.shard)
@@ -190,8 +191,8 @@ impl Ledger {
         Ok(())
     }
 
-    /// Learns the record that comes next in the log. It takes no memory: what an outcome installs is moved from what stands. A horizon lets
-    /// the places of the versions below it go, and leaves their room.
+    /// Learns the record that comes next in the log. It takes no memory: an outcome moves the writes of its promise or decision to the
+    /// versions. A horizon drops the places of versions below it, but not their room.
     pub fn learn(&mut self, item: Record)
         requires room { 1 ≤ self.old.room }
         requires follows { IsTrue
@@ -210,7 +211,7 @@ impl Ledger {
         self.places.follow(self.facts.installs(), known);
     }
 
-    /// Hands on the records of the renewed log, one by one: the numbers, the versions that are held, who ended, who stands.
+    /// Hands on the records of the renewed log: its base, the versions that it holds, then the transactions that ended or stand.
     pub fn renew<R: Recorder>(&self, alloc: Global, recorder: &mut R) -> Result<(), Fault>
         requires { 0 < self.now.facts.epoch }
         ensures all { OnOk result

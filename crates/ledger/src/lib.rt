@@ -1,5 +1,5 @@
-//! What a shard keeps in memory beside its rows: the facts of its log with the versions by key, and the ids of the transactions that
-//! were ended; and what a renewed log keeps of a log. The laws are contracts of functions that do nothing.
+//! What a shard keeps in memory beside its rows: the facts of its log with the versions by key, and the ids of transactions that
+//! were ended. It also makes the records of a renewed log. The laws are contracts of functions that do nothing.
 #![tactic(auto)]
 
 mod ended;

@@ -18,19 +18,19 @@ use std::alloc::Global;
 use units::{Epoch, Fault, Install, TxnId};
 use versions::Places;
 
-/// What takes the records of a renewed log, one by one, the first first.
+/// What takes the records of a renewed log, one by one, in order.
 pub trait Recorder {
     /// The records that it took.
     ghost records: { Self → List Record };
 
-    /// Takes the next record. It is refused for want of memory alone.
+    /// Takes the next record. `Memory` is its only refusal.
     fn record(&mut self, alloc: Global, item: &Record) -> Result<(), Fault>
         ensures added { OnOk result (records self.new ≡ records self.old ++ item.now ∷ []) }
         ensures memory { IfErr result (λ fault. fault ≡ Fault.Memory) };
 }
 
-/// Hands on the records of the renewed log of some facts, whose versions are read in the order of their places. One record at a time
-/// is made, and let go.
+/// Hands on the records of the renewed log of some facts, the versions in the order of their places. It makes and drops one
+/// record at a time.
 pub fn renew<R: Recorder>(
     alloc: Global,
     facts: &Facts,
@@ -52,7 +52,7 @@ pub fn renew<R: Recorder>(
     hand_standing(alloc, facts, &ids, recorder)
 }
 
-// The epoch, the greatest timestamp and the horizon.
+// Hands on the epoch, the greatest timestamp and the horizon.
 fn hand_base<R: Recorder>(alloc: Global, facts: &Facts, recorder: &mut R) -> Result<(), Fault>
     requires { 0 < facts.now.facts.epoch }
     ensures added { OnOk result (R.records recorder.new ≡ R.records recorder.old
@@ -71,7 +71,7 @@ fn hand_base<R: Recorder>(alloc: Global, facts: &Facts, recorder: &mut R) -> Res
     hand(alloc, base, recorder)
 }
 
-// One record, which is let go.
+// Hands on one record, and drops it.
 fn hand<R: Recorder>(alloc: Global, item: Record, recorder: &mut R) -> Result<(), Fault>
     ensures added { OnOk result
         (R.records recorder.new ≡ R.records recorder.old ++ item ∷ []) }
@@ -80,7 +80,7 @@ fn hand<R: Recorder>(alloc: Global, item: Record, recorder: &mut R) -> Result<()
     recorder.record(alloc, &item)
 }
 
-// The versions that the horizon leaves, in order.
+// Hands on the versions that the horizon leaves, in order.
 fn hand_versions<R: Recorder>(
     alloc: Global,
     facts: &Facts,
@@ -102,7 +102,7 @@ fn hand_versions<R: Recorder>(
     Ok(())
 }
 
-// The version at a place in order, where the horizon leaves it.
+// The version at a place in order, if the horizon leaves it.
 fn held<'f>(facts: &'f Facts, places: &Places, at: usize) -> Option<&'f Install>
     requires orders { Orders facts.now.facts.horizon facts.now.facts.installs
         (length facts.now.facts.installs) places.now }
@@ -113,7 +113,7 @@ fn held<'f>(facts: &'f Facts, places: &Places, at: usize) -> Option<&'f Install>
     places.left(facts.installs(), at, facts.horizon())
 }
 
-// Those of these ids that ended.
+// Hands on those of these ids that ended.
 fn hand_ended<R: Recorder>(
     alloc: Global,
     facts: &Facts,
@@ -134,7 +134,7 @@ fn hand_ended<R: Recorder>(
     Ok(())
 }
 
-// Those of these ids that stand.
+// Hands on those of these ids that stand.
 fn hand_standing<R: Recorder>(
     alloc: Global,
     facts: &Facts,
@@ -155,7 +155,7 @@ fn hand_standing<R: Recorder>(
     Ok(())
 }
 
-// How a transaction is kept that ended.
+// The record of a transaction that ended.
 fn ended(txn: TxnId, status: Option<&Status>) -> Option<Record>
     ensures { result ≡
         ended_item (record { txn = txn; status = meant (option_copied status.entry) }) }
@@ -179,7 +179,7 @@ fn ended(txn: TxnId, status: Option<&Status>) -> Option<Record>
     }
 }
 
-// The record of one that stands, with memory of its own.
+// The record of one that stands, in memory of its own.
 fn standing(alloc: Global, status: Option<&Status>) -> Result<Option<Record>, Fault>
     ensures item { IfOk result (λ item. (txn : Id) → item ≡
         standing_item (record { txn = txn; status = meant (option_copied status.entry) })) }

@@ -1,4 +1,4 @@
-//! Carrying out a plan: first all memory is taken; then, once its record is logged, nothing can fail.
+//! Carrying out a plan: first all memory is taken. Once its record is logged, nothing can fail.
 ghost use Rattle.std.specs.Prelude.{◌≡◌, ◌≤◌, ◌<◌, ◌+◌, Some, None, true, false, OnOk, OnErr, IfOk, IfErr, IsSome, IsTrue, length, List, ℕ};
 ghost use Rattle.protocol.specs.Rows.{Memory, without_row, held_in, without_rows};
 ghost use Rattle.protocol.specs.Plan.{carried, after_change, ended_by, with_ids};
@@ -23,14 +23,14 @@ use safetime::SafeTime;
 use std::alloc::Global;
 use units::{Fault, Lock, Stamp, TxnId};
 
-/// What was made ready for a plan: whether its transaction got a row.
+/// What was made ready for a plan: whether its transaction got a new row.
 #[derive(Clone, Copy)]
 pub struct Ready {
     pub admitted: bool,
 }
 
 impl Change {
-    /// The transaction that asks for locks.
+    /// Returns the transaction that asks for locks, if one does.
     pub fn asker(&self) -> Option<TxnId>
         ensures { result ≡ asker self.now }
     {
@@ -45,8 +45,8 @@ impl Change {
 }
 
 impl State {
-    /// Takes all the memory that a plan needs. A transaction that asks for locks, and has no row, gets one. Where memory is
-    /// refused, all is as it was.
+    /// Takes all the memory that a plan needs. A transaction that asks for locks gets a row if it has none. `Memory` leaves all as it
+    /// was.
     pub fn make_ready(&mut self, alloc: Global, plan: &Plan) -> Result<Ready, Fault>
         requires { MayAsk self.old.memory.rows (asker plan.now.change) }
         ensures ready { OnOk result (HasMemoryFor self.old self.new plan.now) }
@@ -65,7 +65,7 @@ impl State {
         Ok(Ready { admitted })
     }
 
-    /// Takes back what was made ready for a plan whose record was not logged: the row that its transaction got.
+    /// Takes back what was made ready for a plan whose record was not logged: the new row of its transaction.
     pub fn undo(&mut self, plan: &Plan, ready: Ready)
         requires { MayUndo self.old.memory.rows (asker plan.now.change) ready.admitted }
         ensures setup { self.new.setup ≡ self.old.setup }
@@ -81,7 +81,7 @@ impl State {
         }
     }
 
-    /// Carries out a plan for which all was made ready, with the word that the record beside it is logged, where there is one. It
+    /// Carries out a plan for which all was made ready. If the plan has a record, `logged` is the proof that it is in the log. It
     /// takes no memory.
     pub fn carry(&mut self, plan: Plan, logged: Option<Logged>) -> Outbox
         requires ready { IsCarriable self.old (record { plan = plan; logged = logged }) }
@@ -116,8 +116,7 @@ impl State {
         outbox
     }
 
-    /// Learns a record of a renewed log's head: a version, or a transaction that ended. No row changes. It is refused for want of
-    /// memory alone, and all is as it was then.
+    /// Learns a record of a renewed log's head: a version, or a transaction that ended. No row changes. `Memory` leaves all as it was.
     pub fn keep(&mut self, logged: Logged) -> Result<(), Fault>
         requires follows { IsTrue
             (follows_head self.old.setup.shard self.old.stage self.old.facts logged) }
@@ -143,7 +142,7 @@ impl State {
     }
 }
 
-/// Who asks for locks by a step that fits may do so, a row that was taken in for it shows in nothing that its plan does, and the plan
+/// Says that a step that fits may ask for its locks, and that a row taken in for it shows in nothing that its plan does. The plan
 /// can be carried out once all is ready. It does nothing.
 pub fn ready_plans_can_be_carried()
     ensures asks { FitStepsMayAsk }
@@ -151,7 +150,7 @@ pub fn ready_plans_can_be_carried()
     ensures carriable { ReadyIsCarriable }
 {}
 
-// Takes the memory for some locks of the transaction that asks for them, where there is one.
+// Takes the memory for the locks of the transaction that asks for them, if one does.
 fn admit_asker(
     rows: &mut Rows,
     alloc: Global,
@@ -174,7 +173,7 @@ fn admit_asker(
     }
 }
 
-// Takes the memory for some locks of a transaction, which gets a row where it has none.
+// Takes the memory for some locks of a transaction, which gets a row if it has none.
 fn admit(rows: &mut Rows, alloc: Global, txn: TxnId, more: usize) -> Result<bool, Fault>
     requires { may_ask rows.old.rows txn ≡ true }
     ensures rows { OnOk result (rows.new.rows ≡ admitted rows.old.rows (Some txn)) }
@@ -201,7 +200,7 @@ fn admit(rows: &mut Rows, alloc: Global, txn: TxnId, more: usize) -> Result<bool
     }
 }
 
-// Makes the change of the rows, and gives back the record that was logged.
+// Changes the rows, and returns the record that was logged.
 fn make_change(
     rows: &mut Rows,
     ended: &mut Ended,
@@ -270,7 +269,7 @@ fn end(rows: &mut Rows, txn: TxnId)
     }
 }
 
-// The row of a transaction goes by the record that was logged.
+// Ends the row of a transaction by the record that was logged.
 fn drop_row(rows: &mut Rows, times: &mut SafeTime, txn: TxnId, logged: Logged) -> Record
     requires holding { IsHolding times.old.holds rows.old.rows }
     requires may { MayDrop rows.old.rows txn (Some logged) }
@@ -292,7 +291,7 @@ fn drop_row(rows: &mut Rows, times: &mut SafeTime, txn: TxnId, logged: Logged) -
     }
 }
 
-// The timestamp that the row of a transaction holds the served time below.
+// The timestamp below which the row of a transaction holds the safe time.
 fn held_at(rows: &Rows, txn: TxnId) -> Option<Stamp>
     ensures { result ≡ stamp_held rows.now.rows txn }
 {
@@ -303,7 +302,7 @@ fn held_at(rows: &Rows, txn: TxnId) -> Option<Stamp>
     }
 }
 
-// A row stands by the record that was logged: a promise or a decision. It holds the served time below its timestamp.
+// Makes a row stand by its logged promise or decision. It then holds the safe time below its timestamp.
 fn stand(rows: &mut Rows, times: &mut SafeTime, txn: TxnId, logged: Logged) -> Record
     requires holding { IsHolding times.old.holds rows.old.rows }
     requires stands { CanStand rows.old.rows txn logged }
@@ -327,7 +326,7 @@ fn stand(rows: &mut Rows, times: &mut SafeTime, txn: TxnId, logged: Logged) -> R
     }
 }
 
-// Counts some transactions as ended.
+// Adds some transactions to those that were ended.
 fn note_ended(ended: &mut Ended, txns: &[TxnId])
     requires { length txns.now < ended.old.room }
     ensures ids { ended.new.ids ≡ with_ids ended.old.ids txns.now }
@@ -338,7 +337,7 @@ fn note_ended(ended: &mut Ended, txns: &[TxnId])
     }
 }
 
-// The later of a timestamp and one that there may be.
+// The later of a timestamp and another one, if there is one.
 fn later_of(last: Stamp, at: Option<Stamp>) -> Stamp
     ensures { result ≡ or_floor last at }
 {
@@ -348,7 +347,7 @@ fn later_of(last: Stamp, at: Option<Stamp>) -> Stamp
     }
 }
 
-// The timestamp that a record brings.
+// The timestamp of a record, if it has one.
 fn stamp_in(item: &Record) -> Option<Stamp>
     ensures { result ≡ stamp_in item.now }
 {
@@ -377,7 +376,7 @@ fn stamp_in(item: &Record) -> Option<Stamp>
     }
 }
 
-// Learns the record that was logged, where there is one.
+// Learns the record that was logged, if there is one.
 fn learn(ledger: &mut Ledger, item: Option<Record>)
     requires room { 1 ≤ ledger.old.room }
     requires opened { 0 < ledger.old.facts.epoch }
@@ -393,7 +392,7 @@ fn learn(ledger: &mut Ledger, item: Option<Record>)
     }
 }
 
-// The word that a record was logged, which is there.
+// The proof that a record was logged, which is there.
 fn there(logged: Option<Logged>) -> Logged
     requires { IsSome logged }
     ensures { logged ≡ Some result }
@@ -404,7 +403,7 @@ fn there(logged: Option<Logged>) -> Logged
     }
 }
 
-// Spends the word that a record was logged, where there is one.
+// Spends the proof that a record was logged, if there is one.
 fn spend(logged: Option<Logged>) -> Option<Record>
     ensures { result ≡ logged }
 {

@@ -5,7 +5,7 @@ ghost use Rattle.protocol.specs.Outputs.{vote_to, answer_to, done_to, outcome_to
 use message::{Address, Answer, Ask, Done, Envelope, Message, Outcome, ReadAnswer, Vote};
 use units::{Epoch, Key, ShardNo, Stamp, TxnId};
 
-/// A vote, to the coordinator: yes at a timestamp, or `None` for refused.
+/// Makes a vote to the coordinator: yes at a timestamp, or `None` for no.
 pub fn vote_to(from: ShardNo, coordinator: ShardNo, txn: TxnId, vote: Option<Stamp>) -> Envelope
     ensures { result ≡ vote_to from coordinator txn vote }
 {
@@ -15,7 +15,7 @@ pub fn vote_to(from: ShardNo, coordinator: ShardNo, txn: TxnId, vote: Option<Sta
     }
 }
 
-/// The answer to a read, to its session.
+/// Makes the answer to a read, to its session.
 pub fn answer_to(from: ShardNo, txn: TxnId, key: Key, epoch: Epoch, answer: Answer) -> Envelope
     ensures { result ≡ answer_to from txn key epoch answer }
 {
@@ -31,7 +31,7 @@ pub fn answer_to(from: ShardNo, txn: TxnId, key: Key, epoch: Epoch, answer: Answ
     }
 }
 
-/// The end of a transaction, to its session.
+/// Makes the message that tells a session the end of its transaction.
 pub fn done_to(done: Done) -> Envelope
     ensures { result ≡ done_to done.txn done.outcome }
 {
@@ -41,7 +41,7 @@ pub fn done_to(done: Done) -> Envelope
     }
 }
 
-/// The outcome, to a shard that takes part.
+/// Makes the message that tells a part the outcome of its transaction.
 pub fn outcome_to(told: &Outcome, to: ShardNo) -> Envelope
     ensures { result ≡ outcome_to told.now.from told.now.txn told.now.outcome to }
 {
@@ -51,7 +51,7 @@ pub fn outcome_to(told: &Outcome, to: ShardNo) -> Envelope
     }
 }
 
-/// The question how a transaction ended, to its coordinator.
+/// Makes the message that asks the coordinator how a transaction ended.
 pub fn ask_to(from: ShardNo, coordinator: ShardNo, txn: TxnId) -> Envelope
     ensures { result ≡ ask_to from coordinator txn }
 {

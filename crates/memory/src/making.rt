@@ -1,4 +1,4 @@
-//! How a state is made and ended, and what it shows of its rows.
+//! How a state is made and ended, and look-ups of its rows.
 ghost use Rattle.std.specs.Prelude.{◌≡◌, ◌<◌, ◌≤◌, [], ◌∷◌, IsTrue, IfOk, IfErr};
 ghost use Rattle.record.specs.Facts.{facts_of, learn};
 ghost use Rattle.facts.specs.Stages.{follows_next, stage_after, stage_of};
@@ -16,7 +16,7 @@ use std::alloc::Global;
 use units::{Epoch, Fault, Setup, ShardNo, Stamp, TxnId};
 
 impl State {
-    /// What a shard keeps of a renewed log's base, before any version. It is refused for want of memory alone.
+    /// Makes the state of a renewed log's base, before any version. `Memory` if there is none.
     pub fn based(
         alloc: Global,
         setup: Setup,
@@ -41,7 +41,7 @@ impl State {
         State::begun(alloc, setup, base, floor)
     }
 
-    /// What a shard keeps once its first opening is logged. It is refused for want of memory alone.
+    /// Makes the state of a log whose first opening is logged. `Memory` if there is none.
     pub fn fresh(alloc: Global, setup: Setup) -> Result<State, Fault>
         ensures setup { IfOk result (λ s. s.setup ≡ setup) }
         ensures facts { IfOk result (λ s. s.facts ≡ facts_of (Record.Opened 1 ∷ [])) }
@@ -55,7 +55,7 @@ impl State {
         State::begun(alloc, setup, first, Stamp::zero())
     }
 
-    // A state that has no rows yet, of a log that holds its first record alone. It is refused for want of memory alone.
+    // A state without rows, of a log that holds its first record alone.
     fn begun(alloc: Global, setup: Setup, first: Record, last: Stamp) -> Result<State, Fault>
         requires begins { IsTrue (follows_next setup.shard (stage_of []) (facts_of []) first) }
         requires installs { CanInstall (facts_of []) first }
@@ -93,7 +93,7 @@ impl State {
         }
     }
 
-    /// Ends the state: the tokens of its rows are spent. It takes no memory.
+    /// Ends the state, and spends the tokens of its rows. It takes no memory.
     pub fn stop(self) {
         let State {
             setup: _,
@@ -108,21 +108,21 @@ impl State {
         drop(times);
     }
 
-    /// The n-th transaction, from 0 by ascending id, that is prepared, with its timestamp.
+    /// Returns the n-th prepared transaction, from 0 by ascending id, and its prepare timestamp.
     pub fn nth_prepared(&self, n: usize) -> Option<(TxnId, Stamp)>
         ensures { result ≡ nth_prepared self.now.memory.rows n }
     {
         self.rows.nth_prepared(n)
     }
 
-    /// The n-th transaction, from 0 by ascending id, that is decided, with its timestamp.
+    /// Returns the n-th decided transaction, from 0 by ascending id, and its commit timestamp.
     pub fn nth_decided(&self, n: usize) -> Option<(TxnId, Stamp)>
         ensures { result ≡ nth_decided self.now.memory.rows n }
     {
         self.rows.nth_decided(n)
     }
 
-    /// A decided transaction of the least timestamp, with it.
+    /// Returns a decided transaction with the least commit timestamp, and that timestamp. `None` if none is decided.
     pub fn earliest_decided(&self) -> Option<(TxnId, Stamp)>
         ensures { IsEarliest (gather decided_row self.now.memory.rows) result }
     {

@@ -1,4 +1,4 @@
-//! What an input comes to, told before anything is changed.
+//! Plans: what an input will do, computed before anything is changed.
 ghost use Rattle.std.specs.Prelude.{◌≡◌, []};
 
 use message::Outbox;
@@ -7,31 +7,31 @@ use rows::{Gathering, Wait};
 use std::alloc::Global;
 use units::{Ids, Lock, ShardNo, Stamp, TxnId};
 
-/// What becomes of the row of a step's own transaction.
+/// What happens to the row of a step's own transaction.
 #[derive(Drop)]
 pub enum Change {
-    /// It stays as it is, or there is none.
+    /// The row stays as it is, or there is none.
     Keeps,
-    /// It goes, with its locks, and the transaction counts as ended.
+    /// The row ends and frees its locks. The transaction counts as ended.
     Ends(TxnId),
-    /// It goes, with its locks, by the record that is logged.
+    /// The row ends by the record that is logged, and frees its locks.
     Drops(TxnId),
-    /// It is granted the locks.
+    /// The row gets its locks.
     Reads(TxnId),
-    /// It waits for the locks.
+    /// The row waits for its locks.
     Waits(TxnId, Wait),
-    /// It is granted the locks, and collects votes.
+    /// The row gets its locks, and collects votes.
     Collects(TxnId, Gathering),
-    /// A shard's yes is kept.
+    /// A shard's yes, at its prepare timestamp, is counted.
     Counts(TxnId, ShardNo, Stamp),
-    /// It is granted the locks, and stands by the record that is logged: a promise or a decision.
+    /// The row gets its locks, and stands by the promise or the decision that is logged.
     Stands(TxnId),
-    /// The votes are all there, and it stands by the decision that is logged.
+    /// All votes are there, and the row stands by the decision that is logged.
     Decides(TxnId),
 }
 
-/// What a transaction asks of the rows: whom it ends, the locks that it wants beside those that it holds, and what becomes of
-/// its row.
+/// A request for locks: the transactions that it wounds, the locks that it needs beside those that are held, and what then happens
+/// to the row.
 #[derive(Drop)]
 pub struct Request {
     pub wounded: Ids,
@@ -39,8 +39,8 @@ pub struct Request {
     pub change: Change,
 }
 
-/// What a step does to a shard's memory, and what it puts out: whom it ends first, the locks that its transaction asks for, the
-/// change of that transaction's row, the greatest timestamp after it, and the messages.
+/// What a step does in a shard's memory, and which messages it puts out. It ends the wounded transactions first, and then makes the
+/// change with the needed locks. `last` is the greatest timestamp after it.
 #[derive(Drop)]
 pub struct Plan {
     pub wounded: Ids,
@@ -51,7 +51,7 @@ pub struct Plan {
 }
 
 impl Plan {
-    /// A plan that ends nobody else and puts nothing out.
+    /// Makes a plan that ends nobody else and puts out no message.
     pub fn quiet(alloc: Global, needs: Vec<Lock>, change: Change, last: Stamp) -> Plan
         ensures { result ≡ record {
           wounded = [];
@@ -71,8 +71,8 @@ impl Plan {
     }
 }
 
-/// What an input comes to: a plan, and beside it the record that has to be logged before the plan is carried out, where there is
-/// one. So the record goes its own way, into the log and back, and no copy of it is made.
+/// What an input comes to: a plan, and the record that has to be logged before the plan is carried out, if there is one. The record
+/// is moved into the log and back, so it is never copied.
 #[derive(Drop)]
 pub struct Step {
     pub plan: Plan,

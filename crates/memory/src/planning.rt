@@ -1,4 +1,4 @@
-//! The plans of which every step is one.
+//! The plans that steps are made of. Each method makes a step and changes nothing.
 ghost use Rattle.std.specs.Prelude.{◌≡◌, ◌≤◌, ◌++◌, ◌∷◌, [], true, Some, None, Ok, IfOk, IfErr, OnOk, map, option_to_list};
 ghost use Rattle.protocol.specs.Rows.{find_row, held_in};
 ghost use Rattle.protocol.specs.Outputs.{outcome_to, refused_vote};
@@ -18,7 +18,7 @@ use record::Record;
 use std::alloc::Global;
 use units::{Fault, Ids, Key, Parts, ShardNo, Stamp, TxnId};
 
-/// The reads of a transaction still stand: there are none, or their epoch is the present one and each of their keys is held.
+/// Tells whether the reads of a transaction still stand: there are none, or their epoch is the present one and all keys are held.
 pub fn reads_stand(state: &State, txn: TxnId, reads: &Reads) -> bool
     ensures { result ≡
         still_stand (start_of state.now) reads.now.epoch reads.now.keys
@@ -31,7 +31,7 @@ pub fn reads_stand(state: &State, txn: TxnId, reads: &Reads) -> bool
 }
 
 impl State {
-    /// Messages alone.
+    /// Makes a step that only puts out messages.
     pub fn replies(&self, alloc: Global, out: Vec<Envelope>) -> Step
         ensures plan { plan_of self.now.memory.rows result ≡ replies (start_of self.now) out.items }
         ensures fit { IsFit self.now result }
@@ -48,7 +48,7 @@ impl State {
         }
     }
 
-    /// Nothing at all.
+    /// Makes a step that does nothing.
     pub fn idles(&self, alloc: Global) -> Step
         ensures plan { plan_of self.now.memory.rows result ≡ replies (start_of self.now) [] }
         ensures fit { IsFit self.now result }
@@ -56,7 +56,7 @@ impl State {
         self.replies(alloc, Vec::new(alloc))
     }
 
-    /// One message.
+    /// Makes a step that only puts out this message. `Memory` if there is none.
     pub fn reply(&self, alloc: Global, envelope: Envelope) -> Result<Step, Fault>
         ensures plan { MakesReply self.now envelope result }
         ensures fit { IfOk result (IsFit self.now) }
@@ -68,7 +68,7 @@ impl State {
         Ok(self.replies(alloc, out))
     }
 
-    /// The transaction is ended.
+    /// Makes a step that ends the transaction.
     pub fn ends(&self, alloc: Global, txn: TxnId, out: Vec<Envelope>) -> Step
         requires { may_end self.now.memory.rows txn ≡ true }
         ensures plan { plan_of self.now.memory.rows result ≡
@@ -87,7 +87,7 @@ impl State {
         }
     }
 
-    /// The row goes by a record.
+    /// Makes a step that ends the row by a record.
     pub fn drops(
         &self,
         alloc: Global,
@@ -113,7 +113,7 @@ impl State {
         }
     }
 
-    /// The served time is raised, or stays; a ceiling or a horizon is logged, where one is given.
+    /// Makes a step that raises the served time, or keeps it. A ceiling or a horizon is logged, if one is given.
     pub fn serves(&self, alloc: Global, ceiling: Option<Record>, last: Stamp) -> Step
         requires ceiling { IsServing ceiling }
         requires last { self.now.memory.last ≤ last }
@@ -127,7 +127,7 @@ impl State {
         }
     }
 
-    /// The decision to abort: the session and the other parts are told.
+    /// Makes a step that logs an abort, and tells it to the session and to the other parts. `Memory` if there is none.
     #[tactic(auto, unfolding(protocol::specs::Cells::plan_abort))]
     pub fn aborts(&self, alloc: Global, txn: TxnId, parts: Parts) -> Result<Step, Fault>
         requires { may_drop self.now.memory.rows txn ≡ true }
@@ -141,7 +141,7 @@ impl State {
         Ok(self.drops(alloc, txn, Record::Abort { txn }, self.last(), out))
     }
 
-    /// A first message, and the outcome to each other part.
+    /// Makes a list of a first message and of the outcome to each other part. `Memory` if there is none.
     pub fn ending(
         &self,
         alloc: Global,
@@ -168,7 +168,8 @@ impl State {
         }
     }
 
-    /// Some are ended, and the row of a transaction is put.
+    /// Makes a step that ends the wounded transactions and changes the row. Those that wait with a prepare vote no. `Memory` if there
+    /// is none.
     pub fn puts(
         &self,
         alloc: Global,
@@ -215,7 +216,7 @@ impl State {
         }
     }
 
-    // The refused votes of those that are ended while they wait with a prepare, and then the reply.
+    // The no votes of those that are ended while they wait with a prepare, and then the reply.
     fn votes_and(
         &self,
         alloc: Global,
@@ -239,7 +240,7 @@ impl State {
         Ok(Outbox::from_vec(out))
     }
 
-    // The refused votes of those that are ended while they wait with a prepare.
+    // The no votes of those that are ended while they wait with a prepare.
     fn votes_of(&self, alloc: Global, wounded: &Ids) -> Result<Vec<Envelope>, Fault>
         ensures votes { IfOk result
             (λ out. out.items ≡ votes_of self.now.setup.shard self.now.memory.rows wounded.now) }
@@ -254,7 +255,7 @@ impl State {
         Ok(out)
     }
 
-    // The coordinator of the prepare that a transaction waits with.
+    // The coordinator of the prepare with which a transaction waits.
     fn awaits_vote(&self, txn: TxnId) -> Option<ShardNo>
         ensures { refused_vote self.now.setup.shard (find_row self.now.memory.rows txn) ≡
             refusal self.now.setup.shard txn result }
@@ -275,7 +276,7 @@ impl State {
         }
     }
 
-    /// The answer to a read: the latest value, with the epoch.
+    /// Makes the answer to a read: the newest value, with the epoch. `Memory` if there is none for its copy.
     pub fn answer(&self, txn: TxnId, key: &Key) -> Result<Envelope, Fault>
         ensures answer { IfOk result
             (λ envelope. envelope ≡ answers (start_of self.now) txn key.now) }
@@ -295,7 +296,7 @@ impl State {
     }
 }
 
-// A list of one message.
+// A list of this message alone.
 fn one(alloc: Global, envelope: Envelope) -> Result<Vec<Envelope>, Fault>
     ensures one { IfOk result (λ out. out.items ≡ envelope ∷ []) }
     ensures memory { IfErr result (λ fault. fault ≡ Fault.Memory) }
@@ -312,7 +313,7 @@ fn one(alloc: Global, envelope: Envelope) -> Result<Vec<Envelope>, Fault>
     }
 }
 
-// Tells an outcome to the shards of its transaction other than the one that it comes from.
+// Adds the outcome to each part but the one that tells it.
 fn tell_others(
     out: &mut Vec<Envelope>,
     alloc: Global,

@@ -13,8 +13,8 @@ use rows::{CommitRequest, PrepareRequest, Row, RowCollecting, RowDecided, RowPre
 use std::marker::Model;
 use units::{Key, Parts, Stamp, TxnId};
 
-/// How a transaction stands: by its row, and where that reads by what it waits with; else by its records; else by whether it was
-/// ended. Its variants are the standings by which the definitions tell each step.
+/// How a transaction stands at a shard: by its row, else by its records, else by whether it was ended. A row that reads also tells
+/// what it waits with.
 #[derive(Clone, Copy)]
 pub enum Standing<'a> {
     Unknown,
@@ -31,8 +31,8 @@ pub enum Standing<'a> {
     Closed { outcome: Option<Stamp> },
 }
 
-/// A commit that the log tells: its transaction is settled. Only `State::standing` makes it, so who holds one may tell of that commit
-/// again.
+/// A commit that the log tells of: its transaction is settled. Only `State::standing` makes it, so its holder may tell the session
+/// of that commit again.
 #[derive(Clone, Copy)]
 pub struct PastCommit {
     at: Stamp,
@@ -50,21 +50,21 @@ impl Model for PastCommit {
 }
 
 impl PastCommit {
-    /// Its timestamp.
+    /// Returns its commit timestamp.
     pub fn at(&self) -> Stamp
         ensures { result ≡ self.now.at }
     {
         self.at
     }
 
-    /// The shards that took part.
+    /// Returns the shards that took part.
     pub fn parts(&self) -> Parts
         ensures { result ≡ self.now.parts }
     {
         self.parts
     }
 
-    /// The end of the transaction, which its session may be told again.
+    /// Makes the end of the transaction, which its session may be told again.
     pub fn done(&self, txn: TxnId) -> Done
         ensures { result ≡ record { txn = txn; outcome = Some self.now.at } }
     {
@@ -72,7 +72,7 @@ impl PastCommit {
     }
 }
 
-// How a transaction stands that has a row: one that reads, by what it waits with.
+// How a transaction with a row stands. One that reads is told by what it waits with.
 pub(crate) fn by_row(row: &Row) -> Standing<'_>
     ensures { (held : List Lock) → standing_of held result ≡ HasRow held (phase_of row.now) }
 {
@@ -89,7 +89,7 @@ pub(crate) fn by_row(row: &Row) -> Standing<'_>
     }
 }
 
-// How a transaction stands that has no row, by its recorded status and by whether it was ended.
+// How a transaction without a row stands, by its recorded status, or else by whether it was ended.
 pub(crate) fn by_records(status: Option<&Status>, ended: bool) -> Standing<'_>
     ensures { (held : List Lock) → standing_of held result ≡
         standing_by None (meant (option_copied status.entry)) ended }

@@ -1,4 +1,4 @@
-//! What a shard keeps in memory.
+//! The state that a shard keeps in memory.
 ghost use Rattle.std.specs.List.{list_all};
 ghost use Rattle.std.specs.Prelude.{◌≡◌, ◌≤◌, ◌^◌, ◌<◌, ◌++◌, [], true, false, Some, None, MatchOption, IfSome, IfOk, IfErr, OnOk};
 ghost use Rattle.std.specs.Option.{option_copied};
@@ -30,8 +30,8 @@ use units::{
     Epoch, Fault, Ids, Install, Key, Keys, Lock, Mode, Parts, Setup, Stamp, TxnId, Value, Writes,
 };
 
-/// What a shard keeps in memory: what it was told, the facts of its log with the versions by key, its rows with their
-/// locks, the ids that were ended, and its served time.
+/// What a shard keeps in memory: its setup, the facts of its log with the versions by key, and its rows with their locks. It also
+/// has the ids of transactions that were ended, and the served time.
 pub struct State {
     pub(crate) setup: Setup,
     pub(crate) ledger: Ledger,
@@ -62,14 +62,14 @@ impl Model for State {
 }
 
 impl State {
-    /// What the shard was told.
+    /// Returns what the shard was told when it was opened.
     pub fn setup(&self) -> &Setup
         ensures { result.now ≡ self.now.setup }
     {
         &self.setup
     }
 
-    /// The epoch of the last opening.
+    /// Returns the epoch of the last opening.
     pub fn epoch(&self) -> Epoch
         ensures { result ≡ self.now.facts.epoch }
     {
@@ -79,21 +79,21 @@ impl State {
         }
     }
 
-    /// The greatest timestamp of the log.
+    /// Returns the greatest timestamp of the log.
     pub fn floor(&self) -> Stamp
         ensures { result ≡ self.now.facts.floor }
     {
         self.ledger.floor()
     }
 
-    /// The greatest timestamp assigned, applied or served.
+    /// Returns the greatest timestamp that was assigned, applied or served.
     pub fn last(&self) -> Stamp
         ensures { result ≡ self.now.memory.last }
     {
         self.times.last()
     }
 
-    /// The greatest timestamp at which versions may be read.
+    /// Returns the safe time: the greatest timestamp at which versions may be read.
     #[tactic(auto, using(crate::proofs::Served::holding_safe))]
     pub fn safe(&self) -> Stamp
         ensures { result ≡ safe self.now.memory }
@@ -101,28 +101,28 @@ impl State {
         self.times.safe()
     }
 
-    /// The horizon, below which no value is read: 0 where there is none.
+    /// Returns the horizon, below which no value is read, 0 if there is none.
     pub fn horizon(&self) -> Stamp
         ensures { result ≡ self.now.facts.horizon }
     {
         self.ledger.horizon()
     }
 
-    /// The versions, in the log's order.
+    /// Returns the versions, in the log's order.
     pub fn installs(&self) -> &[Install]
         ensures { result.now ≡ self.now.facts.installs }
     {
         self.ledger.installs()
     }
 
-    /// The most recent value of a key.
+    /// Returns the newest value of a key. `None` if it never had one, or was erased.
     pub fn latest(&self, key: &Key) -> Option<&Value>
         ensures { option_copied result ≡ latest self.now.facts.installs key.now }
     {
         self.ledger.latest(key)
     }
 
-    /// The value of a key at a timestamp from the horizon up.
+    /// Returns the value of a key at a timestamp from the horizon up. `None` if it had none then, or was erased.
     pub fn value_at(&self, key: &Key, at: Stamp) -> Option<&Value>
         requires { self.now.facts.horizon ≤ at }
         ensures { option_copied result ≡ at_time self.now.facts.installs key.now at }
@@ -130,7 +130,7 @@ impl State {
         self.ledger.at(key, at)
     }
 
-    /// Hands on the records of the renewed log, one by one: the numbers, the versions that are held, who ended, who stands.
+    /// Hands on the records of the renewed log: its base, the versions that it holds, then the transactions that ended or stand.
     pub fn renew<R: Recorder>(&self, alloc: Global, recorder: &mut R) -> Result<(), Fault>
         requires regular { IsRegular self.now.facts }
         ensures all { OnOk result
@@ -140,7 +140,7 @@ impl State {
         self.ledger.renew(alloc, recorder)
     }
 
-    /// The record may come next in the log.
+    /// Tells whether the record may come next in the log.
     pub fn may_come(&self, item: &Record) -> bool
         ensures { result ≡
             follows_next self.now.setup.shard self.now.stage self.now.facts item.now }
@@ -148,21 +148,22 @@ impl State {
         self.ledger.may_come(item)
     }
 
-    /// The record is of a kind that steps log, and may come next in the log, by the rules of one transaction and of openings.
+    /// Tells whether steps log this kind of record, and it may come next by the rules of one transaction and of openings.
     pub fn follows(&self, item: &Record) -> bool
         ensures { result ≡ follows_facts self.now.setup.shard self.now.facts item.now }
     {
         self.ledger.follows(item)
     }
 
-    /// The timestamp is above all versions of the keys that are written.
+    /// Tells whether the timestamp is above all versions of the keys that are written.
     pub fn takes(&self, writes: &Writes, at: Stamp) -> bool
         ensures { result ≡ above_versions self.now.facts.installs at writes.now }
     {
         self.ledger.takes(writes, at)
     }
 
-    /// The timestamp is above all versions of the keys that a promise or decision of the transaction writes, where one stands.
+    /// Tells whether the timestamp is above all versions of the keys that the transaction's promise or decision writes. It says yes
+    /// if neither stands.
     pub fn takes_standing(&self, txn: TxnId, at: Stamp) -> bool
         ensures { result ≡ above_versions self.now.facts.installs at
             (writes_standing (recorded self.now.facts txn)) }
@@ -170,14 +171,14 @@ impl State {
         self.ledger.takes_standing(txn, at)
     }
 
-    /// The rows are a lawful lock table at any time. It does nothing.
+    /// Says that the rows are a lawful lock table at any time. It does nothing.
     pub fn laws(&self)
         ensures { IsLawfulTable (claims self.now.memory.rows) }
     {
         self.rows.laws();
     }
 
-    /// The row of a transaction.
+    /// Returns the row of a transaction, if it has one.
     pub fn row(&self, txn: TxnId) -> Option<&Row>
         ensures { MatchOption result (find_row self.now.memory.rows txn ≡ None)
             (λ row. HasRowIn self.now txn (phase_of row.now)) }
@@ -185,7 +186,7 @@ impl State {
         self.rows.find(txn)
     }
 
-    /// How a transaction stands.
+    /// Returns how a transaction stands.
     pub fn standing(&self, txn: TxnId) -> Standing<'_>
         ensures standing { standing_in self.now txn ≡
             standing_of (held_in self.now.memory.rows txn) result }
@@ -199,21 +200,21 @@ impl State {
         }
     }
 
-    /// The transaction holds the key.
+    /// Tells whether the transaction holds a lock on the key.
     pub fn holds(&self, txn: TxnId, key: &Key) -> bool
         ensures { result ≡ holds (held_in self.now.memory.rows txn) key.now }
     {
         self.rows.holds(txn, key)
     }
 
-    /// The transaction holds each of the keys.
+    /// Tells whether the transaction holds a lock on each of the keys.
     pub fn holds_all(&self, txn: TxnId, keys: &Keys) -> bool
         ensures { result ≡ list_all (holds (held_in self.now.memory.rows txn)) keys.now }
     {
         self.rows.holds_all(txn, keys)
     }
 
-    /// Whom a request of these locks ends.
+    /// Returns the transactions that a request for these locks wounds. `Memory` if there is none for the list.
     pub fn in_way(&self, alloc: Global, txn: TxnId, needs: &[Lock]) -> Result<Ids, Fault>
         ensures ids { IfOk result (λ ids. ids ≡ in_way (start_of self.now) txn needs.now) }
         ensures memory { IfErr result (λ fault. fault ≡ Fault.Memory) }
@@ -221,8 +222,8 @@ impl State {
         self.rows.wounded(alloc, txn, needs)
     }
 
-    /// Whom a request of exclusive locks of what is written ends, where it may be known that it ends nobody (`is_undisputed`); and
-    /// the locks.
+    /// Makes the exclusive locks for these writes, and the list of transactions that the request wounds. If `is_undisputed` said yes,
+    /// the list is empty and is not searched for. `Memory` if there is none.
     pub fn asks(
         &self,
         alloc: Global,
@@ -251,14 +252,14 @@ impl State {
         }
     }
 
-    /// The request is granted once those that it ends are gone.
+    /// Tells whether the request is granted once the transactions that it wounds are gone.
     pub fn opens(&self, txn: TxnId, needs: &[Lock]) -> bool
         ensures { result ≡ opens (start_of self.now) txn needs.now }
     {
         self.rows.opens(txn, needs)
     }
 
-    /// The request of exclusive locks of what is written is granted once those that it ends are gone. It takes no memory.
+    /// Tells the same of a request for the exclusive locks of these writes. It takes no memory.
     pub fn opens_writes(&self, txn: TxnId, writes: &Writes) -> bool
         ensures { result ≡ opens (start_of self.now) txn (exclusive writes.now) }
     {
@@ -275,7 +276,8 @@ impl State {
         true
     }
 
-    /// By the numbers of locks alone, nobody is in the way of exclusive locks of what is written. It may be so where this says no.
+    /// Tells from the numbers of locks alone that nobody conflicts with exclusive locks for these writes. It may say no although that
+    /// is so.
     pub fn is_undisputed(&self, txn: TxnId, writes: &Writes) -> bool
         ensures nobody { result ≡ true → in_way (start_of self.now) txn (exclusive writes.now) ≡ [] }
         ensures opens { result ≡ true → opens (start_of self.now) txn (exclusive writes.now) ≡ true }
@@ -283,7 +285,7 @@ impl State {
         self.rows.is_undisputed(txn, writes)
     }
 
-    /// The transaction has no row, and there is no room for one.
+    /// Tells whether the transaction has no row, and there is no room for one.
     pub fn is_crowded(&self, txn: TxnId) -> bool
         ensures crowded { result ≡ is_crowded (start_of self.now) txn }
         ensures asks { result ≡ false → may_end self.now.memory.rows txn ≡ true
@@ -292,7 +294,7 @@ impl State {
         self.rows.is_full() && self.row(txn).is_none()
     }
 
-    /// The oldest waiter that would be granted now.
+    /// Returns the oldest transaction that waits and would be granted now.
     pub fn ready(&self) -> Option<TxnId>
         ensures oldest { result ≡ ready (claims self.now.memory.rows) }
         ensures asks { IfSome result

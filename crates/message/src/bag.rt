@@ -29,7 +29,7 @@ impl Model for Bag {
 }
 
 impl Bag {
-    /// No message.
+    /// Makes a bag without a message.
     pub fn new(alloc: Global) -> Bag
         ensures { result ≡ [] }
     {
@@ -38,7 +38,7 @@ impl Bag {
         }
     }
 
-    /// Puts in one more message, behind all others, and gives its number.
+    /// Adds a message after all others and returns its number. `Memory` leaves the bag as it was.
     pub fn put(&mut self, envelope: Envelope) -> Result<u64, Fault>
         ensures number { IfOk result (λ number. number ≡ length self.old) }
         ensures ok { IfOk result (λ number. self.new ≡ self.old ++ envelope ∷ []) }
@@ -50,21 +50,21 @@ impl Bag {
         Ok(number)
     }
 
-    /// The message of a number, where one was put in.
+    /// Returns the message of a number, or `None` if none has that number yet.
     pub fn nth(&self, number: u64) -> Option<&Envelope>
         ensures { option_copied result ≡ slice_get self.now number }
     {
         self.envelopes.get(number as usize)
     }
 
-    /// The messages in order.
+    /// Returns the messages in order.
     pub fn as_slice(&self) -> &[Envelope]
         ensures { result.now ≡ self.now }
     {
         self.envelopes.as_slice()
     }
 
-    /// How many messages there are: the number of the next one.
+    /// Returns the count of messages, which is the number of the next one.
     pub fn len(&self) -> u64
         ensures { result ≡ length self.now }
     {

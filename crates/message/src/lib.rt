@@ -1,4 +1,4 @@
-//! What sessions and shards tell each other, what a shard is given, and every message that was put out.
+//! What sessions and shards send each other, what a shard takes as input, and the list of every message that was put out.
 #![tactic(auto)]
 
 mod bag;

@@ -1,4 +1,4 @@
-//! The messages, and where they go.
+//! The messages and their addresses.
 ghost use Rattle.std.specs.Prelude.{◌≡◌, Some, None};
 
 use crate::Reads;
@@ -13,7 +13,7 @@ pub struct Read {
     pub key: Key,
 }
 
-/// A session asks a part to promise its share; the coordinator decides.
+/// A session asks a part to promise that it can commit (Prepare). The coordinator decides later.
 pub struct Prepare {
     pub txn: TxnId,
     pub coordinator: ShardNo,
@@ -57,7 +57,7 @@ pub struct GiveUp {
     pub txn: TxnId,
 }
 
-/// A part's vote to the coordinator: yes at a timestamp, or `None` for refused.
+/// A part's vote to the coordinator: yes at its prepare timestamp, or `None` for no.
 #[derive(Clone, Copy)]
 pub struct Vote {
     pub from: ShardNo,
@@ -65,7 +65,7 @@ pub struct Vote {
     pub vote: Option<Stamp>,
 }
 
-/// The coordinator tells a part how a transaction ended: at a timestamp, or `None` for aborted.
+/// The coordinator tells a part how a transaction ended: committed at a timestamp, or `None` for aborted.
 #[derive(Clone, Copy)]
 pub struct Outcome {
     pub from: ShardNo,
@@ -80,7 +80,7 @@ pub struct Ask {
     pub txn: TxnId,
 }
 
-/// What a read gave: the latest value, `None` where there is none, or a refusal.
+/// The answer to a read: `Holds` has the latest value, or `None` if the key has none. A refused read dooms the session.
 pub enum Answer {
     Holds(Option<Value>),
     Refused,
@@ -94,7 +94,7 @@ impl Drop for Answer {
     }
 }
 
-/// A shard answers a read, in its epoch.
+/// A shard answers a read. The epoch is the shard's at the time of the answer.
 pub struct ReadAnswer {
     pub from: ShardNo,
     pub txn: TxnId,
@@ -115,8 +115,8 @@ impl Drop for ReadAnswer {
     }
 }
 
-/// The coordinator tells a session how its transaction ended: at a timestamp, or `None` for aborted. A commit is told by who
-/// holds the word that its timestamp has passed (`committed`), or who repeats what was told once (`said`).
+/// The coordinator tells a session how its transaction ended: committed at a timestamp, or `None` for aborted. A commit is made
+/// with a proof that its timestamp has passed (`committed`), or repeats what was said before (`said`).
 #[derive(Clone, Copy)]
 pub struct Done {
     txn: TxnId,
@@ -134,14 +134,14 @@ impl Model for Done {
 }
 
 impl Done {
-    /// The transaction was aborted.
+    /// Says that the transaction was aborted.
     pub fn aborted(txn: TxnId) -> Done
         ensures { result ≡ record { txn = txn; outcome = None } }
     {
         Done { txn, outcome: None }
     }
 
-    /// The transaction committed at a timestamp that has surely passed. The word of it is spent.
+    /// Says that the transaction committed at this timestamp. It spends the proof that the timestamp has surely passed.
     pub fn committed(txn: TxnId, waited: Waited) -> Done
         ensures { result ≡ record { txn = txn; outcome = Some waited } }
     {
@@ -151,23 +151,23 @@ impl Done {
         }
     }
 
-    /// What was told before, of any outcome: for what a log tells of a transaction that was settled (`memory::PastCommit`), and
-    /// for what stands outside a shard, as a model of its network, and tests. Nothing is waited for, so no shard makes a
-    /// new end by it: `scripts/rules.sh` names the files that may call it.
+    /// Says again what was said before, without a proof that a timestamp has passed. A shard calls it only for what its log tells of
+    /// a settled transaction (`memory::PastCommit`); models of the network and tests call it too. `scripts/rules.sh` names the files
+    /// that may call it.
     pub fn said(txn: TxnId, outcome: Option<Stamp>) -> Done
         ensures { result ≡ record { txn = txn; outcome = outcome } }
     {
         Done { txn, outcome }
     }
 
-    /// Whose end it is.
+    /// Returns the transaction that ended.
     pub fn txn(&self) -> TxnId
         ensures { result ≡ self.now.txn }
     {
         self.txn
     }
 
-    /// At which timestamp it committed, or `None` for aborted.
+    /// Returns its commit timestamp, or `None` if it was aborted.
     pub fn outcome(&self) -> Option<Stamp>
         ensures { result ≡ self.now.outcome }
     {
@@ -175,7 +175,7 @@ impl Done {
     }
 }
 
-/// A message. Each names its transaction.
+/// A message between sessions and shards. Each names its transaction.
 pub enum Message {
     Read(Read),
     Prepare(Prepare),
@@ -204,32 +204,32 @@ impl Drop for Message {
     }
 }
 
-/// Where a message goes.
+/// The receiver of a message: a shard, or the session of a transaction.
 #[derive(Clone, Copy)]
 pub enum Address {
     Shard(ShardNo),
     Session(TxnId),
 }
 
-/// A message that was put out.
+/// A message that was put out, with its address.
 #[derive(Drop)]
 pub struct Envelope {
     pub to: Address,
     pub message: Message,
 }
 
-/// What a shard is given: a message, or one of its own chores.
+/// An input of a shard: a message, or one of its own chores.
 pub enum Input {
     Deliver(Message),
-    /// The oldest wait that would be granted now goes on.
+    /// Goes on with the oldest wait that would be granted now.
     Resume,
-    /// A decided transaction is settled, once its timestamp has surely passed.
+    /// Settles a decided transaction, once its timestamp has surely passed.
     Settle(TxnId),
-    /// The shard serves up to this time.
+    /// Raises the time up to which the shard serves reads.
     Advance(Stamp),
-    /// A prepared transaction's coordinator is asked how it ended.
+    /// Asks the coordinator of a prepared transaction how it ended.
     Nudge(TxnId),
-    /// No value below this time is read any more.
+    /// Raises the horizon to this time: no value below it is read any more.
     Forget(Stamp),
 }
 

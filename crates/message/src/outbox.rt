@@ -26,7 +26,7 @@ impl Model for Outbox {
 }
 
 impl Outbox {
-    /// No message.
+    /// Makes an outbox without a message.
     pub fn none(alloc: Global) -> Outbox
         ensures { result ≡ [] }
     {
@@ -35,21 +35,21 @@ impl Outbox {
         }
     }
 
-    /// The messages of a list.
+    /// Makes an outbox of these messages, in their order.
     pub fn from_vec(envelopes: Vec<Envelope>) -> Outbox
         ensures { result ≡ envelopes.items }
     {
         Outbox { envelopes }
     }
 
-    /// The messages in order.
+    /// Returns the messages in order.
     pub fn as_slice(&self) -> &[Envelope]
         ensures { result.now ≡ self.now }
     {
         self.envelopes.as_slice()
     }
 
-    /// The messages as a plain list.
+    /// Spends the outbox and returns its messages in order.
     pub fn into_vec(self) -> Vec<Envelope>
         ensures { result.items ≡ self }
     {

@@ -6,8 +6,8 @@ use std::alloc::Global;
 use std::marker::Model;
 use units::{Epoch, Fault, Keys};
 
-/// The keys that a transaction read at a shard, with the epoch of the shard in which it read them. The epoch is 0 exactly
-/// where there is no key.
+/// The keys that a transaction read at a shard, and the epoch of the shard in which it read them. The epoch is 0 exactly if
+/// there is no key.
 pub struct Reads {
     epoch: u64,
     keys: Keys,
@@ -31,7 +31,7 @@ impl Model for Reads {
 }
 
 impl Reads {
-    /// No read.
+    /// Makes a list without a key, with epoch 0.
     pub fn none(alloc: Global) -> Reads
         ensures { (result.epoch ≡ 0) × (result.keys ≡ []) }
     {
@@ -41,7 +41,7 @@ impl Reads {
         }
     }
 
-    /// The keys that were read in this epoch. An empty list is handed back.
+    /// Takes the keys that were read in this epoch. An empty list comes back as the error.
     pub fn new(epoch: Epoch, keys: Keys) -> Result<Reads, Keys>
         ensures { MatchResult result (λ reads. (reads.epoch ≡ epoch) × (reads.keys ≡ keys)
             × (keys ≢ []))
@@ -56,7 +56,7 @@ impl Reads {
         })
     }
 
-    /// Equal reads with memory of their own.
+    /// Copies the keys into memory of their own. `Memory` if there is none.
     pub fn copy(&self, alloc: Global) -> Result<Reads, Fault>
         ensures same { IfOk result (λ reads. reads ≡ self.now) }
         ensures memory { IfErr result (λ fault. fault ≡ Fault.Memory) }
@@ -67,14 +67,14 @@ impl Reads {
         })
     }
 
-    /// The epoch in which they were read, 0 where there is none.
+    /// Returns the epoch in which the keys were read, 0 if there is no key.
     pub fn epoch(&self) -> u64
         ensures { result ≡ self.now.epoch }
     {
         self.epoch
     }
 
-    /// The keys.
+    /// Returns the keys.
     pub fn keys(&self) -> &Keys
         ensures { result.now ≡ self.now.keys }
     {

@@ -4,53 +4,52 @@ ghost use Rattle.protocol.specs.OwnKeys.{LoggedBelongs, StepKeepsOwn};
 ghost use Rattle.protocol.specs.Refusals.{OwnRefusals};
 ghost use Rattle.protocol.specs.Sound.{FreshIsSound, InstallsAbove, LoggedFollows, OpeningKeepsSound, StaysWithin, StepKeepsSound};
 
-/// A shard whose log has one opening alone is sound: its lock table, its facts and its rows agree.
+/// Says that a shard whose log has one opening alone is sound: its lock table, its facts and its rows agree.
 pub fn fresh_is_sound()
     ensures { FreshIsSound }
 {}
 
-/// No step of a sound shard leaves it unsound.
+/// Says that each step of a sound shard leaves it sound.
 pub fn step_keeps_sound()
     ensures { StepKeepsSound }
 {}
 
-/// A sound shard logs only what may come next.
+/// Says that a sound shard logs only records that may come next in its log.
 pub fn logged_follows()
     ensures { LoggedFollows }
 {}
 
-/// No version that a sound shard installs is below another of its key.
+/// Says that a sound shard installs no version below another of its key.
 pub fn installs_above()
     ensures { InstallsAbove }
 {}
 
-/// No step lets the rows grow past the table's limit.
+/// Says that no step lets the rows grow past the table's limit.
 pub fn stays_within()
     ensures { StaysWithin }
 {}
 
-/// A step refuses for want of time or room, because it is too early, or because somebody is a stranger; never for another
-/// reason.
+/// Says that a step refuses only with `TimeSpent`, `RowsFull`, `Future`, `NotYet`, `Early` or `Stranger`.
 pub fn own_refusals()
     ensures { OwnRefusals }
 {}
 
-/// A shard that is opened anew from the log of a sound one is sound: what was read stays locked with what was written.
+/// Says that opening the log of a sound shard gives a sound shard. What was read stays locked with what was written.
 pub fn opening_keeps_sound()
     ensures { OpeningKeepsSound }
 {}
 
-/// Rows that speak of the shard's own keys alone do so after each step.
+/// Says that rows which hold only the shard's own keys do so after each step.
 pub fn step_keeps_own()
     ensures { StepKeepsOwn }
 {}
 
-/// A shard logs no record of another shard's keys.
+/// Says that a shard logs no record of another shard's keys.
 pub fn logged_belongs()
     ensures { LoggedBelongs }
 {}
 
-/// A sound shard logs a promise or a decision only where there is room for its row and its locks are in nobody's way.
+/// Says that a sound shard logs a promise or a decision only if its row has room and its locks conflict with nobody's.
 pub fn logged_fits_beside()
     ensures { LoggedFitsBeside }
 {}

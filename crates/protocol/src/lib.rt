@@ -1,5 +1,5 @@
-//! The step of a shard as a function of its state, a reading and an input: rows, plans, cells. Definitions and
-//! their laws; no running code.
+//! The step of a shard, as a function of its state, a reading of the clock and an input. Here are its definitions (rows, plans,
+//! cells) and their laws, and no running code.
 #![tactic(auto)]
 
 mod laws;

@@ -6,22 +6,22 @@ ghost use Rattle.protocol.specs.Showable.{FreshIsShowable, StepKeepsShowable, Ta
 use message::{Input, Message};
 use record::Record;
 
-/// No step lets the served time fall; what a step installs is above it, and above its key's earlier versions.
+/// Says that no step lets the served time fall. What a step installs is above it, and above its key's earlier versions.
 pub fn step_keeps_showable()
     ensures { StepKeepsShowable }
 {}
 
-/// A fresh shard's versions may be put on a board.
+/// Says that the versions of a fresh shard may be put on a board.
 pub fn fresh_is_showable()
     ensures { FreshIsShowable }
 {}
 
-/// So may those that a log leaves, if the log is taken.
+/// Says that the versions which a log leaves may be put on a board, if the log is accepted.
 pub fn taken_is_showable()
     ensures { TakenIsShowable }
 {}
 
-/// The writes of a promise or a decision ascend by key.
+/// Says that the writes of a promise or a decision ascend by key.
 pub fn record_ascends(item: &Record)
     ensures { IsTrue (record_ascends item.now) }
 {
@@ -36,7 +36,7 @@ pub fn record_ascends(item: &Record)
     }
 }
 
-/// The writes that an input brings ascend by key, and the timestamp that it names is within the limit.
+/// Says that the writes of an input ascend by key, and that the timestamp which it names is within the limit.
 pub fn writes_ascend(input: &Input)
     ensures order { WritesAscend input.now }
     ensures limit { IsInLimit input.now }

@@ -1,4 +1,4 @@
-//! What is promised and decided: transitions that spend a logged record.
+//! Transitions of rows that promise, decide and end. Most of them spend a logged record.
 ghost use Rattle.std.specs.Prelude.{◌≡◌, [], true};
 ghost use Rattle.protocol.specs.Rows.{Collecting, without_row, held_in};
 ghost use Rattle.rows.specs.States.{is_prepare_of, is_commit_of, is_abort_of, is_outcome_of};
@@ -13,7 +13,7 @@ use record::Record;
 use units::{ShardNo, Stamp, TxnId};
 
 impl Rows {
-    /// The coordinator of several shards begins to wait for their votes, with what it holds. It takes no memory.
+    /// Makes an idle row, with the locks that it holds, collect the votes of the other parts. It takes no memory.
     pub fn collect(&mut self, txn: TxnId, gathering: Gathering)
         requires { has_phase is_idle self.old.rows txn ≡ true }
         ensures { self.new.rows ≡ put_row self.old.rows txn (held_in self.old.rows txn)
@@ -24,7 +24,7 @@ impl Rows {
         self.rows.put(Row::Collecting(collecting));
     }
 
-    /// A yes of a shard comes to the coordinator. The first of each shard is kept. It takes no memory.
+    /// Counts a part's yes, at its prepare timestamp. Only the first of each part counts. It takes no memory.
     pub fn vote(&mut self, txn: TxnId, from: ShardNo, at: Stamp)
         requires { has_phase is_collecting self.old.rows txn ≡ true }
         ensures { self.new.rows ≡ put_row self.old.rows txn (held_in self.old.rows txn)
@@ -38,7 +38,7 @@ impl Rows {
         }
     }
 
-    /// A logged promise is spent: the transaction is prepared, and holds what it held. It takes no memory.
+    /// Makes an idle row prepared by its logged promise, and keeps its locks. It takes no memory.
     pub fn prepare(&mut self, txn: TxnId, logged: Logged) -> Record
         requires idle { has_phase is_idle self.old.rows txn ≡ true }
         requires mine { is_prepare_of txn logged ≡ true }
@@ -52,7 +52,7 @@ impl Rows {
         record
     }
 
-    /// A logged decision is spent: the transaction is decided, and holds what it held. It takes no memory.
+    /// Makes a row decided by its logged decision, and keeps its locks. It takes no memory.
     pub fn decide(&mut self, txn: TxnId, logged: Logged) -> Record
         requires may { has_phase may_decide self.old.rows txn ≡ true }
         requires mine { is_commit_of txn logged ≡ true }
@@ -75,7 +75,7 @@ impl Rows {
         }
     }
 
-    /// A logged abort is spent, and the transaction ends. It takes no memory.
+    /// Ends a row by its logged abort, and frees its locks. It takes no memory.
     pub fn abort(&mut self, txn: TxnId, logged: Logged) -> Record
         requires may { has_phase may_abort self.old.rows txn ≡ true }
         requires mine { is_abort_of txn logged ≡ true }
@@ -87,7 +87,7 @@ impl Rows {
         logged.spend()
     }
 
-    /// A logged outcome is spent, and the transaction that was prepared or decided is done. It takes no memory.
+    /// Ends a prepared or decided row by its logged outcome, and frees its locks. It takes no memory.
     pub fn close(&mut self, txn: TxnId, logged: Logged) -> Record
         requires may { has_phase may_close self.old.rows txn ≡ true }
         requires mine { is_outcome_of txn logged ≡ true }

@@ -1,4 +1,4 @@
-//! A shard's transactions, each in a typed state that holds its token of the lock table, and the rows of them all.
+//! The rows of a shard: its transactions, each in a typed state that holds its token of the lock table.
 #![tactic(auto)]
 
 mod deciding;

@@ -1,4 +1,4 @@
-//! The rows by ascending id, with the space for all that there may be.
+//! The rows by ascending id, in memory that is taken once for all of them.
 ghost use Rattle.std.specs.Prelude.{◌≡◌, ◌+◌, ◌<◌, ◌≤◌, [], true, false, IfOk, IfErr, length, slice_get, vec_capacity};
 ghost use Rattle.std.specs.List.{find, position_or_len};
 ghost use Rattle.std.specs.Option.{option_copied};
@@ -35,7 +35,7 @@ impl Model for RowList {
 }
 
 impl RowList {
-    /// No rows, with the space for all that there may be. It is refused for want of memory alone.
+    /// Makes an empty list with the memory for 1,024 rows. `Memory` if there is none.
     pub fn new(alloc: Global) -> Result<RowList, Fault>
         ensures none { IfOk result (λ rows. rows ≡ []) }
         ensures memory { IfErr result (λ fault. fault ≡ Fault.Memory) }
@@ -44,28 +44,28 @@ impl RowList {
         Ok(RowList { rows })
     }
 
-    /// The rows ascend by id, and are not too many. It does nothing.
+    /// Says that the rows ascend by id and are not too many. It does nothing.
     pub fn laws(&self)
         ensures { IsRowList self.now }
     {
         let _ = &self.rows;
     }
 
-    /// How many there are.
+    /// Returns the number of rows.
     pub fn len(&self) -> usize
         ensures { result ≡ length self.now }
     {
         self.rows.len()
     }
 
-    /// The row of a transaction.
+    /// Returns the row of a transaction, if it has one.
     pub fn find(&self, txn: TxnId) -> Option<&Row>
         ensures { option_copied result ≡ find (λ r. same_id (txn_of r) txn) self.now }
     {
         found(&self.rows, txn)
     }
 
-    /// The n-th prepared transaction, with its timestamp.
+    /// Returns the n-th prepared transaction, from 0, and its prepare timestamp.
     pub fn nth_prepared(&self, n: usize) -> Option<(TxnId, Stamp)>
         ensures { result ≡ slice_get (gather stamp_if_prepared self.now) n }
     {
@@ -81,7 +81,7 @@ impl RowList {
         None
     }
 
-    /// The n-th decided transaction, with its timestamp.
+    /// Returns the n-th decided transaction, from 0, and its commit timestamp.
     pub fn nth_decided(&self, n: usize) -> Option<(TxnId, Stamp)>
         ensures { result ≡ slice_get (gather stamp_if_decided self.now) n }
     {
@@ -97,7 +97,7 @@ impl RowList {
         None
     }
 
-    /// A decided transaction of the least timestamp, with it.
+    /// Returns a decided transaction with the least commit timestamp, and that timestamp. `None` if none is decided.
     pub fn earliest_decided(&self) -> Option<(TxnId, Stamp)>
         ensures { IsEarliest (gather stamp_if_decided self.now) result }
     {
@@ -108,7 +108,7 @@ impl RowList {
         earliest
     }
 
-    /// Spends the token of each row.
+    /// Spends the token of each row, and the list.
     pub fn release_all(self, table: &mut Table) {
         let RowList { mut rows } = self;
         for _ in 0..rows.len() {
@@ -140,7 +140,7 @@ impl RowList {
         self.rows.remove(at)
     }
 
-    /// Puts in a row of a transaction that has none. It takes no memory.
+    /// Puts in the row of a transaction that has none. It takes no memory.
     pub fn put(&mut self, row: Row)
         requires absent { has_txn self.old (txn_of row) ≡ false }
         requires room { length self.old < MOST_ROWS }
@@ -154,7 +154,7 @@ impl RowList {
     }
 }
 
-// The transaction's row.
+// The transaction's row, if it has one.
 fn found(rows: &[Row], txn: TxnId) -> Option<&Row>
     requires { IsById txn_of rows.now }
     ensures { option_copied result ≡ find (λ r. same_id (txn_of r) txn) rows.now }
@@ -166,7 +166,7 @@ fn found(rows: &[Row], txn: TxnId) -> Option<&Row>
     None
 }
 
-// The first that is not older than the transaction.
+// The place of the first row that is not older than the transaction.
 fn first_from(rows: &[Row], txn: TxnId) -> usize
     requires { IsById txn_of rows.now }
     ensures within { result ≤ length rows.now }
@@ -176,7 +176,7 @@ fn first_from(rows: &[Row], txn: TxnId) -> usize
     rows.partition_point(|row| row.txn() < txn)
 }
 
-// The one with the lower timestamp, where both are there.
+// The one with the lower timestamp, if both are there.
 fn earlier(one: Option<(TxnId, Stamp)>, other: Option<(TxnId, Stamp)>) -> Option<(TxnId, Stamp)>
     ensures { result ≡ earlier one other }
 {
@@ -193,7 +193,7 @@ fn earlier(one: Option<(TxnId, Stamp)>, other: Option<(TxnId, Stamp)>) -> Option
     }
 }
 
-// Where the transaction's row stands.
+// The place of the transaction's row.
 fn place(rows: &[Row], txn: TxnId) -> usize
     requires order { IsById txn_of rows.now }
     requires row { has_txn rows.now txn ≡ true }
@@ -203,7 +203,7 @@ fn place(rows: &[Row], txn: TxnId) -> usize
     first_from(rows, txn)
 }
 
-// Where the transaction's row would go.
+// The place at which the transaction's row would be put in.
 fn place_for(rows: &[Row], txn: TxnId) -> usize
     requires { IsById txn_of rows.now }
     ensures within { result ≤ length rows.now }

@@ -1,4 +1,4 @@
-//! How the transactions of a shard take locks, wait for them and go on.
+//! How the transactions of a shard take locks, and wait for them.
 ghost use Rattle.std.specs.Prelude.{◌≡◌, ◌+◌, ◌≤◌, [], true, false, Some, length, OnOk, IfErr};
 ghost use Rattle.units.specs.Locks.{is_free, with_locks, wounded};
 ghost use Rattle.protocol.specs.Rows.{Idle, claims, needs_of, held_in, without_rows};
@@ -11,7 +11,7 @@ use crate::wait::Wait;
 use units::{Fault, Lock, TxnId};
 
 impl Rows {
-    /// Takes the memory for a transaction's next locks, so many of them. It is refused for want of memory alone.
+    /// Takes the memory for this many more locks of a transaction. `Memory` if there is none.
     pub fn make_room(&mut self, txn: TxnId, more: usize) -> Result<(), Fault>
         requires { has_phase is_reading self.old.rows txn ≡ true }
         ensures rows { self.new.rows ≡ self.old.rows }
@@ -24,7 +24,7 @@ impl Rows {
         made
     }
 
-    /// Ends those whom a request ends, and grants it. The transaction has its room, so it takes no memory.
+    /// Ends the transactions that the request wounds, and grants it. `make_room` came before, so it takes no memory.
     pub fn grant(&mut self, txn: TxnId, ended: &[TxnId], needs: &[Lock])
         requires reading { has_phase is_reading self.old.rows txn ≡ true }
         requires ended { ended.now ≡ wounded (claims self.old.rows) txn needs.now }
@@ -39,7 +39,7 @@ impl Rows {
         self.grant_free(txn, needs);
     }
 
-    /// Ends those whom a request ends, and the transaction waits for the others. It has its room, so it takes no memory.
+    /// Ends the transactions that the request wounds, and makes the row wait for the others. It takes no memory.
     pub fn wait(&mut self, txn: TxnId, ended: &[TxnId], needs: &[Lock], wait: Wait)
         requires reading { has_phase is_reading self.old.rows txn ≡ true }
         requires ended { ended.now ≡ wounded (claims self.old.rows) txn needs.now }
@@ -55,7 +55,7 @@ impl Rows {
         self.block(txn, needs, wait);
     }
 
-    // Ends several transactions that read.
+    // Ends several rows that read.
     fn end_each(&mut self, txns: &[TxnId])
         requires { MayEnd self.old.rows txns.now }
         ensures rows { self.new.rows ≡ without_rows self.old.rows txns.now }
@@ -66,7 +66,7 @@ impl Rows {
         }
     }
 
-    // Grants a request that nobody is in the way of.
+    // Grants a request with which nobody conflicts.
     fn grant_free(&mut self, txn: TxnId, needs: &[Lock])
         requires reading { has_phase is_reading self.old.rows txn ≡ true }
         requires free { is_free (claims self.old.rows) txn needs.now ≡ true }
@@ -79,7 +79,7 @@ impl Rows {
         self.rows.put(Row::Reading(reading));
     }
 
-    // Keeps a request that ends nobody and has to wait.
+    // Makes a row wait with a request that ends nobody.
     fn block(&mut self, txn: TxnId, needs: &[Lock], wait: Wait)
         requires reading { has_phase is_reading self.old.rows txn ≡ true }
         requires quiet { wounded (claims self.old.rows) txn needs.now ≡ [] }

@@ -17,7 +17,7 @@ pub enum Row {
 }
 
 impl Row {
-    /// Whose row it is.
+    /// Returns the transaction.
     pub fn txn(&self) -> TxnId
         ensures { result ≡ txn_of self.now }
     {
@@ -29,14 +29,14 @@ impl Row {
         }
     }
 
-    /// Whether it is the transaction's.
+    /// Tells whether the row is this transaction's.
     pub fn is_of(&self, txn: TxnId) -> bool
         ensures { result ≡ same_id (txn_of self.now) txn }
     {
         self.txn() == txn
     }
 
-    /// Whether it reads.
+    /// Tells whether the row reads.
     #[tactic(auto, using(crate::proofs::Transitions::reading_is_open))]
     pub fn is_reading(&self) -> bool
         ensures { result ≡ is_reading (phase_of self.now) }
@@ -44,7 +44,7 @@ impl Row {
         matches!(self, Row::Reading(_))
     }
 
-    /// Whose row it is and its timestamp, where it is prepared.
+    /// Returns the transaction and its prepare timestamp, if the row is prepared.
     pub fn prepared(&self) -> Option<(TxnId, Stamp)>
         ensures { result ≡ stamp_if_prepared self.now }
     {
@@ -54,7 +54,7 @@ impl Row {
         }
     }
 
-    /// Whose row it is and its timestamp, where it is decided.
+    /// Returns the transaction and its commit timestamp, if the row is decided.
     pub fn decided(&self) -> Option<(TxnId, Stamp)>
         ensures { result ≡ stamp_if_decided self.now }
     {
@@ -64,7 +64,7 @@ impl Row {
         }
     }
 
-    // Its token goes, at the end of the table.
+    // Spends the row's token, and its claim leaves the table.
     pub(crate) fn release(self, table: &mut Table)
         ensures { table.new ≡ without_claim table.old (txn_of self) }
     {

@@ -1,4 +1,4 @@
-//! The rows of a shard beside its lock table.
+//! The rows of a shard, with its lock table.
 ghost use Rattle.std.specs.List.{list_all};
 ghost use Rattle.std.specs.Prelude.{◌≡◌, ◌<◌, ◌≤◌, [], true, Some, None, nat_le, length, MatchOption, IfOk, IfErr, OnOk, OnErr};
 ghost use Rattle.units.specs.ById.{IsById};
@@ -17,12 +17,10 @@ use std::alloc::Global;
 use std::marker::Model;
 use units::{Fault, Ids, Key, Keys, Lock, MOST_ROWS, Stamp, TxnId, Writes};
 
-/// The transactions of a shard: each has a row, in a state that holds its token of the lock table. There are at most
-/// 1,024.
+/// The transactions of a shard, at most 1,024. Each has a row, in a state that holds its token of the lock table.
 ///
-/// The claims of the lock table are those of the rows, place by place. So each call of the table is given a token whose
-/// claim it has, and whoever holds the rows never speaks of the table. The rows hold tokens, so they cannot be dropped:
-/// `stop` spends them.
+/// The claims of the lock table are those of the rows, place by place. So each call of the table gets a token whose claim it
+/// has, and callers of the rows need not speak of the table. Rows hold tokens, so they cannot be dropped: `stop` spends them.
 pub struct Rows {
     pub(crate) rows: RowList,
     pub(crate) locks: Table,
@@ -41,7 +39,7 @@ impl Model for Rows {
 }
 
 impl Rows {
-    /// No rows, with the space for all that there may be. It is refused for want of memory alone.
+    /// Makes rows with the memory for all 1,024. `Memory` if there is none.
     pub fn new(alloc: Global) -> Result<Rows, Fault>
         ensures none { IfOk result (λ rows. rows.rows ≡ []) }
         ensures memory { IfErr result (λ fault. fault ≡ Fault.Memory) }
@@ -51,7 +49,7 @@ impl Rows {
         Ok(Rows { rows, locks })
     }
 
-    /// What holds of the rows at any time. It does nothing.
+    /// Says what holds of the rows at any time. It does nothing.
     pub fn laws(&self)
         ensures locks { IsLawfulTable (claims self.now.rows) }
         ensures few { length self.now.rows ≤ MOST_ROWS }
@@ -61,14 +59,14 @@ impl Rows {
         self.rows.laws();
     }
 
-    /// Whether there are as many rows as there may be.
+    /// Tells whether there are 1,024 rows. A new transaction is then refused as `RowsFull`, until another one ends.
     pub fn is_full(&self) -> bool
         ensures { result ≡ nat_le MOST_ROWS (length self.now.rows) }
     {
         self.rows.len() >= MOST_ROWS
     }
 
-    /// The row of a transaction.
+    /// Returns the row of a transaction, if it has one.
     pub fn find(&self, txn: TxnId) -> Option<&Row>
         ensures { MatchOption result (find_row self.now.rows txn ≡ None)
             (λ row. find_row self.now.rows txn ≡
@@ -81,7 +79,7 @@ impl Rows {
         self.rows.find(txn)
     }
 
-    /// Whether a transaction reads, so that it may be ended, granted locks, or made to wait.
+    /// Tells whether a transaction has a row that reads, so that it may be ended, granted locks, or made to wait.
     pub fn is_reading(&self, txn: TxnId) -> bool
         ensures { result ≡ has_phase is_reading self.now.rows txn }
     {
@@ -91,14 +89,14 @@ impl Rows {
         }
     }
 
-    /// Whether a transaction holds a key. One that has no row holds nothing.
+    /// Tells whether a transaction holds a lock on a key. One without a row holds none.
     pub fn holds(&self, txn: TxnId, key: &Key) -> bool
         ensures { result ≡ holds (held_in self.now.rows txn) key.now }
     {
         self.locks.holds(txn, key)
     }
 
-    /// Whether a transaction holds each of some keys.
+    /// Tells whether a transaction holds a lock on each of the keys.
     pub fn holds_all(&self, txn: TxnId, keys: &Keys) -> bool
         ensures { result ≡ list_all (holds (held_in self.now.rows txn)) keys.now }
     {
@@ -110,7 +108,7 @@ impl Rows {
         true
     }
 
-    /// Whom a request ends, the oldest first. It is refused for want of memory alone.
+    /// Returns the transactions that a request wounds, the oldest first. `Memory` if there is none for the list.
     pub fn wounded(&self, alloc: Global, txn: TxnId, needs: &[Lock]) -> Result<Ids, Fault>
         ensures ok { IfOk result (λ ids. ids ≡ wounded (claims self.now.rows) txn needs.now) }
         ensures memory { IfErr result (λ fault. fault ≡ Fault.Memory) }
@@ -118,7 +116,7 @@ impl Rows {
         self.locks.wounded(alloc, txn, needs)
     }
 
-    /// Whether a request is granted once those that it ends are gone.
+    /// Tells whether a request is granted once the transactions that it wounds are gone.
     pub fn opens(&self, txn: TxnId, needs: &[Lock]) -> bool
         ensures { result ≡
             is_free (claims (without_rows self.now.rows
@@ -127,8 +125,8 @@ impl Rows {
         self.locks.opens(txn, needs)
     }
 
-    /// Whether the numbers of locks alone tell that a request for what is written ends nobody and is granted. It may be so where
-    /// this says no.
+    /// Tells from the numbers of locks alone whether a request for these writes ends nobody and is granted. It may say no although
+    /// that is so.
     pub fn is_undisputed(&self, txn: TxnId, writes: &Writes) -> bool
         ensures nobody { result ≡ true →
             wounded (claims self.now.rows) txn (exclusive writes.now) ≡ [] }
@@ -140,35 +138,35 @@ impl Rows {
         self.locks.is_undisputed(txn, writes)
     }
 
-    /// The oldest transaction that waits and would be granted now.
+    /// Returns the oldest transaction that waits and would be granted now.
     pub fn ready(&self) -> Option<TxnId>
         ensures { result ≡ ready (claims self.now.rows) }
     {
         self.locks.ready()
     }
 
-    /// The n-th prepared transaction by ascending id, with its prepare timestamp.
+    /// Returns the n-th prepared transaction, from 0 by ascending id, and its prepare timestamp.
     pub fn nth_prepared(&self, n: usize) -> Option<(TxnId, Stamp)>
         ensures { result ≡ nth_prepared self.now.rows n }
     {
         self.rows.nth_prepared(n)
     }
 
-    /// The n-th decided transaction by ascending id, with its commit timestamp.
+    /// Returns the n-th decided transaction, from 0 by ascending id, and its commit timestamp.
     pub fn nth_decided(&self, n: usize) -> Option<(TxnId, Stamp)>
         ensures { result ≡ nth_decided self.now.rows n }
     {
         self.rows.nth_decided(n)
     }
 
-    /// A decided transaction of the least commit timestamp, with it. None is decided where there is none.
+    /// Returns a decided transaction with the least commit timestamp, and that timestamp. `None` if none is decided.
     pub fn earliest_decided(&self) -> Option<(TxnId, Stamp)>
         ensures { IsEarliest (gather decided_row self.now.rows) result }
     {
         self.rows.earliest_decided()
     }
 
-    /// Takes in a transaction that is new. It reads, and holds nothing. It is refused for want of memory alone.
+    /// Adds a new transaction, which reads and holds no lock. `Memory` leaves the rows as they were.
     pub fn admit(&mut self, alloc: Global, txn: TxnId) -> Result<(), Fault>
         requires absent { find_row self.old.rows txn ≡ None }
         requires room { length self.old.rows < MOST_ROWS }
@@ -181,7 +179,7 @@ impl Rows {
         Ok(())
     }
 
-    /// Ends a transaction that reads, with nothing logged, and leaves every other.
+    /// Ends a transaction that reads, without a record, and frees its locks. The others stay.
     pub fn end(&mut self, txn: TxnId)
         requires { has_phase is_reading self.old.rows txn ≡ true }
         ensures rows { self.new.rows ≡ without_row self.old.rows txn }
@@ -191,7 +189,7 @@ impl Rows {
         state.end(&mut self.locks);
     }
 
-    /// Spends every token, so that the rows are gone. It takes no memory.
+    /// Spends every token, and the rows. It takes no memory.
     pub fn stop(self) {
         let Rows { rows, mut locks } = self;
         rows.release_all(&mut locks);

@@ -1,5 +1,5 @@
-//! The states of a transaction at a shard. Each holds the transaction's token of the lock table, so that none can be
-//! dropped, and a step from one to the next spends the one before.
+//! The states of a transaction at a shard. Each holds the transaction's token of the lock table, so it cannot be dropped. A step
+//! from one state to the next spends the one before.
 ghost use Rattle.std.specs.Prelude.{◌≡◌, ◌≤◌, ◌+◌, [], Some, None, true, false, length, OnOk, IfErr};
 ghost use Rattle.std.specs.Option.{option_copied};
 ghost use Rattle.units.specs.Locks.{is_free, wounded};
@@ -15,7 +15,7 @@ use record::Record;
 use std::marker::Model;
 use units::{Fault, Lock, Parts, ShardNo, Stamp, TxnId};
 
-/// It reads: it is idle, or waits with a read, a prepare or a commit.
+/// A transaction that reads: it is idle, or waits with a read, a prepare or a commit.
 pub struct RowReading {
     held: Held,
     wait: Option<Wait>,
@@ -29,7 +29,7 @@ impl Model for RowReading {
     ghost view = { λ s. record { token = s.held; wait = s.wait } };
 }
 
-/// The coordinator, while it waits for votes.
+/// A transaction at its coordinator while that collects votes.
 pub struct RowCollecting {
     held: Held,
     request: CommitRequest,
@@ -44,7 +44,7 @@ impl Model for RowCollecting {
     ghost view = { λ s. record { token = s.held; request = s.request; votes = s.votes } };
 }
 
-/// A participant that has promised.
+/// A transaction at a part that has logged its promise.
 pub struct RowPrepared {
     held: Held,
     coordinator: ShardNo,
@@ -59,7 +59,7 @@ impl Model for RowPrepared {
     ghost view = { λ s. record { token = s.held; coordinator = s.coordinator; at = s.at } };
 }
 
-/// The coordinator, once its decision is logged.
+/// A transaction at its coordinator, once the decision is logged.
 pub struct RowDecided {
     held: Held,
     at: Stamp,
@@ -75,28 +75,28 @@ impl Model for RowDecided {
 }
 
 impl RowReading {
-    /// A transaction that is new.
+    /// Makes the state of a new transaction.
     pub(crate) fn new(held: Held) -> RowReading
         ensures { result ≡ reading_state held None }
     {
         RowReading { held, wait: None }
     }
 
-    /// Whose state it is.
+    /// Returns the transaction.
     pub fn txn(&self) -> TxnId
         ensures { result ≡ self.now.token.txn }
     {
         self.held.txn()
     }
 
-    /// What it waits with.
+    /// Returns what it waits with, if it waits.
     pub fn wait(&self) -> Option<&Wait>
         ensures { option_copied result ≡ self.now.wait }
     {
         self.wait.as_ref()
     }
 
-    // Takes the memory for so many locks more.
+    // Takes the memory for this many more locks.
     pub(crate) fn make_room(&mut self, more: usize, table: &Table) -> Result<(), Fault>
         requires { has_claim table.now self.old.token.txn ≡ true }
         ensures txn { self.new.token.txn ≡ self.old.token.txn }
@@ -108,7 +108,7 @@ impl RowReading {
         table.make_room(&mut self.held, more)
     }
 
-    // A request that nobody is in the way of is granted. It waits no longer.
+    // Grants a request with which nobody conflicts. The transaction waits no longer.
     pub(crate) fn grant(self, needs: &[Lock], table: &mut Table) -> RowReading
         requires claim { has_claim table.old self.token.txn ≡ true }
         requires free { is_free table.old self.token.txn needs.now ≡ true }
@@ -122,7 +122,7 @@ impl RowReading {
         RowReading { held, wait: None }
     }
 
-    // It waits with something that needs these locks.
+    // Makes it wait with something that needs these locks.
     pub(crate) fn block(self, needs: &[Lock], wait: Wait, table: &mut Table) -> RowReading
         requires claim { has_claim table.old self.token.txn ≡ true }
         requires quiet { wounded table.old self.token.txn needs.now ≡ [] }
@@ -140,7 +140,7 @@ impl RowReading {
         }
     }
 
-    // The coordinator of several shards begins to wait for their votes.
+    // Makes it collect votes.
     pub(crate) fn collect(self, gathering: Gathering, table: &mut Table) -> RowCollecting
         requires { has_claim table.old self.token.txn ≡ true }
         ensures state { result ≡ collecting_of self.token gathering }
@@ -156,7 +156,7 @@ impl RowReading {
         }
     }
 
-    // A logged promise is spent.
+    // Spends its logged promise, and makes it prepared.
     pub(crate) fn prepare(self, logged: Logged, table: &mut Table) -> (RowPrepared, Record)
         requires mine { is_prepare_of self.token.txn logged ≡ true }
         requires claim { has_claim table.old self.token.txn ≡ true }
@@ -180,7 +180,7 @@ impl RowReading {
         }
     }
 
-    // A logged decision is spent.
+    // Spends its logged decision, and makes it decided.
     pub(crate) fn decide(self, logged: Logged, table: &mut Table) -> (RowDecided, Record)
         requires mine { is_commit_of self.token.txn logged ≡ true }
         requires claim { has_claim table.old self.token.txn ≡ true }
@@ -193,7 +193,7 @@ impl RowReading {
         decide(held, logged)
     }
 
-    // It ends, with nothing logged.
+    // Ends it without a record.
     pub(crate) fn end(self, table: &mut Table)
         ensures { table.new ≡ without_claim table.old self.token.txn }
     {
@@ -203,7 +203,7 @@ impl RowReading {
 }
 
 impl RowCollecting {
-    // A yes of a shard comes. Its first is kept.
+    // Counts a part's yes. Only the first of each part counts.
     pub(crate) fn vote(self, from: ShardNo, at: Stamp) -> RowCollecting
         ensures { result ≡ collecting_with_yes from at self }
     {
@@ -220,28 +220,28 @@ impl RowCollecting {
         }
     }
 
-    /// Whose state it is.
+    /// Returns the transaction.
     pub fn txn(&self) -> TxnId
         ensures { result ≡ self.now.token.txn }
     {
         self.held.txn()
     }
 
-    /// The commit whose votes it collects.
+    /// Returns the commit whose votes it collects.
     pub fn request(&self) -> &CommitRequest
         ensures { result.now ≡ self.now.request }
     {
         &self.request
     }
 
-    /// The votes that came.
+    /// Returns the votes that have come.
     pub fn votes(&self) -> &Votes
         ensures { result.now ≡ self.now.votes }
     {
         &self.votes
     }
 
-    // A logged decision is spent.
+    // Spends its logged decision, and makes it decided.
     pub(crate) fn decide(self, logged: Logged) -> (RowDecided, Record)
         requires { is_commit_of self.token.txn logged ≡ true }
         ensures state { result.0 ≡ decided_by self.token logged }
@@ -255,7 +255,7 @@ impl RowCollecting {
         decide(held, logged)
     }
 
-    // The token goes, at the end of the table.
+    // Spends its token, and its claim leaves the table.
     pub(crate) fn release(self, table: &mut Table)
         ensures { table.new ≡ without_claim table.old self.token.txn }
     {
@@ -269,28 +269,28 @@ impl RowCollecting {
 }
 
 impl RowPrepared {
-    /// Whose state it is.
+    /// Returns the transaction.
     pub fn txn(&self) -> TxnId
         ensures { result ≡ self.now.token.txn }
     {
         self.held.txn()
     }
 
-    /// The shard that decides.
+    /// Returns the shard that decides it.
     pub fn coordinator(&self) -> ShardNo
         ensures { result ≡ self.now.coordinator }
     {
         self.coordinator
     }
 
-    /// Its prepare timestamp.
+    /// Returns its prepare timestamp.
     pub fn at(&self) -> Stamp
         ensures { result ≡ self.now.at }
     {
         self.at
     }
 
-    // The token goes, at the end of the table.
+    // Spends its token, and its claim leaves the table.
     pub(crate) fn release(self, table: &mut Table)
         ensures { table.new ≡ without_claim table.old self.token.txn }
     {
@@ -304,28 +304,28 @@ impl RowPrepared {
 }
 
 impl RowDecided {
-    /// Whose state it is.
+    /// Returns the transaction.
     pub fn txn(&self) -> TxnId
         ensures { result ≡ self.now.token.txn }
     {
         self.held.txn()
     }
 
-    /// Its commit timestamp.
+    /// Returns its commit timestamp.
     pub fn at(&self) -> Stamp
         ensures { result ≡ self.now.at }
     {
         self.at
     }
 
-    /// The shards that take part.
+    /// Returns the shards that take part.
     pub fn parts(&self) -> Parts
         ensures { result ≡ self.now.parts }
     {
         self.parts
     }
 
-    // The token goes, at the end of the table.
+    // Spends its token, and its claim leaves the table.
     pub(crate) fn release(self, table: &mut Table)
         ensures { table.new ≡ without_claim table.old self.token.txn }
     {

@@ -1,4 +1,4 @@
-//! The votes of a commit that is collected.
+//! The votes that a coordinator collects for a commit.
 ghost use Rattle.std.specs.Prelude.{◌≡◌, [], IfOk, IfErr, map};
 ghost use Rattle.protocol.specs.Rows.{with_vote};
 ghost use Rattle.rows.specs.States.{has_voted, voted_of};
@@ -8,14 +8,14 @@ use std::alloc::Global;
 use std::marker::Model;
 use units::{Fault, ShardNo, Stamp};
 
-/// A yes that came: the shard, and its prepare timestamp.
+/// A yes that came: the shard that voted, and its prepare timestamp.
 #[derive(Clone, Copy)]
 pub struct Voted {
     pub shard: ShardNo,
     pub at: Stamp,
 }
 
-/// The votes that came, in order, each shard's first, with the space for one of each shard.
+/// The votes that came, in order. Only the first of each shard counts, and the memory for one of each is taken at the start.
 #[derive(Drop)]
 pub struct Votes {
     votes: Vec<Voted>,
@@ -34,10 +34,10 @@ impl Model for Votes {
 }
 
 impl Votes {
-    /// The most votes that there may be: one of each shard.
+    /// The most votes that can come: one from each of 16 shards.
     pub const MOST: usize = 16;
 
-    /// No votes, with the space for all that may come. It is refused for want of memory alone.
+    /// Makes an empty list with the memory for 16 votes. `Memory` if there is none.
     pub fn none(alloc: Global) -> Result<Votes, Fault>
         ensures none { IfOk result (λ votes. votes ≡ []) }
         ensures memory { IfErr result (λ fault. fault ≡ Fault.Memory) }
@@ -46,7 +46,7 @@ impl Votes {
         Ok(Votes { votes })
     }
 
-    /// A yes of a shard comes. Its first is kept. It takes no memory.
+    /// Adds a shard's yes, unless the shard has voted before. It takes no memory.
     pub fn add(&mut self, shard: ShardNo, at: Stamp)
         ensures { self.new ≡ with_vote shard at self.old }
     {
@@ -57,7 +57,7 @@ impl Votes {
         self.votes.push_reserved(Voted { shard, at });
     }
 
-    /// The votes in order.
+    /// Returns the votes in order.
     pub fn as_slice(&self) -> &[Voted]
         ensures { map voted_of result.now ≡ self.now }
     {
@@ -65,7 +65,7 @@ impl Votes {
     }
 }
 
-// The shard has voted.
+// Whether the shard has voted.
 fn has_voted(votes: &[Voted], shard: ShardNo) -> bool
     ensures { result ≡ has_voted shard votes.now }
 {
@@ -77,7 +77,7 @@ fn has_voted(votes: &[Voted], shard: ShardNo) -> bool
     false
 }
 
-/// A commit whose votes are to be collected, with the space for them.
+/// A commit whose votes are to be collected, with the memory for them.
 #[derive(Drop)]
 pub struct Gathering {
     pub(crate) request: CommitRequest,
@@ -96,7 +96,7 @@ impl Model for Gathering {
 }
 
 impl Gathering {
-    /// Takes the space for the votes of a commit. It is refused for want of memory alone.
+    /// Takes the memory for the votes of a commit. `Memory` if there is none.
     pub fn new(alloc: Global, request: CommitRequest) -> Result<Gathering, Fault>
         ensures same { IfOk result (λ gathering. gathering ≡ request) }
         ensures memory { IfErr result (λ fault. fault ≡ Fault.Memory) }

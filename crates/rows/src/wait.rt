@@ -1,10 +1,10 @@
-//! What a transaction waits with.
+//! The requests with which a transaction waits.
 ghost use Rattle.std.specs.Prelude.{◌≡◌, IfOk, IfErr};
 
 use std::alloc::Global;
 use units::{Fault, Key, Keys, Parts, ShardNo, Stamp, Writes};
 
-/// A prepare that came: who decides, and the part of the transaction at this shard.
+/// A prepare that came: the shard that decides, and the reads and writes at this shard.
 #[derive(Drop)]
 pub struct PrepareRequest {
     pub coordinator: ShardNo,
@@ -12,8 +12,8 @@ pub struct PrepareRequest {
     pub writes: Writes,
 }
 
-/// A commit that came: the latest end of the reading at its arrival, the shards that take part, and the part of the
-/// transaction at this shard.
+/// A commit that came: the latest end of the reading at its arrival, the shards that take part, and the reads and writes at this
+/// shard.
 #[derive(Drop)]
 pub struct CommitRequest {
     pub latest: Stamp,
@@ -22,7 +22,7 @@ pub struct CommitRequest {
     pub writes: Writes,
 }
 
-/// What a transaction waits with for its locks: a read, a prepare or a commit.
+/// What a transaction waits with until it gets its locks: a read, a prepare or a commit.
 #[derive(Drop)]
 pub enum Wait {
     Read(Key),
@@ -31,7 +31,7 @@ pub enum Wait {
 }
 
 impl PrepareRequest {
-    /// The request with these reads and writes, in memory of its own.
+    /// Copies the reads and writes into a request. `Memory` if there is none.
     pub fn copied(
         alloc: Global,
         coordinator: ShardNo,
@@ -52,7 +52,7 @@ impl PrepareRequest {
 }
 
 impl CommitRequest {
-    /// The request with these reads and writes, in memory of its own.
+    /// Copies the reads and writes into a request. `Memory` if there is none.
     pub fn copied(
         alloc: Global,
         latest: Stamp,

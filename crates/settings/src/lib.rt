@@ -18,29 +18,29 @@ use toml::de::Error;
 use units::{Fault, Splits, Stride};
 pub use wrong::{Setting, Unread, Wrong};
 
-/// What is driven: the shards, and the workers with their transactions.
+/// The settings of a drive: the shards, and the workers with their transactions.
 #[derive(Drop)]
 pub struct Settings {
-    /// The keys that part the shards.
+    /// The keys that split the key space into shards.
     pub splits: Splits,
-    /// How far ahead of its served time each shard logs a ceiling.
+    /// How far above the time that is asked for a shard puts a ceiling: 0 to 10,000,000 microseconds.
     pub stride: Stride,
-    /// How far the true time may be from the machine's clock on either side: 0 to 1,000,000 microseconds.
+    /// How far the true time may be from the machine's clock, to either side: 0 to 1,000,000 microseconds.
     pub epsilon: u64,
     /// How many threads run transactions: 1 to 64.
     pub workers: u64,
     /// How many transactions each worker runs: 1 to 100,000.
     pub transactions: u64,
-    /// From how many keys transactions take theirs: 1 to 10,000.
+    /// How many different keys the transactions use: 1 to 10,000.
     pub keys: u64,
-    /// The folder of the logs. Where there is none, disks are in memory.
+    /// The folder of the logs. If there is none, the disks are in memory.
     pub dir: Option<String>,
 }
 
 impl Settings {
-    /// The settings that a TOML text gives. Its keys are `shards` (1 to 16), `splits` (an array of texts of 1 to 64 bytes that ascend,
-    /// one less than the shards), `dir` (a text that is not empty), which may be left out, and the other fields by their names. Any other text is refused as
-    /// `settings`.
+    /// Reads the settings from a TOML text. Its keys are `shards` (1 to 16) and the fields by their names. `splits` is an array of
+    /// strings of 1 to 64 bytes that ascend, one less than the shards. `dir` may be left out, and must not be empty. Any other text
+    /// is a `BadRequest` of `Settings`; `read_or_tell` says what is wrong with it.
     pub fn read(alloc: Global, text: &str) -> Result<Settings, Fault>
         ensures { MatchResult result
             (λ settings. settings_of text.now ≡ Some (settings_view settings))
@@ -49,7 +49,7 @@ impl Settings {
         Ok(Settings::read_or_tell(alloc, text)?)
     }
 
-    /// The same settings, or what is wrong with the text, to be told by `Wrong::told`.
+    /// Reads the settings as `read` does, or returns the first thing that is wrong with the text. `Wrong::told` puts that into words.
     pub fn read_or_tell(alloc: Global, text: &str) -> Result<Settings, Unread>
         ensures { MatchResult result
             (λ settings. settings_of text.now ≡ Some (settings_view settings))
@@ -66,7 +66,7 @@ impl Settings {
     }
 }
 
-// The line in which a text is no document, from 1.
+// The line, from 1, in which a text is no document.
 fn line_of(text: &str, error: &Error) -> u64 {
     let Some(span) = error.span() else {
         return 1;

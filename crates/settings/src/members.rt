@@ -11,7 +11,7 @@ use std::alloc::Global;
 use toml::{Table, Value};
 use units::Stride;
 
-/// No key of the table is unknown.
+/// Tells whether settings know each key of the table.
 pub(crate) fn are_known(table: &Table) -> bool
     ensures { result ≡ knows (table_view table.now) }
 {
@@ -24,7 +24,7 @@ fn have_known_names(table: &Table) -> bool
     table.keys().all(|key| is_known_key(key.as_str()))
 }
 
-/// Settings may have the key.
+/// Tells whether settings may have this key.
 pub(crate) fn is_known_key(key: &str) -> bool
     ensures { result ≡ is_known key.now }
 {
@@ -35,7 +35,7 @@ pub(crate) fn is_known_key(key: &str) -> bool
     }
 }
 
-/// The number at a key, where it lies between the two.
+/// Reads the number at a key, which must lie from `least` to `most`.
 pub(crate) fn number(table: &Table, key: Setting, least: u64, most: u64) -> Result<u64, Wrong>
     ensures value { MatchResult result
         (λ n. number_member (name_of key) least most (table_view table.now) ≡ Some n)
@@ -63,7 +63,7 @@ fn number_between(table: &Table, key: &str, least: u64, most: u64) -> Option<u64
     }
 }
 
-/// The stride.
+/// Reads the stride: 0 to 10,000,000 microseconds.
 pub(crate) fn stride(table: &Table) -> Result<Stride, Wrong>
     ensures { MatchResult result
         (λ s. number_member (codes "stride") 0 10000000 (table_view table.now) ≡ Some s)
@@ -89,7 +89,7 @@ fn integer_at(table: &Table, key: &str) -> Option<i64>
     }
 }
 
-/// The array at a key.
+/// Returns the array at a key, or `None` if there is no array.
 pub(crate) fn array_at<'a>(table: &'a Table, key: &str) -> Option<&'a Vec<Value>>
     ensures { option_map (λ v. array_view v.now) result
         ≡ option_and_then as_array (get_member key.now (table_view table.now)) }
@@ -100,7 +100,7 @@ pub(crate) fn array_at<'a>(table: &'a Table, key: &str) -> Option<&'a Vec<Value>
     }
 }
 
-/// There is something at the key.
+/// Tells whether the table has a value at the key.
 pub(crate) fn has(table: &Table, key: &str) -> bool
     ensures { result ≡ is_some (get_member key.now (table_view table.now)) }
 {
@@ -113,7 +113,7 @@ fn member<'a>(table: &'a Table, key: &str) -> Option<&'a Value>
     table.get(key)
 }
 
-/// The folder of the logs, where one is named.
+/// Reads the folder of the logs, if one is named.
 pub(crate) fn folder(alloc: Global, table: &Table) -> Result<Option<String>, Unread>
     ensures { MatchResult result
         (λ d. dir_in (table_view table.now) ≡ Some (option_map string_bytes d))
@@ -128,7 +128,7 @@ pub(crate) fn folder(alloc: Global, table: &Table) -> Result<Option<String>, Unr
     }
 }
 
-// It is not empty.
+// Whether the text is not empty.
 fn names_some(text: &str) -> bool
     ensures { result ≡ nat_le 1 (length text.now) }
 {

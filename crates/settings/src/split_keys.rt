@@ -9,7 +9,7 @@ use std::alloc::Global;
 use toml::{Table, Value};
 use units::{Fault, Key, Splits};
 
-/// The splits of that many shards.
+/// Reads the splits of that many shards.
 pub(crate) fn splits(alloc: Global, table: &Table, shards: u64) -> Result<Splits, Unread>
     requires { shards ≤ 16 }
     ensures { MatchResult result (λ s. splits_in shards (table_view table.now) ≡ Some s)
@@ -25,7 +25,7 @@ pub(crate) fn splits(alloc: Global, table: &Table, shards: u64) -> Result<Splits
     }
 }
 
-// The keys of a list that has nothing else.
+// The keys of a list, each item of which must be a key.
 fn split_keys(alloc: Global, items: &Vec<Value>) -> Result<Vec<Key>, Unread>
     ensures { MatchResult result (λ found. keys_in (array_view items.now) ≡ Some found.items)
         (λ unread. IsUnread unread (keys_in (array_view items.now))) }
@@ -46,7 +46,7 @@ fn split_key(item: &Value) -> Option<Key>
     Key::new(item.as_str()?.as_bytes()).ok()
 }
 
-// The keys as splits, where they are one less than the shards and ascend.
+// The keys as splits: they must be one less than the shards, and ascend.
 fn part(alloc: Global, keys: &[Key], shards: u64) -> Result<Splits, Unread>
     requires { shards ≤ 16 }
     ensures { MatchResult result (λ s. parted shards keys.now ≡ Some s)

@@ -24,7 +24,7 @@ pub enum Setting {
 }
 
 impl Setting {
-    /// How it is written.
+    /// Returns the key as a TOML document spells it.
     pub fn name(self) -> &'static str
         ensures { result.now ≡ name_of self }
     {
@@ -44,27 +44,27 @@ impl Setting {
 /// Why a text gives no settings: the first thing that is wrong with it.
 #[derive(Clone, Copy, PartialEq, Eq)]
 pub enum Wrong {
-    /// It is no TOML: this line, the first one being 1, is none, tells a key once more, or tells a number beyond 64 bits.
+    /// The text is no TOML. This line, from 1, is no TOML, repeats a key, or has a number beyond 64 bits.
     NotToml { line: u64 },
     /// It has a key that settings do not have.
     Unknown,
     /// It lacks this key.
     Missing(Setting),
-    /// The value at this key is no whole number from `least` to `most`.
+    /// The value at this key is no integer from `least` to `most`.
     Number { key: Setting, least: u64, most: u64 },
-    /// The splits are no list.
+    /// The splits are no array.
     NoList,
-    /// A split is no text of 1 to 64 bytes.
+    /// A split is no string of 1 to 64 bytes.
     Split,
-    /// The splits are not one less than the shards.
+    /// The number of splits is not one less than that of shards.
     Count { splits: u64, shards: u64 },
     /// The splits do not ascend.
     Order,
-    /// The folder is no text, or an empty one.
+    /// The folder is no string, or it is empty.
     Folder,
 }
 
-/// Why settings were not read: memory is wanting, or something is wrong with their text.
+/// Why settings were not read: there was no memory, or something is wrong with their text.
 #[derive(Clone, Copy)]
 pub enum Unread {
     Memory,
@@ -119,7 +119,7 @@ impl From<Unread> for Fault {
 }
 
 impl Wrong {
-    /// The key that is wrong, where settings have it.
+    /// Returns the key that is wrong, or "" if settings do not have it.
     fn key(self) -> &'static str {
         match self {
             Wrong::NotToml { .. } | Wrong::Unknown => "",
@@ -129,7 +129,7 @@ impl Wrong {
         }
     }
 
-    /// The line of the text that is wrong, from 1, and its key, where they can be found.
+    /// Returns the line of the text that is wrong, from 1, and its key, if they can be found.
     fn place(self, text: &str) -> Option<(u64, &str)> {
         let key = self.key();
         let mut line: u64 = 0;
@@ -148,7 +148,7 @@ impl Wrong {
         None
     }
 
-    /// What is wrong, as it stands behind the name of the file: the line, where there is one, the key, and what is wanted.
+    /// Says what is wrong, as a message has it after the name of the file: the line if it is known, the key, and what is allowed.
     pub fn told(self, alloc: Global, text: &str) -> Result<String, AllocError> {
         match (self, self.place(text)) {
             (Wrong::Unknown, Some((line, key))) => {
@@ -160,7 +160,7 @@ impl Wrong {
     }
 }
 
-// The key that a line gives a value, or the header of a table. A line of neither has none.
+// The key to which a line gives a value, or the header of a table. Any other line has none.
 fn key_in(line: &str) -> Option<&str> {
     let line = line.trim_ascii();
     if let Some(header) = line.strip_prefix('[') {

@@ -1,4 +1,4 @@
-//! Numbers that threads draw, each once.
+//! A source of numbers that threads draw, so that none is drawn twice.
 #![tactic(auto)]
 
 mod rule;

@@ -1,14 +1,14 @@
-//! The rule of a ticket source, and what its steps tell.
+//! The rule of a ticket source, and its steps. Contracts alone use what is here.
 use atomic_table::{Play, Split, TableRule};
 
-/// What a seat knows: how many drawers it stands for, and what it has drawn. No value of it is made: a clause reads an
-/// array as a list, of any length.
+/// What a seat knows: for how many drawers it stands, and which numbers it has drawn. No value of it is made. A clause reads an
+/// array as a list of any length.
 pub struct Hand {
     pub drawers: u64,
     pub drawn: [u64; 0],
 }
 
-/// The numbers below the word are drawn, each once.
+/// The rule: the numbers below the word are drawn, each once.
 pub struct Counter;
 
 impl TableRule<u8, Hand, ()> for Counter {
@@ -29,7 +29,7 @@ impl Play<u8, Hand> for Drawn {
     ghost then = { Draws };
 }
 
-/// One drawer is cut off.
+/// The step that splits one drawer off.
 pub struct OneDrawer;
 
 impl Split<Hand> for OneDrawer {

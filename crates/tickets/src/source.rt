@@ -1,4 +1,4 @@
-//! A source of tickets, and those who draw from it.
+//! A source of tickets, and its drawers.
 ghost use Rattle.std.specs.Prelude.{◌≡◌, ◌<◌, ◌≤◌, ◌^◌, ◌-◌, ◌⊎◌, [], ◌∷◌, ◌++◌, length, All, IfOk, IfErr, Err, MatchResult};
 ghost use Rattle.tickets.specs.Draws.{IsNew, IsRest};
 ghost use Rattle.tickets.specs.EachOnce.{IdsStayApart, WordCounts};
@@ -9,7 +9,7 @@ use std::alloc::Global;
 use std::marker::Model;
 use units::{Fault, Reason};
 
-/// The source, which threads share. A contract sees which one it is.
+/// A source of tickets, which threads share. A contract sees which one it is.
 pub struct Tickets {
     table: Table<u8, Hand, (), Counter, Global>,
 }
@@ -31,7 +31,7 @@ impl Model for Tickets {
     ghost invariant = { λ t. t.table.shared.table_id.words ≡ 1 };
 }
 
-/// The right to draw.
+/// The right to draw from one source, at most 2^40 times.
 pub struct Drawer {
     seat: Seat<u8, Hand>,
     draws: u64,
@@ -64,7 +64,7 @@ impl Tickets {
     /// The most drawers of a source.
     pub const DRAWERS: usize = 256;
 
-    /// A source with so many drawers, from 1 to 256.
+    /// Makes a source and this many drawers, from 1 to 256. Any other number is a `BadRequest` of `Many`.
     pub fn new(alloc: Global, n: usize) -> Result<(Tickets, Vec<Drawer>), Fault>
         ensures drawers { IfOk result (λ r. (length r.1.items ≡ n) × All (IsNew r.0) r.1.items) }
         ensures many { (n ≡ 0) ⊎ (256 < n) → result ≡ Err (Fault.BadRequest Reason.Many) }
@@ -97,7 +97,7 @@ impl Tickets {
         Tickets { table }
     }
 
-    // A drawer of those that are left with the seat.
+    // Splits a drawer off those that the seat still stands for.
     fn cut(&self, rest: &mut Seat<u8, Hand>, left: usize) -> Drawer
         requires { (rest.old.table_id ≡ self.now) × (0 < left) × IsRest rest.old left }
         ensures rest { (rest.new.table_id ≡ self.now) × IsRest rest.new (left - 1) }
@@ -110,7 +110,7 @@ impl Tickets {
         }
     }
 
-    /// Draws the next number; the first is 0. It waits for nobody. A drawer draws at most 2^40 times.
+    /// Draws the next number, from 0. It never waits. A drawer that has drawn 2^40 times gets `TimeSpent`; take another drawer.
     pub fn draw(&self, me: &mut Drawer) -> Result<u64, Fault>
         requires { me.old.source ≡ self.now }
         ensures source { me.new.source ≡ me.old.source }
@@ -129,13 +129,13 @@ impl Tickets {
     }
 }
 
-/// What the rule of a source means: at every step the lists of all drawers share no number, and together are the numbers
+/// Says what the rule of a source means. At every step the lists of all drawers share no number, and together they are the numbers
 /// below the word.
 pub fn each_once()
     ensures { WordCounts }
 {}
 
-/// What that means for sessions of one run whose ids have numbers of one source: no two of them share an id.
+/// Says what that means for sessions of one run that draw their numbers from one source: no two of them share an id.
 pub fn ids_stay_apart()
     ensures { IdsStayApart }
 {}
