@@ -1,60 +1,61 @@
-//! Laws of services. Each is the contract of a function that does nothing.
+//! Laws for services. Each is the contract of a function that does nothing.
 ghost use Rattle.accounts.specs.Keeping.{KeptBetween, KeptFromTheStart};
 ghost use Rattle.accounts.specs.Bank.{AuditsAgree, NeverBelow, TotalStays};
 ghost use Rattle.accounts.specs.Sessions.{ServicesKeep, SessionsConserve, SessionsKeep, SessionsLeaveEnough};
 ghost use Rattle.accounts.specs.Transfers.{TransfersConserve};
 
-/// What holds of the empty store, and is kept by each transaction on any map that says what it read, holds at every
-/// timestamp of the recovered logs, whatever crash struck.
+/// Says that a test which the empty store passes holds at every timestamp of the recovered logs, whatever crash struck. Each transaction
+/// has to keep the test, on any map that agrees with what it read.
 pub fn kept_from_the_start()
     ensures { KeptFromTheStart }
 {}
 
-/// So it is between two timestamps.
+/// Says that such a test which holds at a timestamp holds later, if each transaction between the two keeps it.
 pub fn kept_between()
     ensures { KeptBetween }
 {}
 
-/// While each transaction is a transfer, the accounts hold as much together at every timestamp, whatever crash struck.
+/// Says that the accounts hold the same total at every timestamp, whatever crash struck, if each transaction is a transfer.
 pub fn total_stays()
     ensures { TotalStays }
 {}
 
-/// Two audits, each of answered looks at all accounts at one timestamp, find as much, while transfers go on.
+/// Says that two audits find the same total while transfers go on. Each audit is of answered looks at all accounts at one timestamp.
 pub fn audits_agree()
     ensures { AuditsAgree }
 {}
 
-/// Where each transaction that takes from an account has read it and leaves what must be left, no account is ever below.
+/// Says that no account ever falls below the least amount, if none begins below it. Each transaction has to leave the least amount in
+/// each account that it writes, or no less than it read there.
 pub fn never_below()
     ensures { NeverBelow }
 {}
 
-/// What holds of the empty store, and is kept by each session that closes, on any map that says what it was answered, holds
-/// at every timestamp of the recovered logs, whatever crash struck.
+/// Says that a test which the empty store passes holds at every timestamp of the recovered logs, whatever crash struck. Each session
+/// that closes has to keep the test, on any map that agrees with the answers that it got.
 pub fn sessions_keep()
     ensures { SessionsKeep }
 {}
 
-/// If each session that closes is a transfer, the accounts hold at every timestamp as much together as at the start, and
-/// each audit finds as much.
+/// Says that the accounts hold the same total at every timestamp as at the start, and each audit finds it. Each session that closes has
+/// to be a transfer.
 pub fn sessions_conserve()
     ensures { SessionsConserve }
 {}
 
-/// If each session that closes leaves enough in each account that it writes, no look finds too little.
+/// Says that no look finds too little, if each session that closes leaves enough in each account that it writes.
 pub fn sessions_leave_enough()
     ensures { SessionsLeaveEnough }
 {}
 
-/// What holds of the empty store holds at every timestamp of the recovered logs, if each session that closes writes what some
-/// function gives of what it was answered, and each such function keeps it on every map.
+/// Says that a test which the empty store passes holds at every timestamp of the recovered logs. Each session that closes has to write
+/// what some function makes of its answers, and each such function has to keep the test on every map.
 pub fn services_keep()
     ensures { ServicesKeep }
 {}
 
-/// If each session that closes is a transfer between two accounts, or writes no account, each audit finds what there was at
-/// the start.
+/// Says that each audit finds what there was at the start, if each session that closes is a transfer between two accounts, or writes no
+/// account.
 pub fn transfers_conserve()
     ensures { TransfersConserve }
 {}

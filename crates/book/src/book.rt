@@ -8,8 +8,8 @@ use std::alloc::Global;
 use std::marker::Model;
 use units::{Capacity, Fault};
 
-/// What a shard's opening found in its log, and a page for each input that the shard accepted since. The space for all pages
-/// is taken when the book is begun.
+/// What an opening found in its log, and a page for each input that the shard accepted since. The memory for the list of pages is
+/// taken when the book is begun.
 pub struct Book {
     capacity: Capacity,
     found: Vec<Record>,
@@ -38,7 +38,7 @@ impl Model for Book {
 }
 
 impl Book {
-    /// A book without a page, of an opening that found these records.
+    /// Makes a book without a page, of an opening that found these records. `Memory` if there is none.
     pub fn new(alloc: Global, capacity: Capacity, found: Vec<Record>) -> Result<Book, Fault>
         ensures new { IfOk result
             (λ book. book ≡ record { capacity = capacity; found = found.items; pages = [] }) }
@@ -52,14 +52,14 @@ impl Book {
         })
     }
 
-    /// There is no room for a page more.
+    /// Tells whether there is no room for another page. The shard then refuses inputs as `BookFull`.
     pub fn is_full(&self) -> bool
         ensures { result ≡ nat_le self.now.capacity (length self.now.pages) }
     {
         self.capacity.entries() <= self.pages.len()
     }
 
-    /// One page more. It takes no memory.
+    /// Adds a page. It takes no memory.
     pub fn push(&mut self, page: Page)
         requires room { length self.old.pages < self.old.capacity }
         ensures { self.new ≡ with_page self.old page }
@@ -67,14 +67,14 @@ impl Book {
         self.pages.push_reserved(page);
     }
 
-    /// The records that the opening found.
+    /// Returns the records that the opening found.
     pub fn found(&self) -> &[Record]
         ensures { result.now ≡ self.now.found }
     {
         self.found.as_slice()
     }
 
-    /// A page for each input that was accepted, in order.
+    /// Returns a page for each input that was accepted, in order.
     pub fn pages(&self) -> &[Page]
         ensures same { result.now ≡ self.now.pages }
         ensures few { length result.now ≤ self.now.capacity }

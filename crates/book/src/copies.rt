@@ -1,4 +1,4 @@
-//! Inputs and outboxes with memory of their own.
+//! Copies of inputs and outboxes.
 ghost use Rattle.std.specs.Prelude.{◌≡◌, IfOk, IfErr};
 
 use message::{Envelope, Input, Outbox};

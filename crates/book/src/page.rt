@@ -8,7 +8,7 @@ use std::marker::Model;
 use truetime::Reading;
 use units::Fault;
 
-/// An input that was accepted, with the reading at which it came and what was put out.
+/// An accepted input, with the reading of the clock at its arrival and the messages that it put out.
 pub struct Page {
     reading: Reading,
     input: Input,
@@ -34,7 +34,7 @@ impl Model for Page {
 }
 
 impl Page {
-    /// The page of an input, with memory of its own.
+    /// Copies an input and its messages into a page. `Memory` if there is none.
     pub fn of(alloc: Global, now: &Reading, input: &Input, outbox: &Outbox) -> Result<Page, Fault>
         ensures same { IfOk result
             (λ page. page ≡ record { input = input.now; now = now.now; outbox = outbox.now }) }
@@ -49,21 +49,21 @@ impl Page {
         })
     }
 
-    /// The reading at which it came.
+    /// Returns the reading at which the input came.
     pub fn reading(&self) -> Reading
         ensures { result ≡ self.entry.now.now }
     {
         self.reading
     }
 
-    /// The input.
+    /// Returns the input.
     pub fn input(&self) -> &Input
         ensures { result.now ≡ self.entry.now.input }
     {
         &self.input
     }
 
-    /// What was put out.
+    /// Returns the messages that it put out.
     pub fn outbox(&self) -> &[Envelope]
         ensures { result.now ≡ self.entry.now.outbox }
     {

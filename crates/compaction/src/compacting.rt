@@ -14,8 +14,9 @@ use disk::Disk;
 use gatelog::{Area, GateLog};
 use units::Fault;
 
-/// Makes another file a log with the records that were read, whatever was in it: an empty log first, which is turned over to
-/// them. Refused, it hands back the first disk, and the new log where it was laid out, or else the second disk.
+/// Makes another file a log with the records that were read, and drops what was in it: first an empty log, which is then turned over
+/// to the records. A refusal returns the first disk, and the empty log if it was laid out, or else the second disk. It is `Memory`,
+/// `Device`, or `TimeSpent` if the log would grow beyond 2^40 bytes.
 pub fn compact<D: Disk>(
     from: Gathered<D>,
     to: D,

@@ -1,4 +1,4 @@
-//! The records of a log, read and spelled.
+//! The records of a log, read and encoded.
 ghost use Rattle.std.specs.Prelude.{◌≡◌, ◌⊎◌, ◌≤◌, ◌<◌, Ok, Err, map, reverse, IsTrue, IfOk, IfErr};
 ghost use Rattle.disk.specs.File.{surface};
 ghost use Rattle.disk.specs.Image.{MayLeave, after_sync};
@@ -12,7 +12,7 @@ use gatelog::{Area, Entry, GateLog, Sink};
 use std::alloc::Global;
 use units::Fault;
 
-// What spells the records of a log, one by one.
+// Encodes the records of a log, one by one.
 #[derive(Drop)]
 struct Gathering {
     area: Area,
@@ -37,7 +37,7 @@ impl Sink for Gathering {
     }
 }
 
-/// The records of a log, with the disk that holds it. Of the records it has their bytes alone.
+/// The records of a log, as their bytes, with the disk that holds it.
 #[derive(Drop)]
 pub struct Gathered<D: Disk> {
     disk: D,
@@ -48,7 +48,8 @@ pub struct Gathered<D: Disk> {
 impl<D: Disk> Gathered<D> {
     ghost use Rattle.compaction.specs.Shown.{source_of};
 
-    /// Reads a log. It syncs the file before, and writes nothing to it.
+    /// Reads a log. It syncs the file before, and writes nothing to it. A refusal returns the disk: `Device` if it failed, `Memory`, or
+    /// what is wrong with the log.
     pub fn of(alloc: Global, disk: D) -> Result<Gathered<D>, (Fault, D)>
         ensures log { IfOk result (λ gathered. D.keeps_model
             → log (surface (D.file (source_of gathered))).seen ≡ log (surface (D.file disk)).seen) }

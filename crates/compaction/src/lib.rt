@@ -1,4 +1,4 @@
-//! The records of a log in a file of their own.
+//! The records of a log are copied into a file of their own.
 #![tactic(auto)]
 
 mod compacting;

@@ -8,8 +8,8 @@ use std::alloc::Global;
 use system::Files;
 use units::Fault;
 
-/// Makes a file with the records of the log in another one, which stays as it is. What is wrong with the old file counts first, and then
-/// nothing is made; then `Device`, where there is something of the new one's name.
+/// Copies the records of a log into a new file, and leaves the old file as it is. What is wrong with the old file is told first, and
+/// then no file is made. `Device` also says that a file has the new name already: choose another one.
 pub fn compact_file<F: Files>(alloc: Global, files: &F, old: &str, new: &str) -> Result<(), Fault>
     ensures { IfErr result IsNotCompacted }
 {

@@ -1,4 +1,4 @@
-//! Commits.
+//! What a coordinator does with a commit.
 ghost use Rattle.std.specs.Prelude.{◌≡◌, true, false, ◌<◌, ◌≤◌, ◌^◌, IfOk, IfErr, MatchResult, [], Some, None, Ok, Err};
 ghost use Rattle.units.specs.Locks.{exclusive};
 ghost use Rattle.protocol.specs.Rows.{held_in};
@@ -20,8 +20,9 @@ use std::alloc::Global;
 use truetime::Reading;
 use units::{Fault, Ids, Lock, Parts, Stamp, TxnId};
 
-/// A commit: where the reads still stand and the locks of what is written are granted, a transaction of this shard alone is
-/// decided at once, and one of several collects votes; else it is aborted, or waits.
+/// Plans what follows from a commit. If the reads still stand and the locks for the writes are granted, it is decided at once, or it
+/// collects votes if other shards take part. If the reads do not stand it is aborted; if a lock is not granted it waits.
+/// `RowsFull` if there is no room for the row, `TimeSpent` if no timestamp is left, and `Stranger` if another shard decides it.
 #[tactic(auto, unfolding(protocol::specs::Cells::plan_commit))]
 pub fn on_commit(
     state: &State,
@@ -49,8 +50,8 @@ pub fn on_commit(
     }
 }
 
-// Where the reads do not stand any more, it is aborted. Else it may come only while there is a timestamp above the reading: where
-// exclusive locks of what is written are granted it goes on, or waits for them.
+// Aborts the transaction if its reads do not stand any more. Else it takes the exclusive locks for the writes, or waits for them, as
+// long as there is a timestamp above the reading.
 fn commit_fresh(state: &State, alloc: Global, now: &Reading, commit: &Commit) -> Result<Step, Fault>
     requires ends { may_end state.now.memory.rows commit.now.txn ≡ true }
     requires drops { may_drop state.now.memory.rows commit.now.txn ≡ true }
@@ -73,7 +74,7 @@ fn commit_fresh(state: &State, alloc: Global, now: &Reading, commit: &Commit) ->
     }
 }
 
-// The locks are granted, where there is a timestamp and room for the row.
+// Takes the locks, if there is a timestamp and room for the row.
 fn grant_now(
     state: &State,
     alloc: Global,
@@ -99,7 +100,7 @@ fn grant_now(
     granted(state, alloc, commit.txn, at, request, undisputed)
 }
 
-// The transaction waits with its commit, where there is room for the row. Whoever is in its way and may be ended is ended.
+// Makes the transaction wait with its commit, if there is room for the row. It ends those that the request wounds.
 fn wait(state: &State, alloc: Global, now: &Reading, commit: &Commit) -> Result<Step, Fault>
     requires shut { opens_writes state.now commit.now.txn commit.now.writes ≡ false }
     requires ends { may_end state.now.memory.rows commit.now.txn ≡ true }
@@ -124,7 +125,7 @@ fn requested(alloc: Global, now: &Reading, commit: &Commit) -> Result<CommitRequ
     CommitRequest::copied(alloc, now.latest(), commit.parts, reads, writes)
 }
 
-/// The commit that a transaction waits with, once its locks are granted.
+/// Plans what follows from a commit that waited, now that its locks are granted. `TimeSpent` if no timestamp is left.
 pub fn resume_commit(
     state: &State,
     alloc: Global,
@@ -146,7 +147,7 @@ pub fn resume_commit(
     granted(state, alloc, txn, at, copy, true)
 }
 
-// When a commit whose locks are granted is decided: at once where no other shard takes part, and else not yet.
+// The timestamp of a commit whose locks are granted, or `None` if other shards have to vote first.
 fn decided_at(state: &State, latest: Stamp, parts: Parts) -> Result<Option<Stamp>, Fault>
     ensures { MatchResult result (IsDecidedAt (start_of state.now) latest parts)
         (λ fault. (fault ≡ Fault.TimeSpent) × IsTooLate (start_of state.now) latest parts) }
@@ -160,7 +161,7 @@ fn decided_at(state: &State, latest: Stamp, parts: Parts) -> Result<Option<Stamp
     }
 }
 
-// The locks of a request are granted, fresh or after a wait: whoever is in the way is ended, and it is decided, or collects votes.
+// Takes the locks, at once or after a wait: it ends those that the request wounds. Then it decides, or collects votes.
 fn granted(
     state: &State,
     alloc: Global,
@@ -187,7 +188,7 @@ fn granted(
     }
 }
 
-// The timestamp of a decision without votes: above the latest end at the commit's arrival, and above all that was served.
+// The timestamp of a decision without votes: above the latest end of the reading at the commit's arrival, and all that was served.
 pub(crate) fn commit_time(state: &State, latest: Stamp) -> Result<Stamp, Fault>
     ensures { MatchResult result
         (λ at. (at ≡ commit_stamp state.now.memory.last latest []) × (at < 2 ^ 62))
@@ -197,7 +198,7 @@ pub(crate) fn commit_time(state: &State, latest: Stamp) -> Result<Stamp, Fault>
     Stamp::above(latest.later(state.last()))
 }
 
-// The decision is logged, and its locks are put.
+// Takes the locks and logs the decision.
 fn decide(
     state: &State,
     alloc: Global,
@@ -235,7 +236,7 @@ pub(crate) fn decision_of(txn: TxnId, at: Stamp, request: CommitRequest) -> Reco
     })
 }
 
-// It collects votes.
+// Takes the locks and collects votes.
 fn collect(
     state: &State,
     alloc: Global,
@@ -261,7 +262,7 @@ fn collect(
     state.puts(alloc, asked, None, state.last(), None)
 }
 
-// The locks of a request are not granted: whoever is in the way and may be ended is ended, and the row waits.
+// Waits for the locks: it ends those that the request wounds.
 fn wait_with(
     state: &State,
     alloc: Global,

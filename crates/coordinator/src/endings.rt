@@ -1,4 +1,4 @@
-//! How a transaction that this shard decides ends: given up, asked for, or settled.
+//! How a coordinator ends a transaction: a client gives it up, a participant asks for its outcome, or it is settled.
 ghost use Rattle.std.specs.Prelude.{◌≡◌, true, IfOk, IfErr};
 ghost use Rattle.protocol.specs.Outputs.{outcome_to};
 ghost use Rattle.protocol.specs.Cells.{plan_abort_for};
@@ -18,7 +18,7 @@ use std::alloc::Global;
 use truetime::{Reading, Waited, pass};
 use units::{Fault, Parts, Stamp, TxnId};
 
-/// A giving up of a transaction that collects votes: it is aborted. What it comes to of any other `participant::on_give_up` tells.
+/// Plans the abort of a transaction that collects votes, because its client gives up. `participant::on_give_up` is for any other.
 pub fn give_up(
     state: &State,
     alloc: Global,
@@ -33,7 +33,8 @@ pub fn give_up(
     state.aborts(alloc, given.txn, collecting.request().parts)
 }
 
-/// The question how a transaction ended. One that is not known, or only reads, is aborted before it is answered.
+/// Plans the answer to a participant that asks how a transaction ended. One that is unknown, or only reads, is aborted first; one
+/// that is not over gets no answer yet. `Stranger` if this shard does not decide it, or the asker takes no part in it.
 #[tactic(auto, unfolding(protocol::specs::Cells::plan_ask))]
 pub fn on_ask(state: &State, alloc: Global, ask: &Ask) -> Result<Step, Fault>
     ensures planned { PlansAsk state.now ask.now (standing_in state.now ask.now.txn) result }
@@ -71,7 +72,7 @@ fn told(state: &State, ask: &Ask, outcome: Option<Stamp>) -> Envelope
     outcome_to(&told, ask.from)
 }
 
-// The shard that asked is told the outcome.
+// Tells the outcome to the shard that asked.
 fn answer(state: &State, alloc: Global, ask: &Ask, outcome: Option<Stamp>) -> Result<Step, Fault>
     ensures plan { MakesReply state.now
         (outcome_to state.now.setup.shard ask.now.txn outcome ask.now.from) result }
@@ -81,7 +82,7 @@ fn answer(state: &State, alloc: Global, ask: &Ask, outcome: Option<Stamp>) -> Re
     state.reply(alloc, told(state, ask, outcome))
 }
 
-// The transaction is aborted, and the shard that asked is told.
+// Aborts the transaction, and tells the shard that asked.
 fn abort_for(state: &State, alloc: Global, ask: &Ask) -> Result<Step, Fault>
     requires { may_drop state.now.memory.rows ask.now.txn ≡ true }
     ensures plan { MakesPlan state.now
@@ -97,8 +98,8 @@ fn abort_for(state: &State, alloc: Global, ask: &Ask) -> Result<Step, Fault>
     Ok(state.drops(alloc, ask.txn, abort, state.last(), out))
 }
 
-/// A decided transaction is settled, once its timestamp has surely passed: its session and the other parts are told. Nobody is
-/// told of a commit before (commit wait): the end is made of the word that it has passed.
+/// Plans the end of a decided transaction, after commit wait: it logs the outcome, and tells the session and the other parts.
+/// `Early` while its timestamp may not have passed: try again later. `Stranger` if it is not decided here, or settled already.
 #[tactic(auto, unfolding(protocol::specs::Cells::plan_settle))]
 pub fn settle(state: &State, alloc: Global, now: &Reading, txn: TxnId) -> Result<Step, Fault>
     ensures planned { PlansSettle state.now now.now.earliest txn (standing_in state.now txn)
@@ -126,7 +127,7 @@ pub fn settle(state: &State, alloc: Global, now: &Reading, txn: TxnId) -> Result
     }
 }
 
-// The row goes, and its session and the other parts are told of the commit.
+// Ends the row, and tells the session and the other parts of the commit.
 fn settle_at(
     state: &State,
     alloc: Global,

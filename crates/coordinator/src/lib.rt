@@ -1,5 +1,5 @@
-//! What a shard does for a transaction that it decides: it takes the commit, counts the votes, waits until the timestamp
-//! has passed, and tells the outcome. Each function tells the plan of its message and changes nothing.
+//! What a shard does for a transaction as its coordinator: it takes the commit, counts the votes, waits until the timestamp has
+//! passed, and tells the outcome. Each function plans the step of one message, and changes nothing.
 #![tactic(auto)]
 
 mod commits;

@@ -1,4 +1,4 @@
-//! Votes.
+//! What a coordinator does with a vote.
 ghost use Rattle.std.specs.List.{list_any};
 ghost use Rattle.std.specs.Prelude.{◌≡◌, ◌+◌, ◌<◌, ◌≤◌, ◌^◌, nat_eq, map, true, false, [], ◌∷◌, Some, None, Ok, IfOk, IfErr, MatchResult};
 ghost use Rattle.units.specs.Lists.{greatest};
@@ -23,7 +23,8 @@ use message::{Outcome, Vote};
 use std::alloc::Global;
 use units::{Fault, Ids, ShardNo, Stamp, TxnId};
 
-/// A vote: a yes is kept, and the last one decides; a no aborts. Who votes for a transaction that ended here is told how.
+/// Plans what follows from a vote. A yes is counted, and the last one decides; a no aborts. A yes for a transaction that has ended
+/// is answered with its outcome. `TimeSpent` if no timestamp is left, `Stranger` if the voter takes no part or another shard decides.
 #[tactic(auto, unfolding(protocol::specs::Cells::plan_vote))]
 pub fn on_vote(state: &State, alloc: Global, vote: &Vote) -> Result<Step, Fault>
     ensures planned { PlansVote state.now vote.now (standing_in state.now vote.now.txn) result }
@@ -50,7 +51,7 @@ pub fn on_vote(state: &State, alloc: Global, vote: &Vote) -> Result<Step, Fault>
     }
 }
 
-// Who voted yes is told the outcome.
+// Tells the outcome to a shard that voted yes.
 #[tactic(auto, unfolding(protocol::specs::Cells::plan_tell))]
 fn tell(state: &State, alloc: Global, vote: &Vote, outcome: Option<Stamp>) -> Result<Step, Fault>
     ensures plan { MakesPlan state.now
@@ -71,7 +72,7 @@ fn tell(state: &State, alloc: Global, vote: &Vote, outcome: Option<Stamp>) -> Re
     }
 }
 
-// A vote for a transaction that collects votes.
+// Takes a vote for a transaction that collects votes.
 #[tactic(auto, unfolding(protocol::specs::Cells::plan_count))]
 fn vote_collected(
     state: &State,
@@ -101,7 +102,7 @@ fn vote_collected(
     }
 }
 
-// A yes is kept, and the last one decides.
+// Counts a yes; the last one decides.
 fn count(
     state: &State,
     alloc: Global,
@@ -125,7 +126,7 @@ fn count(
     decide_counted(state, alloc, txn, at, collecting)
 }
 
-// A yes is kept.
+// Counts a yes that is not the last.
 fn keep_vote(state: &State, alloc: Global, txn: TxnId, last: &Voted) -> Result<Step, Fault>
     requires { has_phase is_collecting state.now.memory.rows txn ≡ true }
     ensures plan { MakesVoteKept state.now txn last.now result }
@@ -140,7 +141,7 @@ fn keep_vote(state: &State, alloc: Global, txn: TxnId, last: &Voted) -> Result<S
     state.puts(alloc, asked, None, state.last(), None)
 }
 
-// The decision is logged, of a transaction that holds its locks.
+// Logs the decision of a transaction that holds its locks.
 fn decide_counted(
     state: &State,
     alloc: Global,
@@ -168,7 +169,7 @@ fn decide_counted(
     state.puts(alloc, asked, Some(decision), last, None)
 }
 
-// Each of the other parts has voted, once this vote is counted too.
+// Whether each other part has voted, with this vote counted.
 #[tactic(auto, unfolding(crate::specs::Granted::more_votes))]
 fn have_all_voted(state: &State, collecting: &RowCollecting, last: &Voted) -> bool
     ensures { result ≡ all_voted (other_parts state.now.setup.shard collecting.now.request.parts)
@@ -179,7 +180,7 @@ fn have_all_voted(state: &State, collecting: &RowCollecting, last: &Voted) -> bo
     have_marked_voted(mask, 16, 0, state.setup().shard, votes, last)
 }
 
-// Each of the shards of a mask from number n on, but for one, has voted, once this vote is counted too.
+// Whether each shard of a mask has voted from number n on, with this vote counted, except one shard.
 #[tactic(auto, using(crate::proofs::Counting::marked_each))]
 fn have_marked_voted(
     mask: u16,
@@ -201,7 +202,7 @@ fn have_marked_voted(
     voted && have_marked_voted(mask / 2, bits - 1, n + 1, except, votes, last)
 }
 
-// The shard of a number has voted.
+// Whether the shard of a number has voted.
 fn has_voted(votes: &[Voted], number: u8) -> bool
     ensures { result ≡ list_any (λ v. nat_eq v.shard number) votes.now }
 {
@@ -213,7 +214,7 @@ fn has_voted(votes: &[Voted], number: u8) -> bool
     false
 }
 
-// The shard of a number has voted, once this vote is counted too.
+// Whether the shard of a number has voted, with this vote counted.
 fn has_voted_with(votes: &[Voted], number: u8, last: &Voted) -> bool
     ensures { result ≡ list_any (λ v. nat_eq v.shard number)
         (more_votes last.now.shard last.now.at votes.now) }
@@ -221,7 +222,7 @@ fn has_voted_with(votes: &[Voted], number: u8, last: &Voted) -> bool
     has_voted(votes, number) || last.shard.number() == number
 }
 
-// The greatest timestamp of some votes, 0 where there is none.
+// The greatest timestamp of some votes, 0 if there is none.
 fn greatest_vote(votes: &[Voted]) -> Stamp
     ensures { result ≡ greatest (map (λ v. v.at) votes.now) }
 {
@@ -231,7 +232,7 @@ fn greatest_vote(votes: &[Voted]) -> Stamp
     }
 }
 
-// The timestamp of the decision, once this vote is counted too.
+// The timestamp of the decision, with this vote counted.
 #[tactic(auto, using(crate::proofs::Counting::stamp_late, crate::proofs::Counting::stamp_again, crate::proofs::Counting::stamp_with))]
 fn decision_time(state: &State, collecting: &RowCollecting, last: &Voted) -> Result<Stamp, Fault>
     ensures { MatchResult result

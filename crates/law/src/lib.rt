@@ -1,5 +1,5 @@
-//! The law of the store, of every lawful run and whatever crash strikes it. Each law is the contract of a function that
-//! does nothing: its definitions are in `specs/`, on those of whole runs.
+//! The law of the store, for every lawful run and whatever crash strikes it. Each law is the contract of a function that does
+//! nothing. Its definitions are in `specs/`, and build on those of whole runs.
 #![tactic(auto)]
 
 mod laws;

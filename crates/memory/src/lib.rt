@@ -1,5 +1,5 @@
-//! What a shard keeps in memory: the facts of its log with the versions by key, its rows with their locks, the ids of transactions
-//! that were ended, and its served time. Plans are made from it, and carried out in it.
+//! What a shard keeps in memory: the facts of its log with the versions by key, and its rows with their locks. It also has the ids
+//! of transactions that were ended, and the served time. Plans are made from it, and carried out in it.
 #![tactic(auto)]
 
 mod carry;

@@ -1,4 +1,4 @@
-//! Giving up.
+//! What a participant does when a transaction is given up.
 ghost use Rattle.std.specs.Prelude.{◌≡◌, false, Ok, IfOk};
 ghost use Rattle.memory.specs.CodeRows.{is_collecting};
 ghost use Rattle.memory.specs.RowTable.{has_phase};
@@ -11,8 +11,8 @@ use message::GiveUp;
 use std::alloc::Global;
 use units::Fault;
 
-/// A giving up of a transaction that collects no votes here: one that reads, or is not known, is ended, and a prepare that it
-/// waits with is refused; any other goes on. One that collects votes `coordinator::give_up` aborts.
+/// Plans what follows when a client gives up a transaction that collects no votes here. One that reads, waits or is unknown is
+/// ended, and a prepare with which it waits gets a no vote. Any other goes on. `coordinator::give_up` is for one that collects votes.
 #[tactic(auto, unfolding(protocol::specs::Cells::plan_give_up))]
 pub fn on_give_up(state: &State, alloc: Global, given: &GiveUp) -> Result<Step, Fault>
     requires { has_phase is_collecting state.now.memory.rows given.now.txn ≡ false }

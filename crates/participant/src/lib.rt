@@ -1,5 +1,5 @@
-//! What a shard does for a transaction in which it takes part: it answers reads, promises, hears the outcome, and ends one
-//! that is given up. Each function tells the plan of its message and changes nothing.
+//! What a shard does for a transaction as a participant: it answers reads, promises, takes the outcome, and ends one that is given
+//! up. Each function plans the step of one message, and changes nothing.
 #![tactic(auto)]
 
 mod giving_up;

@@ -1,4 +1,4 @@
-//! Outcomes, and what a participant does until they come.
+//! What a participant does with an outcome, and how it asks for one.
 ghost use Rattle.std.specs.Prelude.{◌≡◌, [], true, IfOk};
 ghost use Rattle.protocol.specs.Plan.{drops};
 ghost use Rattle.protocol.specs.Cells.{is_outcome_for, raised};
@@ -16,8 +16,8 @@ use record::Record;
 use std::alloc::Global;
 use units::{Fault, TxnId};
 
-/// The outcome of a transaction. A promise is closed by it, where it comes from the coordinator and is not below the
-/// promise; a transaction that made none here may be aborted, and never committed.
+/// Plans what follows from an outcome: it closes the promise. A transaction without a promise here is ended by an abort. `Stranger`
+/// if the outcome is not the promise's coordinator's, lies below the promise, or commits what was not promised here.
 #[tactic(auto, unfolding(protocol::specs::Cells::plan_outcome))]
 pub fn on_outcome(state: &State, alloc: Global, told: &Outcome) -> Result<Step, Fault>
     ensures planned { PlansOutcome state.now told.now (standing_in state.now told.now.txn) result }
@@ -47,7 +47,7 @@ pub fn on_outcome(state: &State, alloc: Global, told: &Outcome) -> Result<Step, 
     }
 }
 
-// The outcome comes from the promise's coordinator, and is not below its timestamp.
+// Whether the outcome comes from the promise's coordinator, and is not below its timestamp.
 fn is_outcome_for(prepared: &RowPrepared, told: &Outcome) -> bool
     ensures { result ≡
         is_outcome_for told.now.from prepared.now.coordinator prepared.now.at told.now.outcome }
@@ -61,7 +61,7 @@ fn is_outcome_for(prepared: &RowPrepared, told: &Outcome) -> bool
     }
 }
 
-// The promise is closed.
+// Closes the promise.
 fn close(state: &State, alloc: Global, told: &Outcome) -> Step
     requires { has_phase may_close state.now.memory.rows told.now.txn ≡ true }
     ensures plan { plan_of state.now.memory.rows result ≡
@@ -80,7 +80,7 @@ fn close(state: &State, alloc: Global, told: &Outcome) -> Step
     state.drops(alloc, told.txn, outcome, last, Vec::new(alloc))
 }
 
-/// A prepared transaction's coordinator is asked how it ended.
+/// Plans the question to the coordinator of a prepared transaction: how did it end? `Stranger` if it is not prepared here.
 #[tactic(auto, unfolding(protocol::specs::Cells::plan_nudge))]
 pub fn on_nudge(state: &State, alloc: Global, txn: TxnId) -> Result<Step, Fault>
     ensures planned { PlansNudge state.now txn (standing_in state.now txn) result }

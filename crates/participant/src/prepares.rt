@@ -1,4 +1,4 @@
-//! Prepares.
+//! What a participant does with a prepare.
 ghost use Rattle.std.specs.Prelude.{◌≡◌, ℕ, true, false, ◌+◌, ◌<◌, ◌≤◌, ◌^◌, max, IfOk, IfErr, MatchResult, [], ◌∷◌, Some, None, Ok, Err};
 ghost use Rattle.units.specs.Locks.{exclusive};
 ghost use Rattle.protocol.specs.Rows.{held_in, WaitsPrepare};
@@ -17,8 +17,9 @@ use std::alloc::Global;
 use truetime::Reading;
 use units::{Fault, ShardNo, Stamp, TxnId};
 
-/// A prepare: where the reads still stand and the locks of what is written are granted, a promise is logged at a timestamp
-/// above all that was served, and voted for; else the vote is refused, or the transaction waits.
+/// Plans what follows from a prepare. If the reads still stand and the locks for the writes are granted, it logs a promise and votes
+/// yes, at a timestamp above all that was served. If the reads do not stand it votes no, and if a lock is not granted it waits.
+/// `RowsFull` if there is no room for the row, `TimeSpent` if no timestamp is left, and `Stranger` if this shard decides it.
 #[tactic(auto, unfolding(protocol::specs::Cells::plan_prepare))]
 pub fn on_prepare(
     state: &State,
@@ -47,7 +48,7 @@ pub fn on_prepare(
     }
 }
 
-// The vote, to the coordinator that the prepare names.
+// Votes, to the coordinator that the prepare names.
 fn vote(state: &State, alloc: Global, prepare: &Prepare, vote: Option<Stamp>) -> Result<Step, Fault>
     ensures plan { MakesReply state.now
         (vote_to state.now.setup.shard prepare.now.coordinator prepare.now.txn vote) result }
@@ -58,8 +59,8 @@ fn vote(state: &State, alloc: Global, prepare: &Prepare, vote: Option<Stamp>) ->
     state.reply(alloc, envelope)
 }
 
-// Where the reads do not stand any more, the transaction is ended here. Else it promises where exclusive locks of what is written
-// are granted, or waits for them.
+// Ends the transaction and votes no if its reads do not stand any more. Else it promises if the exclusive locks for the writes are
+// granted, or waits for them.
 fn prepare_fresh(
     state: &State,
     alloc: Global,
@@ -83,7 +84,7 @@ fn prepare_fresh(
     }
 }
 
-// The transaction is ended, and its vote refused.
+// Ends the transaction and votes no.
 pub(crate) fn refuse(
     state: &State,
     alloc: Global,
@@ -104,7 +105,7 @@ pub(crate) fn refuse(
     Ok(state.ends(alloc, txn, out))
 }
 
-// The locks are granted, and the promise is made, where there is a timestamp and room for the row.
+// Takes the locks and promises, if there is a timestamp and room for the row.
 fn promise_now(
     state: &State,
     alloc: Global,
@@ -131,7 +132,7 @@ fn promise_now(
     promise(state, alloc, prepare.txn, at, request, undisputed)
 }
 
-// The transaction waits with its prepare, where there is room for the row. Whoever is in its way and may be ended is ended.
+// Makes the transaction wait with its prepare, if there is room for the row. It ends those that the request wounds.
 fn wait(state: &State, alloc: Global, prepare: &Prepare) -> Result<Step, Fault>
     requires opens { opens_writes state.now prepare.now.txn prepare.now.writes ≡ false }
     requires ends { may_end state.now.memory.rows prepare.now.txn ≡ true }
@@ -160,7 +161,7 @@ fn requested(alloc: Global, prepare: &Prepare) -> Result<PrepareRequest, Fault>
     PrepareRequest::copied(alloc, prepare.coordinator, reads, writes)
 }
 
-/// The prepare that a transaction waits with, once its locks are granted.
+/// Plans the promise of a prepare that waited, now that its locks are granted. `TimeSpent` if no timestamp is left.
 pub fn resume_prepare(
     state: &State,
     alloc: Global,
@@ -183,7 +184,7 @@ pub fn resume_prepare(
     promise(state, alloc, txn, at, copy, true)
 }
 
-// The timestamp of a promise: above all that was served, and no earlier than the reading.
+// The timestamp of a promise: above all that was served, and not below the reading's earliest.
 fn promise_time(state: &State, now: &Reading) -> Result<Stamp, Fault>
     ensures { MatchResult result
         (λ at. (at ≡ max (state.now.memory.last + 1) now.now.earliest) × (at < 2 ^ 62))
@@ -196,7 +197,7 @@ fn promise_time(state: &State, now: &Reading) -> Result<Stamp, Fault>
     Ok(above.later(now.earliest()))
 }
 
-// The locks of a request are granted, fresh or after a wait: whoever is in the way is ended, and the promise logged and voted for.
+// Takes the locks, at once or after a wait: it ends those that the request wounds, logs the promise, and votes yes.
 fn promise(
     state: &State,
     alloc: Global,
@@ -234,7 +235,7 @@ fn promise(
     state.puts(alloc, stands, Some(promise), last, Some(yes))
 }
 
-// The locks of a request are not granted: whoever is in the way and may be ended is ended, and the row waits.
+// Waits for the locks: it ends those that the request wounds.
 fn wait_with(
     state: &State,
     alloc: Global,

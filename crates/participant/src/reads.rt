@@ -1,4 +1,4 @@
-//! Reads.
+//! What a participant does with a read.
 ghost use Rattle.std.specs.Prelude.{◌≡◌, ℕ, true, IfOk, IfErr, [], ◌∷◌, None};
 ghost use Rattle.message.specs.declared.message.Answer.TheVariants.{Refused};
 ghost use Rattle.protocol.specs.Rows.{WaitsRead, held_in};
@@ -14,7 +14,8 @@ use message::{Answer, Read};
 use std::alloc::Global;
 use units::{Fault, Ids, Key, Lock, Mode, TxnId};
 
-/// A read: a key that is held is answered at once; else a shared lock is asked for, and the answer comes once it is held.
+/// Plans what follows from a read. It is answered once the transaction holds a shared lock of the key, at once or after a wait. A
+/// transaction that has ended here is refused. `RowsFull` if there is no room for its row.
 #[tactic(auto, unfolding(protocol::specs::Cells::plan_read))]
 pub fn on_read(state: &State, alloc: Global, read: &Read) -> Result<Step, Fault>
     ensures planned { PlansRead state.now read.now (standing_in state.now read.now.txn) result }
@@ -35,7 +36,7 @@ pub fn on_read(state: &State, alloc: Global, read: &Read) -> Result<Step, Fault>
     }
 }
 
-// A key that is held is answered at once; a row that waits stays as it is.
+// Answers a key that is held; a row that waits stays as it is.
 fn read_row(state: &State, alloc: Global, txn: TxnId, key: &Key, waits: bool) -> Result<Step, Fault>
     requires { may_end state.now.memory.rows txn ≡ true }
     ensures planned { IsPlanned state.now
@@ -52,7 +53,7 @@ fn read_row(state: &State, alloc: Global, txn: TxnId, key: &Key, waits: bool) ->
     read_now(state, alloc, txn, key)
 }
 
-// A key that is held is answered.
+// Answers a key that is held.
 fn answer_held(state: &State, alloc: Global, txn: TxnId, key: &Key) -> Result<Step, Fault>
     ensures plan { MakesReply state.now (answers (start_of state.now) txn key.now) result }
     ensures fit { IfOk result (IsFit state.now) }
@@ -64,7 +65,7 @@ fn answer_held(state: &State, alloc: Global, txn: TxnId, key: &Key) -> Result<St
     state.reply(alloc, answer)
 }
 
-// A shared lock and the answer, or a wait, where there is room for the row.
+// Takes a shared lock and answers, or waits for the lock, if there is room for the row.
 fn read_now(state: &State, alloc: Global, txn: TxnId, key: &Key) -> Result<Step, Fault>
     requires { may_end state.now.memory.rows txn ≡ true }
     ensures planned { IsPlanned state.now (plan_read_now (start_of state.now) txn key.now) result }
@@ -90,7 +91,7 @@ fn read_now(state: &State, alloc: Global, txn: TxnId, key: &Key) -> Result<Step,
     state.puts(alloc, request, None, state.last(), None)
 }
 
-/// The read that a transaction waits with, once its lock is granted.
+/// Plans the answer to a read that waited, now that its lock is granted. `Memory` if there is none.
 pub fn resume_read(state: &State, alloc: Global, txn: TxnId, key: &Key) -> Result<Step, Fault>
     requires { Asks state.now.memory.rows txn [] (to_read key.now) true }
     ensures planned { (earliest : ℕ)
@@ -105,7 +106,7 @@ pub fn resume_read(state: &State, alloc: Global, txn: TxnId, key: &Key) -> Resul
     grant(state, alloc, nobody, needs, txn, key)
 }
 
-// The lock is granted, and the read answered.
+// Takes the lock and answers the read.
 fn grant(
     state: &State,
     alloc: Global,
@@ -131,7 +132,7 @@ fn grant(
     state.puts(alloc, request, None, state.last(), Some(answer))
 }
 
-// The read is refused.
+// Refuses the read.
 fn refuse(state: &State, alloc: Global, txn: TxnId, key: &Key) -> Result<Step, Fault>
     ensures plan { MakesReply state.now
         (answer_to state.now.setup.shard txn key.now state.now.facts.epoch Refused) result }
@@ -148,7 +149,7 @@ fn refuse(state: &State, alloc: Global, txn: TxnId, key: &Key) -> Result<Step, F
     state.reply(alloc, answer)
 }
 
-// A shared lock of a key.
+// A list of one shared lock of a key.
 fn shared(alloc: Global, key: &Key) -> Result<Vec<Lock>, Fault>
     ensures lock { IfOk result (λ locks. locks.items ≡ to_read key.now) }
     ensures memory { IfErr result (λ fault. fault ≡ Fault.Memory) }

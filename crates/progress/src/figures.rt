@@ -3,7 +3,7 @@ ghost use Rattle.std.specs.Prelude.{◌≡◌, ◌≤◌, [], ◌↔◌, IsNone,
 ghost use Rattle.std.specs.List.Sorted.{IsNonDecreasing};
 ghost use Rattle.progress.specs.Figures.{IsPercentile, rate_of};
 
-/// How many a second, where there were so many in some microseconds. It is 0 where there were no microseconds.
+/// Returns how many a second it is, rounded down, if there were `count` in so many microseconds. It is 0 for 0 microseconds.
 pub fn per_second(count: u64, micros: u64) -> u128
     ensures { result ≡ rate_of count micros }
 {
@@ -14,7 +14,7 @@ pub fn per_second(count: u64, micros: u64) -> u128
     }
 }
 
-/// The least of some numbers that so many of a hundred do not exceed.
+/// Returns the least of these numbers that `percent` of 100 of them do not exceed, or `None` if there are none.
 pub fn percentile(sorted: &[u64], percent: u64) -> Option<u64>
     requires sorted { IsNonDecreasing sorted.now }
     requires percent { (1 ≤ percent) × (percent ≤ 100) }

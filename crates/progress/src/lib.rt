@@ -1,5 +1,5 @@
-//! What a drive shows while it runs: how many turns are done, how many commits there are a second, and how long commits, aborts and
-//! looks take.
+//! What a drive shows while it runs: how many turns are done, and how many commits there are in a second. At the end it shows how
+//! long commits, aborts and looks took.
 #![tactic(auto)]
 
 mod figures;

@@ -1,10 +1,10 @@
-//! How often something is shown.
+//! How often a line is shown.
 ghost use Rattle.std.specs.Prelude.{◌≡◌, ◌+◌, ◌≤◌, ◌↔◌, IsTrue};
 ghost use Rattle.std.specs.Bool.{OnTrue, OnFalse};
 
 use std::marker::Model;
 
-/// When something was shown last, in microseconds since the start. It is shown at most five times a second.
+/// The time of the last line, in microseconds since the start. Lines are shown at most five times a second.
 #[derive(Drop)]
 pub struct Pace {
     last: u64,
@@ -19,14 +19,14 @@ impl Model for Pace {
 }
 
 impl Pace {
-    /// From the start on.
+    /// Begins at the start, before any line.
     pub fn new() -> Pace
         ensures { result ≡ 0 }
     {
         Pace { last: 0 }
     }
 
-    /// Whether it is shown at a moment, in microseconds since the start.
+    /// Tells whether a line is due at a time in microseconds since the start. If it is, that time counts as the last line's.
     pub fn is_due(&mut self, micros: u64) -> bool
         ensures due { IsTrue result ↔ (self.old + 200000 ≤ micros) }
         ensures shown { OnTrue result (self.new ≡ micros) }

@@ -1,4 +1,4 @@
-//! How far a drive is.
+//! The progress of a drive.
 ghost use Rattle.std.specs.Prelude.{◌≡◌, ◌+◌, ◌<◌, ◌++◌, ◌∷◌, ◌↔◌, ◌≤◌, [], Option, length, IsTrue, IfOk, OnOk, OnErr, string_bytes};
 ghost use Rattle.progress.specs.Table.{IsTable, row_text};
 ghost use Rattle.progress.specs.Tally.{AreFiguresOf, abort_of, commit_of, line_text};
@@ -11,8 +11,8 @@ use crate::turn::{Ended, Turn};
 use std::alloc::{AllocError, Global};
 use std::marker::Model;
 
-/// The turns of a drive: how many there are, how many are done, and how many of these committed or were aborted, with how many
-/// microseconds each took; and the same of the looks that were answered.
+/// The turns of a drive: how many there are, how many are done, and how many of these committed or were aborted. It keeps how many
+/// microseconds each took, and the same of the looks that were answered.
 #[derive(Drop)]
 pub struct Progress {
     turns: u64,
@@ -41,7 +41,7 @@ impl Model for Progress {
 }
 
 impl Progress {
-    /// So many turns, of which none is done.
+    /// Makes the progress of a drive with so many turns, of which none is done.
     pub fn new(alloc: Global, turns: u64) -> Progress
         ensures turns { (result.turns ≡ turns) × (result.done ≡ 0) }
         ensures commits { result.commits ≡ record { count = 0; micros = [] } }
@@ -57,7 +57,7 @@ impl Progress {
         }
     }
 
-    /// Whether all turns are done.
+    /// Tells whether all turns are done.
     pub fn is_done(&self) -> bool
         ensures done { IsTrue result ↔ (self.now.done ≡ self.now.turns) }
         ensures within { self.now.done ≤ self.now.turns }
@@ -65,7 +65,7 @@ impl Progress {
         self.done == self.turns
     }
 
-    /// Whether as many looks were answered as there are turns.
+    /// Tells whether as many looks were answered as there are turns.
     pub fn has_looked(&self) -> bool
         ensures looked { IsTrue result ↔ (self.now.looks.count ≡ self.now.turns) }
         ensures within { self.now.looks.count ≤ self.now.turns }
@@ -73,14 +73,14 @@ impl Progress {
         self.looks.count() == self.turns
     }
 
-    /// Whether nothing was counted.
+    /// Tells whether nothing was counted.
     pub fn is_new(&self) -> bool
         ensures { IsTrue result ↔ ((self.now.done ≡ 0) × (self.now.looks.count ≡ 0)) }
     {
         self.done == 0 && self.looks.count() == 0
     }
 
-    /// Counts a turn. Where there is no memory to keep how long it took, it is counted all the same.
+    /// Counts a turn. If there is no memory to keep how long it took, the turn still counts.
     pub fn count(&mut self, turn: Turn) -> Result<(), AllocError>
         requires { self.old.done < self.old.turns }
         ensures turns { self.new.turns ≡ self.old.turns }
@@ -105,7 +105,7 @@ impl Progress {
         }
     }
 
-    /// Counts a look that was answered after so many microseconds, as `count` does a turn.
+    /// Counts a look that was answered after so many microseconds. If there is no memory to keep that, the look still counts.
     pub fn count_look(&mut self, micros: u64) -> Result<(), AllocError>
         requires { self.old.looks.count < self.old.turns }
         ensures turns { (self.new.turns ≡ self.old.turns) × (self.new.done ≡ self.old.done) }
@@ -119,7 +119,7 @@ impl Progress {
         self.looks.add(micros)
     }
 
-    /// How far it is after so many microseconds.
+    /// Makes the line that shows the progress after so many microseconds.
     pub fn line(&self, alloc: Global, micros: u64) -> Result<String, AllocError>
         ensures { IfOk result (λ text. string_bytes text ≡ line_text self.now micros) }
     {
@@ -129,8 +129,8 @@ impl Progress {
         format!(in alloc; "{done} of {turns} done, {rate} commits a second")
     }
 
-    /// A table of the commits, the aborts and the looks: how many there were, and how many microseconds half of them took at most, 90 of
-    /// 100 and 99 of 100, and the longest.
+    /// Makes the table of the commits, the aborts and the looks, with the count of each. It shows in microseconds what 50, 90 and 99 of
+    /// 100 took at most, and the longest.
     pub fn table(self, alloc: Global) -> Result<String, AllocError>
         ensures { IfOk result (λ text. IsTable self (string_bytes text)) }
     {
@@ -150,7 +150,7 @@ impl Progress {
     }
 }
 
-// A line of the table.
+// Adds a line of the table.
 fn push_row(text: &mut String, alloc: Global, word: &str, series: Series) -> Result<(), AllocError>
     ensures { OnOk result ((figures : Option Figures) × AreFiguresOf series.micros figures
         × (string_bytes text.new ≡ string_bytes text.old

@@ -1,4 +1,4 @@
-//! Lines on a terminal, each over the one before.
+//! Lines on a terminal, each written over the one before.
 ghost use Rattle.std.specs.Prelude.{◌≡◌, ◌⊎◌, [], ◌+◌, ◌-◌, ◌<◌, ◌≤◌, ◌++◌, ◌∷◌, IfOk, min, length, replicate, string_bytes};
 ghost use Rattle.progress.specs.Tally.{abort_of, commit_of};
 
@@ -10,21 +10,20 @@ use std::alloc::{AllocError, Global};
 use std::io;
 use std::io::Write;
 
-/// A writer to a terminal, with what is shown there. A write that fails is passed over, and so is a line for which there is no
-/// memory.
+/// A writer to a terminal, with what is shown there. A write that fails is ignored, and so is a line for which there is no memory.
 #[derive(Drop)]
 pub struct Screen<W: Write> {
     writer: W,
     progress: Progress,
     pace: Pace,
-    // How many bytes stand on the terminal's last line.
+    // How many bytes the last line on the terminal has.
     shown: usize,
 }
 
 impl<W: Write> Screen<W> {
     ghost use Rattle.progress.specs.Screens.{last_of, tally_of, writer_of};
 
-    /// So many turns, of which none is done. Nothing is shown yet.
+    /// Makes a screen for so many turns, of which none is done. Nothing is shown yet.
     pub fn new(alloc: Global, writer: W, turns: u64) -> Screen<W>
         ensures writer { writer_of result ≡ writer }
         ensures turns { ((tally_of result).turns ≡ turns) × ((tally_of result).done ≡ 0) }
@@ -38,8 +37,8 @@ impl<W: Write> Screen<W> {
         }
     }
 
-    /// Counts a turn that ended at a moment, in microseconds since the start, and shows a line where one is due. A turn more
-    /// than there were to be is passed over.
+    /// Counts a turn that ended at a time in microseconds since the start, and shows a line if one is due. A turn beyond the number of
+    /// turns is ignored.
     pub fn turned(&mut self, alloc: Global, turn: Turn, micros: u64)
         ensures turns { (tally_of self.new).turns ≡ (tally_of self.old).turns }
         ensures done { (tally_of self.new).done
@@ -62,7 +61,7 @@ impl<W: Write> Screen<W> {
         }
     }
 
-    /// Counts a look that was answered after so many microseconds. One more than there were to be turns is passed over.
+    /// Counts a look that was answered after so many microseconds. One beyond the number of turns is ignored.
     pub fn looked(&mut self, micros: u64)
         ensures turns { (tally_of self.new).turns ≡ (tally_of self.old).turns }
         ensures done { (tally_of self.new).done ≡ (tally_of self.old).done }
@@ -109,8 +108,8 @@ impl<W: Write> Screen<W> {
         self.writer.write_all(text.as_bytes())
     }
 
-    /// Shows the last line, of a drive that took so many microseconds, and the table of how long what was counted took, and gives
-    /// the writer back. Where nothing was counted nothing is shown.
+    /// Shows the last line, for a drive that took so many microseconds, and the table, and returns the writer. If nothing was counted,
+    /// nothing is shown.
     pub fn finish(self, alloc: Global, micros: u64) -> W {
         let mut screen = self;
         if screen.progress.is_new() {
@@ -144,7 +143,7 @@ impl<W: Write> Screen<W> {
     }
 }
 
-// A line over one of so many bytes, of which nothing is left, and its end.
+// A line with its end, to be written over one of so many bytes, so that nothing of that is left.
 fn over(alloc: Global, line: &str, shown: usize, end: &str) -> Result<String, AllocError>
     ensures { IfOk result (λ text. string_bytes text ≡ 13 ∷ (line.now
         ++ (replicate (shown - length line.now) 32 ++ end.now))) }

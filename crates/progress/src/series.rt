@@ -1,4 +1,4 @@
-//! How long what is of one kind takes.
+//! How long turns or looks of one kind take.
 ghost use Rattle.std.specs.Prelude.{◌≡◌, ◌+◌, ◌<◌, ◌^◌, ◌++◌, ◌∷◌, [], IfOk, OnOk, OnErr};
 ghost use Rattle.std.specs.List.Sorted.{IsNonDecreasing};
 ghost use Rattle.progress.specs.Tally.{AreFiguresOf};
@@ -7,7 +7,7 @@ use crate::figures::percentile;
 use std::alloc::{AllocError, Global};
 use std::marker::Model;
 
-/// How many there were, and how many microseconds each took for which there was memory to keep that.
+/// How many there were, and how many microseconds each took. A duration for which there was no memory is not kept.
 #[derive(Drop)]
 pub struct Series {
     count: u64,
@@ -22,7 +22,7 @@ impl Model for Series {
     ghost view = { λ s. record { count = s.count; micros = s.micros.items } };
 }
 
-/// How many microseconds the half of some took at most, 90 of 100 and 99 of 100, and the longest.
+/// How many microseconds 50, 90 and 99 of 100 took at most, and the longest.
 #[derive(Clone, Copy)]
 pub struct Figures {
     pub half: u64,
@@ -32,7 +32,7 @@ pub struct Figures {
 }
 
 impl Series {
-    /// None yet.
+    /// Makes an empty series.
     pub fn new(alloc: Global) -> Series
         ensures { result ≡ record { count = 0; micros = [] } }
     {
@@ -42,14 +42,14 @@ impl Series {
         }
     }
 
-    /// How many there were.
+    /// Returns how many were counted.
     pub fn count(&self) -> u64
         ensures { result ≡ self.now.count }
     {
         self.count
     }
 
-    /// Counts one that took so many microseconds. Where there is no memory to keep how many, it is counted all the same.
+    /// Counts one that took so many microseconds. If there is no memory to keep that, it still counts.
     pub fn add(&mut self, micros: u64) -> Result<(), AllocError>
         requires { self.old.count + 1 < 2 ^ 64 }
         ensures count { self.new.count ≡ self.old.count + 1 }
@@ -61,7 +61,7 @@ impl Series {
         Ok(())
     }
 
-    /// What they took, where it is known of one.
+    /// Returns the figures of the durations that were kept, or `None` if there are none.
     pub fn figures(self) -> Result<Option<Figures>, AllocError>
         ensures { IfOk result (AreFiguresOf self.micros) }
     {
@@ -72,7 +72,7 @@ impl Series {
     }
 }
 
-// The figures of numbers in order.
+// The figures of sorted numbers.
 fn figures_of(sorted: &[u64]) -> Option<Figures>
     requires { IsNonDecreasing sorted.now }
     ensures { AreFiguresOf sorted.now result }

@@ -2,7 +2,7 @@
 use std::time;
 use std::time::Instant;
 
-/// When something began.
+/// The time at which something began.
 #[derive(Clone, Copy)]
 pub struct Stopwatch {
     since: Option<Instant>,
@@ -16,7 +16,7 @@ impl Stopwatch {
         }
     }
 
-    /// How many microseconds have passed since. There are none where the clock can't be read.
+    /// Returns how many microseconds have passed since the start. It is 0 if the clock cannot be read.
     pub fn micros<R: time::Clock>(&self, rt: &R) -> u64 {
         match self.since {
             Some(since) => match since.elapsed(rt) {

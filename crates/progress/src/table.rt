@@ -6,13 +6,13 @@ ghost use Rattle.progress.specs.Table.{cell, figures_cells, row_text};
 use crate::series::Figures;
 use std::alloc::{AllocError, Global};
 
-/// The words above the columns. Durations are in microseconds. A line has 47 bytes, if no number has more than seven digits.
+/// The head of the table. Durations are in microseconds. A line has 47 bytes, if no number has more than seven digits.
 pub const HEAD: &str = "     us   count    half     90%     99%    most\n";
 
-// In the place of what they took.
+// Stands in a line whose durations are not known.
 const DASHES: &str = "       -       -       -       -";
 
-/// A line of the table: what it is of, how many there were, and how long they took, where that is known.
+/// Makes a line of the table: a word, how many there were, and how long they took if that is known.
 pub fn row(
     alloc: Global,
     word: &str,
@@ -49,7 +49,7 @@ fn push_figures(
     }
 }
 
-// A number in its column.
+// Adds a number in its column.
 fn push_number(text: &mut String, alloc: Global, number: u64) -> Result<(), AllocError>
     ensures { OnOk result
         (string_bytes text.new ≡ string_bytes text.old ++ cell (decimal number)) }
@@ -60,7 +60,7 @@ fn push_number(text: &mut String, alloc: Global, number: u64) -> Result<(), Allo
     text.push_str(&word)
 }
 
-/// Blanks, as many as a word of one length is shorter than another.
+/// Adds as many blanks as `from` is less than `to`.
 pub fn push_blanks(text: &mut String, from: usize, to: usize) -> Result<(), AllocError>
     ensures { OnOk result
         (string_bytes text.new ≡ string_bytes text.old ++ replicate (to - from) 32) }

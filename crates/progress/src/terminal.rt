@@ -7,7 +7,7 @@ use std::io::Write;
 use std::sync::{Mutex, Wait};
 use std::time;
 
-/// Shows the turns of a drive on a terminal while it runs.
+/// A screen that threads share, which shows the turns of a drive while it runs.
 #[derive(Drop)]
 pub struct Terminal<'r, R, W: Write + Drop> {
     rt: &'r R,
@@ -17,7 +17,7 @@ pub struct Terminal<'r, R, W: Write + Drop> {
 }
 
 impl<'r, R: Wait + time::Clock, W: Write + Drop> Terminal<'r, R, W> {
-    /// A drive of so many turns that begins now.
+    /// Begins a drive of so many turns now.
     pub fn new(rt: &'r R, alloc: Global, writer: W, turns: u64) -> Terminal<'r, R, W> {
         Terminal {
             rt,
@@ -27,7 +27,7 @@ impl<'r, R: Wait + time::Clock, W: Write + Drop> Terminal<'r, R, W> {
         }
     }
 
-    /// Shows the last line and the table once the drive is over, and gives the writer back.
+    /// Shows the last line and the table once the drive is over, and returns the writer.
     pub fn finish(self) -> W {
         let Terminal {
             rt,

@@ -1,6 +1,6 @@
-//! Turns that ended, and who is told of them.
+//! Turns that ended, and what takes note of them.
 
-/// How a transaction ended for its worker. It is not known where the worker gave up while closing.
+/// How a transaction ended, as its worker knows. It is `Unknown` if the worker gave up while closing.
 #[derive(Clone, Copy)]
 pub enum Ended {
     Committed,
@@ -8,25 +8,25 @@ pub enum Ended {
     Unknown,
 }
 
-/// How a turn's transaction ended, and how many microseconds it took, from before its begin until its end was heard.
+/// How a turn's transaction ended, and how many microseconds it took, from before its begin until its worker heard the end.
 #[derive(Clone, Copy)]
 pub struct Turn {
     pub ended: Ended,
     pub micros: u64,
 }
 
-/// Who is told of each turn that ended, and of each look that was answered, by the thread that ran it. Threads tell at the same time.
+/// What is told of each turn that ended and each look that was answered, by the thread that ran it. Threads call it at the same time.
 pub trait Watch {
     fn turned(&self, turn: Turn);
 
-    /// The look behind a turn was answered after so many microseconds.
+    /// Takes note that the look after a turn was answered after so many microseconds.
     fn looked(&self, _micros: u64) {}
 
-    /// The device of this shard failed, so that it has stopped.
+    /// Takes note that this shard has stopped, since its device failed.
     fn stopped(&self, _shard: usize) {}
 }
 
-/// Does nothing.
+/// Takes note of nothing.
 #[derive(Clone, Copy)]
 pub struct NoWatch;
 

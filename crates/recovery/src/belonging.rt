@@ -1,4 +1,4 @@
-//! Whose keys a record names.
+//! The shard to which the keys of a record belong.
 ghost use Rattle.std.specs.List.{list_all};
 ghost use Rattle.std.specs.Prelude.{◌≡◌, nat_eq};
 ghost use Rattle.record.specs.Accepted.{belongs, keys_belong};
@@ -7,7 +7,7 @@ ghost use Rattle.units.specs.Keys.{shard_of};
 use record::Record;
 use units::{Keys, Setup, Writes};
 
-/// The record names keys of this shard alone.
+/// Tells whether the record names only keys of this shard.
 #[tactic(auto, unfolding(record::specs::Accepted::belongs))]
 pub fn belongs(setup: &Setup, item: &Record) -> bool
     ensures { result ≡ belongs setup.now item.now }
@@ -20,14 +20,14 @@ pub fn belongs(setup: &Setup, item: &Record) -> bool
     }
 }
 
-/// Each key that is read or written is of this shard.
+/// Tells whether each key that is read or written is this shard's.
 pub fn owns_all(setup: &Setup, reads: &Keys, writes: &Writes) -> bool
     ensures { result ≡ keys_belong setup.now reads.now writes.now }
 {
     owns_keys(setup, reads) && setup.owns_writes(writes)
 }
 
-// Each of the keys is of this shard.
+// Whether each of the keys is this shard's.
 fn owns_keys(setup: &Setup, keys: &Keys) -> bool
     ensures { result ≡
         list_all (λ k. nat_eq (shard_of setup.now.splits k) setup.now.shard) keys.now }

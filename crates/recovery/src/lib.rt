@@ -1,4 +1,4 @@
-//! What a log leaves of its shard when it is opened again.
+//! The state of a shard, rebuilt from its log when it is opened again.
 #![tactic(auto)]
 
 mod belonging;

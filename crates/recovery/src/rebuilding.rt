@@ -1,4 +1,4 @@
-//! A whole log, record by record.
+//! A log is rebuilt record by record.
 ghost use Rattle.std.specs.Prelude.{◌≡◌, ◌⊎◌, ◌++◌, [], ◌∷◌, map, reverse, true, Some, None, OnOk, IfOk, IfErr, IsSome};
 ghost use Rattle.recovery.specs.Rebuilding.{Progresses, IsStateOf, known_of, stage_known};
 ghost use Rattle.record.specs.Accepted.{Accepted, taken};
@@ -16,9 +16,9 @@ use record::Record;
 use std::alloc::Global;
 use units::{Epoch, Fault, Setup, Stamp};
 
-/// What a log leaves of its shard, told record by record: the facts with the versions, and for each promise and each decision that
-/// stands a row with its locks, all of them sound. Behind a record that is refused it takes the others as they come, and only that
-/// one counts. It has to be spent, by `finish` or `stop`.
+/// The state that a log leaves, built record by record: the facts with the versions, and a row with its locks for each promise and
+/// each decision that stands. After a record that is refused it takes the others as they come, and only the first refusal counts.
+/// It has to be spent, by `finish` or `stop`.
 pub struct Rebuild {
     setup: Setup,
     entries: Past<Entry>,
@@ -30,7 +30,7 @@ pub struct Rebuild {
 impl Rebuild {
     ghost use Rattle.recovery.specs.Taken.{taken_by, setup_of};
 
-    /// Of a shard that is told this, and no record.
+    /// Begins with no record. `Memory` if there is none.
     pub fn new(alloc: Global, setup: &Setup) -> Result<Rebuild, Fault>
         ensures setup { IfOk result (λ made. setup_of made ≡ setup.now) }
         ensures none { IfOk result (λ made. taken_by made ≡ []) }
@@ -44,7 +44,7 @@ impl Rebuild {
         })
     }
 
-    /// Takes one more record. It is refused for want of memory alone.
+    /// Takes a copy of the next record. `Memory` is its only refusal; `finish` tells what is wrong with the log.
     pub fn take(&mut self, alloc: Global, entry: &Entry) -> Result<(), Fault>
         ensures setup { setup_of self.new ≡ setup_of self.old }
         ensures taken { taken_by self.new ≡ taken_by self.old ++ entry.now ∷ [] }
@@ -64,7 +64,7 @@ impl Rebuild {
         }
     }
 
-    /// Takes one more record, which is moved into what it leaves. It is refused for want of memory alone.
+    /// Moves the next record into the state. `Memory` is its only refusal; `finish` tells what is wrong with the log.
     pub fn take_over(&mut self, alloc: Global, entry: Entry) -> Result<(), Fault>
         ensures setup { setup_of self.new ≡ setup_of self.old }
         ensures taken { taken_by self.new ≡ taken_by self.old ++ entry ∷ [] }
@@ -88,7 +88,8 @@ impl Rebuild {
         }
     }
 
-    /// What the records leave, or why they are refused. There is nothing yet where no record was taken.
+    /// Returns the state that the records leave, or `None` if there was no record. A log that breaks the rules is `Damaged` at the record
+    /// that does, and a record of another shard's keys is `Stranger`.
     pub fn finish(self) -> Result<Option<State>, Fault>
         ensures found { IfOk result (IsRebuilt (setup_of self) (items (taken_by self))) }
         ensures sound { IfOk result (IsSoundlyRebuilt (setup_of self)) }
@@ -120,7 +121,7 @@ impl Rebuild {
         }
     }
 
-    /// Lets all go.
+    /// Drops all that was built.
     pub fn stop(self) {
         let Rebuild {
             setup,
@@ -136,7 +137,7 @@ impl Rebuild {
     }
 }
 
-// What one more record makes of what there is, which is nothing before the first.
+// Adds one more record to the state, of which there is none before the first.
 fn go_on(state: &mut Option<State>, alloc: Global, setup: &Setup, entry: Entry) -> Result<(), Fault>
     requires { IsStateOf setup.now state.old }
     ensures next { OnOk result
@@ -168,7 +169,7 @@ fn go_on(state: &mut Option<State>, alloc: Global, setup: &Setup, entry: Entry) 
     }
 }
 
-// What the first record leaves, which is the first opening or the base of a renewed log.
+// The state that the first record leaves: the first opening, or the base of a renewed log.
 fn begin(alloc: Global, entry: &Entry, setup: &Setup) -> Result<State, Fault>
     ensures setup { IfOk result (λ state. state.setup ≡ setup.now) }
     ensures next { OnOk result
@@ -190,7 +191,7 @@ fn begin(alloc: Global, entry: &Entry, setup: &Setup) -> Result<State, Fault>
     first_state(alloc, entry.item(), setup)
 }
 
-// What a first record leaves.
+// The state that a first record leaves.
 fn first_state(alloc: Global, item: &Record, setup: &Setup) -> Result<State, Fault>
     requires first { is_first item.now ≡ true }
     ensures setup { IfOk result (λ state. state.setup ≡ setup.now) }
@@ -220,7 +221,7 @@ fn base_in(item: &Record) -> Option<(Epoch, Stamp, Stamp)>
     }
 }
 
-// The record is the first opening, or the base of a renewed log.
+// Whether the record is the first opening, or the base of a renewed log.
 fn is_first(item: &Record) -> bool
     ensures { result ≡ is_first item.now }
 {
@@ -235,7 +236,7 @@ fn is_first(item: &Record) -> bool
     }
 }
 
-// What one more record makes of the state.
+// Adds one more record to a state.
 fn take(state: &mut State, alloc: Global, entry: Entry) -> Result<(), Fault>
     requires recovered { IsRecovered state.old }
     ensures setup { state.new.setup ≡ state.old.setup }
@@ -263,7 +264,7 @@ fn take(state: &mut State, alloc: Global, entry: Entry) -> Result<(), Fault>
     }
 }
 
-// The record may come next in the log of a state, and has its place beside what stands.
+// Checks that the record may come next in the log of a state, and fits beside what stands.
 fn comes_next(state: &State, alloc: Global, entry: &Entry) -> Result<(), Fault>
     requires recovered { IsRecovered state.now }
     ensures next { OnOk result
@@ -288,7 +289,7 @@ fn comes_next(state: &State, alloc: Global, entry: &Entry) -> Result<(), Fault>
     Ok(())
 }
 
-// The log is damaged at the entry.
+// Damage at the entry.
 fn damage_at(entry: &Entry) -> Fault
     ensures { result ≡ Fault.Damaged entry.now.offset }
 {

@@ -1,4 +1,4 @@
-//! One record of a log, as if it were logged once more.
+//! One record of a log, carried out again.
 ghost use Rattle.std.specs.Prelude.{◌≡◌, true, Some, None, OnOk, IfOk, IfErr};
 ghost use Rattle.record.specs.Facts.{learn, or_floor};
 ghost use Rattle.facts.specs.Rules.{follows_facts};
@@ -16,8 +16,8 @@ use record::Record;
 use std::alloc::Global;
 use units::{Fault, Keys, Stamp, TxnId, Writes};
 
-/// The record has its place beside what stands: there is room for its row, nobody has its locks, and it is above the horizon and the
-/// versions of what it writes or installs; a horizon is below what stands. It is refused for want of memory alone.
+/// Tells whether the record fits beside what stands: there is room for its row, nobody conflicts with its locks, and its timestamp is
+/// above the horizon and its keys' versions. A horizon must not lie above the safe time. `Memory` if there is none.
 pub fn fits_beside(state: &State, alloc: Global, item: &Record) -> Result<bool, Fault>
     requires recovered { IsRecovered state.now }
     requires follows { follows_next
@@ -37,7 +37,7 @@ pub fn fits_beside(state: &State, alloc: Global, item: &Record) -> Result<bool, 
     }
 }
 
-/// Makes of the state what the record made of it, once more. It is refused for want of memory alone.
+/// Changes the state as the record did when it was logged. `Memory` is its only refusal.
 pub fn replay(state: &mut State, alloc: Global, logged: Logged) -> Result<(), Fault>
     requires recovered { IsRecovered state.old }
     requires follows { follows_facts state.old.setup.shard state.old.facts logged ≡ true }
@@ -69,7 +69,7 @@ pub fn replay(state: &mut State, alloc: Global, logged: Logged) -> Result<(), Fa
     }
 }
 
-/// Makes of the state what a record of a renewed log's head says. It is refused for want of memory alone.
+/// Changes the state by a record of a renewed log's head. `Memory` is its only refusal.
 pub fn keep(state: &mut State, logged: Logged) -> Result<(), Fault>
     requires recovered { IsRecovered state.old }
     requires follows { follows_head
@@ -82,7 +82,7 @@ pub fn keep(state: &mut State, logged: Logged) -> Result<(), Fault>
     state.keep(logged)
 }
 
-// The plan of the step that logs the record once more.
+// The plan of the step that logged the record.
 #[tactic(auto, unfolding(facts::specs::Rules::follows_facts))]
 fn plan_again(state: &State, alloc: Global, item: &Record) -> Result<Plan, Fault>
     requires recovered { IsRecovered state.now }
@@ -134,7 +134,7 @@ fn raised_by(last: Stamp, outcome: Option<Stamp>) -> Stamp
     }
 }
 
-// A promise or a decision of a transaction without a row has its place beside the rows.
+// Whether a promise or a decision of a transaction without a row fits beside the rows.
 fn stands_beside(
     state: &State,
     alloc: Global,

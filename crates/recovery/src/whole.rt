@@ -1,4 +1,4 @@
-//! A whole log.
+//! A whole log is rebuilt.
 ghost use Rattle.std.specs.Prelude.{◌≡◌, ◌⊎◌, Some, OnOk, IfOk, IfErr};
 ghost use Rattle.record.specs.Accepted.{Accepted, taken};
 ghost use Rattle.recovery.specs.Recovered.{IsRebuilt, IsSoundlyRebuilt, fault_in, items};
@@ -9,7 +9,8 @@ use memory::State;
 use std::alloc::Global;
 use units::{Fault, Setup};
 
-/// What a whole log leaves of its shard.
+/// Returns the state that a whole log leaves, or `None` if it has no record. Its refusals are those of `Rebuild::finish`, and
+/// `Memory`.
 pub fn rebuild(alloc: Global, entries: &[Entry], setup: &Setup) -> Result<Option<State>, Fault>
     ensures found { IfOk result (IsRebuilt setup.now (items entries.now)) }
     ensures sound { IfOk result (IsSoundlyRebuilt setup.now) }

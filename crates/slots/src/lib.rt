@@ -1,4 +1,4 @@
-//! Turnovers of a log's file: what each call of one leaves.
+//! Turnovers of a log's file: what each of their calls leaves.
 #![tactic(auto)]
 
 mod laws;
