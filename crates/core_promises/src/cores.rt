@@ -15,7 +15,7 @@ use std::alloc::Global;
 use truetime::Reading;
 use units::{Fault, Key, Seen, Stamp};
 
-/// What a core does with an input is the step of the definitions, or its refusal, and what stands then.
+/// Takes an input as the step of the definitions, or refuses it, and leaves what the contract says.
 pub fn on<D: Disk>(
     core: &mut Core<D>,
     alloc: Global,
@@ -36,14 +36,14 @@ pub fn on<D: Disk>(
     core.on(alloc, now, input)
 }
 
-/// A look is answered exactly where its timestamp is safe and not below the horizon, with the value at it.
+/// Answers a look exactly if its timestamp is safe and not below the horizon, with the value at that timestamp.
 pub fn look<D: Disk>(core: &Core<D>, key: &Key, at: Stamp, buffer: &mut [u8]) -> Result<Seen, Fault>
     ensures { IsLook (seen core.now) key.now at buffer.old buffer.new result }
 {
     core.look(key, at, buffer)
 }
 
-/// The greatest timestamp at which looks are answered.
+/// Returns the greatest timestamp at which looks are answered.
 pub fn safe<D: Disk>(core: &Core<D>) -> Stamp
     ensures { result ≡ safe_at (seen core.now) }
 {

@@ -8,7 +8,7 @@ use memory::State;
 use std::alloc::Global;
 use units::{Fault, Setup};
 
-/// What a log leaves of its shard: of all its records, its greatest timestamp among what they tell.
+/// Returns the state that all records of a log leave. Its greatest timestamp is the greatest that they tell.
 pub fn rebuild(alloc: Global, entries: &[Entry], setup: &Setup) -> Result<Option<State>, Fault>
     ensures found { IfOk result (λ found. IsRebuilt setup.now (items entries.now) found) }
     ensures accepted { OnOk result (taken setup.now (items entries.now) ≡ Accepted) }

@@ -1,4 +1,4 @@
-//! What stands of a core where an input is refused for memory.
+//! What is left of a core if an input is refused with `Memory`.
 ghost use Rattle.std.specs.Prelude.{◌≡◌, Err};
 ghost use Rattle.shard.specs.Core.{seen, book_of};
 
@@ -9,8 +9,8 @@ use std::alloc::Global;
 use truetime::Reading;
 use units::Fault;
 
-/// All is as it was: what the log determines and what is kept in memory, the log with the bytes on its disk, and the book. So nothing
-/// grows once a record is logged.
+/// Leaves all as it was after `Memory`: what the log determines, the state in memory, the log with the bytes on its disk, and the book.
+/// So nothing grows once a record is logged.
 pub fn memory_leaves_all<D: Disk>(
     core: &mut Core<D>,
     alloc: Global,

@@ -14,13 +14,13 @@ use std::alloc::Global;
 use units::{Fault, Key, ShardNo, Splits, Stamp};
 use world::{Config, Doing, Reply, RunOutput};
 
-/// The shards of a run, by their numbers. They have to be spent.
+/// The shards of a run, by their numbers. They have to be spent, by `spend_all`.
 pub struct Shards<'s> {
     pub splits: &'s Splits,
     pub shards: Vec<RunShard>,
 }
 
-/// What is known of a shard of a number: it exists, it does not run, it is not down, and how many views it has made.
+/// What is known of a shard of a number: whether it exists, does not run, is not down, and how many views it has made.
 #[derive(Clone, Copy)]
 pub struct Known {
     pub exists: bool,
@@ -36,7 +36,7 @@ impl Shards<'_> {
     ghost use Rattle.world.specs.declared.event.Doing.{Doing};
     ghost use Rattle.lives.specs.Fleet.{AreShards, CrashesAt, IsOrderlyAt, crash_within, known_of, looked};
 
-    /// What is known of the shard of this number.
+    /// Returns what is known of the shard of this number.
     pub fn known(&self, shard: ShardNo) -> Known
         ensures { (config : Config) (ss : List ShardNow) → AreShards config self.now ss
             → result ≡ known_of ss shard }
@@ -57,8 +57,8 @@ impl Shards<'_> {
         }
     }
 
-    /// A shard crashes, in a device call of a doing, by its number from 0, or in none. Its oldest change that is not synced has
-    /// this fate.
+    /// Crashes a shard, in a device call of what it does, by the call's number from 0, or between events with `None`. Its oldest change
+    /// that is not synced has this fate.
     pub fn crash(
         &mut self,
         alloc: Global,
@@ -80,7 +80,7 @@ impl Shards<'_> {
         self.shards[at].crash(alloc, bag, within, fate)
     }
 
-    /// A look at a view of a shard, by its number from 0, or at what the shard shows now. One that is answered is a line.
+    /// Looks at a view of a shard, by its number from 0, or at what the shard shows now. A look that is answered becomes a line.
     pub fn look(
         &self,
         alloc: Global,
@@ -105,7 +105,7 @@ impl Shards<'_> {
     }
 }
 
-/// One shard after another on a new disk, formatted and opened.
+/// Makes the shards of a run one after another, each on a new disk, formatted and opened.
 pub fn fill(shards: &mut Vec<RunShard>, alloc: Global, config: &Config) -> Result<(), Fault>
     requires { shards.old.items ≡ [] }
     ensures filled { OnOk result
@@ -122,7 +122,7 @@ pub fn fill(shards: &mut Vec<RunShard>, alloc: Global, config: &Config) -> Resul
     Ok(())
 }
 
-/// Takes the shards from the front: their disks, and the log that a read of each gives.
+/// Takes the shards, in order, and returns their disks and the log that a read of each gives.
 pub fn take_logs(
     shards: &mut Vec<RunShard>,
     alloc: Global,
@@ -148,7 +148,7 @@ pub fn take_logs(
     Ok(())
 }
 
-/// Each is ended.
+/// Ends each shard.
 pub fn spend_all(shards: Vec<RunShard>) {
     let mut shards = shards;
     for _ in 0..shards.len() {

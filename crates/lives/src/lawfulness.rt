@@ -1,4 +1,4 @@
-//! Whether an event may happen.
+//! Which events may happen.
 ghost use Rattle.std.specs.Prelude.{◌≡◌, ℕ, Some, None};
 ghost use Rattle.truetime.specs.Reading.{is_honest};
 ghost use Rattle.world.specs.World.{World};
@@ -13,14 +13,14 @@ use truetime::Reading;
 use units::{ShardNo, Stamp};
 use world::{Act, Doing, Sessions};
 
-// The reading holds the true time.
+// Whether the reading holds the true time.
 fn is_honest(time: u64, now: &Reading) -> bool
     ensures { result ≡ is_honest time now.now }
 {
     now.earliest().micros() <= time && time <= now.latest().micros()
 }
 
-/// The shard of an act, where it is one of a shard.
+/// Returns the shard of an act, if it is one of a shard.
 pub fn shard_of(act: &Act) -> Option<ShardNo>
     ensures { result ≡ act_shard act.now }
 {
@@ -35,8 +35,8 @@ pub fn shard_of(act: &Act) -> Option<ShardNo>
     }
 }
 
-/// An act of no shard may happen: that of a session, or the delivery of a message, which is taken by a shard, or by a session
-/// that has begun.
+/// Tells whether an act of no shard may happen: that of a session, or the delivery of a message to a shard or to a session that has
+/// begun.
 #[tactic(auto, unfolding(world::specs::Lawful::may_act))]
 pub fn may_come(sessions: &Sessions<'_>, bag: &Bag, time: u64, act: &Act) -> bool
     ensures { (w : World) → Hosts w.config.splits sessions.now w.clients → bag.now ≡ w.bag
@@ -62,7 +62,7 @@ pub fn may_come(sessions: &Sessions<'_>, bag: &Bag, time: u64, act: &Act) -> boo
     }
 }
 
-/// An act of a shard, of which this is known, may happen.
+/// Tells whether an act of a shard may happen, by what is known of the shard.
 #[tactic(auto, unfolding(world::specs::Lawful::may_act))]
 pub fn may_be_done(known: Known, bag: &Bag, time: u64, act: &Act) -> bool
     ensures { (w : World) (n : ℕ) → act_shard act.now ≡ Some n → known ≡ known_of w.shards n
@@ -86,7 +86,7 @@ pub fn may_be_done(known: Known, bag: &Bag, time: u64, act: &Act) -> bool
     }
 }
 
-// A shard, of which this is known, may do this. A message that it takes goes to it.
+// Whether a shard may do this, by what is known of it. A message that it takes must be sent to it.
 fn may_do(known: Known, bag: &Bag, time: u64, shard: ShardNo, doing: &Doing) -> bool
     ensures { (w : World) → known ≡ known_of w.shards shard → bag.now ≡ w.bag
         → result ≡ may_do w time shard doing.now }

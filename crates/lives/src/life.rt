@@ -19,15 +19,14 @@ use truetime::Reading;
 use units::{Book, Fault, Setup, ShardNo, Splits, Stride};
 use world::{Doing, Reply};
 
-/// The core of a shard, which runs or was stopped by its device, or the disk that is left of one that is down. It has to
-/// be spent.
+/// The core of a shard, which runs or was stopped by its device, or the disk of a shard that is down. It has to be spent.
 pub enum Life {
     Up(Core<SimDisk>),
     Down(SimDisk),
 }
 
 impl Life {
-    /// It runs.
+    /// Tells whether the shard runs.
     pub fn is_up(&self) -> bool
         ensures { (setup : Setup) (s : ShardNow) → LivesAs setup s self.now
             → result ≡ is_up s.state }
@@ -38,7 +37,7 @@ impl Life {
         }
     }
 
-    /// Its disk as it is.
+    /// Ends it, and returns its disk as it is.
     #[tactic(none)]
     pub fn into_disk(self) -> SimDisk
         ensures { (setup : Setup) (s : ShardNow) → LivesAs setup s self → HoldsLog s result }
@@ -49,7 +48,7 @@ impl Life {
         }
     }
 
-    /// A crash. The oldest change that is not synced has this fate.
+    /// Crashes it. The oldest change that is not synced has this fate. `Memory` leaves it as it was.
     pub fn crash(&mut self, alloc: Global, fate: Fate) -> Result<Reply, Fault>
         ensures crashed { (setup : Setup) (s : ShardNow) → LivesAs setup s self.old
             → OnOk result (LivesAs setup (crash_by fate s) self.new) }
@@ -65,7 +64,7 @@ impl Life {
         Ok(Reply::Crashed)
     }
 
-    /// What a shard does, with a device call of its append or its turnover, by its number from 0, armed to fail, or with none.
+    /// Carries out what a shard does. A device call of its append or its turnover, by its number from 0, is armed to fail if one is given.
     #[tactic(none)]
     pub fn carry(
         &mut self,
@@ -100,7 +99,7 @@ impl Life {
     }
 }
 
-// A core turns its log over, with a device call armed, or with none. Behind it no call is armed.
+// Turns the log of a core over, with a device call armed if one is given. Afterwards no call is armed.
 #[tactic(none)]
 fn turn_over(core: &mut Core<SimDisk>, alloc: Global, call: Option<u64>) -> Result<Outbox, Fault>
     ensures { TurnsOver (seen core.old) (seen core.new) call result }
@@ -114,7 +113,7 @@ fn turn_over(core: &mut Core<SimDisk>, alloc: Global, call: Option<u64>) -> Resu
     }
 }
 
-// A core takes the input of a doing, with a device call of its append armed, or with none. Behind it no call is armed.
+// Gives a core its input, with a device call of the append armed if one is given. Afterwards no call is armed.
 #[tactic(none)]
 fn do_input(
     core: &mut Core<SimDisk>,
@@ -138,7 +137,7 @@ fn do_input(
     }
 }
 
-// A disk is opened, with a device call of the append armed, or with none. It stays down where that is refused, or fails.
+// Opens a disk, with a device call of the append armed if one is given. After a refusal or a failure it stays down.
 #[tactic(none)]
 fn open(
     disk: SimDisk,
@@ -168,7 +167,7 @@ fn open(
     }
 }
 
-// What a shard is told, with memory of its own.
+/// Makes a setup with memory of its own. `Memory` if there is none.
 pub fn setup_with(
     alloc: Global,
     shard: ShardNo,
@@ -195,7 +194,7 @@ pub fn setup_with(
     }
 }
 
-// The doing is an opening.
+/// Tells whether this is an opening.
 pub fn opens(doing: &Doing) -> bool
     ensures { result ≡ not (goes_on doing.now) }
 {
@@ -207,7 +206,7 @@ pub fn opens(doing: &Doing) -> bool
     }
 }
 
-// The doing is a turnover.
+// Whether this is a turnover.
 fn turns(doing: &Doing) -> bool
     ensures { result ≡ turns doing.now }
 {
@@ -219,7 +218,7 @@ fn turns(doing: &Doing) -> bool
     }
 }
 
-// The input of a doing, with its reading. A message that was not put out is refused.
+// The input of what a shard does, with its reading. A message that was not put out is refused.
 fn input_of(alloc: Global, bag: &[Envelope], doing: &Doing) -> Result<(Reading, Input), Fault>
     requires { has_input doing.now ≡ true }
     ensures found { IfOk result (λ p. input_of bag.now doing.now ≡ Some (p.0, p.1)) }

@@ -10,7 +10,7 @@ use std::alloc::Global;
 use units::{Fault, Key, Seen, Stamp, Value};
 use world::Reply;
 
-/// A look at a core: its own, with room for the longest value.
+/// Looks at a core by its own look, with room for the longest value. `Memory` if there is none for the value.
 pub fn look_at_core(
     alloc: Global,
     core: &Core<SimDisk>,
@@ -27,7 +27,7 @@ pub fn look_at_core(
             Ok(value) => Ok(Reply::Shows(Some(value))),
             Err(_) => Err(Fault::Memory),
         },
-        // There is no longer value, but that no contract of a core says.
+        // No value is longer, but no contract of a core says so.
         Err(Fault::Room) => match value_at(core.installs(), key, at) {
             Ok(value) => Ok(Reply::Shows(value)),
             Err(fault) => Err(fault),

@@ -16,7 +16,7 @@ use truetime::Reading;
 use units::{Fault, Line, Reason, ShardNo};
 use world::{Act, Config, Doing, Event, Reply, RunOutput, Sessions};
 
-/// What a run ends with: its messages, the disk of each shard, the log that a read of each gives, and its lines.
+/// What a run ends with: its messages, the disk of each shard with the log that a read of it gives, and its lines.
 #[derive(Drop)]
 pub struct Finished {
     pub bag: Bag,
@@ -25,7 +25,8 @@ pub struct Finished {
     pub lines: Vec<Line>,
 }
 
-/// A run so far: its sessions, its shards, what was put out, and the true time in microseconds. It has to be spent.
+/// A run so far: its sessions, its shards, what was put out, and the true time in microseconds. It has to be spent, by `finish` or
+/// `spend`.
 pub struct Run<'s> {
     pub sessions: Sessions<'s>,
     pub shards: Shards<'s>,
@@ -34,7 +35,7 @@ pub struct Run<'s> {
 }
 
 impl<'s> Run<'s> {
-    /// A run before its first event.
+    /// Begins a run before its first event. `Memory` if there is none.
     pub fn start(alloc: Global, config: &'s Config) -> Result<Run<'s>, Fault>
         ensures started { IfOk result (λ run. IsRun run (start config.now)) }
         ensures memory { IfErr result (λ fault. fault ≡ Fault.Memory) }
@@ -57,7 +58,7 @@ impl<'s> Run<'s> {
         }
     }
 
-    // The act may happen at a true time.
+    // Whether the act may happen at a true time.
     fn may_act(&self, time: u64, act: &Act) -> bool
         ensures { (w : World) → IsRun self.now w → result ≡ may_act w time act.now }
     {
@@ -67,7 +68,7 @@ impl<'s> Run<'s> {
         }
     }
 
-    /// The event of a number, from 0, happens, where it may. The reply to it is answered.
+    /// Lets the event of a number, from 0, happen if it is lawful, and returns its reply.
     pub fn take(&mut self, alloc: Global, number: u64, event: &Event) -> Result<Reply, Fault>
         requires { number < 2 ^ 64 - 1 }
         ensures { (w : World) → w.event ≡ number → IsRun self.old w → KeepsLaws w
@@ -86,7 +87,7 @@ impl<'s> Run<'s> {
         }
     }
 
-    // The act is done.
+    // Carries out the act.
     fn act(&mut self, alloc: Global, act: &Act) -> Result<Reply, Fault>
         ensures { (time : ℕ) (w : World) → IsRun self.old w → KeepsLaws w
             → may_act w time act.now ≡ true → ComesAfter (acts w act.now) self.new result }
@@ -116,7 +117,7 @@ impl<'s> Run<'s> {
         }
     }
 
-    // A message comes to the shard or to the session that it was put out for.
+    // Delivers a message to the shard or the session to which it was sent.
     fn deliver(&mut self, alloc: Global, number: u64, now: Reading) -> Result<Reply, Fault>
         ensures { (w : World) → IsRun self.old w → KeepsLaws w
             → ComesAfter (deliver_to w number now (slice_get w.bag number)) self.new result }
@@ -133,7 +134,7 @@ impl<'s> Run<'s> {
         }
     }
 
-    // A shard does something, with a device call of it armed to fail, or with none.
+    // Carries out what a shard does, with a device call of it armed to fail if one is given.
     fn act_at(
         &mut self,
         alloc: Global,
@@ -153,7 +154,7 @@ impl<'s> Run<'s> {
         self.output.reply(done)
     }
 
-    /// Ends the run: its messages, the disks that it ends with, the logs that these hold whatever a crash leaves, and all lines.
+    /// Ends the run, and returns its messages, its disks, the logs that these hold whatever a crash leaves, and all lines.
     pub fn finish(self, alloc: Global) -> Result<Finished, Fault>
         ensures disks { IfOk result
             (λ r. AreOn r.disks.items (map (λ log. log.items) r.logs.items)) }
@@ -203,7 +204,7 @@ impl<'s> Run<'s> {
         }
     }
 
-    /// Ends the run.
+    /// Ends the run, and drops what there is of it.
     pub fn spend(self) {
         let Run {
             sessions,

@@ -23,8 +23,8 @@ use std::alloc::Global;
 use units::{Book, Fault, Install, Key, Setup, ShardNo, Stamp, copy_value};
 use world::{Config, Doing, Reply};
 
-/// A shard of a run: what it is told, its core or its disk, every version that a core of it ever showed, where those of each key stand
-/// among them, where those of the last core begin, and the views that count into them. It has to be spent.
+/// A shard of a run: its setup, its core or disk, and every version that a core of it ever showed. `spots` has the places of each
+/// key's versions, `from` is the place of the last core's first version, and the views count into the versions. It has to be spent.
 pub struct RunShard {
     pub setup: Setup,
     pub life: Life,
@@ -52,7 +52,7 @@ impl RunShard {
     ghost use Rattle.world.specs.declared.event.Doing.{Doing};
     ghost use Rattle.lives.specs.Shows.{Acts, NotesOfLife, crashed_within, look_by};
 
-    /// The shard of a number on a new disk, formatted and opened, with its first view. It is told to keep no book.
+    /// Makes the shard of a number on a new disk, formatted and opened, with its first view. It keeps no book. `Memory` if there is none.
     pub fn fresh(alloc: Global, config: &Config, number: usize) -> Result<RunShard, Fault>
         requires { number ≤ 15 }
         ensures fresh { IfOk result
@@ -92,7 +92,7 @@ impl RunShard {
         }
     }
 
-    /// It runs.
+    /// Tells whether it runs.
     pub fn is_up(&self) -> bool
         ensures { (setup : Setup) (s : ShardNow) → StandsFor setup self.now s
             → result ≡ is_up s.state }
@@ -100,7 +100,7 @@ impl RunShard {
         self.life.is_up()
     }
 
-    /// It is down.
+    /// Tells whether it is down.
     pub fn is_down(&self) -> bool
         ensures { (setup : Setup) (s : ShardNow) → StandsFor setup self.now s
             → result ≡ is_down s.state }
@@ -111,7 +111,7 @@ impl RunShard {
         }
     }
 
-    /// How many views it has made.
+    /// Returns how many views it has made.
     pub fn views(&self) -> u64
         ensures { (setup : Setup) (s : ShardNow) → StandsFor setup self.now s
             → result ≡ length s.views }
@@ -119,7 +119,7 @@ impl RunShard {
         self.views.len() as u64
     }
 
-    /// Carries out what the shard does, with a device call of it, by its number from 0, armed to fail, or with none.
+    /// Carries out what the shard does. A device call of it, by its number from 0, is armed to fail if one is given.
     pub fn act(
         &mut self,
         alloc: Global,
@@ -142,7 +142,7 @@ impl RunShard {
         }
     }
 
-    // Keeps what its core shows more than before, and the view that the doing makes.
+    // Adds the versions that its core shows newly, and the view that was made.
     fn note(&mut self, alloc: Global, doing: &Doing) -> Result<(), Fault>
         ensures noted { OnOk result (NotesOfLife doing.now self.old self.new self.old.life) }
         ensures memory { IfErr result (λ fault. fault ≡ Fault.Memory) }
@@ -166,7 +166,8 @@ impl RunShard {
         Ok(())
     }
 
-    /// A crash in a device call of a doing, by its number from 0, or in none. The oldest change that is not synced has this fate.
+    /// Crashes the shard, in a device call of what it does, by the call's number from 0, or between events with `None`. The oldest change
+    /// that is not synced has this fate.
     pub fn crash(
         &mut self,
         alloc: Global,
@@ -193,7 +194,7 @@ impl RunShard {
         }
     }
 
-    /// A look at a view, by its number from 0, or at what it shows now.
+    /// Looks at a view, by its number from 0, or at what the shard shows now. `Memory` if there is none for the value.
     pub fn look(
         &self,
         alloc: Global,
@@ -219,7 +220,7 @@ impl RunShard {
         }
     }
 
-    /// Its disk as it is.
+    /// Ends it, and returns its disk as it is.
     pub fn into_disk(self) -> SimDisk
         ensures { (setup : Setup) (s : ShardNow) → StandsFor setup self s → HoldsLog s result }
     {
@@ -239,7 +240,7 @@ impl RunShard {
     }
 }
 
-/// A disk, and the log that a read of it gives.
+/// Returns a disk, with the log that a read of it gives.
 pub fn read_back(alloc: Global, disk: SimDisk) -> Result<(SimDisk, Vec<Record>), Fault>
     ensures disk { IfOk result (λ r. IsOn r.0 r.1.items) }
     ensures log { (s : ShardNow) → HoldsLog s disk
@@ -269,7 +270,7 @@ pub fn read_back(alloc: Global, disk: SimDisk) -> Result<(SimDisk, Vec<Record>),
     }
 }
 
-// The records of a log behind others, each with memory of its own.
+// Adds copies of the records of a log to a list.
 fn copy_records(records: &mut Vec<Record>, alloc: Global, entries: &[Entry]) -> Result<(), Fault>
     ensures same { OnOk result
         (records.new.items ≡ records.old.items ++ map (λ e. e.item) entries.now) }
@@ -283,7 +284,7 @@ fn copy_records(records: &mut Vec<Record>, alloc: Global, entries: &[Entry]) -> 
     Ok(())
 }
 
-// Copies of versions behind others, and where they stand.
+// Adds copies of versions to a list, and their places.
 fn push_copies(
     installs: &mut Vec<Install>,
     spots: &mut Spots,
@@ -308,7 +309,7 @@ fn push_copies(
     Ok(())
 }
 
-// Whatever was answered, but for want of memory.
+// Ignores any answer but `Memory`.
 fn unless_memory(answer: Result<Outbox, Fault>) -> Result<(), Fault>
     ensures other { OnOk result (answer ≢ Err Fault.Memory) }
     ensures memory { IfErr result (λ fault. fault ≡ Fault.Memory) }
@@ -323,8 +324,8 @@ fn unless_memory(answer: Result<Outbox, Fault>) -> Result<(), Fault>
     }
 }
 
-// Where the versions of a core begin behind a doing. An opened one shows the versions of the core before it, and maybe more, so they are
-// shared with it. Where it shows others, they are a list of their own.
+// The place at which the versions of a core begin after what a shard did. An opened core shows the versions of the core before it, and
+// maybe more, so it shares them. If it shows others, they are a list of their own.
 fn begins_at(doing: &Doing, from: usize, installs: &[Install], shown: &[Install]) -> usize
     ensures { BeginsAt doing.now from installs.now shown.now result }
 {
@@ -337,7 +338,7 @@ fn begins_at(doing: &Doing, from: usize, installs: &[Install], shown: &[Install]
     installs.len()
 }
 
-// The doing makes a view: an opening does, and an advance.
+// Whether it makes a view, as an opening and an advance do.
 fn makes_view(doing: &Doing) -> bool
     ensures { result ≡ makes_view doing.now }
 {

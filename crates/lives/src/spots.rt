@@ -1,4 +1,4 @@
-//! Where the versions of each key stand among all that a shard showed.
+//! The places of each key's versions among all that a shard showed.
 ghost use Rattle.std.specs.Prelude.{◌≡◌, ◌+◌, ◌-◌, ◌<◌, ◌≤◌, ◌++◌, ◌∷◌, [], List, IfErr, OnOk, length, take, drop, slice_index_or};
 ghost use Rattle.units.specs.Versions.{at_time};
 ghost use Rattle.units.specs.declared.writes.Install.{Install};
@@ -8,7 +8,7 @@ use indexmap::IndexMap;
 use std::alloc::Global;
 use units::{Fault, Install, Key, Stamp};
 
-/// Where a version of a key stands, its timestamp, and from which place on the key's timestamps ascend to it.
+/// The place of a version of a key, its timestamp, and the place from which the key's timestamps ascend to it.
 #[derive(Clone, Copy)]
 pub struct Spot {
     pub place: usize,
@@ -16,10 +16,10 @@ pub struct Spot {
     pub since: usize,
 }
 
-/// The versions of each key, as they came.
+/// The places of each key's versions, in the order in which they came.
 pub type Spots = IndexMap<Key, Vec<Spot>>;
 
-/// One version more, which stands behind all others.
+/// Adds a version, which comes after all others.
 pub fn add(spots: &mut Spots, alloc: Global, place: usize, install: &Install) -> Result<(), Fault>
     ensures added { OnOk result ((installs : List Install) → length installs ≡ place
         → AreSpots installs spots.old.entries
@@ -42,7 +42,7 @@ pub fn add(spots: &mut Spots, alloc: Global, place: usize, install: &Install) ->
     }
 }
 
-// From where on timestamps ascend to one that comes at a place behind these.
+// The place from which timestamps ascend to one that comes after these, at a place.
 fn since(line: &[Spot], place: usize, at: Stamp) -> usize
     ensures { result ≡ since_of line.now place at }
 {
@@ -52,8 +52,8 @@ fn since(line: &[Spot], place: usize, at: Stamp) -> usize
     }
 }
 
-/// Fewer versions, behind a place, among which the key has the same value at the time: one or none, found by halves, where timestamps
-/// ascend over all of the key's that stand there.
+/// Narrows versions from a place on to fewer, among which the key has the same value at the time. If the key's timestamps ascend there,
+/// a binary search leaves one or none.
 pub fn narrowed(spots: &Spots, key: &Key, from: usize, count: usize, at: Stamp) -> (usize, usize)
     ensures { (installs : List Install) → AreSpots installs spots.now.entries
         → at_time (take result.1 (drop result.0 installs)) key.now at
@@ -73,7 +73,7 @@ pub fn narrowed(spots: &Spots, key: &Key, from: usize, count: usize, at: Stamp) 
     (line[found - 1].place, 1)
 }
 
-// The spots of the key that stand among so many versions behind a place.
+// The spots of the key among `count` versions from a place on.
 fn within<'a>(spots: &'a Spots, key: &Key, from: usize, count: usize) -> &'a [Spot]
     ensures { (installs : List Install) → AreSpots installs spots.now.entries
         → AreIn installs key.now from (from + count) result.now }
@@ -86,8 +86,8 @@ fn within<'a>(spots: &'a Spots, key: &Key, from: usize, count: usize) -> &'a [Sp
     &line[..passed(line, from, count, Stamp::MAX)]
 }
 
-// How many of the spots a search by halves passes. It goes on behind one that stands among so many versions behind a place, or before
-// that place, and is of no later time.
+// How many of the spots a binary search passes. It passes one that is among so many versions from a place on, or before that place, and
+// is of no later time.
 fn passed(line: &[Spot], from: usize, count: usize, until: u64) -> usize
     ensures within { result ≤ length line.now }
     ensures before { 0 < result

@@ -12,8 +12,8 @@ use simdisk::SimDisk;
 use units::{Fault, Install, Key, Stamp, Value, may_look};
 use world::Reply;
 
-/// A moment of a shard: where the versions of its core begin among all that the shard ever showed, how many there were, the
-/// time that was served, and the horizon. No version is ever taken back, so a view outlives its core.
+/// A moment of a shard: the place at which its core's versions begin among all that the shard ever showed, their count, the served time,
+/// and the horizon. No version is ever taken back, so a view outlives its core.
 #[derive(Clone, Copy)]
 pub struct View {
     pub from: usize,
@@ -23,7 +23,7 @@ pub struct View {
 }
 
 impl View {
-    /// What a core shows now, where its versions begin there.
+    /// Makes the view of what a core shows now. Its versions begin at this place.
     pub fn of(core: &Core<SimDisk>, from: usize) -> View
         ensures { result ≡ view_now from (seen core.now) }
     {
@@ -35,7 +35,7 @@ impl View {
         }
     }
 
-    /// A look at it, by all versions of the shard and where those of each key stand, where the key belongs to the shard or not.
+    /// Looks at the view, with all versions of the shard and the places of each key's. `is_here` says whether the key is this shard's.
     pub fn look(
         self,
         installs: &[Install],
@@ -62,14 +62,14 @@ impl View {
     }
 }
 
-/// The versions behind a place.
+/// Returns the versions from a place on.
 pub fn behind(installs: &[Install], place: usize) -> &[Install]
     ensures { result.now ≡ drop place installs.now }
 {
     &installs[place.min(installs.len())..]
 }
 
-/// The versions begin with these.
+/// Tells whether the versions begin with these. It may say yes only if they do.
 pub fn begin_with(installs: &[Install], known: &[Install]) -> bool
     ensures { result ≡ true → take (length known.now) installs.now ≡ known.now }
 {
@@ -84,7 +84,7 @@ pub fn begin_with(installs: &[Install], known: &[Install]) -> bool
     true
 }
 
-// The two versions are one.
+// Whether the two versions are equal. It may say yes only if they are.
 fn is_same(one: &Install, other: &Install) -> bool
     ensures { result ≡ true → one.now ≡ other.now }
 {
@@ -94,7 +94,7 @@ fn is_same(one: &Install, other: &Install) -> bool
     is_same_value(&one.value, &other.value)
 }
 
-// The two values are one, or both are erasures.
+// Whether the two values are equal, or both are erasures.
 fn is_same_value(value: &Option<Value>, other: &Option<Value>) -> bool
     ensures { result ≡ true → value.now ≡ other.now }
 {
@@ -105,7 +105,7 @@ fn is_same_value(value: &Option<Value>, other: &Option<Value>) -> bool
     }
 }
 
-/// A copy of the value of a key at a time.
+/// Copies the value of a key at a time. `Memory` if there is none.
 pub fn value_at(installs: &[Install], key: &Key, at: Stamp) -> Result<Option<Value>, Fault>
     ensures value { IfOk result (λ value. value ≡ at_time installs.now key.now at) }
     ensures memory { IfErr result (λ fault. fault ≡ Fault.Memory) }

@@ -1,4 +1,4 @@
-//! Values of tests, made of plain numbers, and folders for them.
+//! Values for tests, made of plain numbers, and folders for them.
 #![tactic(auto)]
 
 ghost use Rattle.std.specs.Prelude.{◌≡◌, ◌<◌, ◌^◌};
@@ -14,14 +14,14 @@ pub use wrong_rows::WrongRows;
 /// How many bytes the slots take in the file of a log.
 pub const SLOTS: u64 = 9_216;
 
-/// Where the first gate stands there, behind the header and the slots.
+/// The offset of the first gate in the file of a log, in bytes: it comes after the header and the slots.
 pub const FIRST_GATE: u64 = OLD_FIRST_GATE + SLOTS;
 
-/// Where it stands in a file of version 1, which has no slots.
+/// The offset of the first gate in a file of version 1, which has no slots.
 pub const OLD_FIRST_GATE: u64 = 8;
 
-/// The file of one settled commit, told without its slots: the header; Opened 1; Commit 1.1 at 111, parts 0, no reads, a=1; Outcome 1.1
-/// committed 111; a closed gate. The gates stand 14, 56 and 87 bytes behind the first.
+/// The file of one settled commit, without its slots: the header; Opened 1; Commit 1.1 at 111, parts 0, no reads, a=1; Outcome 1.1
+/// committed 111; a closed gate. The gates after the first are 14, 56 and 87 bytes after it.
 pub const ONE_COMMIT: [u8; 96] = [
     0x53, 0x50, 0x4e, 0x4c, 0x4f, 0x47, 0x30, 0x32, 0xa5, 0, 0, 0, 9, 1, 0, 0, 0, 0, 0, 0, 0, 1,
     0xa5, 0, 0, 0, 37, 4, 0, 0, 0, 0, 0, 0, 0, 1, 0, 0, 0, 0, 0, 0, 0, 1, 0, 0, 0, 0, 0, 0, 0,
@@ -29,7 +29,7 @@ pub const ONE_COMMIT: [u8; 96] = [
     0, 0, 0, 0, 0, 0, 0, 1, 1, 0, 0, 0, 0, 0, 0, 0, 0x6f, 0,
 ];
 
-/// The bytes of a file that is told without its slots: where it begins as one of version 2, they stand behind the header, all closed.
+/// Adds the slots to the bytes of a file that has none. In a file of version 2 they come after the header, all closed.
 pub fn with_slots(alloc: Global, told: &[u8]) -> Result<Vec<u8>, AllocError> {
     let Some(frames) = told.strip_prefix(b"SPNLOG02".as_slice()) else {
         return told.to_vec(alloc);
@@ -40,14 +40,14 @@ pub fn with_slots(alloc: Global, told: &[u8]) -> Result<Vec<u8>, AllocError> {
     Ok(bytes)
 }
 
-/// The same file in version 1.
+/// Makes the same file in version 1.
 pub fn in_version_1(told: [u8; 96]) -> [u8; 96] {
     let mut bytes = told;
     bytes[7] = b'1';
     bytes
 }
 
-/// A key of one letter.
+/// Makes a key of one letter.
 pub fn key(letter: u8) -> Key {
     match Key::new(&[letter]) {
         Ok(key) => key,
@@ -55,7 +55,7 @@ pub fn key(letter: u8) -> Key {
     }
 }
 
-/// Transaction 1.number.
+/// Makes the id of run 1 and this number.
 pub fn id(number: u16) -> TxnId {
     match TxnId::new(1, u64::from(number)) {
         Some(id) => id,
@@ -63,7 +63,7 @@ pub fn id(number: u16) -> TxnId {
     }
 }
 
-/// A timestamp of 32 bits, each of which is one.
+/// Makes a timestamp of this many microseconds.
 pub fn stamp(micros: u32) -> Stamp
     ensures { result ≡ micros }
 {
@@ -73,7 +73,7 @@ pub fn stamp(micros: u32) -> Stamp
     }
 }
 
-/// A shard by its number.
+/// Makes the shard of this number.
 pub fn shard(number: u8) -> ShardNo
     requires { number < 16 }
 {

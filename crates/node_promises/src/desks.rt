@@ -10,7 +10,8 @@ use std::sync::Wait;
 use truetime::Reading;
 use units::{Fault, Stamp};
 
-/// A desk advances its core, and then publishes the new versions and the served time, or shows what it showed.
+/// Advances the core of a desk, and then publishes its new versions and the served time. After a refusal the desk shows what it
+/// showed before.
 pub fn advance<D: Disk + Drop, R: Wait + Drop>(
     desk: &mut Desk<D, R>,
     now: &Reading,

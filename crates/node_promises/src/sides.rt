@@ -1,4 +1,4 @@
-//! What openings side by side give.
+//! What openings that run at the same time give.
 ghost use Rattle.std.specs.Prelude.{◌≡◌, IfOk, IfErr};
 ghost use Rattle.std.specs.List.{AllZip};
 ghost use Rattle.node.specs.Openings.{IsOpening};
@@ -9,7 +9,7 @@ use std::alloc::Global;
 use std::thread::Threads;
 use units::{Fault, Setup};
 
-/// Each result is what the opening of the disk at its place gives, and there are no others; or all disks come back.
+/// Returns for each disk, at its place, what its opening gives, and nothing else; or returns all disks.
 pub fn open_all<R: Threads + Sync, D: Disk + Drop + Send>(
     rt: &R,
     alloc: Global,

@@ -1,4 +1,4 @@
-//! What the shard does that decides a transaction.
+//! What a shard does as a coordinator.
 ghost use Rattle.std.specs.Prelude.{IfOk};
 ghost use Rattle.coordinator.specs.ByMessage.{PlansAsk, PlansCommit, PlansSettle, PlansVote};
 ghost use Rattle.memory.specs.Carry.{IsFit};
@@ -10,7 +10,7 @@ use std::alloc::Global;
 use truetime::Reading;
 use units::{Fault, TxnId};
 
-/// A commit is decided, collects votes, waits, or is aborted; one that came before is not done again.
+/// Decides a commit, collects votes for it, waits, or aborts it. A commit that came before is not carried out again.
 pub fn commit(state: &State, alloc: Global, now: &Reading, commit: &Commit) -> Result<Step, Fault>
     ensures planned { PlansCommit state.now now.now.latest commit.now
         (standing_in state.now commit.now.txn) result }
@@ -19,7 +19,7 @@ pub fn commit(state: &State, alloc: Global, now: &Reading, commit: &Commit) -> R
     coordinator::on_commit(state, alloc, now, commit)
 }
 
-/// A yes is kept; the last one decides, at a timestamp above the reading at which the commit came.
+/// Counts a yes; the last one decides, at a timestamp above the reading at which the commit came.
 pub fn vote(state: &State, alloc: Global, vote: &Vote) -> Result<Step, Fault>
     ensures planned { PlansVote state.now vote.now (standing_in state.now vote.now.txn) result }
     ensures fit { IfOk result (IsFit state.now) }
@@ -27,7 +27,7 @@ pub fn vote(state: &State, alloc: Global, vote: &Vote) -> Result<Step, Fault>
     coordinator::on_vote(state, alloc, vote)
 }
 
-/// Who asks how a transaction ended is told an abort only once it is logged.
+/// Tells an abort to a shard that asks how a transaction ended, only once the abort is logged.
 pub fn ask(state: &State, alloc: Global, ask: &Ask) -> Result<Step, Fault>
     ensures planned { PlansAsk state.now ask.now (standing_in state.now ask.now.txn) result }
     ensures fit { IfOk result (IsFit state.now) }
@@ -35,7 +35,7 @@ pub fn ask(state: &State, alloc: Global, ask: &Ask) -> Result<Step, Fault>
     coordinator::on_ask(state, alloc, ask)
 }
 
-/// A commit is told only once its timestamp has surely passed.
+/// Tells a commit only once its timestamp has surely passed.
 pub fn settle(state: &State, alloc: Global, now: &Reading, txn: TxnId) -> Result<Step, Fault>
     ensures planned { PlansSettle state.now now.now.earliest txn (standing_in state.now txn)
         result }

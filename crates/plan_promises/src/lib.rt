@@ -1,5 +1,5 @@
-//! Promises of the plans of a shard, each stated once more over the public call that keeps it. Wrong bodies of such a call are tried
-//! here, where a body is small: what refuses them is the contract of that call.
+//! Promises of a shard's plans. Each is stated again over the public call that keeps it. Wrong bodies of such a call are tried here if
+//! the body is small: the contract of that call refuses them.
 #![tactic(auto)]
 
 mod deciding;

@@ -22,7 +22,7 @@ impl Recorder for Handed {
     }
 }
 
-/// The versions that the horizon leaves are kept, and who ended, and the promises and decisions that stand.
+/// Keeps the versions that the horizon leaves, the transactions that ended, and the promises and decisions that stand.
 pub fn renewed(ledger: &Ledger, alloc: Global) -> Result<Vec<Record>, Fault>
     requires { 0 < ledger.now.facts.epoch }
     ensures kept { IfOk result (λ kept. kept.items ≡ turned ledger.now.facts) }

@@ -1,4 +1,4 @@
-//! What a shard does that takes part in a transaction.
+//! What a shard does as a participant.
 ghost use Rattle.std.specs.Prelude.{IfOk};
 ghost use Rattle.memory.specs.Carry.{IsFit};
 ghost use Rattle.memory.specs.Standings.{standing_in};
@@ -10,7 +10,7 @@ use std::alloc::Global;
 use truetime::Reading;
 use units::Fault;
 
-/// A read is answered under its lock; nobody who has promised is ended for it.
+/// Answers a read under its lock, and ends no transaction that has promised for it.
 pub fn read(state: &State, alloc: Global, read: &Read) -> Result<Step, Fault>
     ensures planned { PlansRead state.now read.now (standing_in state.now read.now.txn) result }
     ensures fit { IfOk result (IsFit state.now) }
@@ -18,7 +18,7 @@ pub fn read(state: &State, alloc: Global, read: &Read) -> Result<Step, Fault>
     participant::on_read(state, alloc, read)
 }
 
-/// A promise is made where the reads still stand, of this epoch and under their locks, which it keeps.
+/// Promises only if the reads still stand, in this epoch and under their locks, and keeps these locks.
 pub fn prepare(
     state: &State,
     alloc: Global,
@@ -32,7 +32,7 @@ pub fn prepare(
     participant::on_prepare(state, alloc, now, prepare)
 }
 
-/// An outcome closes a promise once.
+/// Closes a promise by its outcome, once.
 pub fn outcome(state: &State, alloc: Global, told: &Outcome) -> Result<Step, Fault>
     ensures planned { PlansOutcome state.now told.now (standing_in state.now told.now.txn) result }
     ensures fit { IfOk result (IsFit state.now) }

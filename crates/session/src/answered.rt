@@ -1,7 +1,7 @@
-//! What a session hears.
+//! What a session is told.
 use units::{Epoch, Key, ShardNo, Stamp, Value};
 
-/// An answer with a value that a session took: the key, the shard that gave it, the shard's epoch, and the value.
+/// An answer with a value that a session took: the key, the shard and its epoch, and the value, or `None` if the key has none.
 #[derive(Drop)]
 pub struct Answered {
     pub key: Key,
@@ -10,7 +10,7 @@ pub struct Answered {
     pub value: Option<Value>,
 }
 
-/// What an answer to a read comes to: its value is taken; it changes nothing; or it dooms the session.
+/// What an answer to a read comes to: its value is taken, it changes nothing (`Again`), or it dooms the session.
 #[derive(Drop)]
 pub enum Heard {
     Value(Option<Value>),
@@ -18,7 +18,7 @@ pub enum Heard {
     Doomed,
 }
 
-/// How a transaction ended: committed at a timestamp, or aborted.
+/// The end of a transaction: committed at a timestamp, or aborted.
 #[derive(Clone, Copy, PartialEq, Eq)]
 pub enum Finished {
     Committed(Stamp),

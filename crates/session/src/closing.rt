@@ -1,4 +1,4 @@
-//! A transaction closes, gives up, and hears its end.
+//! How a transaction closes, is given up, and ends.
 ghost use Rattle.std.specs.Prelude.{◌≡◌, [], ◌++◌, map, true, false, not, ◌&&◌, MatchResult, IfOk, IfErr, IfNone, IfSome, option_to_list};
 ghost use Rattle.units.specs.Ids.{same_id};
 ghost use Rattle.units.specs.Keys.{shard_of};
@@ -14,9 +14,9 @@ use std::marker::PhantomData;
 use units::{Fault, Parts, Reason, ShardNo, TxnId};
 
 impl<'s> Tx<'s, Open> {
-    /// Closes the transaction: Commit to the least shard that was read or written, then Prepare to each other, by shard.
-    /// With no read and no write it is `nothing`; while an answer is not yet taken, `awaited`; a transaction that can only
-    /// give up is `doomed`.
+    /// Closes the transaction: Commit goes to the least shard that was read or written, then Prepare to each other one, in order. A
+    /// refusal returns the open transaction. `Nothing`: it has no read and no write, so give it up. `Awaited`: an answer is not taken
+    /// yet, so take it first. `Doomed`: it can only give up.
     pub fn close(self, alloc: Global) -> Result<(Tx<'s, Closing>, Outbox), (Fault, Tx<'s, Open>)>
         ensures splits { IfOk result (λ r. r.0.splits ≡ self.entry.splits) }
         ensures step { MatchResult result
@@ -29,7 +29,7 @@ impl<'s> Tx<'s, Open> {
         }
     }
 
-    // The messages of the closing, where it may close.
+    // The messages that close the transaction, if it may close.
     fn requests(&self, alloc: Global) -> Result<Outbox, Fault>
         ensures { MatchResult result
             (λ out. closes self.now.splits self.now.client ≡
@@ -48,7 +48,7 @@ impl<'s> Tx<'s, Open> {
         self.request().messages(alloc)
     }
 
-    // It has no read and no write.
+    // Whether it has no read and no write.
     fn is_blank(&self) -> bool
         ensures { result ≡ (is_none (asked_keys self.now.client)
             && is_none self.now.client.writes) }
@@ -56,7 +56,7 @@ impl<'s> Tx<'s, Open> {
         self.asked() == 0 && self.writes.is_empty()
     }
 
-    // Some answer is not yet taken.
+    // Whether an answer is not yet taken.
     fn is_awaiting(&self) -> bool
         ensures { result ≡ not (is_none self.now.client.awaited) }
     {
@@ -65,9 +65,9 @@ impl<'s> Tx<'s, Open> {
 }
 
 impl<'s> Tx<'s, Closing> {
-    /// Gives the transaction up, and asks once more how it ended. Each shard that takes part is told, by shard, and behind that come the
-    /// messages of the closing, the same as before. The shard that decides aborts what it does not know any more, and says so; or it says
-    /// that the transaction was committed, and when. Either can be taken then.
+    /// Gives the transaction up after its closing, and asks once more how it ended. Each shard that takes part is told, in order, and then
+    /// gets the closing messages again. The coordinator aborts a transaction that it does not know, and says so, or says that it was
+    /// committed, and when. `take` accepts either. `Memory` returns the transaction as it was.
     #[tactic(auto, unfolding(crate::specs::Sessions::gives_up))]
     pub fn quit(self, alloc: Global) -> Result<(Tx<'s, Quitting>, Outbox), (Fault, Tx<'s, Closing>)>
         ensures splits { IfOk result (λ r. r.0.splits ≡ self.entry.splits) }
@@ -86,7 +86,7 @@ impl<'s> Tx<'s, Closing> {
         }
     }
 
-    // What the shards are told, and behind that the messages of the closing.
+    // Tells the shards that the transaction is given up, and repeats the closing messages after that.
     fn partings(&self, alloc: Global) -> Result<Outbox, Fault>
         ensures same { IfOk result
             (λ out. out ≡ farewells self.now.splits self.now.client
@@ -110,7 +110,7 @@ impl<'s> Tx<'s, Closing> {
 }
 
 impl<'s, S: Closed> Tx<'s, S> {
-    /// The messages of the closing once more, the same each time.
+    /// Makes the closing messages once more, for messages that were lost. They are the same each time. `Memory` if there is none.
     pub fn again(&self, alloc: Global) -> Result<Outbox, Fault>
         ensures same { IfOk result (λ out. out ≡ closing_messages self.now.splits self.now.client) }
         ensures memory { IfErr result (λ fault. fault ≡ Fault.Memory) }
@@ -119,7 +119,7 @@ impl<'s, S: Closed> Tx<'s, S> {
         request.messages(alloc)
     }
 
-    /// Hears the end of the transaction, and spends it. The end of another is a `Stranger`.
+    /// Takes the end of the transaction, and spends it. The end of another transaction is a `Stranger`, and changes nothing.
     pub fn take(self, done: &Done) -> Result<Finished, (Fault, Tx<'s, S>)>
         ensures { MatchResult result
             (λ finished. (same_id self.entry.client.txn done.now.txn ≡ true)
@@ -139,8 +139,8 @@ impl<'s, S: Closed> Tx<'s, S> {
 }
 
 impl<'s, S: Ongoing> Tx<'s, S> {
-    /// Gives the transaction up, and spends it: each shard that was asked, or when closing each that takes part, is told,
-    /// by shard.
+    /// Gives the transaction up, and spends it. It tells each shard that was asked, or after the closing each one that takes part, in
+    /// order. `Memory` returns the transaction as it was.
     #[tactic(auto, unfolding(crate::specs::Sessions::gives_up))]
     pub fn give_up(self, alloc: Global) -> Result<Outbox, (Fault, Tx<'s, S>)>
         ensures { MatchResult result
@@ -157,7 +157,7 @@ impl<'s, S: Ongoing> Tx<'s, S> {
         }
     }
 
-    // What the shards are told.
+    // The messages that give the transaction up.
     fn farewells(&self, alloc: Global) -> Result<Outbox, Fault>
         ensures same { IfOk result
             (λ out. out ≡ map (give_up_to self.now.client.txn)
@@ -186,7 +186,7 @@ impl<'s, S: Ongoing> Tx<'s, S> {
         }
     }
 
-    // Its messages are out.
+    // Whether the closing messages are out.
     fn is_closing(&self) -> bool
         ensures { result ≡ is_closing self.now.client.stage }
     {
@@ -251,7 +251,7 @@ impl<'s, S: Phase> Tx<'s, S> {
         }
     }
 
-    /// Spends the transaction where nobody is told: its client has come to its end.
+    /// Spends the transaction without telling any shard.
     pub fn spend(self) {
         let Tx {
             splits: _,
@@ -265,7 +265,7 @@ impl<'s, S: Phase> Tx<'s, S> {
     }
 }
 
-// Each shard is told that the transaction is given up.
+// A message to each shard that the transaction is given up.
 fn give_ups(alloc: Global, txn: TxnId, shards: &[ShardNo]) -> Result<Outbox, Fault>
     ensures same { IfOk result (λ out. out ≡ map (give_up_to txn) shards.now) }
     ensures memory { IfErr result (λ fault. fault ≡ Fault.Memory) }

@@ -1,4 +1,4 @@
-//! A client's session: a transaction reads, buffers writes, closes into one set of messages, and hears its end.
+//! A client's side of a transaction (session): it reads, buffers writes, closes with one set of messages, and hears its end.
 #![tactic(auto)]
 
 mod answered;

@@ -1,4 +1,4 @@
-//! Words on lists of keys, answers and writes.
+//! Helpers for lists of keys, answers and writes.
 ghost use Rattle.std.specs.List.{list_any, list_all};
 ghost use Rattle.std.specs.Prelude.{◌≡◌, ◌≤◌, ◌<◌, ◌+◌, ◌&&◌, not, length, vec_len, vec_capacity, filter, IfOk, IfErr};
 ghost use Rattle.units.specs.Lists.{insert};
@@ -9,14 +9,14 @@ ghost use Rattle.session.specs.Sessions.{epochs_agree, without_key};
 use crate::Answered;
 use units::{Epoch, Fault, Key, ShardNo, Write};
 
-/// The key is in the list.
+/// Tells whether the key is in the list.
 pub fn has_key(keys: &[Key], key: &Key) -> bool
     ensures { result ≡ has_key keys.now key.now }
 {
     keys.contains(key)
 }
 
-/// A value of the key was taken.
+/// Tells whether a value of the key was taken.
 pub fn was_taken(taken: &[Answered], key: &Key) -> bool
     ensures { result ≡ list_any (λ a. same_key a.key key.now) taken.now }
 {
@@ -28,7 +28,7 @@ pub fn was_taken(taken: &[Answered], key: &Key) -> bool
     false
 }
 
-/// The answers of a shard are all of this epoch.
+/// Tells whether all answers of a shard are of this epoch.
 pub fn epochs_agree(taken: &[Answered], shard: ShardNo, epoch: Epoch) -> bool
     ensures { result ≡ epochs_agree taken.now shard epoch }
 {
@@ -40,7 +40,7 @@ pub fn epochs_agree(taken: &[Answered], shard: ShardNo, epoch: Epoch) -> bool
     true
 }
 
-/// The key is written.
+/// Tells whether the key is written.
 pub fn is_written(writes: &[Write], key: &Key) -> bool
     ensures { result ≡ writes_key writes.now key.now }
 {
@@ -52,14 +52,14 @@ pub fn is_written(writes: &[Write], key: &Key) -> bool
     false
 }
 
-/// Takes a key out of a list.
+/// Removes a key from a list.
 pub fn drop_key(keys: &mut Vec<Key>, key: &Key)
     ensures same { keys.new.items ≡ without_key keys.old.items key.now }
 {
     keys.retain(|other| other != key);
 }
 
-/// Takes a key's write out of a list.
+/// Removes a key's write from a list.
 pub fn drop_write(writes: &mut Vec<Write>, key: &Key)
     ensures same { writes.new.items ≡ filter (λ w. not (same_key w.key key.now)) writes.old.items }
     ensures shorter { vec_len writes.new ≤ vec_len writes.old }
@@ -68,7 +68,7 @@ pub fn drop_write(writes: &mut Vec<Write>, key: &Key)
     writes.retain(|write| write.key != *key);
 }
 
-/// How many keys at the front of a list come before a key.
+/// Counts the keys at the front of a list that come before a key.
 pub fn place_among(keys: &[Key], key: &Key) -> usize
     ensures place { result ≡ place_among keys.now key.now }
     ensures limit { result ≤ length keys.now }
@@ -81,7 +81,7 @@ pub fn place_among(keys: &[Key], key: &Key) -> usize
     keys.len()
 }
 
-/// How many writes at the front of a list come before a key.
+/// Counts the writes at the front of a list that come before a key.
 pub fn write_place(writes: &[Write], key: &Key) -> usize
     ensures place { result ≡ write_place writes.now key.now }
     ensures limit { result ≤ length writes.now }
@@ -94,7 +94,7 @@ pub fn write_place(writes: &[Write], key: &Key) -> usize
     writes.len()
 }
 
-/// Puts a key where it comes by the order of bytes.
+/// Puts a key at its place in the order of bytes. `Memory` if there is none.
 pub fn insert_key(keys: &mut Vec<Key>, key: Key) -> Result<(), Fault>
     ensures same { IfOk result (λ _. keys.new.items ≡ insert key_before key keys.old.items) }
     ensures memory { IfErr result (λ fault. fault ≡ Fault.Memory) }
@@ -104,7 +104,7 @@ pub fn insert_key(keys: &mut Vec<Key>, key: Key) -> Result<(), Fault>
     Ok(())
 }
 
-/// Puts a write where it comes by the order of keys. There is room.
+/// Puts a write at its place in the order of keys. The list has room, so it takes no memory.
 pub fn insert_write(writes: &mut Vec<Write>, write: Write)
     requires { vec_len writes.old < vec_capacity writes.old }
     ensures { writes.new.items ≡ insert write_before write writes.old.items }

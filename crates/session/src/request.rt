@@ -22,7 +22,7 @@ pub struct Request<'a> {
 }
 
 impl Request<'_> {
-    /// The messages: Commit to the least part, then Prepare to each other part.
+    /// Makes the closing messages: Commit to the least part, then Prepare to each other part. `Memory` if there is none.
     #[tactic(auto, unfolding(crate::specs::Sessions::closing_messages))]
     pub fn messages(&self, alloc: Global) -> Result<Outbox, Fault>
         ensures same { IfOk result
@@ -49,7 +49,7 @@ impl Request<'_> {
         }
     }
 
-    // The shards that were read or written.
+    /// Returns the shards that were read or written, or `None` if there are none. `Memory` if there is none for the list.
     pub fn parts(&self, alloc: Global) -> Result<Option<Parts>, Fault>
         ensures none { IfOk result
             (λ parts. IfNone parts
@@ -67,7 +67,7 @@ impl Request<'_> {
         Ok(Parts::of(shards.as_slice()))
     }
 
-    // Adds the messages to these parts, whose shards are given, to none.
+    // Adds the messages to these parts, which are listed, to an empty list.
     fn push_messages(
         &self,
         alloc: Global,
@@ -90,7 +90,7 @@ impl Request<'_> {
         Ok(())
     }
 
-    // Adds the message to a part: Commit with all parts to the one that decides, Prepare to any other.
+    // Adds the message to a part: Commit with all parts to the coordinator, Prepare to any other part.
     fn push_message(
         &self,
         alloc: Global,
@@ -135,7 +135,7 @@ impl Request<'_> {
         Ok(())
     }
 
-    // What was read at a shard.
+    // The reads at a shard.
     fn reads_at(&self, alloc: Global, shard: ShardNo) -> Result<Reads, Fault>
         ensures same { IfOk result
             (λ reads. reads ≡ read_set
@@ -156,7 +156,7 @@ impl Request<'_> {
         }
     }
 
-    // The writes of a shard.
+    // The writes at a shard.
     fn writes_at(&self, alloc: Global, shard: ShardNo) -> Result<Writes, Fault>
         ensures same { IfOk result
             (λ writes. writes ≡ writes_at_shard self.now.splits.now
@@ -177,7 +177,7 @@ impl Request<'_> {
     }
 }
 
-/// Adds the shards of some answers to a list.
+/// Adds the shards of some answers to a list. `Memory` if there is none.
 pub fn push_taken(shards: &mut Vec<ShardNo>, taken: &[Answered]) -> Result<(), Fault>
     ensures same { IfOk result
         (λ _. shards.new.items ≡ shards.old.items ++ map (λ a. a.shard) taken.now) }
@@ -189,7 +189,7 @@ pub fn push_taken(shards: &mut Vec<ShardNo>, taken: &[Answered]) -> Result<(), F
     Ok(())
 }
 
-/// Adds the shards of some keys to a list.
+/// Adds the shards of some keys to a list. `Memory` if there is none.
 pub fn push_asked(shards: &mut Vec<ShardNo>, splits: &Splits, keys: &[Key]) -> Result<(), Fault>
     ensures same { IfOk result
         (λ _. shards.new.items ≡ shards.old.items ++ map (shard_of splits.now) keys.now) }
@@ -231,7 +231,7 @@ fn first_read_at(taken: &[Answered], shard: ShardNo) -> Option<&Answered>
     }
 }
 
-// Adds the keys that were read at a shard, ascending, to none.
+// Adds the keys that were read at a shard, in ascending order, to an empty list.
 fn push_keys_read_at(keys: &mut Vec<Key>, taken: &[Answered], shard: ShardNo) -> Result<(), Fault>
     requires { keys.old.items ≡ [] }
     ensures same { OnOk result
@@ -251,7 +251,7 @@ fn push_keys_read_at(keys: &mut Vec<Key>, taken: &[Answered], shard: ShardNo) ->
     }
 }
 
-// Adds copies of the writes of a shard to none.
+// Adds copies of the writes at a shard to an empty list.
 fn push_writes_of(
     part: &mut Vec<Write>,
     splits: &Splits,

@@ -1,4 +1,4 @@
-//! What an answer that is awaited does.
+//! What an awaited answer does.
 ghost use Rattle.std.specs.Prelude.{◌≡◌, true, false, Some, MatchResult};
 ghost use Rattle.units.specs.Keys.{has_key};
 ghost use Rattle.session.specs.Sessions.{doomed_by, take_answer, epochs_agree};
@@ -11,7 +11,7 @@ use message::ReadAnswer;
 use units::{Fault, Key, Value, copy_value};
 
 impl Tx<'_, Open> {
-    /// Takes the value of an answer that is awaited, of the epoch of the shard's other answers.
+    /// Takes the value of an awaited answer, which has the epoch of the shard's other answers. `Memory` leaves all as it was.
     pub(crate) fn take_value(
         &mut self,
         answer: &ReadAnswer,
@@ -40,7 +40,7 @@ impl Tx<'_, Open> {
         Ok(Heard::Value(shown))
     }
 
-    /// The answer for a key dooms the transaction: it can only give up.
+    /// Dooms the transaction by the answer for a key: it can only give up.
     pub(crate) fn doom_by(&mut self, key: Key)
         ensures splits { self.new.splits ≡ self.old.splits }
         ensures step { self.new.client ≡ doomed_by key self.old.client }

@@ -1,4 +1,4 @@
-//! A transaction's session.
+//! A transaction at its client.
 ghost use Rattle.std.specs.Prelude.{◌≡◌, ◌⊎◌, ◌^◌, [], ◌∷◌, ◌++◌, length, true, false, not, ◌&&◌, nat_le, Option, MatchResult, IfOk, IfErr, OnOk};
 ghost use Rattle.units.specs.Ids.{same_id};
 ghost use Rattle.units.specs.Keys.{Bytes, has_key, writes_key};
@@ -15,15 +15,15 @@ use tickets::{Drawer, Tickets};
 use units::{Fault, Key, Reason, Run, Splits, TxnId, Value, Write};
 
 mod stages {
-    /// What only a stage of this crate is.
+    /// What only the stages of this crate are.
     pub trait Stage {}
 }
 
-/// A stage of a transaction's session: `Open`, `Closing` or `Quitting`. No other crate has one of its own.
+/// A stage of a transaction at its client: `Open`, `Closing` or `Quitting`. No other crate can add one.
 pub trait Phase: stages::Stage {
     ghost stage: { Stage };
 
-    /// The messages that close the transaction are out.
+    /// Tells whether the closing messages are out.
     fn is_closing() -> bool
         ensures { result ≡ is_closing Self.stage };
 }
@@ -31,7 +31,7 @@ pub trait Phase: stages::Stage {
 /// A stage at which a transaction can be given up: `Open` or `Closing`.
 pub trait Ongoing: Phase {}
 
-/// A stage at which the messages that close the transaction are out, and its end is awaited: `Closing` or `Quitting`.
+/// A stage at which the closing messages are out and the end is awaited: `Closing` or `Quitting`.
 pub trait Closed: Phase {}
 
 /// The transaction reads and buffers writes.
@@ -49,7 +49,7 @@ impl Phase for Open {
     }
 }
 
-/// The transaction's messages are out, and its end is awaited.
+/// The closing messages are out, and the end is awaited.
 pub struct Closing;
 
 impl stages::Stage for Closing {}
@@ -66,7 +66,7 @@ impl Phase for Closing {
     }
 }
 
-/// The transaction was given up behind its closing, and its shards were asked once more how it ended. By the definition the session is
+/// The transaction was given up after its closing, and its shards were asked once more how it ended. By the definition the session is
 /// over: its client only hears what became of the transaction.
 pub struct Quitting;
 
@@ -82,8 +82,8 @@ impl Phase for Quitting {
     }
 }
 
-/// A transaction, as its client sees it. Its reads do not see its own writes, which are buffered until it closes. It has
-/// to be spent, by `take`, `give_up` or `spend`.
+/// A transaction, as its client sees it. Its reads do not see its own writes, which are buffered until it closes. It has to be spent,
+/// by `take`, `give_up` or `spend`.
 pub struct Tx<'s, S: Phase> {
     pub(crate) splits: &'s Splits,
     pub(crate) txn: TxnId,
@@ -115,7 +115,7 @@ impl<'s, S: Phase> Model for Tx<'s, S> {
 }
 
 impl<'s> Tx<'s, Open> {
-    /// The transaction as it begins. It keeps the splits, and takes no memory.
+    /// Begins a transaction with this id. It keeps the splits, and takes no memory.
     pub fn begin(alloc: Global, txn: TxnId, splits: &'s Splits) -> Tx<'s, Open>
         ensures splits { result.splits ≡ splits.now }
         ensures begun { result.client ≡ begun txn }
@@ -131,8 +131,8 @@ impl<'s> Tx<'s, Open> {
         }
     }
 
-    /// A transaction of a run, whose number is drawn: no two of one run and one source share an id, by `ids_stay_apart` of `tickets`. A
-    /// drawer that may draw no more is `TimeSpent`.
+    /// Begins a transaction of a run, with a number that it draws. No two transactions of one run and one source share an id
+    /// (`ids_stay_apart` of `tickets`). `TimeSpent` if the drawer has drawn 2^40 times; take another drawer.
     pub fn begin_drawn(
         alloc: Global,
         run: Run,
@@ -157,10 +157,9 @@ impl<'s> Tx<'s, Open> {
         }
     }
 
-    /// Asks the key's shard for its value. More than 128 keys are `many`; a key whose answer was taken is `again`, one
-    /// whose answer is not yet taken is `awaited`; a transaction that can only give up is `doomed`. A shard passes over a read
-    /// of a transaction whose earlier read waits there, and says nothing of it: it is to be sent again, as soon as the
-    /// earlier one is answered.
+    /// Makes the message that asks the key's shard for its value. A `BadRequest` is `Many` after 128 keys, or `Doomed` if the transaction
+    /// can only give up. It is `Again` if the key was answered, and `Awaited` if the answer is not taken yet. A shard ignores a read while
+    /// an earlier read of the transaction waits there: send it again after the earlier one is answered.
     pub fn read(&mut self, key: Key) -> Result<Envelope, Fault>
         ensures splits { self.new.splits ≡ self.old.splits }
         ensures step { MatchResult result
@@ -179,7 +178,8 @@ impl<'s> Tx<'s, Open> {
         })
     }
 
-    /// Takes an answer, where it is awaited. An answer to another transaction is a `Stranger`.
+    /// Takes an answer if it is awaited. Any other answer to this transaction changes nothing (`Heard::Again`), and an answer to another one
+    /// is a `Stranger`. `Memory` leaves all as it was: take the answer again.
     pub fn answered(&mut self, answer: &ReadAnswer) -> Result<Heard, Fault>
         ensures splits { self.new.splits ≡ self.old.splits }
         ensures step { MatchResult result
@@ -214,8 +214,8 @@ impl<'s> Tx<'s, Open> {
         }
     }
 
-    /// Buffers a write, or with no value an erasure; a later write of a key replaces the earlier. More than 128 keys are
-    /// `many`; a transaction that can only give up is `doomed`.
+    /// Buffers a write, or an erasure if there is no value; a later write of a key replaces the earlier one. A `BadRequest` is `Many` after
+    /// 128 keys, and `Doomed` if the transaction can only give up.
     pub fn buffer(&mut self, key: Key, value: Option<Value>) -> Result<(), Fault>
         ensures splits { self.new.splits ≡ self.old.splits }
         ensures step { MatchResult result
@@ -231,7 +231,7 @@ impl<'s> Tx<'s, Open> {
         Ok(())
     }
 
-    /// No key that is awaited was taken before.
+    /// Says that no awaited key was taken before. It does nothing.
     pub fn awaits_only_new(&self)
         ensures { (key : Bytes) → has_key self.now.client.awaited key ≡ true
             → was_taken self.now.client key ≡ false }
@@ -239,7 +239,7 @@ impl<'s> Tx<'s, Open> {
         let _awaited = &self.awaited;
     }
 
-    // How many keys were asked for.
+    // The number of keys that were asked for.
     pub(crate) fn asked(&self) -> usize
         ensures { result ≡ length (asked_keys self.now.client) }
     {
@@ -247,7 +247,7 @@ impl<'s> Tx<'s, Open> {
         self.taken.len() + doomed + self.awaited.len()
     }
 
-    /// It can only give up.
+    /// Tells whether the transaction can only give up.
     pub fn is_doomed(&self) -> bool
         ensures { result ≡ is_doomed self.now.client }
     {
@@ -257,14 +257,14 @@ impl<'s> Tx<'s, Open> {
         }
     }
 
-    // The key's answer is not yet taken.
+    // Whether the key's answer is not yet taken.
     fn awaits(&self, key: &Key) -> bool
         ensures { result ≡ has_key self.now.client.awaited key.now }
     {
         has_key(self.awaited.as_slice(), key)
     }
 
-    // The key's answer was taken: a value, or the answer that doomed the session.
+    // Whether the key's answer was taken: a value, or the answer that doomed the session.
     fn was_answered(&self, key: &Key) -> bool
         ensures { result ≡ was_answered self.now.client key.now }
     {
@@ -277,7 +277,7 @@ impl<'s> Tx<'s, Open> {
         }
     }
 
-    // The key's answer is to be taken.
+    // Whether the key's answer is to be taken.
     fn expects(&self, key: &Key) -> bool
         ensures { result ≡ (has_key self.now.client.awaited key.now
             && not (is_doomed self.now.client)) }
@@ -285,14 +285,14 @@ impl<'s> Tx<'s, Open> {
         self.awaits(key) && !self.is_doomed()
     }
 
-    // The answer is of the epoch of its shard's other answers.
+    // Whether the answer has the epoch of its shard's other answers.
     fn agrees(&self, answer: &ReadAnswer) -> bool
         ensures { result ≡ epochs_agree self.now.client.taken answer.now.from answer.now.epoch }
     {
         epochs_agree(self.taken.as_slice(), answer.from, answer.epoch)
     }
 
-    // The key may be asked for.
+    // Checks that the key may be asked for.
     fn may_read(&self, key: &Key) -> Result<(), Fault>
         ensures { MatchResult result
             (λ _. (nat_le 128 (length (asked_keys self.now.client)) ≡ false)
@@ -316,7 +316,7 @@ impl<'s> Tx<'s, Open> {
         Ok(())
     }
 
-    // There are as many writes as there may be, and none of the key.
+    // Whether 128 keys are written, and this is not one of them.
     fn is_full_for(&self, key: &Key) -> bool
         ensures { result ≡ (nat_le 128 (length self.now.client.writes)
             && not (writes_key self.now.client.writes key.now)) }
@@ -324,7 +324,7 @@ impl<'s> Tx<'s, Open> {
         self.writes.len() >= 128 && !is_written(self.writes.as_slice(), key)
     }
 
-    // The key may be written.
+    // Checks that the key may be written.
     fn may_buffer(&self, key: &Key) -> Result<(), Fault>
         ensures { MatchResult result
             (λ _. ((nat_le 128 (length self.now.client.writes)
@@ -344,42 +344,42 @@ impl<'s> Tx<'s, Open> {
 }
 
 impl<'s, S: Phase> Tx<'s, S> {
-    /// Its id.
+    /// Returns the id of the transaction.
     pub fn txn(&self) -> TxnId
         ensures { result ≡ self.now.client.txn }
     {
         self.txn
     }
 
-    /// The splits of the shards that it goes over.
+    /// Returns the splits of its shards.
     pub fn splits(&self) -> &'s Splits
         ensures { result.now ≡ self.now.splits }
     {
         self.splits
     }
 
-    /// The answers with a value that it took, in their order.
+    /// Returns the answers with a value that it took, in the order in which it took them.
     pub fn taken(&self) -> &[Answered]
         ensures { result.now ≡ self.now.client.taken }
     {
         self.taken.as_slice()
     }
 
-    /// The keys that it asked for, and whose answers it has not taken.
+    /// Returns the keys that it asked for, and whose answers it has not taken.
     pub fn awaited(&self) -> &[Key]
         ensures { result.now ≡ self.now.client.awaited }
     {
         self.awaited.as_slice()
     }
 
-    /// Its writes, by ascending keys.
+    /// Returns its writes, by ascending keys.
     pub fn writes(&self) -> &[Write]
         ensures { result.now ≡ self.now.client.writes }
     {
         self.writes.as_slice()
     }
 
-    /// It is this transaction.
+    /// Tells whether it is this transaction.
     pub(crate) fn is_of(&self, txn: TxnId) -> bool
         ensures { result ≡ same_id self.now.client.txn txn }
     {

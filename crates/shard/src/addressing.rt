@@ -1,4 +1,4 @@
-//! Which messages are for a shard.
+//! Which messages a shard takes.
 ghost use Rattle.std.specs.Prelude.{◌≡◌};
 ghost use Rattle.protocol.specs.Step.{is_for};
 
@@ -6,8 +6,8 @@ use message::Message;
 use recovery::owns_all;
 use units::Setup;
 
-/// The message is for this shard: its keys belong here; a prepare comes from a coordinator below, and a commit to the least
-/// of its parts. Answers and ends go to sessions.
+/// Tells whether the message is for this shard: its keys are this shard's. A prepare must name a coordinator below this shard, and
+/// of a commit this shard must be the least part. Answers and ends are for sessions.
 #[tactic(auto, unfolding(protocol::specs::Step::is_for))]
 pub(crate) fn is_for(setup: &Setup, message: &Message) -> bool
     ensures { result ≡ is_for setup.now message.now }

@@ -1,4 +1,4 @@
-//! The book of a core: begun at its opening, with a page for each input that is taken.
+//! The book of a core: it is begun at the opening, and gets a page for each input that is accepted.
 ghost use Rattle.std.specs.Prelude.{◌≡◌, ◌⊎◌, ◌<◌, ◌≤◌, length, IsFalse, IfOk, IfErr, OnOk};
 ghost use Rattle.disk.specs.File.{surface};
 ghost use Rattle.book.specs.Books.{new_book, with_page};
@@ -23,7 +23,7 @@ use std::alloc::Global;
 use truetime::Reading;
 use units::{Book as Setting, Fault};
 
-// The book of a shard that was told this, whose opening found these records.
+// The book of an opening that found these records, if the shard is to keep one.
 pub(crate) fn book_of_records(
     alloc: Global,
     setting: Setting,
@@ -46,7 +46,7 @@ pub(crate) fn book_of_records(
     }
 }
 
-// The page of an input that would be taken. Its memory is taken here, once the log has room for the record and the book for the page.
+// The page of an input that would be accepted. Its memory is taken only if the log has room for the record, and the book for the page.
 fn page_of<D: Disk>(
     machine: &Machine<D>,
     book: &Book,
@@ -74,7 +74,7 @@ fn page_of<D: Disk>(
     Page::of(alloc, now, input, &step.plan.outbox)
 }
 
-// Carries out the step of an input, and keeps its page. All memory is taken before.
+// Carries out the step of an input, and adds its page. All memory is taken before.
 pub(crate) fn write_page<D: Disk>(
     machine: &mut Machine<D>,
     book: &mut Book,

@@ -20,7 +20,7 @@ use std::alloc::Global;
 use truetime::Reading;
 use units::{Fault, Stamp, TxnId};
 
-/// What an input comes to. Nothing is changed by it.
+/// Plans the step of an input, and changes nothing. `Stranger` if a message is not for this shard.
 #[tactic(auto, unfolding(protocol::specs::Step::plan_input))]
 pub(crate) fn plan_input(
     state: &State,
@@ -47,7 +47,7 @@ pub(crate) fn plan_input(
     }
 }
 
-// The plan of a message that is for this shard.
+// Plans the step of a message that is for this shard.
 #[tactic(auto, unfolding(protocol::specs::Step::plan_message))]
 fn plan_message(
     state: &State,
@@ -71,7 +71,7 @@ fn plan_message(
     }
 }
 
-// A giving up: by the coordinator where votes are collected, else by the participant.
+// Plans what follows when a client gives up: by the coordinator if votes are collected, else by the participant.
 fn plan_given_up(state: &State, alloc: Global, given: &GiveUp) -> Result<Step, Fault>
     ensures planned { PlansGiveUp state.now given.now.txn (standing_in state.now given.now.txn)
         result }
@@ -85,7 +85,7 @@ fn plan_given_up(state: &State, alloc: Global, given: &GiveUp) -> Result<Step, F
     }
 }
 
-// The oldest wait that would be granted now goes on.
+// Goes on with the oldest wait that would be granted now.
 #[tactic(auto, unfolding(protocol::specs::Cells::plan_resume))]
 fn plan_resume(state: &State, alloc: Global, now: &Reading) -> Result<Step, Fault>
     ensures planned { IsPlanned state.now
@@ -98,7 +98,7 @@ fn plan_resume(state: &State, alloc: Global, now: &Reading) -> Result<Step, Faul
     }
 }
 
-// What a transaction waits with goes on: a prepare takes this reading, a commit the one at its arrival.
+// Goes on with the request with which a transaction waits: a prepare takes this reading, a commit the one at its arrival.
 #[tactic(auto, unfolding(protocol::specs::Cells::plan_go_on))]
 fn resume_of(state: &State, alloc: Global, now: &Reading, txn: TxnId) -> Result<Step, Fault>
     requires { Asks state.now.memory.rows txn [] (needs_in state.now.memory.rows txn) true }
@@ -122,7 +122,7 @@ fn resume_of(state: &State, alloc: Global, now: &Reading, txn: TxnId) -> Result<
     }
 }
 
-// Reads are served up to a time that has come. A ceiling is logged before, where the log's greatest timestamp is below it.
+// Serves reads up to a time that has come, else `Future`. A ceiling is logged first, if the log's greatest timestamp is below the time.
 #[tactic(auto, unfolding(protocol::specs::Cells::plan_advance))]
 fn plan_advance(state: &State, alloc: Global, now: &Reading, to: Stamp) -> Result<Step, Fault>
     ensures planned { IsPlanned state.now
@@ -136,7 +136,7 @@ fn plan_advance(state: &State, alloc: Global, now: &Reading, to: Stamp) -> Resul
     Ok(state.serves(alloc, ceiling, state.last().later(to)))
 }
 
-// No value below this time is read any more: nothing that is not yet served is forgotten, and what is forgotten stays so.
+// Raises the horizon to a time that is served, else `NotYet`. A horizon never falls.
 #[tactic(auto, unfolding(protocol::specs::Cells::plan_forget))]
 fn plan_forget(state: &State, alloc: Global, at: Stamp) -> Result<Step, Fault>
     ensures planned { IsPlanned state.now (plan_forget (start_of state.now) at) result }

@@ -1,4 +1,4 @@
-//! A shard: the core that takes inputs, logs what they decide, and puts out messages.
+//! A shard by itself: its core takes inputs, logs what they decide, and puts out messages.
 #![tactic(auto)]
 
 mod addressing;

@@ -1,4 +1,4 @@
-//! Records are staged and appended.
+//! How records are staged and appended.
 ghost use Rattle.std.specs.Option.{option_map};
 ghost use Rattle.std.specs.Prelude.{◌≡◌, ◌≢◌, ◌⊎◌, ◌+◌, ◌<◌, ◌≤◌, ◌^◌, ℕ, length, Some, IsTrue, IsFalse, IfOk, IfErr, OnOk};
 ghost use Rattle.disk.specs.File.{surface};
@@ -18,7 +18,8 @@ use record::Record;
 use std::alloc::Global;
 use units::Fault;
 
-/// Appends a record to a log, with all the memory taken before.
+/// Appends a record to a log. All memory is taken before it writes, so `Memory` and `TimeSpent` (the log is full) leave the log as it
+/// was. After `Device` the log is stopped, and each append is `Stopped`.
 pub fn append_record<D: Disk>(
     gate_log: &mut GateLog<D>,
     alloc: Global,
@@ -66,7 +67,7 @@ pub fn append_record<D: Disk>(
     // With no call armed the device does not fail.
     ensures planned { D.obeys → D.plan (disk_of gate_log.old) ≡ Never
         → (D.plan (disk_of gate_log.new) ≡ Never) × IfErr result (λ fault. fault ≢ Fault.Device) }
-    // With a call armed, counted from 0: it fails where it is one of the append's, and leaves this.
+    // With a call armed, counted from 0: it fails if it is one of the append's, and leaves this.
     ensures armed { (call : ℕ) → IsFalse (is_stopped gate_log.old) → D.obeys → D.keeps_model
         → D.plan (disk_of gate_log.old) ≡ AfterWrite call
         → OnOk result (GoesPast call (Some item))
@@ -84,7 +85,7 @@ pub fn append_record<D: Disk>(
     }
 }
 
-/// Takes all the memory that an append of a record needs, where there is one. Nothing is written.
+/// Takes all the memory to append a record, if there is one, and writes nothing. `TimeSpent` if the log has no room for it.
 pub fn stage_record<D: Disk>(
     gate_log: &mut GateLog<D>,
     alloc: Global,
@@ -116,7 +117,7 @@ pub fn stage_record<D: Disk>(
     }
 }
 
-/// Appends a record that was staged. It takes no memory, and fails by the device alone.
+/// Appends a staged record. It takes no memory. `Device` is its only refusal, and the log is then stopped.
 pub fn append_staged<D: Disk>(gate_log: &mut GateLog<D>, staged: Staged) -> Result<Logged, Fault>
     requires running { IsFalse (is_stopped gate_log.old) }
     requires at { staged.offset ≡ gate_at gate_log.old }
@@ -149,7 +150,7 @@ pub fn append_staged<D: Disk>(gate_log: &mut GateLog<D>, staged: Staged) -> Resu
     // With no call armed the device does not fail.
     ensures planned { D.obeys → D.plan (disk_of gate_log.old) ≡ Never
         → (D.plan (disk_of gate_log.new) ≡ Never) × IfErr result (λ fault. fault ≢ Fault.Device) }
-    // With a call armed, counted from 0: it fails where it is one of the append's, and leaves this.
+    // With a call armed, counted from 0: it fails if it is one of the append's, and leaves this.
     ensures armed { (call : ℕ) → D.obeys → D.keeps_model
         → D.plan (disk_of gate_log.old) ≡ AfterWrite call
         → OnOk result (GoesPast call (Some staged.item))

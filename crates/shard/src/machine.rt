@@ -1,4 +1,4 @@
-//! The log of a shard, and what stands in memory by it.
+//! The log of a shard, with the state in memory.
 ghost use Rattle.std.specs.Prelude.{◌≡◌, ◌⊎◌, ◌<◌, ◌+◌, ◌^◌, [], ◌∷◌, Some, Ok, Err, IsTrue, IsFalse, IfOk, IfErr, OnOk, ◌≤◌};
 ghost use Rattle.disk.specs.File.{surface};
 ghost use Rattle.gatelog.specs.Frames.{IsFull};
@@ -34,8 +34,7 @@ use std::alloc::Global;
 use truetime::Reading;
 use units::{Epoch, Fault, Setup};
 
-// The log of a shard, and what stands in memory by it. Once a device call has failed in it, it is stopped. It has to be
-// spent, by `stop`.
+// The log of a shard, with the state in memory. It is stopped once a device call has failed in it. It has to be spent, by `stop`.
 pub(crate) struct Machine<D: Disk> {
     pub(crate) gate_log: GateLog<D>,
     pub(crate) state: State,
@@ -48,7 +47,7 @@ pub(crate) struct Machine<D: Disk> {
 impl<D: Disk> Machine<D> {
     ghost use Rattle.shard.specs.Core.{seen_machine};
 
-    // What an input comes to, told before anything is changed; or why it is refused.
+    // Plans the step of an input and changes nothing, or tells why it is refused.
     pub(crate) fn plan(&self, alloc: Global, now: &Reading, input: &Input) -> Result<Step, Fault>
         ensures running { OnOk result (IsFalse (seen_machine self.now).stopped) }
         ensures stands { OnOk result
@@ -75,7 +74,7 @@ impl<D: Disk> Machine<D> {
         plan_input(&self.state, alloc, now, input)
     }
 
-    // The log has room for the record of a step, where it has one.
+    // Whether the log has room for the record of a step, if it has one.
     pub(crate) fn has_place(&self, step: &Step) -> bool
         ensures there { IsTrue result → HasPlace (seen_machine self.now).gate step.now.logged }
         ensures full { IsFalse result → IsLogFull (seen_machine self.now).gate step.now.logged }
@@ -86,7 +85,7 @@ impl<D: Disk> Machine<D> {
         }
     }
 
-    // Stages a step and commits it: its record is logged, where it has one, and its plan carried out.
+    // Stages a step and commits it: its record is logged, if it has one, and its plan carried out.
     pub(crate) fn carry_out(&mut self, alloc: Global, step: Step) -> Result<Outbox, Fault>
         requires running { IsFalse (seen_machine self.old).stopped }
         requires stands { D.keeps_model
@@ -108,7 +107,7 @@ impl<D: Disk> Machine<D> {
         self.commit(staged)
     }
 
-    // A machine of a log without records, to which the first opening is added.
+    // Makes a machine of a log without records, and logs the first opening.
     pub(crate) fn begin(
         alloc: Global,
         mut gate_log: GateLog<D>,
@@ -154,7 +153,7 @@ impl<D: Disk> Machine<D> {
         }
     }
 
-    // A machine of a log and of what its records leave, to which the next opening is added.
+    // Makes a machine of a log and of the state that its records leave, and logs the next opening.
     pub(crate) fn take_up(
         alloc: Global,
         gate_log: GateLog<D>,
@@ -212,7 +211,7 @@ impl<D: Disk> Machine<D> {
         Ok(machine)
     }
 
-    // Ends it, and gives its disk back as it is.
+    // Ends the machine, and returns its disk as it is.
     pub(crate) fn stop(self) -> D
         ensures { result ≡ (seen_machine self).disk }
     {

@@ -1,4 +1,4 @@
-//! What an opening makes of the entries of a log, as a scan hands them over.
+//! What an opening builds from the entries of a log, as a scan hands them over.
 ghost use Rattle.std.specs.Prelude.{◌≡◌, ◌⊎◌, ◌++◌, ◌∷◌, [], Some, None, IsTrue, IfOk, IfErr, OnOk};
 ghost use Rattle.std.specs.List.{list_all};
 ghost use Rattle.book.specs.Books.{new_book};
@@ -18,7 +18,7 @@ use recovery::Rebuild;
 use std::alloc::Global;
 use units::{Book as Setting, Fault, Setup};
 
-/// What the entries leave, and their records for the book where one is to be kept. It has to be spent.
+/// The state that the entries leave, and their records for the book, if one is to be kept. It has to be spent.
 pub(crate) struct Opening {
     rebuild: Rebuild,
     setting: Setting,
@@ -31,7 +31,7 @@ pub(crate) struct Opening {
 impl Opening {
     ghost use Rattle.shard.specs.Taking.{entries_in, told_to};
 
-    /// Of a shard that is told this.
+    /// Begins without an entry. `Memory` if there is none.
     pub(crate) fn new(alloc: Global, setup: &Setup) -> Result<Opening, Fault>
         ensures setup { IfOk result (λ made. told_to made ≡ setup.now) }
         ensures none { IfOk result (λ made. entries_in made ≡ []) }
@@ -44,7 +44,7 @@ impl Opening {
         })
     }
 
-    /// What the records leave, with the book that is begun; or why they are refused.
+    /// Returns the state that the records leave, and the book that is begun, or tells why the log is refused.
     pub(crate) fn finish(self, alloc: Global) -> Result<(Option<State>, Option<Book>), Fault>
         ensures found { IfOk result
             (λ left. IsRebuilt (told_to self) (items (entries_in self)) left.0) }
@@ -79,7 +79,7 @@ impl Opening {
         }
     }
 
-    /// Lets all go.
+    /// Drops all that was built.
     pub(crate) fn stop(self) {
         let Opening {
             rebuild,

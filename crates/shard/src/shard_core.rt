@@ -42,8 +42,8 @@ use std::alloc::Global;
 use truetime::Reading;
 use units::{Epoch, Fault, Install, Key, Seen, Setup, Stamp, TxnId, may_look, show};
 
-/// The core of a shard: its log, what it keeps in memory, and its book, where it was told to keep one. Once a device call has
-/// failed in it, it is stopped, and each input is refused. It has to be spent, by `stop`.
+/// A shard by itself: its log, its state in memory, and its book if it was told to keep one. Once a device call has failed in it, it is
+/// stopped and refuses each input. It has to be spent, by `stop`.
 pub struct Core<D: Disk> {
     machine: Machine<D>,
     book: Option<Book>,
@@ -53,14 +53,14 @@ pub struct Core<D: Disk> {
 impl<D: Disk> Core<D> {
     ghost use Rattle.shard.specs.Core.{seen, seen_machine, book_of};
 
-    /// Takes up the log of a disk, and logs the next opening. What a log leaves is the rows of its promises and decisions that
-    /// stand, its versions, and its greatest timestamp. The disk is given back where it is refused: for want of memory, a failing
-    /// device, a file that holds no log of this shard's, or an opening that has no room.
+    /// Opens the log of a disk: it rebuilds the state from the records, and logs the next opening. A refusal returns the disk. It is
+    /// `Memory`, `Device`, or `NotALog`, `Damaged` or `Stranger` if the file holds no log of this shard. `TimeSpent` says that no epoch is
+    /// left, or no room for the opening.
     pub fn open(alloc: Global, disk: D, setup: Setup) -> Result<Core<D>, (Fault, D)>
         ensures opened { IfOk result
             (λ core. HasOpened D.keeps_model D.obeys D.file D.clock D.since D.failures D.plan disk
             setup (seen core)) }
-        // Its book, where it is to keep one, has the records that were found, and no page.
+        // Its book, if it is to keep one, has the records that were found, and no page.
         ensures book { IfOk result
             (λ core. D.keeps_model → (records : List Record)
             → records_in (surface (D.file disk)).seen ≡ Ok records
@@ -94,7 +94,7 @@ impl<D: Disk> Core<D> {
         }
     }
 
-    // A machine with its book, where it was made.
+    // A machine with its book, if the machine was made.
     fn with_book(
         made: Result<Machine<D>, (Fault, D)>,
         book: Option<Book>,
@@ -113,9 +113,9 @@ impl<D: Disk> Core<D> {
         }
     }
 
-    /// Takes an input. What it does is the step of the definitions; it appends at most one record. All growth is made
-    /// before, and a core that is stopped by its device refuses every input. Where it keeps a book, an input that it accepts
-    /// is a page more; once that is full, what would be accepted is refused as `BookFull`, and all stays as it was.
+    /// Takes an input: a message or a chore. It logs at most one record, and returns the messages to be sent. All memory is taken before
+    /// the record is written. A refusal leaves all as it was, except for `Device`: the core is then stopped, and each input is `Stopped`.
+    /// If the core keeps a book, an accepted input adds a page. Once the book is full, an input that would be accepted is `BookFull`.
     pub fn on(&mut self, alloc: Global, now: &Reading, input: &Input) -> Result<Outbox, Fault>
         ensures stepped { HasBookRoom (seen self.old).setup.book (book_of self.old) →
             HasStepped D.keeps_model D.obeys D.file D.clock D.since D.failures D.plan
@@ -135,9 +135,9 @@ impl<D: Disk> Core<D> {
         }
     }
 
-    /// Turns its log over: the file gets a new area, with the records of a renewed log that is made of its facts, behind the closed
-    /// gate, and the next slot then names it. What it knows and keeps stays, and no page is added to its book. All growth is made
-    /// before the file is changed. `TimeSpent` where no slot is left, or the file would grow beyond 2^40 bytes.
+    /// Turns the log over: it writes a renewed log of the core's facts into a new area of the file, which the next slot then names. The
+    /// state and the book stay as they are. All memory is taken before the file is changed. `TimeSpent` if no slot is left, or the file
+    /// would grow beyond 2^40 bytes.
     pub fn turn_over(&mut self, alloc: Global) -> Result<(), Fault>
         ensures turned { HasTurned D.keeps_model D.obeys D.file D.clock D.since D.failures D.plan
             (seen self.old) (seen self.new) result }
@@ -146,8 +146,8 @@ impl<D: Disk> Core<D> {
         self.machine.turn_over(alloc)
     }
 
-    // What is answered where the plan was refused: a full book comes before want of memory, but not near the log's limit, where a
-    // full log would come before both and the record may not have been made.
+    // The refusal of a plan. A full book comes before `Memory`, except near the log's limit: there a full log would come before both,
+    // and the record may not have been made.
     fn first_refusal(&self, fault: Fault) -> Fault
         ensures room { HasBookRoom (seen self.now).setup.book (book_of self.now)
             → result ≡ fault }
@@ -163,7 +163,7 @@ impl<D: Disk> Core<D> {
         }
     }
 
-    // Carries out the step of an input, with its page where a book is kept.
+    // Carries out the step of an input, and adds its page if a book is kept.
     fn enter(
         &mut self,
         alloc: Global,
@@ -200,36 +200,36 @@ impl<D: Disk> Core<D> {
         }
     }
 
-    /// The oldest transaction whose wait would be granted now.
+    /// Returns the oldest transaction that waits and would be granted now: `Resume` goes on with it.
     pub fn ready(&self) -> Option<TxnId>
         ensures { result ≡ ready (claims (seen self.now).memory.rows) }
     {
         self.machine.state.ready()
     }
 
-    /// The n-th transaction, from 0 by ascending id, that is prepared, with the timestamp of its promise.
+    /// Returns the n-th prepared transaction, from 0 by ascending id, and its prepare timestamp.
     pub fn prepared(&self, n: usize) -> Option<(TxnId, Stamp)>
         ensures { result ≡ nth_prepared (seen self.now).memory.rows n }
     {
         self.machine.state.nth_prepared(n)
     }
 
-    /// The n-th transaction, from 0 by ascending id, that is decided and not settled, with its timestamp.
+    /// Returns the n-th transaction that is decided and not settled, from 0 by ascending id, and its commit timestamp.
     pub fn decided(&self, n: usize) -> Option<(TxnId, Stamp)>
         ensures { result ≡ nth_decided (seen self.now).memory.rows n }
     {
         self.machine.state.nth_decided(n)
     }
 
-    /// A transaction that is decided and not settled, of the least timestamp, with it.
+    /// Returns a transaction that is decided and not settled, with the least commit timestamp, and that timestamp. `None` if there is none.
     pub fn earliest_decided(&self) -> Option<(TxnId, Stamp)>
         ensures { IsEarliest (gather decided_row (seen self.now).memory.rows) result }
     {
         self.machine.state.earliest_decided()
     }
 
-    /// The value of a key at a timestamp that is served and not below the horizon, put at the front of the buffer. A core that is stopped
-    /// still answers.
+    /// Looks up the value of a key at a timestamp, and puts it at the front of the buffer. A stopped core still answers. `Stranger` if the
+    /// key is another shard's, `TooOld` below the horizon, `NotYet` above the safe time, `Room` if the buffer is too short.
     pub fn look(&self, key: &Key, at: Stamp, buffer: &mut [u8]) -> Result<Seen, Fault>
         ensures { IsLook (seen self.now) key.now at buffer.old buffer.new result }
     {
@@ -238,50 +238,50 @@ impl<D: Disk> Core<D> {
         show(state.value_at(key, at), buffer)
     }
 
-    /// The horizon, below which no value is read: 0 where there is none.
+    /// Returns the horizon, below which no value is read, 0 if there is none.
     pub fn horizon(&self) -> Stamp
         ensures { result ≡ (seen self.now).facts.horizon }
     {
         self.machine.state.horizon()
     }
 
-    /// The greatest timestamp at which reads are answered.
+    /// Returns the safe time: the greatest timestamp at which looks are answered.
     pub fn safe(&self) -> Stamp
         ensures { result ≡ safe_at (seen self.now) }
     {
         self.machine.state.safe()
     }
 
-    /// The greatest timestamp assigned, applied or served.
+    /// Returns the greatest timestamp that was assigned, applied or served.
     pub fn last(&self) -> Stamp
         ensures { result ≡ (seen self.now).memory.last }
     {
         self.machine.state.last()
     }
 
-    /// Where its log ends in the file: the offset of the closed gate.
+    /// Returns the offset of the closed gate in the file, in bytes: the log ends there.
     pub fn gate(&self) -> u64
         ensures { result ≡ (seen self.now).gate }
     {
         self.machine.gate_log.gate()
     }
 
-    /// How often the log was opened.
+    /// Returns the epoch: how often the log was opened.
     pub fn epoch(&self) -> Epoch
         ensures { result ≡ (seen self.now).facts.epoch }
     {
         self.machine.state.epoch()
     }
 
-    /// The versions, in the log's order.
+    /// Returns the versions, in the log's order.
     pub fn installs(&self) -> &[Install]
         ensures { result.now ≡ (seen self.now).facts.installs }
     {
         self.machine.state.installs()
     }
 
-    /// The book, where it keeps one: from the state that the opening left, the step over its pages leads to what the core knows
-    /// and keeps, and puts out what stands in them.
+    /// Returns the book, if the core keeps one. Replayed from the state that the opening left, its pages lead to what the core knows and
+    /// keeps, and put out the messages that stand in them.
     pub fn book(&self) -> Option<&Book>
         ensures same { option_copied result ≡ book_of self.now }
         ensures replays { ∥ IsBookOf (seen self.now).setup (book_of self.now)
@@ -290,8 +290,8 @@ impl<D: Disk> Core<D> {
         self.book.as_ref()
     }
 
-    /// For tests: the device call that comes that many calls after the next append begins fails once, or none does. It is
-    /// handed to the disk and changes nothing else, also of a core that is stopped.
+    /// Arms a device call for tests: the one that comes this many calls after the next append begins fails once. `None` disarms it. This
+    /// goes to the disk and changes nothing else, even in a stopped core.
     pub fn arm(&mut self, call: Option<u64>)
         ensures plan { D.obeys → D.plan (seen self.new).disk ≡ armed call }
         ensures log { ((seen self.new).gate ≡ (seen self.old).gate)
@@ -309,7 +309,7 @@ impl<D: Disk> Core<D> {
         self.machine.gate_log.arm(call);
     }
 
-    /// Ends the core, and gives its disk back as it is.
+    /// Ends the core, and returns its disk as it is.
     pub fn stop(self) -> D
         ensures { result ≡ (seen self).disk }
     {
@@ -319,26 +319,26 @@ impl<D: Disk> Core<D> {
     }
 }
 
-// What a core says of itself.
+// What a core says about itself.
 impl<D: Disk> Core<D> {
     ghost use Rattle.shard.specs.Core.{seen, book_of};
 
-    /// What the shard was told when it was opened.
+    /// Returns what the shard was told when it was opened.
     pub fn setup(&self) -> &Setup
         ensures { result.now ≡ (seen self.now).setup }
     {
         self.machine.state.setup()
     }
 
-    /// Its device failed, so that each input is refused.
+    /// Tells whether the device failed, so that each input is refused. Open the disk again once the cause is gone.
     pub fn is_stopped(&self) -> bool
         ensures { result ≡ (seen self.now).stopped }
     {
         self.machine.gate_log.is_stopped()
     }
 
-    /// Its rows, facts and locks agree, its versions may be put on a board, its facts may be renewed and are alike to those of its log
-    /// (where it is stopped, of the log before the step or the turnover that stopped it), and its book replays. It does nothing.
+    /// Says that its rows, facts and locks agree, its versions may be put on a board, its facts may be renewed, and its book replays. The
+    /// facts are alike to those of its log; in a stopped core, to those of the log before the call that stopped it. It does nothing.
     pub fn is_sound(&self)
         ensures sound { ∥ IsSound (seen self.now).setup.shard (seen self.now).facts
             (seen self.now).memory ∥₁ }

@@ -1,4 +1,4 @@
-//! A step is staged, and then committed: between the two all memory is taken, and nothing is written.
+//! A step is staged, and then committed. Staging takes all memory and writes nothing.
 ghost use Rattle.std.specs.Prelude.{◌≡◌, IsFalse, IfOk, IfErr, Err};
 ghost use Rattle.disk.specs.File.{surface};
 ghost use Rattle.shard.specs.Armed.{HasPlace};
@@ -16,8 +16,7 @@ use message::Outbox;
 use std::alloc::Global;
 use units::Fault;
 
-// A step for which all memory is taken, with its record as it goes into the log, where it has one. Nothing is written. It has
-// to be spent, by `commit`.
+// A step for which all memory is taken, with its record ready for the log, if it has one. It has to be spent, by `commit`.
 pub(crate) struct StagedStep {
     plan: Plan,
     frame: Option<Staged>,
@@ -28,8 +27,8 @@ impl<D: Disk> Machine<D> {
     ghost use Rattle.shard.specs.Core.{seen_machine};
     ghost use Rattle.shard.specs.Staged.{IsReady, IsStaged, does, seen_unstaged, step_staged};
 
-    // Takes all the memory of a step, in the log and in the state. A transaction that asks for locks, and has no row, gets one.
-    // Nothing is written; where it is refused, all is as it was.
+    // Takes all the memory of a step, in the log and in the state. A transaction that asks for locks gets a row if it has none. Nothing is
+    // written, and a refusal leaves all as it was.
     pub(crate) fn stage(&mut self, alloc: Global, step: Step) -> Result<StagedStep, Fault>
         requires running { IsFalse (seen_machine self.old).stopped }
         requires stands { D.keeps_model
@@ -65,8 +64,8 @@ impl<D: Disk> Machine<D> {
         }
     }
 
-    // Appends the record of a step that was staged, where it has one, and carries its plan out. It takes no memory. Where the
-    // device fails, what the staging took in is taken back, and the log is stopped.
+    // Appends the record of a staged step, if it has one, and carries out its plan. It takes no memory. If the device fails, the staged row
+    // is taken back, and the log is stopped.
     pub(crate) fn commit(&mut self, staged: StagedStep) -> Result<Outbox, Fault>
         requires { IsReady D.keeps_model D.obeys D.file D.has_room
             (seen_machine self.old) self.old.state staged }

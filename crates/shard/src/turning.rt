@@ -1,4 +1,4 @@
-//! A log that is turned over: its records are made anew of what the core knows.
+//! How a log is turned over: its records are made anew from the core's facts.
 ghost use Rattle.std.specs.Prelude.{◌≡◌, IfOk, IfErr};
 ghost use Rattle.ledger.specs.Turned.{turned};
 ghost use Rattle.shard.specs.Turned.{HasTurned};
@@ -28,7 +28,7 @@ impl Recorder for Renewing {
 impl<D: Disk> Machine<D> {
     ghost use Rattle.shard.specs.Core.{seen_machine};
 
-    // The area of a renewed log, made of what it knows.
+    // Makes the area of a renewed log from the facts.
     fn new_area(&self, alloc: Global) -> Result<Area, Fault>
         ensures records { IfOk result (λ area. area ≡ turned self.now.state.facts) }
         ensures memory { IfErr result (λ fault. fault ≡ Fault.Memory) }
@@ -48,7 +48,7 @@ impl<D: Disk> Machine<D> {
         }
     }
 
-    // Puts a renewed log into the place of its log. All memory is taken before.
+    // Puts a renewed log in place of the log. All memory is taken before.
     pub(crate) fn turn_over(&mut self, alloc: Global) -> Result<(), Fault>
         ensures { HasTurned D.keeps_model D.obeys D.file D.clock D.since D.failures D.plan
             (seen_machine self.old) (seen_machine self.new) result }

@@ -1,3 +1,3 @@
-//! Whole runs worked out by the checker: each is an equation of `proofs/` that computes. They show what the definitions of
-//! whole runs say: messages, logs, lines and verdicts, crashes and failing calls, and long runs whose events are drawn.
+//! Whole runs that the checker works out: each is an equation of `proofs/`, which is computed. They show what the definitions of
+//! whole runs say about messages, logs, lines and verdicts. There are crashes, failing calls, and long runs of drawn events.
 #![tactic(auto)]

@@ -12,7 +12,7 @@ use std::alloc::Global;
 use std::mem::replace;
 use units::{Fault, Key, Line, Splits, Stamp, TxnId, Value, copy_value};
 
-/// What a session is asked for, or hears. `Write` has a value, or `None` for an erasure.
+/// What a session is asked for. A write has a value, or `None` for an erasure.
 #[derive(Clone, Copy)]
 pub enum Step<'v> {
     Read(Key),
@@ -20,8 +20,7 @@ pub enum Step<'v> {
     Leave(Leave),
 }
 
-/// How a session goes on to its end: it closes, it gives up, or it hears the end of its transaction, which is a timestamp or
-/// `None` for aborted.
+/// How a session comes to its end: it closes, gives up, or hears how its transaction ended, at a timestamp or with `None` for aborted.
 #[derive(Clone, Copy)]
 pub enum Leave {
     Close,
@@ -29,21 +28,21 @@ pub enum Leave {
     Hear(Option<Stamp>),
 }
 
-/// A transaction in its stage. Of one that is over nothing is kept.
+/// A transaction in its stage. Nothing is kept of one that is over.
 pub enum Held<'s> {
     Open(Tx<'s, Open>),
     Closing(Tx<'s, Closing>),
     Over,
 }
 
-/// A session that has begun, with the id of its transaction. It has to be spent.
+/// A session that has begun, with the id of its transaction. It has to be spent, by `spend`.
 pub struct Begun<'s> {
     pub txn: TxnId,
     pub held: Held<'s>,
 }
 
 impl<'s> Begun<'s> {
-    /// A session begins.
+    /// Begins a session.
     pub fn new(alloc: Global, txn: TxnId, splits: &'s Splits) -> Begun<'s>
         ensures { IsBegun splits.now result (begun txn) }
     {
@@ -53,7 +52,7 @@ impl<'s> Begun<'s> {
         }
     }
 
-    /// A session takes a step.
+    /// Carries out a step of the session, and returns its messages or the session's refusal.
     pub fn step(&mut self, alloc: Global, step: &Step<'_>) -> Result<Outbox, Fault>
         ensures { (splits : List Bytes) (c : Client) → IsBegun splits self.old c
             → Moves splits (asks splits step.now c) self.new c result }
@@ -76,7 +75,7 @@ impl<'s> Begun<'s> {
         }
     }
 
-    /// An open session hears an answer. A value that it takes is a line.
+    /// Takes an answer, in an open session. A value that it takes becomes a line of the report.
     pub fn hear(&mut self, answer: &ReadAnswer) -> Result<Option<Line>, Fault>
         requires { same_id self.old.txn answer.now.txn ≡ true }
         ensures { (splits : List Bytes) (c : Client) → IsBegun splits self.old c
@@ -91,7 +90,7 @@ impl<'s> Begun<'s> {
 }
 
 impl<'s> Held<'s> {
-    // The session of this id goes on to its end.
+    // Leads the session of this id to its end.
     fn leave(self, alloc: Global, txn: TxnId, leave: Leave) -> (Held<'s>, Result<Outbox, Fault>)
         ensures { (splits : List Bytes) (c : Client)
             → IsBegun splits (record { txn = txn; held = self.entry }) c
@@ -125,7 +124,7 @@ impl<'s> Held<'s> {
         }
     }
 
-    /// Nobody is told.
+    /// Spends the session without telling any shard.
     pub fn spend(self) {
         match self {
             Held::Open(tx) => tx.spend(),
@@ -135,7 +134,7 @@ impl<'s> Held<'s> {
     }
 }
 
-// The key's shard is asked.
+// Asks the key's shard.
 fn ask(alloc: Global, tx: &mut Tx<'_, Open>, key: Key) -> Result<Outbox, Fault>
     ensures splits { tx.new.splits ≡ tx.old.splits }
     ensures step { Steps
@@ -147,7 +146,7 @@ fn ask(alloc: Global, tx: &mut Tx<'_, Open>, key: Key) -> Result<Outbox, Fault>
     }
 }
 
-// A write is buffered.
+// Buffers a write.
 fn buffer(
     alloc: Global,
     tx: &mut Tx<'_, Open>,
@@ -167,7 +166,7 @@ fn buffer(
     }
 }
 
-// An answer is taken, and what it shows is a line.
+// Takes an answer, and makes a line of the value that it shows.
 fn take_answer(
     tx: &mut Tx<'_, Open>,
     txn: TxnId,
@@ -192,7 +191,7 @@ fn take_answer(
     }
 }
 
-// One message alone.
+// An outbox of this message alone.
 fn only(alloc: Global, envelope: Envelope) -> Result<Outbox, Fault>
     ensures same { IfOk result (λ out. out ≡ envelope ∷ []) }
     ensures memory { IfErr result (λ fault. fault ≡ Fault.Memory) }

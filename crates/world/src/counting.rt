@@ -13,7 +13,8 @@ use record::Record;
 use std::alloc::Global;
 use units::{Fault, Line, Parts, TxnId};
 
-/// The lines that count, in order: an answered read counts where its transaction committed, as the logs have it.
+/// Returns the lines that count, in order. An answered read counts if its transaction committed, as the logs have it. `Memory` if there
+/// is none.
 #[tactic(auto, unfolding(crate::specs::World::counted_lines))]
 pub fn counted(alloc: Global, logs: &[Vec<Record>], lines: Vec<Line>) -> Result<Vec<Line>, Fault>
     ensures counted { IfOk result
@@ -30,7 +31,7 @@ pub fn counted(alloc: Global, logs: &[Vec<Record>], lines: Vec<Line>) -> Result<
     }
 }
 
-// The lines that count, where these transactions committed.
+// The lines that count, if these transactions committed.
 fn counting_by(decided: &IndexSet<TxnId>, mut lines: Vec<Line>) -> Vec<Line>
     ensures { (logs : List (List Logged)) → AreDecided decided.now.keys logs
         → result.items ≡ filter (line_counts (history logs)) lines.items }
@@ -39,7 +40,7 @@ fn counting_by(decided: &IndexSet<TxnId>, mut lines: Vec<Line>) -> Vec<Line>
     lines
 }
 
-// The line counts, where these transactions committed.
+// Whether the line counts, if these transactions committed.
 fn counts(decided: &IndexSet<TxnId>, line: &Line) -> bool
     ensures { (logs : List (List Logged)) → AreDecided decided.now.keys logs
         → result ≡ line_counts (history logs) line.now }
@@ -50,7 +51,7 @@ fn counts(decided: &IndexSet<TxnId>, line: &Line) -> bool
     }
 }
 
-// The transactions whose commit decision stands in the log of their least part.
+// Adds the transactions whose decision stands in the log of their least part.
 fn note_all(ids: &mut IndexSet<TxnId>, logs: &[Vec<Record>]) -> Result<(), Fault>
     requires { ids.old.keys ≡ [] }
     ensures decided { OnOk result (AreDecided ids.new.keys (map (λ log. log.items) logs.now)) }
@@ -62,7 +63,7 @@ fn note_all(ids: &mut IndexSet<TxnId>, logs: &[Vec<Record>]) -> Result<(), Fault
     Ok(())
 }
 
-// So for the log of one shard.
+// Adds those whose decision stands in the log of one shard.
 fn note_decided(ids: &mut IndexSet<TxnId>, shard: usize, log: &[Record]) -> Result<(), Fault>
     ensures decided { (t : Id) → OnOk result (is_among ids.new.keys t ≡
         (is_among ids.old.keys t || commits_here t shard log.now)) }
@@ -76,7 +77,7 @@ fn note_decided(ids: &mut IndexSet<TxnId>, shard: usize, log: &[Record]) -> Resu
     Ok(())
 }
 
-// The transaction whose commit decision the record is, where the shard is its least part.
+// The transaction whose decision the record is, if the shard is its least part.
 fn decides(item: &Record, shard: usize) -> Option<TxnId>
     ensures { (t : Id) → when (λ u. same_id u t) result ≡ commits_at t shard item.now }
 {
@@ -87,7 +88,7 @@ fn decides(item: &Record, shard: usize) -> Option<TxnId>
     }
 }
 
-// The transaction, where the shard is the least of its parts.
+// The transaction, if the shard is the least of its parts.
 fn where_least(txn: TxnId, parts: Parts, shard: usize) -> Option<TxnId>
     ensures { (t : Id) → when (λ u. same_id u t) result
         ≡ (same_id txn t && when (nat_eq shard) (head parts)) }

@@ -3,14 +3,14 @@ use disk::Fate;
 use truetime::Reading;
 use units::{Fault, Key, ShardNo, Splits, Stamp, Stride, TxnId, Value};
 
-/// The shards of a run: one more than there are splits, all with one stride.
+/// The shards of a run: one more than there are splits, all with the same stride.
 #[derive(Drop)]
 pub struct Config {
     pub splits: Splits,
     pub stride: Stride,
 }
 
-/// What a shard does at an event. `Take` is the delivery of a message, by its number from 0.
+/// What a shard does at an event. `Take` delivers a message, by its number from 0.
 #[derive(Clone, Copy)]
 pub enum Doing {
     Take(u64, Reading),
@@ -18,38 +18,37 @@ pub enum Doing {
     Settle(TxnId, Reading),
     Advance(Stamp, Reading),
     Nudge(TxnId, Reading),
-    /// A horizon: no value below it is read any more.
+    /// Raises the horizon: no value below it is read any more.
     Forget(Stamp, Reading),
-    /// Its log is turned over in its file.
+    /// Turns the log over in its file.
     Turn,
     Open,
 }
 
-/// What happens.
+/// What happens in an event.
 #[derive(Drop)]
 pub enum Act {
-    /// The session of this id begins.
+    /// Begins the session of this id.
     Begin(TxnId),
     Read(TxnId, Key),
-    /// A write of a value, or of `None` for an erasure.
+    /// Writes a value, or erases with `None`.
     Write(TxnId, Key, Option<Value>),
     Close(TxnId),
-    /// The session gives up.
+    /// Gives the transaction up.
     Quit(TxnId),
-    /// A message, by its number from 0, comes to the shard or the session that it was put out for.
+    /// Delivers a message, by its number from 0, to the shard or the session to which it was sent.
     Deliver(u64, Reading),
-    /// A shard does something.
+    /// Lets a shard do something.
     At(ShardNo, Doing),
     Look(ShardNo, Key, Stamp),
-    /// A look at a view of a shard, by its number from 0.
+    /// Looks at a view of a shard, by its number from 0.
     View(ShardNo, u64, Key, Stamp),
-    /// A crash between events: all changes that are not synced are undone.
+    /// Crashes a shard between events: all changes that are not synced are undone.
     Crash(ShardNo),
-    /// A crash of a shard in a device call of a doing, by its number from 0. The oldest change that is not synced has this fate, and
-    /// the others are undone.
-    /// The second shard is the one that the doing names: lawful where it is the same.
+    /// Crashes a shard in a device call of what it does, by the call's number from 0. The oldest change that is not synced has this fate, and
+    /// the others are undone. The event is lawful only if both shards are the same.
     CrashIn(ShardNo, u64, Fate, ShardNo, Doing),
-    /// A device call of a doing, by its number from 0, fails at a shard. The second is the one that the doing names.
+    /// Lets a device call fail in what a shard does, by the call's number from 0. The event is lawful only if both shards are the same.
     FailIn(ShardNo, u64, ShardNo, Doing),
 }
 
@@ -60,7 +59,7 @@ pub struct Event {
     pub act: Act,
 }
 
-/// The reply to an event. A look shows a value, or none.
+/// The reply to an event. A look shows a value, or `None` if the key has none.
 #[derive(Drop)]
 pub enum Reply {
     Done,

@@ -16,8 +16,7 @@ use message::{Message, Outbox, ReadAnswer};
 use std::alloc::Global;
 use units::{Fault, Line, Splits, TxnId};
 
-/// The sessions that have begun, the first first, and their ids in the same order: a look-up goes by the id's hash. They
-/// have to be spent.
+/// The sessions that have begun, in order, and their ids in the same order for look-ups by hash. They have to be spent, by `spend`.
 pub struct Sessions<'s> {
     pub splits: &'s Splits,
     pub ids: IndexSet<TxnId>,
@@ -30,7 +29,7 @@ impl<'s> Sessions<'s> {
     ghost use Rattle.world.specs.Passed.{IsOutput};
     ghost use Rattle.world.specs.Comes.{ComesOf, TakesMessage, is_of_session};
 
-    /// No session has begun.
+    /// Makes the sessions of a run in which none has begun.
     pub fn none(alloc: Global, splits: &'s Splits) -> Sessions<'s>
         ensures { Hosts splits.now result [] }
     {
@@ -41,7 +40,7 @@ impl<'s> Sessions<'s> {
         }
     }
 
-    /// The session has begun.
+    /// Tells whether the session has begun.
     pub fn has(&self, txn: TxnId) -> bool
         ensures { (splits : List Bytes) (cs : List Client) → Hosts splits self.now cs
             → result ≡ when (λ c. true) (first (λ c. same_id c.txn txn) cs) }
@@ -49,7 +48,7 @@ impl<'s> Sessions<'s> {
         place(&self.ids, &self.begun, txn) < self.begun.len()
     }
 
-    // A session begins.
+    // Begins a session.
     fn begin(&mut self, alloc: Global, txn: TxnId) -> Result<(), Fault>
         ensures begun { (splits : List Bytes) (cs : List Client) → Hosts splits self.old cs
             → first (λ c. same_id c.txn txn) cs ≡ None
@@ -67,7 +66,7 @@ impl<'s> Sessions<'s> {
         Ok(())
     }
 
-    // The session of an id takes a step.
+    // Carries out a step of the session of an id.
     fn step(&mut self, alloc: Global, txn: TxnId, step: &Step<'_>) -> Result<Outbox, Fault>
         ensures { (splits : List Bytes) (cs : List Client) → Hosts splits self.old cs
             → MovesIn splits (session_step (asks splits step.now)
@@ -80,8 +79,7 @@ impl<'s> Sessions<'s> {
         self.begun[at].step(alloc, step)
     }
 
-    /// The act of a session is done, where it may: the session begins, or takes a step, and what that puts out is put out. An act
-    /// of none is refused.
+    /// Carries out the act of a session, which must be lawful, and puts out its messages. An act of no session is refused as `Stranger`.
     pub fn act(&mut self, alloc: Global, output: &mut RunOutput, act: &Act) -> Result<Reply, Fault>
         ensures { (time : ℕ) (w : World) → Hosts w.config.splits self.old w.clients
             → IsOutput output.old w → may_act w time act.now ≡ true
@@ -106,7 +104,7 @@ impl<'s> Sessions<'s> {
         }
     }
 
-    // The session of an id takes a step, and what it puts out is put out.
+    // Carries out a step of the session of an id, and puts out its messages.
     fn ask(
         &mut self,
         alloc: Global,
@@ -122,7 +120,7 @@ impl<'s> Sessions<'s> {
         output.reply(moved)
     }
 
-    // An answer comes to a session. A value that it takes is a line.
+    // Gives an answer to its session. A value that the session takes becomes a line.
     fn hear(&mut self, answer: &ReadAnswer) -> Result<Option<Line>, Fault>
         ensures { (splits : List Bytes) (cs : List Client) → Hosts splits self.old cs
             → HearsIn splits answer.now self.new cs
@@ -135,7 +133,7 @@ impl<'s> Sessions<'s> {
         self.begun[at].hear(answer)
     }
 
-    /// A message comes to the session that it names. A value that the session takes is a line.
+    /// Delivers a message to the session that it names. A value that the session takes becomes a line.
     pub fn take_message(&mut self, alloc: Global, message: &Message) -> Result<Option<Line>, Fault>
         ensures { (w : World) → Hosts w.config.splits self.old w.clients
             → TakesMessage w message.now self.new result }
@@ -156,7 +154,7 @@ impl<'s> Sessions<'s> {
         }
     }
 
-    /// Each session is spent, and nobody is told.
+    /// Spends each session without telling any shard.
     pub fn spend(self) {
         let Sessions {
             splits: _,
@@ -173,7 +171,7 @@ impl<'s> Sessions<'s> {
     }
 }
 
-// Where the session of an id stands, and behind all where there is none.
+// The place of the session of an id, or the number of sessions if there is none.
 fn place(ids: &IndexSet<TxnId>, begun: &[Begun<'_>], txn: TxnId) -> usize
     ensures within { result ≤ length begun.now }
     ensures there { (b : Began) → result < length begun.now → b ≡ slice_index_or begun.now result b

@@ -1,5 +1,5 @@
-//! Whole runs of the store: sessions, shards, a network that loses, repeats and reorders, crashes. The events, the definitions, and code
-//! for the parts of a run. The laws of whole runs, and the code that plays them, stand in crates above.
+//! Whole runs of the store: sessions, shards, crashes, and a network that loses, repeats and reorders. Here are the events, the
+//! definitions, and code for parts of a run. The crates above have the laws of whole runs, and the code that plays them.
 #![tactic(auto)]
 
 mod begun;

@@ -11,8 +11,7 @@ use message::{Bag, Envelope, Message, Outbox};
 use std::alloc::Global;
 use units::{Fault, Key, Line, Stamp, TxnId, Value, copy_value};
 
-/// The messages and the lines so far, the transactions whose commit was told to their sessions, and the number of the event
-/// that is under way.
+/// The messages and the lines so far, the transactions whose commit their sessions were told, and the number of the present event.
 #[derive(Drop)]
 pub struct RunOutput {
     pub bag: Bag,
@@ -26,7 +25,7 @@ impl RunOutput {
     ghost use Rattle.world.specs.Passed.{IsOutput};
     ghost use Rattle.world.specs.Comes.{HasHeard, HasReplied, Notes};
 
-    /// Nothing was put out.
+    /// Makes the output of a run before its first event.
     pub fn new(alloc: Global) -> RunOutput
         ensures { (result.bag ≡ []) × (result.told.keys ≡ []) × (result.lines.items ≡ [])
             × (result.event ≡ 0) }
@@ -39,7 +38,7 @@ impl RunOutput {
         }
     }
 
-    /// Messages are put out, or a refusal is the reply.
+    /// Puts out the messages, or replies with the refusal. `Memory` if there is none for them.
     pub fn reply(&mut self, answer: Result<Outbox, Fault>) -> Result<Reply, Fault>
         ensures { (w : World) → IsOutput self.old w → HasReplied w answer self.new result }
     {
@@ -53,7 +52,7 @@ impl RunOutput {
         }
     }
 
-    /// A line is written where there is one, or a refusal is the reply.
+    /// Adds the line if there is one, or replies with the refusal. `Memory` if there is none for it.
     pub fn reply_line(&mut self, answer: Result<Option<Line>, Fault>) -> Result<Reply, Fault>
         ensures { (w : World) → IsOutput self.old w → HasHeard w answer self.new result }
     {
@@ -68,7 +67,7 @@ impl RunOutput {
         }
     }
 
-    /// An answered look is a line.
+    /// Adds a line for a look that was answered. `Memory` if there is none for it.
     pub fn note_look(&mut self, key: Key, at: Stamp, reply: Reply) -> Result<Reply, Fault>
         ensures { (w : World) → IsOutput self.old w → Notes w key at reply self.new result }
     {
@@ -84,7 +83,7 @@ impl RunOutput {
         }
     }
 
-    // Messages are put out. Each that is the first to tell a session that it committed is a line.
+    // Puts out messages. One that is the first to tell a session of its commit becomes a line.
     fn put_out(&mut self, out: Outbox) -> Result<(), Fault>
         ensures put { (w : World) → IsOutput self.old w
             → OnOk result (IsOutput self.new (put_out out w)) }
@@ -105,7 +104,7 @@ impl RunOutput {
         }
     }
 
-    // A look that showed a value is a line.
+    // Adds a line for a look that showed a value.
     fn note_shown(&mut self, key: Key, at: Stamp, value: &Option<Value>) -> Result<(), Fault>
         ensures noted { (w : World) → IsOutput self.old w
             → OnOk result (IsOutput self.new (note (Line.Look key at value.now) w)) }
@@ -117,7 +116,7 @@ impl RunOutput {
     }
 }
 
-// Each message goes behind the others.
+// Adds each message after the others.
 fn put_all(bag: &mut Bag, out: Outbox) -> Result<(), Fault>
     ensures all { OnOk result (bag.new ≡ bag.old ++ out) }
     ensures memory { IfErr result (λ fault. fault ≡ Fault.Memory) }
@@ -128,7 +127,7 @@ fn put_all(bag: &mut Bag, out: Outbox) -> Result<(), Fault>
     Ok(())
 }
 
-// The acknowledgements among new messages.
+// Adds the acknowledgements among new messages.
 fn push_acknowledged(
     lines: &mut Vec<Line>,
     told: &IndexSet<TxnId>,
@@ -147,7 +146,7 @@ fn push_acknowledged(
     Ok(())
 }
 
-// The transactions whose commit new messages tell.
+// Adds the transactions of whose commit new messages tell.
 fn note_told(told: &mut IndexSet<TxnId>, out: &[Envelope]) -> Result<(), Fault>
     ensures told { (t : Id) → OnOk result (is_among told.new.keys t ≡
         (is_among told.old.keys t || is_among (flat_map told_in out.now) t)) }
@@ -161,7 +160,7 @@ fn note_told(told: &mut IndexSet<TxnId>, out: &[Envelope]) -> Result<(), Fault>
     Ok(())
 }
 
-// The acknowledgement that a message is: the first that tells a session that it committed.
+// The acknowledgement in a message, if it is the first that tells a session of its commit.
 fn acknowledged(told: &IndexSet<TxnId>, event: u64, envelope: &Envelope) -> Option<Line>
     ensures { option_to_list result ≡ ack_in told.now.keys event envelope.now }
 {
@@ -171,7 +170,7 @@ fn acknowledged(told: &IndexSet<TxnId>, event: u64, envelope: &Envelope) -> Opti
     }
 }
 
-// The acknowledgement that an end is.
+// The acknowledgement in the end of a transaction.
 fn acknowledged_by(
     told: &IndexSet<TxnId>,
     event: u64,
@@ -192,7 +191,7 @@ fn acknowledged_by(
     }
 }
 
-// The transaction whose commit a message tells to its session.
+// The transaction of whose commit a message tells its session.
 fn told_in(envelope: &Envelope) -> Option<TxnId>
     ensures { option_to_list result ≡ told_in envelope.now }
 {
