@@ -1,11 +1,12 @@
-//! What a core answers.
+//! The expected answers of a core.
 use message::{Address, Envelope, Message, Outbox};
 use units::{Fault, Stamp};
 
-// A message by its kind, the shard that it goes to (9 for a session), the number of its transaction, and its timestamp,
-// epoch or nothing (0).
+/// A message by its kind, the shard to which it goes (9 for a session), and the number of its transaction. The last number is its
+/// timestamp or epoch, or 0 if it has neither.
 pub type Shape = (u8, u8, u64, u64);
 
+/// The expected answer to an input: these messages, or this refusal.
 #[derive(Clone, Copy)]
 pub enum Told {
     Says(&'static [Shape]),
@@ -35,6 +36,7 @@ fn is_shaped(envelope: &Envelope, wanted: &Shape) -> bool {
     kind == wanted.0 && to == wanted.1 && number == wanted.2 && at == wanted.3
 }
 
+/// Tells whether the messages have these shapes, in order, and there are no others.
 pub fn are_shaped(out: &[Envelope], shapes: &[Shape]) -> bool {
     for (envelope, wanted) in out.iter().zip(shapes) {
         if !is_shaped(envelope, wanted) {
@@ -44,6 +46,7 @@ pub fn are_shaped(out: &[Envelope], shapes: &[Shape]) -> bool {
     out.len() == shapes.len()
 }
 
+/// Tells whether the answer is the expected one.
 pub fn is_told(answer: Result<Outbox, Fault>, told: Told) -> bool {
     match answer {
         Ok(out) => {

@@ -1,5 +1,5 @@
-//! Shards of stories in which a call may be refused for memory, one time over all: it is named, has to leave all that can be read as it was,
-//! and is asked once more. They are split at `m`.
+//! Shards of stories in which one call, of all, may be refused with `Memory`. It is named, has to leave all that can be read as it was,
+//! and is called again. The shards are split at `m`.
 use crate::nodes::is_seen;
 use board::Viewer;
 use disk::Disk;
@@ -16,12 +16,12 @@ use texts::Text;
 use truetime::Reading;
 use units::{Book, Capacity, Fault, Setup, ShardNo, Splits, Stamp, Stride, TxnId};
 
-/// Says what comes of the stories: a word, and what it tells.
+/// Prints a line of the stories: a word, and what it tells.
 pub fn say(rt: &impl Print, word: &str, told: &impl Display) {
     let _ = println!(rt; "{word}{told}");
 }
 
-/// A call was refused, and has to leave all as it was.
+/// Names a call that was refused, and ends the test unless all is as it was before.
 pub fn refused(rt: &(impl Print + Abort), name: &str, as_before: bool) {
     let word = if as_before {
         "refused: "
@@ -32,7 +32,7 @@ pub fn refused(rt: &(impl Print + Abort), name: &str, as_before: bool) {
     assert!(rt; as_before, "{name}");
 }
 
-/// The splits, with memory of their own.
+/// Makes the splits, with memory of their own.
 pub fn splits(rt: &(impl Print + Abort), alloc: Global) -> Splits {
     for _ in 0..2 {
         match Splits::new(alloc, &[key(b'm')]) {
@@ -55,7 +55,7 @@ fn setup(rt: &(impl Print + Abort), alloc: Global, number: u8) -> Setup {
     }
 }
 
-// A new disk with a log of nothing.
+// A new disk with an empty log.
 fn formatted(rt: &(impl Print + Abort), alloc: Global) -> SimDisk {
     let mut disk = SimDisk::new(alloc);
     for _ in 0..2 {
@@ -89,7 +89,7 @@ fn opened(rt: &(impl Print + Abort), alloc: Global, number: u8) -> Core<SimDisk>
     rt.panic("no core")
 }
 
-/// A new shard, and its viewer.
+/// Opens a new shard, with its viewer.
 pub fn open<'r, R: Print + Wait + Abort>(
     rt: &'r R,
     alloc: Global,
@@ -109,8 +109,8 @@ pub fn open<'r, R: Print + Wait + Abort>(
     rt.panic("no desk")
 }
 
-// What can be read of a core: its epoch, its greatest timestamp and its safe time, the transactions that stand in it, how many
-// versions it has, how many pages its book, and where its log ends.
+// What can be read of a core: its epoch, its greatest timestamp and safe time, the transactions that stand in it, the counts of its
+// versions and of its book's pages, and the end of its log.
 #[derive(Clone, Copy, PartialEq, Eq)]
 struct Shown {
     epoch: u64,
@@ -124,7 +124,7 @@ struct Shown {
     gate: u64,
 }
 
-// The timestamp of a transaction that stands, and of none what no reading has.
+// The timestamp of a transaction that stands, or if there is none a number that no reading has.
 fn at(found: Option<(TxnId, Stamp)>) -> u64 {
     match found {
         Some((_, at)) => at.micros(),
@@ -149,15 +149,15 @@ fn seen_of(core: &Core<SimDisk>) -> Shown {
     }
 }
 
-// Nothing was given to it.
+// Whether it got no input yet.
 fn is_new(core: &Core<SimDisk>) -> bool {
     let shown = seen_of(core);
     shown.epoch == 1 && shown.last == 0 && shown.pages == 0 && shown.installs == 0
 }
 
-/// A shard behind its board, as the stories know it.
+/// A shard with its board, as the stories know it.
 pub trait Shard {
-    /// What it puts out when it is given this.
+    /// Gives it an input, and returns what it puts out.
     fn give<R: Print + Abort>(
         &mut self,
         rt: &R,
@@ -166,13 +166,13 @@ pub trait Shard {
         input: &Input,
     ) -> Vec<Envelope>;
 
-    /// It serves up to 200. Where that is refused, its viewer sees no more than before.
+    /// Advances it to 200. If that is refused, its viewer sees no more than before.
     fn serve<R: Print + Abort>(&mut self, rt: &R, viewers: &mut [Viewer], now: &Reading);
 
-    /// Its log is turned over, which changes nothing else.
+    /// Turns its log over, which changes nothing else.
     fn turn<R: Print + Abort>(&mut self, rt: &R);
 
-    /// It ends, and says what its log holds.
+    /// Ends it, and prints what its log holds.
     fn end<R: Print + Abort>(self, rt: &R, alloc: Global, number: u8);
 }
 

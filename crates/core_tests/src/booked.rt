@@ -11,10 +11,10 @@ use std::alloc::Global;
 use std::process::Abort;
 use units::Fault;
 
-// The two ends of a reading, and what was put out at it.
+// The two ends of a reading, and the messages that were put out at it.
 type Kept = (u64, u64, &'static [Shape]);
 
-// What a core of shard 0 is given that keeps a book; and then: how many records its opening found, its pages, and what it shows.
+// The inputs of a core of shard 0 with a book. Afterwards: how many records its opening found, its pages, and what it shows.
 struct Row {
     name: &'static str,
     capacity: u32,
@@ -66,7 +66,7 @@ static ROWS: [Row; 5] = [
         pages: &[(100, 110, &[])],
         shows: WAITS,
     },
-    // What is refused is no page.
+    // A refused input is no page.
     Row {
         name: "three inputs",
         capacity: 3,
@@ -111,7 +111,7 @@ fn is_page(page: &Page, kept: &Kept) -> bool {
         && are_shaped(page.outbox(), shapes)
 }
 
-// The pages of a book are these; and a core that came to be in the same way, and keeps none, puts out the same when it is given them.
+// Whether the book has these pages, and a core with the same origin and no book puts out the same for the same inputs.
 fn is_replayed(alloc: Global, pages: &[Page], again: &mut Core<SimDisk>, kept: &[Kept]) -> bool {
     let mut held = pages.len() == kept.len();
     for (page, kept) in pages.iter().zip(kept) {
@@ -155,6 +155,7 @@ fn keep(wrong: &mut WrongRows, rt: &impl Abort, alloc: Global, row: &Row) {
     drop(core.stop());
 }
 
+/// Shows that a book has a page for each accepted input, and replays.
 pub fn keep_books(wrong: &mut WrongRows, rt: &impl Abort, alloc: Global) {
     for row in &ROWS {
         keep(wrong, rt, alloc, row);

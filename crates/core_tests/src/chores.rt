@@ -1,4 +1,4 @@
-//! What a node does besides its letters, while they come and while none does.
+//! What a node does beside its letters, while they come and while none comes.
 use crate::cores::plain;
 use crate::given::{Given, message_of, reading};
 use crate::logs::{Line, with_log};
@@ -20,47 +20,47 @@ use std::{thread, time};
 use truetime::{Clock, Reading};
 use units::{ShardNo, Stamp};
 
-// How the letters come that follow the first ones.
+// The pace of the letters that follow the first ones.
 #[derive(Clone, Copy)]
 enum Pace {
     // All at once, and then the end.
     Burst,
     // One each 500 microseconds, until 1.1 is answered.
     Steady,
-    // Each once the one before was taken.
+    // Each after the one before was taken.
     OneByOne,
 }
 
-// What a node of fresh shard 1 is sent, and what comes of it.
+// The letters to a node of fresh shard 1, and what follows from them.
 struct Row {
     name: &'static str,
     first: &'static [Given],
     pace: Pace,
-    // So many letters follow at most: reads of `y` by 1.9, which has read it before, or words that somebody looked in vain.
+    // At most this many letters follow: reads of `y` by 1.9, which has read it before, or letters that say that a look got `NotYet`.
     letters: u64,
     reads: bool,
-    // Somebody has looked in vain, once the first letters were taken.
+    // A look got `NotYet`, after the first letters were taken.
     looked: bool,
-    // By how many microseconds each reading is later than the one before; and all by so many more, once the first letters were taken.
+    // By how many microseconds each reading is later than the one before, and by how many more all are, once the first letters were taken.
     tick: u64,
     later: u64,
-    // So many sessions are answered, 1.1 and on, one right after the other, and so many answers come before these at most.
+    // This many sessions, from 1.1 on, are answered one right after the other, and at most this many answers come before these.
     sessions: usize,
     before: u64,
-    // How often the node tells up to when it serves, at most; and what it told last, and the log at the end, where they matter.
+    // How often at most the node tells its served time. What it told last and the log at the end are given if they matter.
     tells: u64,
     // Whether it asks shard 0 how 1.1 ended.
     asks: bool,
     end: Option<End>,
 }
 
-// What a node told last up to when it serves, or 0, and what its log holds then.
+// The last served time that a node told, or 0, and what its log holds then.
 struct End {
     served: u64,
     log: &'static [Line],
 }
 
-// Each reading is ten microseconds wide, and by a tick later than the one before.
+// Each reading is ten microseconds wide, and later than the one before by a tick.
 #[derive(Drop)]
 struct Ticking<'a> {
     now: &'a AtomicU64,
@@ -82,9 +82,9 @@ impl Clock for Ticking<'_> {
     }
 }
 
-// What was seen of a node: how many messages it posted, which of them was the first to 1.1, 1.2 and 1.3, counted from 1, how many letters it has
-// taken, and how many come first; how often it asked shard 0 how 1.1 ended; whether somebody has looked in vain; and how often it told up to
-// when it serves, and what it told last.
+// What was seen of a node: how many messages it posted, and which of them was the first to 1.1, 1.2 and 1.3, from 1. How many letters
+// it has taken, and how many come first. How often it asked shard 0 how 1.1 ended, and whether a look got `NotYet`. How often it told
+// its served time, and what it told last.
 struct Seen {
     first: u64,
     posted: AtomicU64,
@@ -125,7 +125,7 @@ impl Seen {
         }
     }
 
-    // The first letters were taken.
+    // Whether the first letters were taken.
     fn has_begun(&self) -> bool {
         self.taken.load(Ordering::SeqCst) >= self.first
     }
@@ -138,7 +138,7 @@ impl Seen {
         }
     }
 
-    // So many sessions, 1.1 and on, were answered one right after the other, behind so many messages at most.
+    // Whether this many sessions, from 1.1 on, were answered one right after the other, after at most this many messages.
     fn answered(&self, sessions: usize, before: u64) -> bool {
         if sessions > 0 && (self.place(0) == 0 || self.place(0) > before.saturating_add(1)) {
             return false;
@@ -212,7 +212,7 @@ fn send<R: Wait + Abort>(rt: &R, to: &Sender<Letter>, letter: Letter) {
     to.send(rt, letter).ok().expect(rt, "a letter");
 }
 
-// Waits until so many letters were taken, for 100,000 turns at most.
+// Waits until this many letters were taken, for at most 100,000 turns.
 fn await_taken<R: time::Clock>(rt: &R, seen: &Seen, letters: u64) {
     for _turn in 0..100_000 {
         if seen.taken.load(Ordering::SeqCst) >= letters {
@@ -222,7 +222,7 @@ fn await_taken<R: time::Clock>(rt: &R, seen: &Seen, letters: u64) {
     }
 }
 
-// Sends the letters of a row, at its pace, and then the end.
+// Sends the letters of a row at its pace, and then the end.
 fn send_all<R: Wait + time::Clock + Abort>(
     rt: &R,
     alloc: Global,
@@ -272,7 +272,7 @@ fn serve<'r, R: Wait + time::Clock>(
     node.serve(rt, inbox, &mut post, &mut clock, &seen);
 }
 
-// A node is served by the letters of the row, and does what the row tells.
+// Serves a node with the letters of the row, while they are sent.
 fn tell<R: Threads + Wait + time::Clock + Sync + Abort>(
     wrong: &mut WrongRows,
     rt: &R,
@@ -294,7 +294,7 @@ fn tell<R: Threads + Wait + time::Clock + Sync + Abort>(
     drop(seen);
 }
 
-// What was seen of a node, and its log, are as the row says.
+// Compares what was seen of a node, and its log, with the row.
 fn compare(wrong: &mut WrongRows, alloc: Global, disk: SimDisk, seen: &Seen, row: &Row) {
     let answered = seen.answered(row.sessions, row.before);
     wrong.unless_at(answered, row.name, seen.place(0));
@@ -372,13 +372,13 @@ static OPEN: [Row; 3] = [
     },
 ];
 
-// It fails where a node does its chores only while no letter is there, or lets waits go on one at a time.
+/// Shows that a node does its chores while letters come, and lets several waits go on at a time.
 #[test]
 fn letters_keep_a_node_from_its_chores(rt: HostRuntime) {
     go_over(&rt, rt.alloc(), &OPEN);
 }
 
-// A millisecond passes with each reading.
+// Each reading is a millisecond later.
 static SILENT: [Row; 3] = [
     Row {
         name: "an idle node logs and shows nothing",
@@ -440,7 +440,7 @@ static SILENT: [Row; 3] = [
     },
 ];
 
-// It fails where a node advances though nobody looked and no version came.
+/// Shows that a node does not advance if nobody looked and no version came.
 #[test]
 fn idle_nodes_log(rt: HostRuntime) {
     go_over(&rt, rt.alloc(), &SILENT);
@@ -483,7 +483,7 @@ static PROMISED: [Row; 2] = [
     },
 ];
 
-// It fails where a node never asks how what it promised has ended, or asks at once.
+/// Shows that a node asks how its promises ended, but not at once.
 #[test]
 fn promises_are_never_asked_for(rt: HostRuntime) {
     go_over(&rt, rt.alloc(), &PROMISED);

@@ -1,4 +1,4 @@
-//! Logs that are compacted: the new file, byte for byte where it is told, with each failing call; and the old one, which stays as it is.
+//! Logs that are compacted: the bytes of the new file, each failing call of it, and the old file, which stays as it is.
 use crate::compacted_rows::{Compacted, FAILING, Failing, REFUSED, Refused, compacted_logs};
 use crate::cores::{bytes_on, disk_with, formatted, plain};
 use crate::logs::with_log;
@@ -15,7 +15,7 @@ use std::process::Abort;
 use std::sync::Wait;
 use units::Fault;
 
-// The file still holds these bytes.
+// Compares the file with these bytes.
 fn compare_old(
     wrong: &mut WrongRows,
     rt: &impl Abort,
@@ -34,7 +34,7 @@ fn compare_old(
     wrong.unless_at(same, name, len);
 }
 
-// What is gathered of a file.
+// The records that are gathered from a file.
 fn gathered(rt: &impl Abort, alloc: Global, old: SimDisk) -> Gathered<SimDisk> {
     match Gathered::of(alloc, old) {
         Ok(gathered) => gathered,
@@ -45,7 +45,7 @@ fn gathered(rt: &impl Abort, alloc: Global, old: SimDisk) -> Gathered<SimDisk> {
     }
 }
 
-// The disk of the new file. The old one stays as it is.
+// The disk of the new file. The old one has to stay as it is.
 fn compacted(
     wrong: &mut WrongRows,
     rt: &impl Abort,
@@ -61,7 +61,7 @@ fn compacted(
     new
 }
 
-// The disk that a new core leaves behind which was asked this.
+// The disk of a new core that was asked this.
 fn begun<R: Wait + Abort>(
     wrong: &mut WrongRows,
     rt: &R,
@@ -98,7 +98,7 @@ fn go<R: Wait + Abort>(wrong: &mut WrongRows, rt: &R, alloc: Global, row: &Compa
     found(wrong, rt, alloc, Kind::Core, disk, &new);
 }
 
-// Of a log without records, and of what it is compacted to.
+// Compacts a log without records.
 fn go_empty(wrong: &mut WrongRows, rt: &impl Abort, alloc: Global) {
     let name = "a log without records";
     let disk = compacted(wrong, rt, alloc, formatted(rt, alloc), name);
@@ -109,7 +109,7 @@ fn go_empty(wrong: &mut WrongRows, rt: &impl Abort, alloc: Global) {
     drop(with_log(wrong, alloc, disk, name, &[], &[]));
 }
 
-// The file holds as many records as the row says of a call that failed, or is no log.
+// Whether the file holds as many records as the row says of a call that failed, or is no log.
 fn is_held(alloc: Global, disk: SimDisk, row: &Failing, call: u64) -> bool {
     match GateLog::open(alloc, disk) {
         Ok((log, entries)) => {
@@ -126,8 +126,8 @@ fn is_held(alloc: Global, disk: SimDisk, row: &Failing, call: u64) -> bool {
     }
 }
 
-// Both disks behind a compaction of which a call of the new file fails, where there is one, and whether it is refused by that call: the file
-// is not laid out before call 5.
+// Compacts to a file of which a call may fail. Returns both disks, and whether that call is the refusal: before call 5 the file is not
+// laid out.
 fn ended(from: Gathered<SimDisk>, to: SimDisk, call: u64) -> (SimDisk, SimDisk, bool) {
     match compact(from, to) {
         Ok((old, log)) => (old, log.into_disk(), call == 10),
@@ -141,7 +141,7 @@ fn ended(from: Gathered<SimDisk>, to: SimDisk, call: u64) -> (SimDisk, SimDisk, 
     }
 }
 
-// A call of the new file fails.
+// Compacts to a file of which a call fails.
 fn fail<R: Wait + Abort>(wrong: &mut WrongRows, rt: &R, alloc: Global, row: &Failing, call: u64) {
     let name = "a call of the new file fails";
     let mut old = begun(wrong, rt, alloc, name, &[COMMIT, SETTLE, TURN]);
@@ -155,7 +155,7 @@ fn fail<R: Wait + Abort>(wrong: &mut WrongRows, rt: &R, alloc: Global, row: &Fai
     wrong.unless_at(is_held(alloc, disk, row, call), name, call);
 }
 
-// The file is refused, and stays as it is.
+// Compacts a file that is refused, and stays as it is.
 fn refuse(wrong: &mut WrongRows, rt: &impl Abort, alloc: Global, row: &Refused) {
     let mut bytes = with_slots(alloc, row.told).ok().expect(rt, "memory");
     if let Some(place) = bytes.get_mut(8) {
@@ -198,7 +198,7 @@ fn tell_refused(wrong: &mut WrongRows, rt: &impl Abort, alloc: Global) {
     }
 }
 
-// It fails where a record is left out, or the new file is as long as the old one.
+/// Shows that a compacted log holds all records, in a file of the expected length.
 #[test]
 fn logs_are_compacted(rt: HostRuntime) {
     let mut wrong = WrongRows::none(rt.alloc());
@@ -207,6 +207,7 @@ fn logs_are_compacted(rt: HostRuntime) {
     end(&rt, wrong);
 }
 
+/// Shows what a failing call leaves of both files, and which files are refused.
 #[test]
 fn compactions_that_fail(rt: HostRuntime) {
     let mut wrong = WrongRows::none(rt.alloc());

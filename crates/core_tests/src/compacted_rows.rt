@@ -1,25 +1,25 @@
-//! Logs that are compacted, what the new file holds, and logs of which none is made.
+//! The tables of compacted logs: what the new file holds, and files that cannot be compacted.
 use crate::logs::Line;
 use crate::turned_rows::{A, COMMIT, DONE, NEW, OLD, SECOND, SETTLE, SETTLE_SECOND, TURN};
 use crate::turning::{Ask, Asked, Bytes};
 use disk::Fate;
 use units::Fault;
 
-/// A log by what a core on a new one is asked, and the lengths of its file and of the new one.
+/// A log by what a new core is asked, and the lengths of its file and of the new one.
 pub struct Compacted {
     pub name: &'static str,
     pub asks: &'static [Asked],
     pub old_size: u64,
     pub new_size: u64,
-    // The bytes of the new file, where they are told.
+    // The bytes of the new file, if they are given.
     pub bytes: Option<&'static Bytes>,
-    // Its records, and what is asked once it was opened.
+    // Its records, and what is asked after it was opened.
     pub log: &'static [Line],
     pub again: &'static [Asked],
 }
 
-// The file of the renewed log of one settled commit: no record in the first area, whose closed gate is byte 9,224; behind it Base 1 111 0,
-// Version 111 a=1, Settled 1.1 111 parts 0, of 30, 20 and 32 bytes, and a closed gate. Slot 0 is open and names 9,225.
+// The file of the renewed log of one settled commit. The first area has no record, and its closed gate is byte 9,224. After it come
+// Base 1 111 0, Version 111 a=1 and Settled 1.1 111 parts 0, of 30, 20 and 32 bytes, and a closed gate. Slot 0 is open and names 9,225.
 const SHORT: &Bytes = &Bytes {
     told: &[
         0x53, 0x50, 0x4e, 0x4c, 0x4f, 0x47, 0x30, 0x32, 0, 0xa5, 0, 0, 0, 25, 8, 0, 0, 0, 0, 0, 0,
@@ -79,15 +79,16 @@ static COMPACTED: [Compacted; 4] = [
     },
 ];
 
-/// What becomes of the oldest change that is not synced, where there is a crash once a call of the new file has failed, and from which call
-/// on, counted from 0, the file holds the empty log, and all three records. Calls 0 to 4 lay it out, and 5 to 9 turn it over. Call 10 is none of its
-/// own.
+/// What follows if a call of the new file fails. `fate` is that of the oldest change that is not synced, if there is a crash then. From the
+/// two calls on, counted from 0, the file holds the empty log, and all three records. Calls 0 to 4 lay it out, and 5 to 9 turn it over.
+/// Call 10 comes after them.
 pub struct Failing {
     pub fate: Option<Fate>,
     pub empty_from: u64,
     pub all_from: u64,
 }
 
+/// Each fate of a crash after a failing call of the new file.
 pub static FAILING: [Failing; 5] = [
     Failing {
         fate: None,
@@ -117,7 +118,7 @@ pub static FAILING: [Failing; 5] = [
     },
 ];
 
-/// A file that is told without its slots, the gate of its first slot, where it has slots, a call of it that fails, and why it is refused.
+/// A file without its slots, the gate of its first slot if it has slots, a call of it that fails, and why it is refused.
 pub struct Refused {
     pub name: &'static str,
     pub told: &'static [u8],
@@ -134,6 +135,7 @@ const NO_BYTE: Refused = Refused {
     fault: Fault::NotALog,
 };
 
+/// Files that are refused, and why.
 pub static REFUSED: [Refused; 9] = [
     NO_BYTE,
     Refused {
@@ -187,7 +189,7 @@ pub static REFUSED: [Refused; 9] = [
     },
 ];
 
-// A body that names a table costs much to prove, so the table is handed on.
+/// Returns the logs to compact. A body that names a table costs much to prove, so this hands it on.
 pub fn compacted_logs() -> &'static [Compacted] {
     &COMPACTED
 }

@@ -1,4 +1,4 @@
-//! Shards that decide for transactions of several parts.
+//! Shards that decide transactions with several parts.
 use crate::answers::Told;
 use crate::given::Given;
 use crate::stories::{Moment, Origin, Shows, Story};
@@ -108,6 +108,7 @@ static COORDINATING: [Story; 4] = [
     },
 ];
 
+/// Returns these stories.
 pub fn coordinating() -> &'static [Story] {
     &COORDINATING
 }

@@ -1,4 +1,4 @@
-//! How cores of tests are opened.
+//! How tests open cores.
 use disk::Disk;
 use gatelog::GateLog;
 use made::key;
@@ -8,20 +8,20 @@ use std::alloc::Global;
 use std::process::Abort;
 use units::{Book, Capacity, Fault, Setup, ShardNo, Splits, Stride};
 
-// What a core is told when it is opened.
+/// The settings with which a core is opened.
 #[derive(Clone, Copy)]
 pub struct Setting {
     pub shard: u8,
     pub stride: u64,
-    // It has all keys.
+    // Whether it has all keys.
     pub alone: bool,
-    // Of its book; 0 where it keeps none.
+    // The capacity of its book, or 0 if it keeps none.
     pub capacity: u32,
-    // A device call of its next append that is to fail, by its number from 0.
+    // A device call of its next append that will fail, by its number from 0.
     pub fails: Option<u64>,
 }
 
-/// Of a core that keeps no book, on a disk that does not fail.
+/// Makes the settings of a core without a book, on a disk that does not fail.
 pub fn plain(shard: u8, stride: u64) -> Setting {
     Setting {
         shard,
@@ -32,7 +32,7 @@ pub fn plain(shard: u8, stride: u64) -> Setting {
     }
 }
 
-/// What a shard is told: one of two, which are split at `m`, or one alone.
+/// Makes the setup of a shard: one of two, which are split at `m`, or one alone.
 pub fn setup(rt: &impl Abort, alloc: Global, setting: Setting) -> Setup {
     let shard = ShardNo::new(setting.shard).expect(rt, "a shard");
     let stride = Stride::new(setting.stride).expect(rt, "a stride");
@@ -51,20 +51,20 @@ pub fn setup(rt: &impl Abort, alloc: Global, setting: Setting) -> Setup {
     }
 }
 
-/// A new disk with a log of nothing.
+/// Makes a new disk with an empty log.
 pub fn formatted(rt: &impl Abort, alloc: Global) -> SimDisk {
     let log = GateLog::format(SimDisk::new(alloc)).ok();
     log.expect(rt, "a log").into_disk()
 }
 
-/// A disk with these bytes.
+/// Makes a disk with these bytes.
 pub fn disk_with(rt: &impl Abort, alloc: Global, bytes: &[u8]) -> SimDisk {
     let mut disk = SimDisk::new(alloc);
     disk.write_at(0, bytes).ok().expect(rt, "a write");
     disk
 }
 
-/// The bytes of a disk.
+/// Returns the bytes of a disk.
 pub fn bytes_on(rt: &impl Abort, alloc: Global, disk: &mut SimDisk) -> Vec<u8> {
     let mut bytes = vec![in alloc; 0u8; disk.len() as usize]
         .ok()
@@ -73,7 +73,7 @@ pub fn bytes_on(rt: &impl Abort, alloc: Global, disk: &mut SimDisk) -> Vec<u8> {
     bytes
 }
 
-/// The core of a shard on a disk; or why it is not opened, and the disk.
+/// Opens the core of a shard on a disk, or returns why it is refused, and the disk.
 pub fn opened(
     rt: &impl Abort,
     alloc: Global,
@@ -89,7 +89,7 @@ pub fn opened(
     }
 }
 
-/// The core of a shard on a disk.
+/// Opens the core of a shard on a disk, and ends the test if that is refused.
 pub fn core_of(rt: &impl Abort, alloc: Global, disk: SimDisk, setting: Setting) -> Core<SimDisk> {
     match opened(rt, alloc, disk, setting) {
         Ok(core) => core,

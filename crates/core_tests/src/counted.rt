@@ -1,4 +1,4 @@
-//! Numbers of viewers that no board has: they are refused, and what was given comes back with nothing logged.
+//! Numbers of viewers that no board has. They are refused, what was given comes back, and nothing is logged.
 use crate::cores::{core_of, formatted, plain, setup};
 use crate::logs::{Line, with_log};
 use crate::verdict::end;
@@ -67,7 +67,7 @@ fn node_of_core<R: Wait + Abort>(wrong: &mut WrongRows, rt: &R, alloc: Global, c
     }
 }
 
-// It fails where no viewers are enough, or more than a board has.
+/// Shows that desks and nodes with 0 or with 65 viewers are refused.
 #[test]
 fn no_board_has_so_many_viewers(rt: HostRuntime) {
     let mut wrong = WrongRows::none(rt.alloc());

@@ -1,4 +1,4 @@
-//! Files of one commit that are cut, or have another byte, or slots that are damaged: what the opening of each answers, and what the migration
+//! Files of one commit that are cut, or have another byte or damaged slots: what the opening of each answers. The same for the migration
 //! of such a file of version 1.
 use crate::cores::{disk_with, opened, plain};
 use crate::logs::{Line, with_log};
@@ -9,14 +9,14 @@ use std::alloc::Global;
 use std::process::Abort;
 use units::Fault;
 
-// How far behind the first gate the gates of the commit, of its outcome, and behind all stand.
+// How many bytes after the first gate the gates of the commit, of its outcome, and of the end are.
 const COMMIT: u64 = 14;
 
 const OUTCOME: u64 = 56;
 
 const CLOSED: u64 = 87;
 
-// What is answered of a file whose frames have fewer bytes than this, and not fewer than in the row before.
+// The gate of the damage in a file whose frames have fewer bytes than this, and not fewer than in the row before.
 struct Cut {
     below: u64,
     gate: u64,
@@ -41,7 +41,7 @@ static CUTS: [Cut; 4] = [
     },
 ];
 
-// The answer to a file, where damage is told of a gate so far behind the first.
+// The answer to a file. Damage is told by the bytes from the first gate.
 #[derive(Clone, Copy)]
 enum Gives {
     Taken,
@@ -49,7 +49,7 @@ enum Gives {
     Stranger,
 }
 
-// A byte so far behind the first gate, what it is set to, and how a file with it is migrated and opened.
+// A byte by its distance from the first gate, its new value, and the answers of a migration and of an opening.
 struct Altered {
     name: &'static str,
     byte: u64,
@@ -59,7 +59,7 @@ struct Altered {
 }
 
 static ALTERED: [Altered; 6] = [
-    // So it was before the commit was logged, and an honest disk does not go back.
+    // This is the file before the commit was logged, and an honest disk does not go back.
     Altered {
         name: "the gate of the commit is closed",
         byte: COMMIT,
@@ -104,7 +104,7 @@ static ALTERED: [Altered; 6] = [
     },
 ];
 
-// Some slots of a file, as bytes from an offset on, and the slot that is damaged, where one is.
+// Some slots of a file, as bytes from an offset on, and the damaged slot, if one is damaged.
 struct Slots {
     name: &'static str,
     at: u64,
@@ -112,7 +112,7 @@ struct Slots {
     damaged: Option<u64>,
 }
 
-// The file has 9,312 bytes, which are 2460 in hexadecimal digits; 2408 is the first gate, and 2416 the commit's.
+// The file has 9,312 bytes, in hexadecimal 2460; the first gate is at 2408, and the commit's at 2416.
 static SLOTTED: [Slots; 9] = [
     Slots {
         name: "an offset behind a closed slot's gate",
@@ -172,7 +172,7 @@ static SLOTTED: [Slots; 9] = [
     },
 ];
 
-/// How a disk is opened as that of shard 0.
+/// Opens a disk as that of shard 0, and returns the answer.
 pub fn opening(rt: &impl Abort, alloc: Global, disk: SimDisk) -> Result<(), Fault> {
     match opened(rt, alloc, disk, plain(0, 0)) {
         Ok(core) => {
@@ -190,7 +190,7 @@ fn answer(rt: &impl Abort, alloc: Global, bytes: &[u8]) -> Result<(), Fault> {
     opening(rt, alloc, disk_with(rt, alloc, bytes))
 }
 
-// How a file is migrated, and how what it is migrated to is opened then.
+// Migrates a file, and opens what that gives.
 fn answers(rt: &impl Abort, alloc: Global, bytes: &[u8]) -> (Result<(), Fault>, Result<(), Fault>) {
     let mut old = disk_with(rt, alloc, bytes);
     let answer = migrate(alloc, &mut old, SimDisk::new(alloc));
@@ -226,21 +226,21 @@ fn set(bytes: &mut [u8], byte: u64, value: u8) {
     }
 }
 
-// The file with that byte.
+// The file with another byte.
 fn with_byte(rt: &impl Abort, alloc: Global, byte: u64, value: u8) -> Vec<u8> {
     let mut bytes = whole(rt, alloc);
     set(&mut bytes, byte, value);
     bytes
 }
 
-// The same in version 1.
+// The same file in version 1.
 fn old_with_byte(byte: u64, value: u8) -> [u8; 96] {
     let mut bytes = in_version_1(ONE_COMMIT);
     set(&mut bytes, byte, value);
     bytes
 }
 
-// Why a file is refused whose first gate is here, and of which so many bytes are left. The whole file is not.
+// Why a file with this first gate is refused, if this many bytes of it are left. The whole file is not refused.
 fn fault_of(len: u64, first: u64) -> Option<Fault> {
     if len < OLD_FIRST_GATE {
         return Some(Fault::NotALog);
@@ -259,12 +259,12 @@ fn fault_of(len: u64, first: u64) -> Option<Fault> {
     None
 }
 
-// The first slots and the last are cut at each byte, those between at some, and the frames at each.
+// The first and the last slots are cut at each byte, those between at some bytes, and the frames at each byte.
 fn is_tried(len: usize) -> bool {
     len < 40 || len % 97 == 0 || len > FIRST_GATE as usize - 20
 }
 
-/// The file is cut to each length but for most of its slots, and the same in version 1 to each.
+/// Shows how a file is opened that is cut to each length, except in most of its slots. A file of version 1 is cut to each length.
 pub fn cut_to_each_length(wrong: &mut WrongRows, rt: &impl Abort, alloc: Global) {
     let whole = whole(rt, alloc);
     for len in 0..whole.len() + 1 {
@@ -283,7 +283,7 @@ pub fn cut_to_each_length(wrong: &mut WrongRows, rt: &impl Abort, alloc: Global)
     }
 }
 
-// One byte is another: how such a file is opened, how the same in version 1 is migrated, and how what it is migrated to is opened.
+// Alters one byte: opens such a file, migrates the same in version 1, and opens what that gives.
 fn compare(wrong: &mut WrongRows, rt: &impl Abort, alloc: Global, row: &Altered) {
     let bytes = with_byte(rt, alloc, FIRST_GATE.saturating_add(row.byte), row.value);
     let said = answer(rt, alloc, &bytes);
@@ -296,7 +296,7 @@ fn compare(wrong: &mut WrongRows, rt: &impl Abort, alloc: Global, row: &Altered)
     wrong.unless_at(right, row.name, row.byte);
 }
 
-/// One byte is another, of which it is known what comes.
+/// Shows how a file with one altered byte is opened, if the answer is known.
 pub fn with_one_byte_altered(wrong: &mut WrongRows, rt: &impl Abort, alloc: Global) {
     for row in &ALTERED {
         compare(wrong, rt, alloc, row);
@@ -314,7 +314,7 @@ pub fn with_one_byte_altered(wrong: &mut WrongRows, rt: &impl Abort, alloc: Glob
     drop(with_log(wrong, alloc, closed, name, &[Line::Opened(1)], &[]));
 }
 
-/// Some slots are others.
+/// Shows how a file with some altered slots is opened.
 pub fn with_slots_altered(wrong: &mut WrongRows, rt: &impl Abort, alloc: Global) {
     for row in &SLOTTED {
         let mut bytes = whole(rt, alloc);
@@ -333,7 +333,7 @@ pub fn with_slots_altered(wrong: &mut WrongRows, rt: &impl Abort, alloc: Global)
     }
 }
 
-// An opening, or a refusal by name: damage is told of a gate that the file has, or of a slot.
+// Whether the answer is an opening, or a refusal by name. Damage is at a gate of the file, or at a slot.
 fn is_named(said: Result<(), Fault>, first: u64) -> bool {
     match said {
         Ok(()) | Err(Fault::NotALog | Fault::Stranger) => true,
@@ -345,7 +345,7 @@ fn is_named(said: Result<(), Fault>, first: u64) -> bool {
     }
 }
 
-/// One byte is any other, in 10,000 files of version 1: each is migrated, and opened then, or refused by name.
+/// Shows that 10,000 files of version 1 with another byte are migrated and then opened, or are refused by name.
 pub fn ten_thousand(wrong: &mut WrongRows, rt: &impl Abort, alloc: Global) {
     for number in 0..10_000 {
         let (byte, value) = (number % 96, (number / 96 % 256) as u8);
@@ -355,7 +355,7 @@ pub fn ten_thousand(wrong: &mut WrongRows, rt: &impl Abort, alloc: Global) {
     }
 }
 
-/// The same in files of version 2, of which some are tried: each is opened, or refused by name.
+/// Shows that 2,000 files of version 2 with another byte are opened, or are refused by name.
 pub fn another_byte(wrong: &mut WrongRows, rt: &impl Abort, alloc: Global) {
     for number in 0..2_000 {
         let (byte, value) = (number % 96, (number / 96 * 13 % 256) as u8);

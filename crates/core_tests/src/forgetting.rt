@@ -1,4 +1,4 @@
-//! Desks that forget, with a viewer: what the core and the viewer see at a time, and the horizons of the log.
+//! Desks that forget, each with a viewer: what the core and the viewer see at a time, and the horizons in the log.
 use crate::answers::Told;
 use crate::given::Given;
 use crate::logs::Line;
@@ -84,7 +84,7 @@ static FORGOTTEN: [Row; 6] = [
             (400, 410, Ask::Horizon(300)),
             (400, 410, Ask::Look(b'z', 299, Err(Fault::TooOld))),
             (400, 410, Ask::Look(b'z', 300, Ok(b'2'))),
-            // The viewer is told by the next advance.
+            // The next advance tells the viewer.
             (400, 410, Ask::View(b'z', 299, Ok(b'1'))),
             (400, 410, Ask::Advance(400)),
             (400, 410, Ask::View(b'z', 299, Err(Fault::TooOld))),
@@ -168,7 +168,7 @@ static FORGOTTEN: [Row; 6] = [
         ],
         ..WRITTEN
     },
-    // The horizon that is asked for is so far behind the first end of the reading, and no later than 400.
+    // The horizon that is asked for is this far below the reading's earliest, and not above 400.
     Row {
         name: "the past is kept for a while",
         asks: &[
@@ -202,7 +202,7 @@ static FORGOTTEN: [Row; 6] = [
     },
 ];
 
-// A body that names a table costs much to prove, so the table is handed on.
+/// Returns these rows. A body that names a table costs much to prove, so this hands it on.
 pub fn forgotten() -> &'static [Row] {
     &FORGOTTEN
 }

@@ -1,4 +1,4 @@
-//! What the tests give to a core. Each transaction is of run 1, and has its number.
+//! The inputs that tests give to a core. Each transaction is of run 1, and has its number.
 use made::{id, shard, stamp};
 use message::{Ask, Commit, GiveUp, Input, Message, Outcome, Prepare, Read, Reads, Vote};
 use std::alloc::Global;
@@ -6,25 +6,26 @@ use std::process::Abort;
 use truetime::{Clock, Reading};
 use units::{Epoch, Key, Keys, Parts, ShardNo, Stamp, Value, Write, Writes};
 
-// The greatest timestamp.
+/// The greatest timestamp, in microseconds.
 pub const LAST: u64 = 4_611_686_018_427_387_903;
 
+/// An input of a core, in short.
 #[derive(Clone, Copy)]
 pub enum Given {
     // It writes a value to a key at one part, and reads nothing.
     Commit(u16, u8, &'static [u8], &'static [u8]),
-    // The same of both shards.
+    // The same at both shards.
     CommitOfBoth(u16, &'static [u8], &'static [u8]),
     Read(u16, &'static [u8]),
-    // Shard 0 decides; it writes a value to a key, and has read nothing.
+    // Shard 0 decides. It writes a value to a key, and has read nothing.
     Prepare(u16, &'static [u8], &'static [u8]),
-    // The same, of who has read the key in the first epoch.
+    // The same, and it has read the key in the first epoch.
     PrepareOfReader(u16, &'static [u8], &'static [u8]),
-    // The same, of who has read the key and writes nothing.
+    // The same, and it has read the key and writes nothing.
     PrepareOfRead(u16, &'static [u8]),
     // Shard 1 votes yes at a timestamp.
     Vote(u16, u32),
-    // Shard 0 tells that it committed at a timestamp.
+    // Shard 0 says that it committed at a timestamp.
     Outcome(u16, u32),
     GiveUp(u16),
     // Shard 1 asks how it ended.
@@ -52,6 +53,7 @@ fn time(rt: &impl Abort, micros: u64) -> Stamp {
     Stamp::new(micros).expect(rt, "a timestamp")
 }
 
+/// Makes a reading from its two ends, in microseconds.
 pub fn reading(rt: &impl Abort, earliest: u64, latest: u64) -> Reading {
     Reading::new(time(rt, earliest), time(rt, latest)).expect(rt, "a reading")
 }
@@ -74,6 +76,7 @@ fn has_read(rt: &impl Abort, alloc: Global, key: &[u8]) -> Reads {
     Reads::new(Epoch::first(), keys).ok().expect(rt, "reads")
 }
 
+/// Makes the commit of a transaction that has read nothing.
 pub fn commit(alloc: Global, number: u16, parts: Parts, writes: Writes) -> Message {
     Message::Commit(Commit {
         txn: id(number),
@@ -92,6 +95,7 @@ fn prepare(number: u16, reads: Reads, writes: Writes) -> Message {
     })
 }
 
+/// Makes the message that is given.
 pub fn message_of(rt: &impl Abort, alloc: Global, given: Given) -> Message {
     match given {
         Given::Commit(number, part, key, value) => commit(
@@ -149,6 +153,7 @@ fn notice(rt: &impl Abort, given: Given) -> Message {
     }
 }
 
+/// Makes the input that is given.
 pub fn input_of(rt: &impl Abort, alloc: Global, given: Given) -> Input {
     match given {
         Given::Settle(number) => Input::Settle(id(number)),

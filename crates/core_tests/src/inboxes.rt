@@ -1,4 +1,4 @@
-//! Nodes that are served by the letters of their inboxes, each on a thread of its own.
+//! Nodes that serve the letters of their inboxes, each on a thread of its own.
 use crate::cores::plain;
 use crate::given::{Given, Standing, message_of, reading};
 use crate::nodes::fresh_node;
@@ -18,8 +18,8 @@ use std::time::Duration;
 use std::{thread, time};
 use units::ShardNo;
 
-// Nodes of fresh shards, each with a key of its own, and how many letters come to each: reads of that key, of 1.1 and on, and where the row
-// says so a commit of one more transaction, which writes it.
+// Nodes of fresh shards, each with a key of its own, and how many letters come to each. These are reads of that key, by 1.1 and on, and
+// if the row says so the commit of one more transaction, which writes it.
 struct Row {
     name: &'static str,
     nodes: &'static [(u8, &'static [u8])],
@@ -31,7 +31,7 @@ struct Row {
     answers: u64,
 }
 
-// Counts what is posted, and of that each answer which comes in its turn.
+// Counts the messages that are posted, and each answer that comes in its turn.
 #[derive(Drop)]
 struct Answers<'a> {
     from: u8,
@@ -49,7 +49,7 @@ fn is_to(to: Address, number: u16) -> bool {
     }
 }
 
-// Whether it tells of 1.number that the shard holds no such key, in its first epoch.
+// Whether it tells 1.number that the shard has no such key, in its first epoch.
 fn is_answer(message: &Message, from: u8, key: &[u8], number: u16) -> bool {
     match message {
         Message::ReadAnswer(told) => told.txn == id(number)
@@ -74,8 +74,8 @@ impl Post for Answers<'_> {
     }
 }
 
-// Holds the n-th letters of shards 0 and 1, each until the other's has come, for 10,000 turns at most. Once one was held in vain
-// no other is held. It counts what the nodes post.
+// Holds the n-th letters of shards 0 and 1, each until the other's has come, for at most 10,000 turns. Once one was held in vain, no
+// other is held. It counts what the nodes post.
 #[derive(Drop)]
 struct Meeting<'a, R> {
     rt: &'a R,
@@ -88,7 +88,7 @@ struct Meeting<'a, R> {
 }
 
 impl<R: time::Clock> Meeting<'_, R> {
-    // Whether the letter behind the first n comes in time.
+    // Whether the letter after the first n comes in time.
     fn has_come(&self, letters: &AtomicU64, n: u64) -> bool {
         for _turn in 0..10_000 {
             if letters.load(Ordering::SeqCst) > n {
@@ -143,7 +143,7 @@ fn inbox<R: Wait + Abort>(
     from
 }
 
-// Fresh nodes of the row.
+// The fresh nodes of the row.
 fn nodes_of<'r, R: Wait + Abort>(rt: &'r R, alloc: Global, row: &Row) -> Vec<Node<SimDisk, &'r R>> {
     let mut nodes = Vec::new(alloc);
     for (shard, _) in row.nodes {
@@ -184,7 +184,7 @@ fn serve<'r, R: Threads + Wait + time::Clock + Sync + Abort>(
     start(rt, served, gate).expect(rt, row.name);
 }
 
-// Each letter is answered, in order, and none was held in vain.
+// Checks that each letter is answered, in order, and none was held in vain.
 fn meet<R: Threads + Wait + time::Clock + Sync + Abort>(rt: &R, alloc: Global, rows: &[Row]) {
     let mut wrong = WrongRows::none(alloc);
     for row in rows {
@@ -230,7 +230,7 @@ static LETTERS: [Row; 2] = [
     },
 ];
 
-// It fails where serving loses letters or answers, or where reads are not taken behind the letters that came beside them.
+/// Shows that serving loses no letter and no answer, and that reads are taken after the letters that came with them.
 #[test]
 fn lose_letters(rt: HostRuntime) {
     meet(&rt, rt.alloc(), &LETTERS);
@@ -245,7 +245,7 @@ static MEETING: [Row; 1] = [Row {
     answers: 20,
 }];
 
-// It fails where nodes are served one after the other, or one letter at a time over both.
+/// Shows that nodes are served at the same time, and not one letter at a time over both.
 #[test]
 fn nodes_in_turn(rt: HostRuntime) {
     meet(&rt, rt.alloc(), &MEETING);

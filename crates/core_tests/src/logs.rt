@@ -1,12 +1,12 @@
-//! The records of a log.
+//! The expected records of a log.
 use gatelog::GateLog;
 use made::WrongRows;
 use record::Record;
 use simdisk::SimDisk;
 use std::alloc::Global;
 
-/// A record: an opening with its epoch, a ceiling, a horizon, or a promise, a decision or a commit of 1.number with its timestamp, or an
-/// abort; and what only a renewed log has: a base, a version of a letter with a value of one, and what is settled or closed at a timestamp.
+/// A record: an opening with its epoch, a ceiling, a horizon, an abort, or a promise, a decision or a commit of 1.number with its
+/// timestamp. Only a renewed log has a base, a version of a letter with a value of one, and what is settled or closed at a timestamp.
 #[derive(Clone, Copy)]
 pub enum Line {
     Opened(u64),
@@ -22,12 +22,12 @@ pub enum Line {
     Closed(u64, u64),
 }
 
-// The letter that a key or a value is.
+// Whether a key or a value is this letter.
 fn is_letter(bytes: &[u8], letter: u8) -> bool {
     bytes.len() == 1 && bytes.first() == Some(&letter)
 }
 
-// A record that only a renewed log has.
+// Whether it is this record of a renewed log.
 fn is_renewed(record: &Record, line: Line) -> bool {
     match (record, line) {
         (
@@ -83,7 +83,7 @@ fn is_line(record: &Record, line: Line) -> bool {
     }
 }
 
-// The line at a place among some, and those behind them.
+// The line at a place in two lists, one after the other.
 fn line_at(lines: &[Line], behind: &[Line], place: usize) -> Option<Line> {
     match lines.get(place) {
         Some(line) => Some(*line),
@@ -94,7 +94,7 @@ fn line_at(lines: &[Line], behind: &[Line], place: usize) -> Option<Line> {
     }
 }
 
-/// The disk, whose log has these records, and those behind them.
+/// Checks that the log of the disk has these records, and after them those of `behind`, and returns the disk.
 pub fn with_log(
     wrong: &mut WrongRows,
     alloc: Global,

@@ -1,4 +1,4 @@
-//! Stories of a node with one viewer, of fresh shard 1: what is asked of both, and what the log holds then.
+//! Stories of a node of fresh shard 1 with one viewer: what is asked of both, and what the log then holds.
 use crate::answers::{Told, is_told};
 use crate::cores::{Setting, core_of, formatted, plain};
 use crate::given::{Given, input_of, reading};
@@ -17,31 +17,31 @@ use units::{Fault, Seen};
 /// A look at `z` at a timestamp, and what it sees.
 pub type Look = (u32, Result<Seen, Fault>);
 
-// What is asked of the node, or of the viewer of its last opening, and the answer: the served time of an advance, how many
-// viewers there are, what a look sees, also on another thread.
+/// A question to the node, or to the viewer of its last opening, with the answer. It is the served time of an advance, the number of
+/// viewers, or what a look sees, on this thread or another.
 #[derive(Clone, Copy)]
 pub enum Ask {
     Deliver(Given, Told),
     Advance(u32, Result<u64, Fault>),
     Turn(Result<(), Fault>),
-    // To keep so many microseconds, and to turn over what has grown by so many bytes.
+    // Keeps versions for this many microseconds, and turns the log over once it has grown by this many bytes.
     Renew(u64, u64, Result<(), Fault>),
     Restart(usize, Result<usize, Fault>),
     Look(Look),
     LookThere(Look),
 }
 
-// The two ends of a reading, and what is asked at it.
+/// The two ends of a reading, and the question at it.
 pub type Asked = (u64, u64, Ask);
 
-// Once so many were asked the node is closed, and its log holds this.
+/// The node is closed after this many questions, and its log then holds these lines.
 pub struct Moment {
     pub name: &'static str,
     pub after: usize,
     pub log: &'static [Line],
 }
 
-// A device call of the next append fails, where there is one. The book has room for so many inputs; 0 where there is none.
+/// The device call of the next append that fails, if one does, the room of the book in inputs (0 without a book), and the questions.
 pub struct Story {
     pub fails: Option<u64>,
     pub room: u32,
@@ -49,7 +49,7 @@ pub struct Story {
     pub moments: &'static [Moment],
 }
 
-/// The node of a new shard on a new disk.
+/// Opens the node of a new shard on a new disk.
 pub fn fresh_node<R: Wait + Drop>(
     own: R,
     rt: &impl Abort,
@@ -66,7 +66,7 @@ pub fn fresh_node<R: Wait + Drop>(
     }
 }
 
-/// Whether a look of the viewer sees this, in a buffer of four bytes which were 9 before: the value is 2.
+/// Tells whether a look of the viewer sees this, in a buffer of four bytes which were 9 before: the value is 2.
 pub fn is_seen(viewers: &mut [Viewer], look: Look) -> bool {
     let Some(viewer) = viewers.first_mut() else {
         return false;
@@ -81,7 +81,7 @@ pub fn is_seen(viewers: &mut [Viewer], look: Look) -> bool {
     seen == sees && buffer == [first, 9, 9, 9]
 }
 
-// Asks the node or its viewer, and says whether the answer is as told. The viewer of a board whose node is opened again is refused.
+// Asks the node or its viewer, and says whether the answer is the expected one. The viewer of an earlier opening is refused.
 fn is_answered<'a, R: Threads + Wait + Sync + Abort>(
     rt: &'a R,
     alloc: Global,
@@ -116,7 +116,7 @@ fn is_answered<'a, R: Threads + Wait + Sync + Abort>(
     }
 }
 
-/// The stories go as they are told, up to each moment. The viewer is refused once the node is closed.
+/// Plays the stories up to each moment. The viewer is refused once the node is closed.
 pub fn tell<R: Threads + Wait + Sync + Abort>(
     wrong: &mut WrongRows,
     rt: &R,

@@ -1,4 +1,4 @@
-//! Commits of one part.
+//! Commits with one part.
 use crate::answers::Told;
 use crate::given::{Given, LAST};
 use crate::stories::{Moment, Origin, Shows, Story};
@@ -105,7 +105,7 @@ static BESIDE: [Story; 3] = [
             },
         ],
     },
-    // One of the same key waits until the first is settled, and is decided above all that was decided before.
+    // A commit of the same key waits until the first is settled, and is decided above all that was decided before.
     Story {
         name: "a commit of another key is decided beside the first",
         shard: 0,
@@ -164,7 +164,7 @@ static BESIDE: [Story; 3] = [
     },
 ];
 
-// Formatting makes three calls and the opening four; each of the commit's four fails in turn.
+// Formatting makes three calls and the opening four. Each of the commit's four calls fails in turn.
 const FAILS: Story = Story {
     name: "a failing device stops the core",
     shard: 0,
@@ -197,15 +197,17 @@ static FAILING: [Story; 4] = [
     },
 ];
 
-// A body that names a table costs much to prove, so each table is handed on.
+/// Returns the stories of one commit, and of commits that are refused. A body that names a table costs much to prove, so this hands it on.
 pub fn commits() -> &'static [Story] {
     &COMMITS
 }
 
+/// Returns the stories of commits beside others.
 pub fn beside() -> &'static [Story] {
     &BESIDE
 }
 
+/// Returns the stories of commits whose device call fails.
 pub fn failing() -> &'static [Story] {
     &FAILING
 }

@@ -14,18 +14,18 @@ use std::sync::atomic::AtomicBool;
 use std::time;
 use units::{Key, Parts, Value, Write, Writes};
 
-// The longest read that is given.
+// The longest read that succeeds, in bytes.
 const LONGEST: usize = 65_536;
 
 // Commits of one value each: the n-th is of 1.n, and writes the n-th letter.
 struct Row {
     name: &'static str,
-    // How long the values are: so many of 4,096 bytes, and then these.
+    // How long the values are: this many of 4,096 bytes, and then these.
     full: u8,
     lengths: &'static [usize],
-    // How long the file is.
+    // The length of the file, in bytes.
     size: u64,
-    // In how many reads it is read.
+    // How many reads read it.
     reads: u64,
 }
 
@@ -81,7 +81,7 @@ static ROWS: [Row; 7] = [
     },
 ];
 
-// A shard alone.
+// A shard with all keys.
 const ALONE: Setting = Setting {
     shard: 0,
     stride: 0,
@@ -110,7 +110,7 @@ fn decided<D: Disk>(core: &Core<D>) -> usize {
     100
 }
 
-// Opens the log of the row, which was written over another disk, and counts.
+// Opens the log of the row, which was written on another disk, and counts.
 fn open_in_pieces<R: time::Clock + Abort>(
     wrong: &mut WrongRows,
     rt: &R,
@@ -164,6 +164,7 @@ fn written(rt: &impl Abort, alloc: Global, row: &Row) -> SimDisk {
     core.stop()
 }
 
+/// Shows that an opening reads a log in pieces of at most 65,536 bytes, whatever part of a frame a piece ends with.
 #[test]
 fn read_in_pieces(rt: HostRuntime) {
     let mut wrong = WrongRows::none(rt.alloc());
@@ -183,7 +184,7 @@ static LONG: Row = Row {
     reads: 9,
 };
 
-// A commit of 128 values, each of 4,096 bytes: its frame of 524,964 bytes is gathered from nine reads.
+/// Shows that a frame of 524,964 bytes, of a commit of 128 values of 4,096 bytes each, is gathered from nine reads.
 #[test]
 fn a_long_body_is_gathered(rt: HostRuntime) {
     let mut wrong = WrongRows::none(rt.alloc());

@@ -1,11 +1,11 @@
-//! Shards that take part in transactions which another decides.
+//! Shards that take part in transactions which another shard decides.
 use crate::answers::Told;
 use crate::given::Given;
 use crate::stories::{Moment, Origin, Shows, Story};
 use made::FIRST_GATE;
 use units::{Fault, Seen};
 
-// Promises of who has read nothing.
+// Promises of transactions that have read nothing.
 static PROMISES: [Story; 2] = [
     Story {
         name: "a promise holds the served time",
@@ -121,7 +121,7 @@ static READERS: [Story; 3] = [
             },
         ],
     },
-    // What is read at one shard and written at another: here it was read.
+    // It reads at one shard and writes at another: this is the shard at which it read.
     Story {
         name: "a promise of what was read closes without a version",
         shard: 1,
@@ -144,11 +144,12 @@ static READERS: [Story; 3] = [
     },
 ];
 
-// A body that names a table costs much to prove, so each table is handed on.
+/// Returns the stories of promises. A body that names a table costs much to prove, so this hands it on.
 pub fn promises() -> &'static [Story] {
     &PROMISES
 }
 
+/// Returns the stories of promises beside readers.
 pub fn readers() -> &'static [Story] {
     &READERS
 }

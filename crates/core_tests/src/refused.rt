@@ -1,4 +1,4 @@
-//! Files that are refused: which of two faults counts, and that a long body is no record.
+//! Files that are refused: which of two faults is told, and that a body which is too long is no record.
 use crate::cores::disk_with;
 use crate::damaged::opening;
 use crate::verdict::end;
@@ -8,7 +8,7 @@ use std::alloc::Global;
 use std::process::Abort;
 use units::Fault;
 
-// A file: the header, the slots and the first opening, these frames, and behind them so many zeros.
+// A file: the header, the slots and the first opening, these frames, and after them this many zeros.
 struct Row {
     name: &'static str,
     frames: &'static [&'static [u8]],
@@ -26,13 +26,13 @@ const STRANGE: &[u8] = &[
     0x6f, 0, 1, 0, 0, 0, 1, 1, 0x7a, 1, 0, 1, 0x31,
 ];
 
-// An opening that is not the next.
+// An opening that is not the next one.
 const OPENED_3: &[u8] = &[0xa5, 0, 0, 0, 9, 1, 0, 0, 0, 0, 0, 0, 0, 3];
 
 // No frame: its body would be empty.
 const BROKEN: &[u8] = &[0xa5, 0, 0, 0, 0];
 
-// The gate and the length of a body of 2^20 bytes, and of one more.
+// The gate and the length of a body of 2^20 bytes, and of one byte more.
 const LONGEST: &[u8] = &[0xa5, 0, 0x10, 0, 0];
 
 const TOO_LONG: &[u8] = &[0xa5, 0, 0x10, 0, 1];
@@ -130,6 +130,7 @@ fn tell_refused(wrong: &mut WrongRows, rt: &impl Abort, alloc: Global) {
     }
 }
 
+/// Shows that the first fault of a file is the one that its opening tells.
 #[test]
 fn the_first_fault_counts(rt: HostRuntime) {
     let mut wrong = WrongRows::none(rt.alloc());

@@ -34,8 +34,8 @@ const KEPT: Row = Row {
     ..LEFT
 };
 
-// A log of one opening ends at 9,238, a commit takes 42 bytes, its outcome 31, a ceiling 14. Of a renewed log a base takes 30, a version of one
-// letter 20, and what is settled 32; it begins behind the old gate.
+// A log of one opening ends at 9,238. A commit takes 42 bytes, its outcome 31, a ceiling 14. In a renewed log a base takes 30, a version
+// of one letter 20, and what is settled 32. It begins after the old gate.
 const GROWN: &[Line] = &[
     Line::Base(1, 300, 0),
     Line::Version(111, b'a', b'1'),
@@ -97,7 +97,7 @@ static RENEWED: [Row; 2] = [
 
 // The horizon is raised before that.
 static RAISED: [Row; 3] = [
-    // So far behind 400 is 211, where the second commit is.
+    // The horizon is 400 less this distance, so it is 211, the time of the second commit.
     Row {
         name: "the horizon comes first",
         asks: &[
@@ -125,7 +125,7 @@ static RAISED: [Row; 3] = [
         log: NOT_TURNED,
         ..KEPT
     },
-    // The device fails while the horizon is logged. A look is answered all the same.
+    // The device fails while the horizon is logged. A look is still answered.
     Row {
         name: "a refused horizon is all",
         fails: Some(8),
@@ -150,11 +150,12 @@ static RAISED: [Row; 3] = [
     },
 ];
 
-// A body that names a table costs much to prove, so each table is handed on.
+/// Returns the rows of desks whose logs grow. A body that names a table costs much to prove, so this hands it on.
 pub fn renewed() -> &'static [Row] {
     &RENEWED
 }
 
+/// Returns the rows of desks that raise the horizon first.
 pub fn raised() -> &'static [Row] {
     &RAISED
 }

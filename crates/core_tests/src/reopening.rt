@@ -145,7 +145,7 @@ static UNENDED: [Story; 3] = [
     },
 ];
 
-// A commit whose append meets a failing device call: before the last one the record is hidden, and behind it is there.
+// A commit whose append has a failing device call: before the last call the record is hidden, and after it the record is there.
 const HIDDEN: Story = Story {
     name: "a failing call stops the core",
     shard: 0,
@@ -183,7 +183,7 @@ static ARMED: [Story; 4] = [
     },
 ];
 
-// Disks that are opened as that of another shard, or that have no log.
+// Disks that are opened as those of another shard, or that have no log.
 static REFUSED: [Story; 3] = [
     Story {
         name: "a disk without a log",
@@ -221,19 +221,22 @@ static REFUSED: [Story; 3] = [
     },
 ];
 
-// A body that names a table costs much to prove, so each table is handed on.
+/// Returns the stories of what was served and read. A body that names a table costs much to prove, so this hands it on.
 pub fn reopened() -> &'static [Story] {
     &REOPENED
 }
 
+/// Returns the stories of transactions that had not ended.
 pub fn unended() -> &'static [Story] {
     &UNENDED
 }
 
+/// Returns the stories of commits whose device call fails before the disk is opened again.
 pub fn armed() -> &'static [Story] {
     &ARMED
 }
 
+/// Returns the stories of disks that are not opened.
 pub fn refused() -> &'static [Story] {
     &REFUSED
 }

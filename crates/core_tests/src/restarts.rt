@@ -1,4 +1,4 @@
-//! Nodes whose device fails, and that are opened again; and what a viewer sees on another thread beside a node.
+//! Nodes whose device fails, and that are opened again. Also what a viewer on another thread sees beside a node.
 use crate::answers::Told;
 use crate::given::Given;
 use crate::logs::Line;
@@ -109,7 +109,7 @@ static NODES: [Story; 6] = [
             log: &[Line::Opened(1), Line::Ceiling(250), Line::Opened(2)],
         }],
     },
-    // What 1.2 wrote at 200, once the node has advanced to 210.
+    // What 1.2 wrote at 200, after the node has advanced to 210.
     Story {
         fails: None,
         room: 0,
@@ -143,8 +143,8 @@ static NODES: [Story; 6] = [
     },
 ];
 
-// A book of four inputs, and what fills it; the last call before it is full is no advance. So it fails where a call of the node makes two of its
-// core, whichever of them it answers by.
+// A book of four inputs, and what fills it; the last call before it is full is no advance. So a node fails here if one of its calls
+// makes two calls of its core, whichever of them it answers by.
 static ONCE: [Story; 1] = [Story {
     fails: None,
     room: 4,
@@ -180,10 +180,12 @@ static ONCE: [Story; 1] = [Story {
     }],
 }];
 
+/// Returns the stories of nodes that are opened again.
 pub fn nodes() -> &'static [Story] {
     &NODES
 }
 
+/// Returns the story of a node whose book is filled.
 pub fn once() -> &'static [Story] {
     &ONCE
 }

@@ -12,7 +12,7 @@ const COMMITTED: &[Exchange] = &[
 
 // Advances, and their ceilings.
 static ADVANCES: [Story; 3] = [
-    // A ceiling in the log of a fresh shard is a frame of nine bytes behind the opening, and its gate.
+    // A ceiling in the log of a fresh shard is a frame of nine bytes after the opening, and its gate.
     Story {
         name: "advances",
         shard: 0,
@@ -144,11 +144,12 @@ static LOOKS: [Story; 3] = [
     },
 ];
 
-// A body that names a table costs much to prove, so each table is handed on.
+/// Returns the stories of advances. A body that names a table costs much to prove, so this hands it on.
 pub fn advances() -> &'static [Story] {
     &ADVANCES
 }
 
+/// Returns the stories of looks.
 pub fn looks() -> &'static [Story] {
     &LOOKS
 }

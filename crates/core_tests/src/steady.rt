@@ -1,4 +1,4 @@
-//! Clocks that share what their readings have reached.
+//! Copies of a clock that share the greatest time of their readings.
 use crate::given::{Standing, reading};
 use crate::verdict::end;
 use made::{WrongRows, stamp};
@@ -7,10 +7,10 @@ use std::process::Abort;
 use std::sync::atomic::AtomicU64;
 use truetime::Clock;
 
-// Where a reading begins and ends.
+// The two ends of a reading.
 type Ends = (u64, u64);
 
-// Two copies of a clock go on from a timestamp: what the clock below each of them reads, one after the other, and what they tell.
+// Two copies of a clock go on from a timestamp. The clocks below them read these readings, one after the other, and the copies tell those.
 struct Row {
     name: &'static str,
     from: u32,
@@ -26,7 +26,7 @@ fn is_told(clock: &mut impl Clock, ends: Ends) -> bool {
     }
 }
 
-// Each of the two copies tells what the row says.
+// Checks what each of the two copies tells.
 fn tell(wrong: &mut WrongRows, rt: &impl Abort, row: &Row) {
     let reached = AtomicU64::new(0);
     let [one, other] = row.reads;
@@ -69,7 +69,7 @@ static ROWS: [Row; 3] = [
     },
 ];
 
-// It fails where copies of a clock share nothing.
+/// Shows that copies of a clock share what their readings have reached.
 #[test]
 fn clocks_go_back(rt: HostRuntime) {
     let mut wrong = WrongRows::none(rt.alloc());

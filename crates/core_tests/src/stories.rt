@@ -1,4 +1,4 @@
-//! Stories of one core: how its disk came to be, what it is given and is to answer, and what it shows then.
+//! Stories of one core: the origin of its disk, its inputs with the expected answers, and what it shows then.
 use crate::answers::{Told, is_told};
 use crate::cores::{Setting, bytes_on, formatted, opened, plain};
 use crate::given::{Given, input_of, reading};
@@ -9,33 +9,33 @@ use std::alloc::Global;
 use std::process::Abort;
 use units::{Fault, Key, Seen, Stamp, TxnId};
 
-// The two ends of a reading, what is given at it, and what is to be told.
+/// The two ends of a reading, the input at it, and the expected answer.
 pub type Exchange = (u64, u64, Given, Told);
 
-// How the core came to be.
+/// How the core came to be.
 #[derive(Clone, Copy)]
 pub enum Origin {
     // It is new.
     New,
-    // It is new, and a device call of its next append is to fail, by its number from 0.
+    // It is new, and a device call of its next append will fail, by its number from 0.
     Failing(u64),
-    // These were given, the disk crashed with every change that was not synced lost, and was opened again.
+    // It took these inputs, the disk crashed and lost every change that was not synced, and was opened again.
     Crashed(&'static [Exchange]),
-    // These were given while a device call of the next append was to fail, nothing was seen at `a`, and the disk was opened
-    // again as it was.
+    // It took these inputs while a device call of the next append was to fail, nothing was seen at `a`, and the disk was opened again as
+    // it was.
     Armed(u64, &'static [Exchange]),
-    // These were given to a core of a shard, and the disk was opened again as it was.
+    // A core of this shard took these inputs, and the disk was opened again as it was.
     Of(u8, &'static [Exchange]),
     // The disk has no log.
     Blank,
 }
 
-// What it shows. Where there is no transaction its number and timestamp are 0.
+/// What it shows. If there is no transaction, its number and timestamp are 0.
 pub enum Shows {
-    // It is not opened. Nothing else is shown then.
+    // It is not opened. Then nothing else is shown.
     Refused(Fault),
     Ready(u64),
-    // The first that is prepared, the first two that are decided, and the one of these with the least timestamp.
+    // The first that is prepared, the first two that are decided, and the decided one with the least timestamp.
     Prepared(u64, u64),
     Decided(u64, u64),
     Second(u64, u64),
@@ -44,21 +44,22 @@ pub enum Shows {
     Safe(u64),
     Epoch(u64),
     Installs(usize),
-    // What a look at a key, at a timestamp, into so many bytes sees, and what stands in those and the next, four in all. They
-    // were 9 before.
+    // What a look at a key, at a timestamp, into this many bytes sees, and what is then in those and the next bytes, four in all. They were 9
+    // before.
     Look(&'static [u8], u32, usize, Result<Seen, Fault>, [u8; 4]),
-    // The length of its log's file, bytes of it from an offset on, and all of them, told without the slots.
+    // The length of its log's file, bytes of it from an offset on, and all of them without the slots.
     Size(u64),
     Log(u64, &'static [u8]),
     File(&'static [u8]),
 }
 
-// Once so many of the exchanges were made.
+/// What the core shows after this many of the exchanges.
 pub struct Moment {
     pub after: usize,
     pub shows: &'static [Shows],
 }
 
+/// A core by its origin, its exchanges, and what it shows at some moments.
 pub struct Story {
     pub name: &'static str,
     pub shard: u8,
@@ -68,7 +69,7 @@ pub struct Story {
     pub moments: &'static [Moment],
 }
 
-// What a core is given, one after the other, and what it shows then.
+/// The inputs of a core, one after the other, and what it shows then.
 #[derive(Clone, Copy)]
 pub struct Part {
     pub name: &'static str,
@@ -76,7 +77,7 @@ pub struct Part {
     pub shows: &'static [Shows],
 }
 
-// What is seen where nothing was written.
+// What is seen if nothing was written.
 const NOTHING: &[Shows] = &[Shows::Look(b"a", 0, 1, Ok(Seen::Absent), [9; 4])];
 
 fn stands(found: Option<(TxnId, Stamp)>, number: u64, at: u64) -> bool {
@@ -111,7 +112,7 @@ fn is_shown(rt: &impl Abort, core: &Core<SimDisk>, fact: &Shows) -> bool {
     }
 }
 
-// Gives the core what the part says, and compares what it answers and shows.
+/// Gives the inputs of the part to the core, and compares its answers and what it shows.
 pub fn play(
     wrong: &mut WrongRows,
     rt: &impl Abort,
@@ -155,7 +156,7 @@ fn is_in(alloc: Global, bytes: &[u8], fact: &Shows) -> bool {
     }
 }
 
-// The disk that a core leaves behind which begins on this one and plays the part, or is refused as that says.
+// The disk that is left by a core which begins on this one and plays the part, or is refused as the part says.
 fn left(
     wrong: &mut WrongRows,
     rt: &impl Abort,
@@ -187,7 +188,7 @@ fn left(
     }
 }
 
-// The disk on which a core of such an origin begins.
+/// Makes the disk on which a core of this origin begins.
 pub fn disk_of(
     wrong: &mut WrongRows,
     rt: &impl Abort,
@@ -223,7 +224,7 @@ pub fn disk_of(
     }
 }
 
-// The stories go as they are told, up to each moment.
+/// Plays the stories, each up to each of its moments.
 pub fn tell(wrong: &mut WrongRows, rt: &impl Abort, alloc: Global, stories: &[Story]) {
     for story in stories {
         let mut setting = plain(story.shard, story.stride);

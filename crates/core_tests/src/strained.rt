@@ -6,8 +6,8 @@ use std::time::Duration;
 use std::{thread, time};
 use units::Fault;
 
-/// A disk in memory whose first sync waits until the other's has begun, for 10,000 turns at most, each a look and a millisecond's sleep.
-/// Where it waits in vain, it fails. So does a read that is too long; and it counts its reads.
+/// A disk in memory whose first sync waits until the other's has begun, for at most 10,000 turns, each a look and a millisecond's sleep.
+/// If it waits in vain, it fails; so does a read that is too long. It counts its reads.
 #[derive(Drop)]
 pub struct Strained<'a, R> {
     pub disk: SimDisk,
@@ -41,7 +41,7 @@ impl<R: time::Clock> Disk for Strained<'_, R> {
 
     ghost keeps_model = { Unit {0} };
 
-    // Which calls fail, no plan says.
+    // No plan says which calls fail.
     ghost obeys = { ⊥ };
 
     ghost file = { λ d. disk_file d.disk };

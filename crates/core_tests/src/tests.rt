@@ -1,4 +1,4 @@
-//! The tests of cores, and of nodes with their viewers. A body that names a table costs much to prove, so each has a function that hands it on.
+//! The tests of cores, and of nodes with their viewers. A body that names a table costs much to prove, so a function hands each table on.
 use crate::booked::keep_books;
 use crate::coordinating::coordinating;
 use crate::turned_nodes::turning;
@@ -9,7 +9,7 @@ use crate::{
 };
 use made::WrongRows;
 
-// It fails where a call always answers that there is no memory.
+/// Shows that commits, alone and beside others, go as their stories say. It fails if a call always answers `Memory`.
 #[test]
 fn always_memory(rt: HostRuntime) {
     let mut wrong = WrongRows::none(rt.alloc());
@@ -18,6 +18,7 @@ fn always_memory(rt: HostRuntime) {
     end(&rt, wrong);
 }
 
+/// Shows that cores answer and show what the stories say, and that their books replay.
 #[test]
 fn cores(rt: HostRuntime) {
     let mut wrong = WrongRows::none(rt.alloc());
@@ -39,6 +40,7 @@ fn cores(rt: HostRuntime) {
     end(&rt, wrong);
 }
 
+/// Shows how files are opened that are cut, or have another byte or other slots.
 #[test]
 fn damaged_files(rt: HostRuntime) {
     let mut wrong = WrongRows::none(rt.alloc());
@@ -49,6 +51,7 @@ fn damaged_files(rt: HostRuntime) {
     end(&rt, wrong);
 }
 
+/// Shows that damaged files of version 1 are migrated, or refused by name.
 #[test]
 fn damaged_files_of_version_1(rt: HostRuntime) {
     let mut wrong = WrongRows::none(rt.alloc());
@@ -56,13 +59,13 @@ fn damaged_files_of_version_1(rt: HostRuntime) {
     end(&rt, wrong);
 }
 
-// It fails where disks are opened one after another.
+/// Shows that shards are opened at the same time, and not one after another.
 #[test]
 fn shards_are_opened_side_by_side(rt: HostRuntime) {
     together::open_rows(&rt, rt.alloc());
 }
 
-// It fails where a node answers that it turned its log over, and did not.
+/// Shows that nodes are opened again and turn their logs over. It fails if a node says that it turned its log over, and did not.
 #[test]
 fn nodes_are_opened_again_and_turned_over(rt: HostRuntime) {
     let mut wrong = WrongRows::none(rt.alloc());
@@ -71,7 +74,7 @@ fn nodes_are_opened_again_and_turned_over(rt: HostRuntime) {
     end(&rt, wrong);
 }
 
-// It fails where a node delivers an input twice, or advances twice.
+/// Shows that a node delivers each input once, and advances once.
 #[test]
 fn each_call_is_one_input(rt: HostRuntime) {
     let mut wrong = WrongRows::none(rt.alloc());
@@ -79,7 +82,7 @@ fn each_call_is_one_input(rt: HostRuntime) {
     end(&rt, wrong);
 }
 
-// It fails where viewers always answer that they are stopped.
+/// Shows what a viewer sees beside a node. It fails if viewers always answer that they are stopped.
 #[test]
 fn always_stopped_viewer(rt: HostRuntime) {
     let mut wrong = WrongRows::none(rt.alloc());

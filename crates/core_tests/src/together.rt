@@ -1,4 +1,4 @@
-//! Shards that are opened side by side.
+//! Shards that are opened at the same time.
 use crate::cores::{core_of, disk_with, formatted, plain, setup};
 use crate::strained::Strained;
 use crate::verdict::end;
@@ -13,16 +13,16 @@ use std::thread::Threads;
 use std::time;
 use units::{Fault, Setup};
 
-// A disk, of a shard of two.
+// The disk of one of two shards.
 struct Given {
     shard: u8,
-    // How often it was opened before; nothing where it holds the bytes `log`, which are no log.
+    // How often it was opened before, or `None` if it holds the bytes `log`, which are no log.
     before: Option<u64>,
-    // Its first sync waits for that of the other one.
+    // Whether its first sync waits for that of the other one.
     waits: bool,
-    // The epoch of its opening; or why it is refused.
+    // The epoch of its opening, or why it is refused.
     gives: Result<u64, Fault>,
-    // How long the file is then.
+    // The length of the file after that.
     size: u64,
 }
 
@@ -31,7 +31,7 @@ struct Row {
     disks: &'static [Given],
 }
 
-// A log of nothing ends with its first gate, and each opening takes 14 bytes: a gate, four of length, a kind and a number of eight.
+// An empty log ends with its first gate, and each opening takes 14 bytes: a gate, a length of four bytes, a kind, and a number of eight.
 static ROWS: [Row; 4] = [
     Row {
         name: "no disk",
@@ -176,7 +176,7 @@ fn compare<'a, R: Threads + time::Clock + Sync + Abort>(
     opened.destroy_empty();
 }
 
-// The result is a core of this shard in this epoch, or this refusal, and its disk has this length.
+// Whether it is a core of this shard in this epoch, or this refusal, and its disk has this length.
 fn is_given<R: time::Clock>(
     opening: Result<Core<Strained<R>>, (Fault, Strained<R>)>,
     given: &Given,
@@ -198,7 +198,7 @@ fn is_given<R: time::Clock>(
     }
 }
 
-/// The shards of each row are opened side by side.
+/// Opens the shards of each row at the same time, and ends the test if one gives something else.
 pub fn open_rows<R: Threads + time::Clock + Sync + Abort>(rt: &R, alloc: Global) {
     let mut wrong = WrongRows::none(alloc);
     for row in &ROWS {

@@ -1,4 +1,4 @@
-//! Logs that are turned over: of cores and desks, with each of its device calls failing, and where no slot is left.
+//! Logs of cores and desks that are turned over: with each device call failing in turn, and with no slot left.
 use crate::answers::Told;
 use crate::cores::formatted;
 use crate::forgetting::forgotten;
@@ -19,8 +19,8 @@ use std::process::Abort;
 use std::sync::Wait;
 use units::Fault;
 
-// What becomes of the change that is not synced, where there is a crash once a call of a turnover has failed, and from which call on, counted
-// from 0, an opening finds the new log. Call 5 is none of its own.
+// What follows if a call of a turnover fails. `fate` is that of the change that is not synced, if there is a crash then. From this call on,
+// counted from 0, an opening finds the new log. Call 5 comes after those of the turnover.
 struct Failing {
     fate: Option<Fate>,
     new_from: u64,
@@ -71,7 +71,7 @@ const TAKEN: &[Asked] = &[COMMIT, SETTLE, (112, 121, Ask::Turn(Ok(())))];
 // The same commit again is done, whichever log is found.
 const AGAIN: &[Asked] = &[(112, 121, Ask::Given(A, DONE))];
 
-// A turnover of which that call fails.
+// A turnover of which this call fails.
 fn turnover_of(row: &Failing, call: u64) -> Row {
     Row {
         name: "a call of a turnover fails",
@@ -84,7 +84,7 @@ fn turnover_of(row: &Failing, call: u64) -> Row {
     }
 }
 
-// A disk with a file whose slots are all open, each of which names an area of no record. The last begins at 10,248.
+// A disk with a file whose slots are all open, each of which names an area without a record. The last area begins at 10,248.
 fn spent(rt: &impl Abort, alloc: Global) -> SimDisk {
     let mut disk = SimDisk::new(alloc);
     let mut bytes = [0; 9];
@@ -101,7 +101,7 @@ fn spent(rt: &impl Abort, alloc: Global) -> SimDisk {
     disk
 }
 
-// With no slot left a turnover is refused, and all goes on.
+// If no slot is left, a turnover is refused, and all else goes on.
 const SPENT: &[Asked] = &[
     COMMIT,
     SETTLE,
@@ -112,7 +112,7 @@ const SPENT: &[Asked] = &[
     (112, 121, Ask::Turn(Err(Fault::TimeSpent))),
 ];
 
-// A desk asks for it again once the log has grown.
+// A desk asks for a turnover again once the log has grown.
 const SPENT_DESK: &[Asked] = &[
     COMMIT,
     SETTLE,
@@ -165,7 +165,7 @@ fn tell<R: Wait + Abort>(wrong: &mut WrongRows, rt: &R, alloc: Global, kind: Kin
     }
 }
 
-// Each row is one of cores and one of desks.
+// Checks each row with cores and with desks.
 fn tell_both<R: Wait + Abort>(wrong: &mut WrongRows, rt: &R, alloc: Global, rows: &[Row]) {
     tell(wrong, rt, alloc, Kind::Core, rows);
     tell(wrong, rt, alloc, Kind::Desk, rows);
@@ -184,7 +184,7 @@ fn tell_spent<R: Wait + Abort>(wrong: &mut WrongRows, rt: &R, alloc: Global) {
     tell(wrong, rt, alloc, Kind::Desk, &SPENT_ROWS);
 }
 
-// What stands is there behind a turnover.
+/// Shows that what the log told is still there after a turnover, and what is seen and stands.
 #[test]
 fn logs_are_turned_over(rt: HostRuntime) {
     let mut wrong = WrongRows::none(rt.alloc());
@@ -194,6 +194,7 @@ fn logs_are_turned_over(rt: HostRuntime) {
     end(&rt, wrong);
 }
 
+/// Shows what a failing call leaves of a turnover, and that a turnover without a slot is refused.
 #[test]
 fn turnovers_that_fail(rt: HostRuntime) {
     let mut wrong = WrongRows::none(rt.alloc());
@@ -202,7 +203,7 @@ fn turnovers_that_fail(rt: HostRuntime) {
     end(&rt, wrong);
 }
 
-// It fails where a desk forgets its board, turns over before the horizon is raised, or never. What is below a horizon is too old.
+/// Shows that desks renew their logs, raise the horizon before that, and keep their boards. What is below a horizon is `TooOld`.
 #[test]
 fn desks_renew_their_logs(rt: HostRuntime) {
     let mut wrong = WrongRows::none(rt.alloc());

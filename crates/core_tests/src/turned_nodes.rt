@@ -1,4 +1,4 @@
-//! Nodes whose logs are turned over, and where that fails.
+//! Nodes whose logs are turned over, and turnovers that fail.
 use crate::answers::Told;
 use crate::given::Given;
 use crate::logs::Line;
@@ -43,7 +43,7 @@ const FAILS: &[Asked] = &[
     (250, 260, Ask::Turn(Ok(()))),
 ];
 
-// A turnover of a node whose log has nothing but its opening.
+// A turnover of a node whose log has only its opening.
 const FAILING: Story = Story {
     fails: Some(3),
     room: 0,
@@ -176,6 +176,7 @@ static TURNING: [Story; 4] = [
     },
 ];
 
+/// Returns the stories of nodes that turn their logs over.
 pub fn turning() -> &'static [Story] {
     &TURNING
 }

@@ -6,25 +6,32 @@ use crate::turning::{Ask, Asked, Bytes, Row};
 use disk::Fate;
 use units::Fault;
 
+/// 1.1 writes a=1.
 pub const A: Given = Given::Commit(1, 0, b"a", b"1");
 
+/// The session of 1.1 is told that it committed at 111.
 pub const DONE: Told = Told::Says(&[(b'd', 9, 1, 111)]);
 
+/// Nothing is put out.
 pub const SAID: Told = Told::Says(&[]);
 
-// 1.1 writes a=1 at 111, and 1.2 a=2 at 211.
+/// 1.1 writes a=1 at 111.
 pub const COMMIT: Asked = (100, 110, Ask::Given(A, SAID));
 
+/// 1.1 is settled.
 pub const SETTLE: Asked = (112, 121, Ask::Given(Given::Settle(1), DONE));
 
+/// 1.2 writes a=2 at 211.
 pub const SECOND: Asked = (200, 210, Ask::Given(Given::Commit(2, 0, b"a", b"2"), SAID));
 
+/// 1.2 is settled.
 pub const SETTLE_SECOND: Asked = (
     212,
     221,
     Ask::Given(Given::Settle(2), Told::Says(&[(b'd', 9, 2, 211)])),
 );
 
+/// The log is turned over.
 pub const TURN: Asked = (230, 240, Ask::Turn(Ok(())));
 
 // The same commit again.
@@ -33,20 +40,21 @@ const AGAIN: Asked = (230, 240, Ask::Given(A, DONE));
 // What the next opening adds.
 const REOPENED: &[Line] = &[Line::Opened(2)];
 
-/// The log of the commit, and that of its turnover.
+/// The log of the commit.
 pub const OLD: &[Line] = &[
     Line::Opened(1),
     Line::Decided(1, 111),
     Line::Committed(1, 111),
 ];
 
+/// The log of its turnover.
 pub const NEW: &[Line] = &[
     Line::Base(1, 111, 0),
     Line::Version(111, b'a', b'1'),
     Line::Settled(1, 111),
 ];
 
-// The file of the commit without its slots, and behind its closed gate, which is byte 9,311 of the file: Base 1 111 0, Version 111 a=1,
+// The file of the commit without its slots. After its closed gate, which is byte 9,311 of the file, come Base 1 111 0, Version 111 a=1,
 // Settled 1.1 111 parts 0, and a closed gate. Slot 0 is open and names 9,312.
 const TURNED: &Bytes = &Bytes {
     told: &[
@@ -157,6 +165,7 @@ const NEWER: Asked = (230, 240, Ask::Look(b'a', 211, Ok(b'2')));
 
 const NOT_YET: Asked = (230, 240, Ask::Look(b'a', 212, Err(Fault::NotYet)));
 
+/// A log that is turned over, and whose disk then crashes and keeps the oldest change as it was before.
 pub const LEFT: Row = Row {
     bytes: None,
     size: None,
@@ -293,24 +302,24 @@ static STANDING: [Row; 4] = [
     },
 ];
 
-// A body that names a table or a long row costs much to prove, so each is handed on.
+// A body that names a table or a long row costs much to prove, so functions hand each on.
 
-/// A row of a log that is turned over and left to a crash.
+/// Returns the row of a log that is turned over and left to a crash.
 pub fn left_row() -> Row {
     LEFT
 }
 
-/// Rows of the settled commit.
+/// Returns the rows of the settled commit.
 pub fn settled() -> &'static [Row] {
     &SETTLED
 }
 
-/// Rows of what is seen, and of horizons.
+/// Returns the rows of what is seen, and of horizons.
 pub fn looked() -> &'static [Row] {
     &LOOKED
 }
 
-/// Rows of what has not ended.
+/// Returns the rows of what has not ended.
 pub fn standing() -> &'static [Row] {
     &STANDING
 }

@@ -1,4 +1,4 @@
-//! Cores and desks that are asked, and turned over between: what they answer, what the file holds then, and what an opening finds in it.
+//! Cores and desks that are asked and turned over: their answers, what the file then holds, and what an opening finds in it.
 use crate::answers::{Told, is_told};
 use crate::cores::{Setting, bytes_on, core_of, plain};
 use crate::given::{Given, input_of, reading};
@@ -15,67 +15,68 @@ use std::sync::Wait;
 use truetime::Reading;
 use units::{Fault, Seen};
 
-// What is seen at a key: one byte, and 0 where there is none; or why nothing is.
+// What is seen at a key: one byte, 0 if there is none, or why nothing is seen.
 type Sees = Result<u8, Fault>;
 
-// What is asked, and what is to be answered.
+/// A question, with the expected answer.
 #[derive(Clone, Copy)]
 pub enum Ask {
     Given(Given, Told),
     Turn(Result<(), Fault>),
-    // Of a key of one letter, at a time.
+    // The key is one letter, looked up at a time.
     Look(u8, u32, Sees),
-    // The rest is asked of desks alone. To keep so many microseconds, and to turn over what has grown by so many bytes.
+    // The rest is asked of desks alone. This keeps versions for so many microseconds, and turns over a log that has grown by so many bytes.
     Renew(u64, u64, Result<(), Fault>),
     Advance(u32),
-    // To let go what is older than so many microseconds.
+    // Forgets what is older than this many microseconds.
     KeepFor(u64, Result<(), Fault>),
     // What the viewer sees.
     View(u8, u32, Sees),
-    // How far the log reaches, and what the horizon is.
+    // The end of the log, and the horizon.
     Gate(u64),
     Horizon(u64),
 }
 
-// The two ends of a reading, and what is asked at it.
+/// The two ends of a reading, and the question at it.
 pub type Asked = (u64, u64, Ask);
 
-// A file, told without its slots, but for the first two of these.
+/// A file without its slots, and the first two slots.
 pub struct Bytes {
     pub told: &'static [u8],
     pub slots: [u8; 18],
 }
 
+/// A shard with its questions, what its file holds then, and what an opening after that finds.
 #[derive(Clone, Copy)]
 pub struct Row {
     pub name: &'static str,
     pub shard: u8,
-    // No slot is left: each names an area of no record.
+    // No slot is left: each names an area without a record.
     pub is_spent: bool,
-    // A device call that is to fail, counted from the first write behind the opening.
+    // A device call that will fail, counted from the first write after the opening.
     pub fails: Option<u64>,
     pub before: &'static [Asked],
     pub asks: &'static [Asked],
-    // The bytes of the file, or as much of it as its length.
+    // The bytes of the file, or its length.
     pub bytes: Option<&'static Bytes>,
     pub size: Option<u64>,
-    // What becomes then of the change that is not synced, where there is a crash.
+    // The fate of the change that is not synced, if there is a crash then.
     pub fate: Option<Fate>,
     pub log: &'static [Line],
-    // What is asked once the shard is opened again, and what the log holds then behind that.
+    // What is asked after the shard is opened again, and what the log then holds after the lines of `log`.
     pub again: &'static [Asked],
     pub then: &'static [Line],
 }
 
-/// Who is asked: a core, or a desk with a viewer. Of either no more than this is known where all are asked, which costs less to prove.
+/// What is asked: a core, or a desk with a viewer. Code that asks both knows no more than this of either, which costs less to prove.
 pub trait Asks {
-    /// What it answers to an input.
+    /// Gives it an input, and returns the answer.
     fn give(&mut self, alloc: Global, now: &Reading, input: &Input) -> Result<Outbox, Fault>;
 
-    /// Whether all else that is asked is answered as told.
+    /// Tells whether any other question is answered as expected.
     fn is_served(&mut self, alloc: Global, now: &Reading, ask: Ask) -> bool;
 
-    /// The disk that it leaves behind.
+    /// Ends it, and returns its disk.
     fn ended(self) -> SimDisk;
 }
 
@@ -85,7 +86,7 @@ struct Watched<'a, R: Wait> {
     viewers: Vec<Viewer>,
 }
 
-// Which of both.
+/// A core or a desk.
 #[derive(Clone, Copy)]
 pub enum Kind {
     Core,
@@ -103,7 +104,7 @@ fn desk_of<'a, R: Wait + Abort>(rt: &'a R, alloc: Global, core: Core<SimDisk>) -
     }
 }
 
-// What a look comes to, by the buffer that it was given.
+// What a look comes to, with the buffer that it was given.
 fn sees(seen: Result<Seen, Fault>, buffer: &[u8]) -> Sees {
     match seen {
         Ok(Seen::Absent) => Ok(0),
@@ -115,7 +116,7 @@ fn sees(seen: Result<Seen, Fault>, buffer: &[u8]) -> Sees {
     }
 }
 
-// What is read of a core.
+// Whether a core shows this.
 fn is_shown(core: &Core<SimDisk>, ask: Ask) -> bool {
     match ask {
         Ask::Look(letter, at, wanted) => {
@@ -184,7 +185,7 @@ impl<R: Wait> Asks for Watched<'_, R> {
     }
 }
 
-// Whether what is asked is answered as told.
+// Whether the question is answered as expected.
 fn is_answered<S: Asks>(rt: &impl Abort, alloc: Global, shard: &mut S, asked: &Asked) -> bool {
     let now = reading(rt, asked.0, asked.1);
     match asked.2 {
@@ -212,7 +213,7 @@ fn ask_all<S: Asks>(
     }
 }
 
-// The disk that is left behind by who was asked all that, the first first.
+// The disk of a core or desk that was asked all of these, first `before` and then `asks`.
 fn left_by<S: Asks>(
     wrong: &mut WrongRows,
     rt: &impl Abort,
@@ -228,7 +229,7 @@ fn left_by<S: Asks>(
     shard.ended()
 }
 
-// The same of the shard of a disk.
+/// Opens the shard of a disk, asks it all of these, and returns its disk.
 pub fn left<R: Wait + Abort>(
     wrong: &mut WrongRows,
     rt: &R,
@@ -250,7 +251,7 @@ pub fn left<R: Wait + Abort>(
     }
 }
 
-// The bytes of a file whose first two slots are these.
+// The bytes of a file with these first two slots.
 fn bytes_of(rt: &impl Abort, alloc: Global, told: &Bytes) -> Vec<u8> {
     let mut bytes = with_slots(alloc, told.told).ok().expect(rt, "memory");
     for (place, byte) in bytes.iter_mut().skip(8).zip(told.slots) {
@@ -259,7 +260,7 @@ fn bytes_of(rt: &impl Abort, alloc: Global, told: &Bytes) -> Vec<u8> {
     bytes
 }
 
-// The disk holds this file.
+/// Checks that the disk holds this file.
 pub fn compare_bytes(
     wrong: &mut WrongRows,
     rt: &impl Abort,
@@ -276,7 +277,7 @@ pub fn compare_bytes(
     wrong.unless_at(same, name, disk.len());
 }
 
-// What a crash leaves by this fate of the oldest change that is not synced. Where none is told the disk stays, and no call of it is to fail.
+/// Crashes the disk, with this fate of the oldest change that is not synced. Without a fate the disk stays, and no call of it will fail.
 pub fn crashed(rt: &impl Abort, alloc: Global, disk: SimDisk, fate: Option<Fate>) -> SimDisk {
     let mut disk = disk;
     disk.arm(None);
@@ -290,7 +291,7 @@ pub fn crashed(rt: &impl Abort, alloc: Global, disk: SimDisk, fate: Option<Fate>
     disk
 }
 
-/// The disk of a shard is what the row says. It crashes, if the row has that, is opened again, and asked once more.
+/// Checks that the disk of a shard is as the row says. It crashes if the row says so, is opened again, and asked once more.
 pub fn found<R: Wait + Abort>(
     wrong: &mut WrongRows,
     rt: &R,
@@ -314,7 +315,7 @@ pub fn found<R: Wait + Abort>(
     drop(with_log(wrong, alloc, disk, name, row.log, row.then));
 }
 
-/// The shard of a disk is asked what the row says, opened again, and asked once more.
+/// Asks the shard of a disk what the row says, opens it again, and asks it once more.
 pub fn go_on<R: Wait + Abort>(
     wrong: &mut WrongRows,
     rt: &R,

@@ -1,4 +1,4 @@
-//! Clients hear at once that a shard refuses their letters.
+//! Clients that hear at once when a shard refuses their letters.
 ghost use Rattle.std.specs.Prelude.{◌≡◌};
 
 use crate::cores::{Setting, plain};
@@ -32,10 +32,10 @@ enum Ends {
     Refused(Fault),
 }
 
-// What became of the node of fresh shard 1: its device has failed, in a turnover or else in an advance, and it could not be opened again, so
-// that it holds its disk alone; whether its clock has no reading; how many transactions have a row there; and whether the client hears first
-// that a letter of an earlier transaction was refused. How a transaction ends that reads there and is dropped then, and one that only writes,
-// where one does.
+// What became of the node of fresh shard 1. Its device may have failed, in a turnover or else in an advance. It may then hold its disk
+// alone, because it could not be opened again, or its clock may have no reading. Then come how many transactions have a row there, and
+// whether the client first hears that a letter of an earlier transaction was refused. The last two say how a transaction ends that reads
+// and is then dropped, and, if there is one, another that only writes.
 struct Row {
     name: &'static str,
     stops: bool,
@@ -117,7 +117,7 @@ static ROWS: [Row; 6] = [
     },
 ];
 
-// A clock that always has this reading, or never one.
+// A clock that always has this reading, or never has one.
 #[derive(Clone, Copy)]
 struct Told {
     now: Option<Reading>,
@@ -161,7 +161,7 @@ impl<'s, R: Wait + time::Clock + Abort> Caller<'s, R> {
         begun.ok().expect(self.rt, "a transaction")
     }
 
-    // A transaction that reads, and is dropped then.
+    // A transaction that reads, and is then dropped.
     fn read(&mut self) -> Ends {
         let mut tx = self.begin();
         let ran = match self.wire.get(&mut tx, &key(b'z')) {
@@ -183,7 +183,7 @@ impl<'s, R: Wait + time::Clock + Abort> Caller<'s, R> {
         ends_of(self.wire.finish(tx, Ok(())))
     }
 
-    // A transaction of which a refused letter is heard only later is aborted.
+    // A transaction hears of a refused letter only later, and is aborted.
     fn be_late(&mut self, network: &Network) -> bool {
         let tx = self.begin();
         network.refuse(
@@ -197,8 +197,8 @@ impl<'s, R: Wait + time::Clock + Abort> Caller<'s, R> {
         ends_of(self.wire.finish(tx, Err(Halt::Abandon))) == Ends::Aborted
     }
 
-    // Whether a transaction that reads, or one that writes, ends as it has to within a second: a fraction of the four that its client would
-    // wait.
+    // Whether a transaction that reads, or one that writes, ends as expected within a second. That is a fraction of the four that its client
+    // would wait.
     fn ends_as(&mut self, reads: bool, wanted: Ends) -> bool {
         let start = Instant::now(self.rt).ok().expect(self.rt, "a clock");
         let ends = if reads { self.read() } else { self.write() };
@@ -206,8 +206,8 @@ impl<'s, R: Wait + time::Clock + Abort> Caller<'s, R> {
         ends == wanted && took < Duration::from_secs(1)
     }
 
-    // Whether each transaction ends as the row says: what is late, what reads, and what writes. Once a read has ended, the row's rows are
-    // taken.
+    // Whether each transaction ends as the row says: the late one, the one that reads, and the one that writes. After a read has ended, the
+    // rows of the row are taken.
     fn goes(&mut self, network: &Network, row: &Row) -> [bool; 3] {
         if row.rows > 0 {
             self.read();
@@ -222,7 +222,7 @@ impl<'s, R: Wait + time::Clock + Abort> Caller<'s, R> {
     }
 }
 
-// What the row says became of the node.
+// Makes of the node what the row says.
 fn failed<'r, R: Wait + Abort>(
     wrong: &mut WrongRows,
     rt: &'r R,
@@ -277,7 +277,7 @@ fn ends_of(ended: Result<Ended, Fault>) -> Ends {
     }
 }
 
-// Whether each of the client's transactions ends as the row says: what is late, what reads, and what writes. Then the network closes.
+// Whether each of the client's transactions ends as the row says. Then the network closes.
 fn call<R: Wait + time::Clock + Abort>(
     rt: &R,
     alloc: Global,
@@ -320,7 +320,7 @@ fn call<R: Wait + time::Clock + Abort>(
     ends
 }
 
-// A client beside a node on a thread, as the row says.
+// Runs a client beside a node on a thread, as the row says.
 fn go<R: Threads + Wait + time::Clock + Sync + Abort>(
     wrong: &mut WrongRows,
     rt: &R,
@@ -356,7 +356,7 @@ fn go<R: Threads + Wait + time::Clock + Sync + Abort>(
     wrong.unless_at(writes, row.name, 4);
 }
 
-// It fails where a letter that a shard refuses is silence to its client.
+/// Shows that a client hears at once when a shard refuses its letter.
 #[test]
 fn refused_letters_are_heard(rt: HostRuntime) {
     let mut wrong = WrongRows::none(rt.alloc());

@@ -78,6 +78,7 @@ static VIEWED: [Story; 1] = [Story {
     ],
 }];
 
+/// Returns the story of a viewer beside a node.
 pub fn viewed() -> &'static [Story] {
     &VIEWED
 }

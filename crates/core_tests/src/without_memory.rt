@@ -1,5 +1,5 @@
-//! Two stories for whoever refuses memory (scripts/refused_memory.sh): a commit at one shard, and one over two, through sessions and desks;
-//! both logs are turned over, and it is told what a viewer sees then. Where one growth is refused they end as where none is.
+//! Two stories that `scripts/refused_memory.sh` runs while it refuses memory: a commit at one shard, and one over two shards, through
+//! sessions and desks. Then both logs are turned over, and a viewer looks. If one allocation is refused, they end as if none was.
 use crate::asked_twice::{Shard, open, refused, say, splits};
 use crate::given::reading;
 use crate::nodes::is_seen;
@@ -19,7 +19,7 @@ fn write(tx: &mut Tx<'_, Open>, alloc: Global, letter: u8, digit: u8) -> Result<
     tx.buffer(key(letter), Some(value))
 }
 
-// A transaction that writes this, and closes; and its messages.
+// A transaction that writes this and closes, and its messages.
 fn closed<'s, R: Print + Abort>(
     rt: &R,
     alloc: Global,
@@ -48,7 +48,7 @@ fn closed<'s, R: Print + Abort>(
     rt.panic("close")
 }
 
-// The transaction hears first that it committed, at this timestamp.
+// Checks that the transaction hears first that it committed, at this timestamp.
 fn hear(rt: &(impl Print + Abort), tx: Tx<'_, Closing>, out: &mut IntoIter<Envelope>, at: u64) {
     let envelope = out.next().expect(rt, "an end");
     say(rt, "", &Text(&envelope));
@@ -67,7 +67,7 @@ fn hear(rt: &(impl Print + Abort), tx: Tx<'_, Closing>, out: &mut IntoIter<Envel
     }
 }
 
-// The transaction committed at this timestamp.
+// Whether the transaction committed at this timestamp.
 fn is_at(finished: Finished, at: u64) -> bool {
     match finished {
         Finished::Committed(stood) => stood.micros() == at,
@@ -75,7 +75,7 @@ fn is_at(finished: Finished, at: u64) -> bool {
     }
 }
 
-// What a shard puts out when the next of some messages comes to it at a reading, behind so many times when it came.
+// Gives a shard the next message at a reading, `more` times and once again, and returns what it puts out the last time.
 fn carry<R: Print + Abort, S: Shard>(
     rt: &R,
     shard: &mut S,
@@ -101,7 +101,7 @@ fn carry<R: Print + Abort, S: Shard>(
     put.into_iter()
 }
 
-// What a shard puts out when it settles a transaction at a reading.
+// Settles a transaction at a reading, and returns what the shard puts out.
 fn settle<R: Print + Abort, S: Shard>(
     rt: &R,
     shard: &mut S,
@@ -138,7 +138,7 @@ fn tell_both<R: Print + Abort, S: Shard>(
     drop(carry(rt, second, 1, "outcome", &mut told, (210, 220), 1));
 }
 
-// Both are told, both shards turn their logs over, the second one serves up to 200, and its viewer looks there.
+// Plays both stories. Then both shards turn their logs over, the second one serves up to 200, and its viewer looks there.
 fn tell<R: Print + Abort, S: Shard>(
     rt: &R,
     alloc: Global,
@@ -157,7 +157,7 @@ fn tell<R: Print + Abort, S: Shard>(
     say(rt, "look z 200 =", &2u8);
 }
 
-// It fails where a call that is refused for memory is refused otherwise then, or leaves something else.
+/// Shows that a call that gets `Memory` leaves all as it was, and succeeds when it is called again.
 #[test]
 fn two_stories(rt: HostRuntime) {
     let alloc = rt.alloc();

@@ -1,4 +1,4 @@
-//! A transaction that waits with a read hears at once that a node has ended it, though nobody asks.
+//! A transaction that waits with a read hears at once that a node has ended it, without asking.
 use crate::cores::plain;
 use crate::given::{Given, Standing, message_of, reading};
 use crate::nodes::fresh_node;
@@ -18,7 +18,7 @@ use std::time::Duration;
 use std::{thread, time};
 use units::ShardNo;
 
-// What fresh shard 1 is sent, one letter behind the other; and how many refused answers go to 1.5 then, which asks for nothing any more.
+// The letters to fresh shard 1, one after the other, and how many refused answers then go to 1.5, which asks for nothing more.
 struct Row {
     name: &'static str,
     letters: &'static [Given],
@@ -89,7 +89,7 @@ impl Gate for &Seen {
     }
 }
 
-// Waits until a count has come so far, for so many milliseconds at most.
+// Waits until a count has come this far, for at most this many milliseconds.
 fn await_count<R: time::Clock>(rt: &R, count: &AtomicU64, wanted: u64, longest: u32) {
     for _turn in 0..longest {
         if count.load(Ordering::SeqCst) >= wanted {
@@ -99,7 +99,7 @@ fn await_count<R: time::Clock>(rt: &R, count: &AtomicU64, wanted: u64, longest: 
     }
 }
 
-// Sends the letters, each once the one before was taken; waits for what comes of them; and sends the end.
+// Sends the letters, each after the one before was taken, waits for what follows from them, and sends the end.
 fn send_all<R: Wait + time::Clock + Abort>(
     rt: &R,
     alloc: Global,
@@ -161,7 +161,7 @@ fn refused<R: Threads + Wait + time::Clock + Sync + Abort>(
     refused
 }
 
-// It fails where a node that ends a transaction which waits tells it nothing, or refuses one that still waits.
+/// Shows that a node tells a waiting transaction that it was ended, and refuses none that still waits.
 #[test]
 fn wounded_waiters_hear_of_it(rt: HostRuntime) {
     let alloc = rt.alloc();
