@@ -14,9 +14,9 @@ use disk::Disk;
 use gatelog::{Area, GateLog};
 use units::Fault;
 
-/// Makes another file a log with the records that were read, and drops what was in it: first an empty log, which is then turned over
-/// to the records. A refusal returns the first disk, and the empty log if it was laid out, or else the second disk. It is `Memory`,
-/// `Device`, or `TimeSpent` if the log would grow beyond 2^40 bytes.
+/// Makes another file a log with the records that were read, and drops what was in it. It lays out an empty log first, and turns that
+/// over to the records. A refusal returns the first disk, and the empty log if it was laid out, or else the second disk. It is
+/// `Memory`, `Device`, or `TimeSpent` if the log would grow beyond 2^40 bytes.
 pub fn compact<D: Disk>(
     from: Gathered<D>,
     to: D,
@@ -29,7 +29,7 @@ pub fn compact<D: Disk>(
         ≡ records_in (surface (D.file (source_of from))).seen) }
     ensures running { IfOk result (λ made. IsFalse (is_stopped made.1)) }
     ensures slot { IfOk result (λ made. next_slot made.1 ≡ 1) }
-    // A crash behind the first sync leaves no log, the empty one, or these records.
+    // A crash after the first sync leaves no log, the empty one, or these records.
     ensures any_moment { IfOk result (λ made. D.keeps_model
         → WasFilled D.file D.clock D.since (records_in (surface (D.file (source_of from))).seen)
         to (disk_of made.1)) }

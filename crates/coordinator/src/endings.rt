@@ -33,8 +33,8 @@ pub fn give_up(
     state.aborts(alloc, given.txn, collecting.request().parts)
 }
 
-/// Plans the answer to a participant that asks how a transaction ended. One that is unknown, or only reads, is aborted first; one
-/// that is not over gets no answer yet. `Stranger` if this shard does not decide it, or the asker takes no part in it.
+/// Plans the answer to a participant that asks how a transaction ended. One that is unknown, ended or only reads is aborted first;
+/// for one that still commits there is no answer yet. `Stranger` if this shard does not decide it, or the asker took no part in it.
 #[tactic(auto, unfolding(protocol::specs::Cells::plan_ask))]
 pub fn on_ask(state: &State, alloc: Global, ask: &Ask) -> Result<Step, Fault>
     ensures planned { PlansAsk state.now ask.now (standing_in state.now ask.now.txn) result }

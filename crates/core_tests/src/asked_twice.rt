@@ -16,7 +16,7 @@ use texts::Text;
 use truetime::Reading;
 use units::{Book, Capacity, Fault, Setup, ShardNo, Splits, Stamp, Stride, TxnId};
 
-/// Prints a line of the stories: a word, and what it tells.
+/// Prints a line of the stories: a word, and what follows it.
 pub fn say(rt: &impl Print, word: &str, told: &impl Display) {
     let _ = println!(rt; "{word}{told}");
 }
@@ -109,8 +109,8 @@ pub fn open<'r, R: Print + Wait + Abort>(
     rt.panic("no desk")
 }
 
-// What can be read of a core: its epoch, its greatest timestamp and safe time, the transactions that stand in it, the counts of its
-// versions and of its book's pages, and the end of its log.
+// What can be read of a core: its epoch, its greatest timestamp and safe time, and the transactions that stand in it. Also the counts
+// of its versions and of its book's pages, and the end of its log.
 #[derive(Clone, Copy, PartialEq, Eq)]
 struct Shown {
     epoch: u64,

@@ -1,4 +1,4 @@
-//! Files that are refused: which of two faults is told, and that a body which is too long is no record.
+//! Files that are refused: which of two faults the opening returns, and that a body which is too long is no record.
 use crate::cores::disk_with;
 use crate::damaged::opening;
 use crate::verdict::end;
@@ -130,7 +130,7 @@ fn tell_refused(wrong: &mut WrongRows, rt: &impl Abort, alloc: Global) {
     }
 }
 
-/// Shows that the first fault of a file is the one that its opening tells.
+/// Shows that an opening returns the first fault of a file.
 #[test]
 fn the_first_fault_counts(rt: HostRuntime) {
     let mut wrong = WrongRows::none(rt.alloc());

@@ -184,7 +184,7 @@ fn tell_spent<R: Wait + Abort>(wrong: &mut WrongRows, rt: &R, alloc: Global) {
     tell(wrong, rt, alloc, Kind::Desk, &SPENT_ROWS);
 }
 
-/// Shows that what the log told is still there after a turnover, and what is seen and stands.
+/// Shows that what the log held is still there after a turnover: what was settled, what looks see, and what stands.
 #[test]
 fn logs_are_turned_over(rt: HostRuntime) {
     let mut wrong = WrongRows::none(rt.alloc());

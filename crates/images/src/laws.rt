@@ -7,7 +7,7 @@ use disk::Disk;
 /// Leads from bytes to history, for every lawful run and at every moment of it. It is the contract of a function that does nothing.
 ///
 /// Cores on disks of this type stand beside the run. The contracts of `Core::open`, `Core::on` and `Core::turn_over` say what each call
-/// does. If the device failed in a call, what is then read also tells in which call of the device.
+/// does. If the device failed in a call, what is then read also shows which call of the device it was.
 ///
 /// If the disks keep the disk model, a crash may strike them between two calls or at any moment within one. Each image that it may
 /// leave is read as an area of its file. The area keeps what all records of its shard say that were logged since the file was

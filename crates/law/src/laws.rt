@@ -29,7 +29,7 @@ pub fn moments()
     ensures past { InstalledInThePast }
     // A look at the present, at a shard or through a view, shows all that was acknowledged before it.
     ensures looks { LooksShowAcknowledged }
-    // Each message that tells a commit has its line of acknowledgement, even if it tells it again.
+    // Each message that tells a session of its commit has a line of acknowledgement, even if it repeats what was told before.
     ensures acknowledged { CommitsAreLines }
 {}
 

@@ -35,8 +35,8 @@ pub fn shard_of(act: &Act) -> Option<ShardNo>
     }
 }
 
-/// Tells whether an act of no shard may happen: that of a session, or the delivery of a message to a shard or to a session that has
-/// begun.
+/// Tells whether an act of no shard may happen. It is that of a session, or the delivery of a message to a shard or to a session that
+/// has begun.
 #[tactic(auto, unfolding(world::specs::Lawful::may_act))]
 pub fn may_come(sessions: &Sessions<'_>, bag: &Bag, time: u64, act: &Act) -> bool
     ensures { (w : World) → Hosts w.config.splits sessions.now w.clients → bag.now ≡ w.bag

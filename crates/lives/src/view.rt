@@ -12,8 +12,8 @@ use simdisk::SimDisk;
 use units::{Fault, Install, Key, Stamp, Value, may_look};
 use world::Reply;
 
-/// A moment of a shard: the place at which its core's versions begin among all that the shard ever showed, their count, the served time,
-/// and the horizon. No version is ever taken back, so a view outlives its core.
+/// What a shard shows at a moment: the place of its core's first version among all that the shard ever showed, their count, the served
+/// time, and the horizon. No version is ever taken back, so a view outlives its core.
 #[derive(Clone, Copy)]
 pub struct View {
     pub from: usize,

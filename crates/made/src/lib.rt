@@ -29,7 +29,7 @@ pub const ONE_COMMIT: [u8; 96] = [
     0, 0, 0, 0, 0, 0, 0, 1, 1, 0, 0, 0, 0, 0, 0, 0, 0x6f, 0,
 ];
 
-/// Adds the slots to the bytes of a file that has none. In a file of version 2 they come after the header, all closed.
+/// Adds the slots, all closed, after the header of a file of version 2 that is given without them. Other bytes stay as they are.
 pub fn with_slots(alloc: Global, told: &[u8]) -> Result<Vec<u8>, AllocError> {
     let Some(frames) = told.strip_prefix(b"SPNLOG02".as_slice()) else {
         return told.to_vec(alloc);

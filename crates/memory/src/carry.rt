@@ -81,7 +81,7 @@ impl State {
         }
     }
 
-    /// Carries out a plan for which all was made ready. If the plan has a record, `logged` is the proof that it is in the log. It
+    /// Carries out a plan for which all was made ready. If the step has a record, `logged` is the token that it is in the log. It
     /// takes no memory.
     pub fn carry(&mut self, plan: Plan, logged: Option<Logged>) -> Outbox
         requires ready { IsCarriable self.old (record { plan = plan; logged = logged }) }
@@ -392,7 +392,7 @@ fn learn(ledger: &mut Ledger, item: Option<Record>)
     }
 }
 
-// The proof that a record was logged, which is there.
+// The token of a logged record, which is there.
 fn there(logged: Option<Logged>) -> Logged
     requires { IsSome logged }
     ensures { logged ≡ Some result }
@@ -403,7 +403,7 @@ fn there(logged: Option<Logged>) -> Logged
     }
 }
 
-// Spends the proof that a record was logged, if there is one.
+// Spends the token of a logged record, if there is one.
 fn spend(logged: Option<Logged>) -> Option<Record>
     ensures { result ≡ logged }
 {

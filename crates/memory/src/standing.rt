@@ -17,17 +17,29 @@ use units::{Key, Parts, Stamp, TxnId};
 /// what it waits with.
 #[derive(Clone, Copy)]
 pub enum Standing<'a> {
+    /// It has no row and no record of its end, and was not ended since the opening.
     Unknown,
+    /// It was ended since the opening, and has no record of its end.
     Ended,
+    /// It reads, and waits with nothing.
     Idle,
+    /// It waits with a read of this key.
     WaitsRead(&'a Key),
+    /// It waits with this prepare.
     WaitsPrepare(&'a PrepareRequest),
+    /// It waits with this commit.
     WaitsCommit(&'a CommitRequest),
+    /// This shard decides it, and collects votes.
     Collecting(&'a RowCollecting),
+    /// It has promised here.
     Prepared(&'a RowPrepared),
+    /// This shard has decided that it commits, and has not settled it.
     Decided(&'a RowDecided),
+    /// This shard logged that it aborted.
     Aborted,
+    /// This shard settled it.
     Settled(PastCommit),
+    /// Its promise here was closed by this outcome: a commit's timestamp, or `None` for aborted.
     Closed { outcome: Option<Stamp> },
 }
 

@@ -116,7 +116,7 @@ impl Drop for ReadAnswer {
 }
 
 /// The coordinator tells a session how its transaction ended: committed at a timestamp, or `None` for aborted. A commit is made
-/// with a proof that its timestamp has passed (`committed`), or repeats what was said before (`said`).
+/// with the token that its timestamp has passed (`committed`), or repeats what was said before (`said`).
 #[derive(Clone, Copy)]
 pub struct Done {
     txn: TxnId,
@@ -141,7 +141,7 @@ impl Done {
         Done { txn, outcome: None }
     }
 
-    /// Says that the transaction committed at this timestamp. It spends the proof that the timestamp has surely passed.
+    /// Says that the transaction committed at this timestamp. It spends the token that the timestamp has surely passed.
     pub fn committed(txn: TxnId, waited: Waited) -> Done
         ensures { result ≡ record { txn = txn; outcome = Some waited } }
     {
@@ -151,7 +151,7 @@ impl Done {
         }
     }
 
-    /// Says again what was said before, without a proof that a timestamp has passed. A shard calls it only for what its log tells of
+    /// Says again what was said before, without the token that a timestamp has passed. A shard calls it only for what its log tells of
     /// a settled transaction (`memory::PastCommit`); models of the network and tests call it too. `scripts/rules.sh` names the files
     /// that may call it.
     pub fn said(txn: TxnId, outcome: Option<Stamp>) -> Done

@@ -17,7 +17,7 @@ use std::alloc::Global;
 use units::{Fault, TxnId};
 
 /// Plans what follows from an outcome: it closes the promise. A transaction without a promise here is ended by an abort. `Stranger`
-/// if the outcome is not the promise's coordinator's, lies below the promise, or commits what was not promised here.
+/// if it is not from the promise's coordinator, lies below the promise, commits what was not promised, or this shard decides.
 #[tactic(auto, unfolding(protocol::specs::Cells::plan_outcome))]
 pub fn on_outcome(state: &State, alloc: Global, told: &Outcome) -> Result<Step, Fault>
     ensures planned { PlansOutcome state.now told.now (standing_in state.now told.now.txn) result }

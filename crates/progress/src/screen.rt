@@ -143,7 +143,7 @@ impl<W: Write> Screen<W> {
     }
 }
 
-// A line with its end, to be written over one of so many bytes, so that nothing of that is left.
+// A line with its end, which covers the line of `shown` bytes before it.
 fn over(alloc: Global, line: &str, shown: usize, end: &str) -> Result<String, AllocError>
     ensures { IfOk result (λ text. string_bytes text ≡ 13 ∷ (line.now
         ++ (replicate (shown - length line.now) 32 ++ end.now))) }

@@ -17,6 +17,7 @@ pub struct Turn {
 
 /// What is told of each turn that ended and each look that was answered, by the thread that ran it. Threads call it at the same time.
 pub trait Watch {
+    /// Takes note of a turn that ended.
     fn turned(&self, turn: Turn);
 
     /// Takes note that the look after a turn was answered after so many microseconds.

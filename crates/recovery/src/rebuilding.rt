@@ -16,9 +16,9 @@ use record::Record;
 use std::alloc::Global;
 use units::{Epoch, Fault, Setup, Stamp};
 
-/// The state that a log leaves, built record by record: the facts with the versions, and a row with its locks for each promise and
-/// each decision that stands. After a record that is refused it takes the others as they come, and only the first refusal counts.
-/// It has to be spent, by `finish` or `stop`.
+/// The state that a log leaves, built record by record: the facts with the versions, and a row for each promise and decision that
+/// stands, with its locks. After a record that is refused it takes the others as they come, and only the first refusal counts. It
+/// has to be spent, by `finish` or `stop`.
 pub struct Rebuild {
     setup: Setup,
     entries: Past<Entry>,

@@ -1,4 +1,4 @@
-//! What a session is told.
+//! The answers that a session gets.
 use units::{Epoch, Key, ShardNo, Stamp, Value};
 
 /// An answer with a value that a session took: the key, the shard and its epoch, and the value, or `None` if the key has none.

@@ -47,7 +47,7 @@ pub(crate) struct Machine<D: Disk> {
 impl<D: Disk> Machine<D> {
     ghost use Rattle.shard.specs.Core.{seen_machine};
 
-    // Plans the step of an input and changes nothing, or tells why it is refused.
+    // Plans the step of an input, or returns why it is refused. It changes nothing.
     pub(crate) fn plan(&self, alloc: Global, now: &Reading, input: &Input) -> Result<Step, Fault>
         ensures running { OnOk result (IsFalse (seen_machine self.now).stopped) }
         ensures stands { OnOk result

@@ -44,7 +44,7 @@ impl Opening {
         })
     }
 
-    /// Returns the state that the records leave, and the book that is begun, or tells why the log is refused.
+    /// Returns the state that the records leave and the book that is begun, or why the log is refused.
     pub(crate) fn finish(self, alloc: Global) -> Result<(Option<State>, Option<Book>), Fault>
         ensures found { IfOk result
             (λ left. IsRebuilt (told_to self) (items (entries_in self)) left.0) }
