@@ -9,8 +9,8 @@ use std::alloc::Global;
 use truetime::Reading;
 use units::Fault;
 
-/// Leaves all as it was after `Memory`: what the log determines, the state in memory, the log with the bytes on its disk, and the book.
-/// So nothing grows once a record is logged.
+/// All is as it was: what the log determines, the state in memory, the log with the bytes on its disk, and the book. This holds after
+/// `Memory`, so nothing grows once a record is logged.
 pub fn memory_leaves_all<D: Disk>(
     core: &mut Core<D>,
     alloc: Global,
