@@ -38,7 +38,7 @@ impl Model for Book {
 }
 
 impl Book {
-    /// Makes a book without a page, of an opening that found these records. `Memory` if there is none.
+    /// Makes a book without a page, of an opening that found these records. `Memory` if memory runs out.
     pub fn new(alloc: Global, capacity: Capacity, found: Vec<Record>) -> Result<Book, Fault>
         ensures new { IfOk result
             (λ book. book ≡ record { capacity = capacity; found = found.items; pages = [] }) }

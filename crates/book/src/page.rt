@@ -34,7 +34,7 @@ impl Model for Page {
 }
 
 impl Page {
-    /// Copies an input and its messages into a page. `Memory` if there is none.
+    /// Copies an input and its messages into a page. `Memory` if memory runs out.
     pub fn of(alloc: Global, now: &Reading, input: &Input, outbox: &Outbox) -> Result<Page, Fault>
         ensures same { IfOk result
             (λ page. page ≡ record { input = input.now; now = now.now; outbox = outbox.now }) }

@@ -167,7 +167,7 @@ fn open(
     }
 }
 
-/// Makes a setup with memory of its own. `Memory` if there is none.
+/// Makes a setup with memory of its own. `Memory` if memory runs out.
 pub fn setup_with(
     alloc: Global,
     shard: ShardNo,

@@ -10,7 +10,7 @@ use std::alloc::Global;
 use units::{Fault, Key, Seen, Stamp, Value};
 use world::Reply;
 
-/// Looks at a core by its own look, with room for the longest value. `Memory` if there is none for the value.
+/// Looks at a core by its own look, with room for the longest value. `Memory` if memory runs out.
 pub fn look_at_core(
     alloc: Global,
     core: &Core<SimDisk>,

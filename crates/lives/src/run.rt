@@ -35,7 +35,7 @@ pub struct Run<'s> {
 }
 
 impl<'s> Run<'s> {
-    /// Begins a run before its first event. `Memory` if there is none.
+    /// Begins a run before its first event. `Memory` if memory runs out.
     pub fn start(alloc: Global, config: &'s Config) -> Result<Run<'s>, Fault>
         ensures started { IfOk result (λ run. IsRun run (start config.now)) }
         ensures memory { IfErr result (λ fault. fault ≡ Fault.Memory) }

@@ -52,7 +52,7 @@ impl RunShard {
     ghost use Rattle.world.specs.declared.event.Doing.{Doing};
     ghost use Rattle.lives.specs.Shows.{Acts, NotesOfLife, crashed_within, look_by};
 
-    /// Makes the shard of a number on a new disk, formatted and opened, with its first view. It keeps no book. `Memory` if there is none.
+    /// Makes the shard of a number on a new disk, formatted and opened, with its first view. It keeps no book. `Memory` if memory runs out.
     pub fn fresh(alloc: Global, config: &Config, number: usize) -> Result<RunShard, Fault>
         requires { number ≤ 15 }
         ensures fresh { IfOk result
@@ -194,7 +194,7 @@ impl RunShard {
         }
     }
 
-    /// Looks at a view, by its number from 0, or at what the shard shows now. `Memory` if there is none for the value.
+    /// Looks at a view, by its number from 0, or at what the shard shows now. `Memory` if memory runs out.
     pub fn look(
         &self,
         alloc: Global,

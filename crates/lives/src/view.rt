@@ -105,7 +105,7 @@ fn is_same_value(value: &Option<Value>, other: &Option<Value>) -> bool
     }
 }
 
-/// Copies the value of a key at a time. `Memory` if there is none.
+/// Copies the value of a key at a time. `Memory` if memory runs out.
 pub fn value_at(installs: &[Install], key: &Key, at: Stamp) -> Result<Option<Value>, Fault>
     ensures value { IfOk result (λ value. value ≡ at_time installs.now key.now at) }
     ensures memory { IfErr result (λ fault. fault ≡ Fault.Memory) }

@@ -16,7 +16,7 @@ use std::alloc::Global;
 use units::{Epoch, Fault, Setup, ShardNo, Stamp, TxnId};
 
 impl State {
-    /// Makes the state of a renewed log's base, before any version. `Memory` if there is none.
+    /// Makes the state of a renewed log's base, before any version. `Memory` if memory runs out.
     pub fn based(
         alloc: Global,
         setup: Setup,
@@ -41,7 +41,7 @@ impl State {
         State::begun(alloc, setup, base, floor)
     }
 
-    /// Makes the state of a log whose first opening is logged. `Memory` if there is none.
+    /// Makes the state of a log whose first opening is logged. `Memory` if memory runs out.
     pub fn fresh(alloc: Global, setup: Setup) -> Result<State, Fault>
         ensures setup { IfOk result (λ s. s.setup ≡ setup) }
         ensures facts { IfOk result (λ s. s.facts ≡ facts_of (Record.Opened 1 ∷ [])) }

@@ -56,7 +56,7 @@ impl State {
         self.replies(alloc, Vec::new(alloc))
     }
 
-    /// Makes a step that only puts out this message. `Memory` if there is none.
+    /// Makes a step that only puts out this message. `Memory` if memory runs out.
     pub fn reply(&self, alloc: Global, envelope: Envelope) -> Result<Step, Fault>
         ensures plan { MakesReply self.now envelope result }
         ensures fit { IfOk result (IsFit self.now) }
@@ -127,7 +127,7 @@ impl State {
         }
     }
 
-    /// Makes a step that logs an abort, and tells it to the session and to the other parts. `Memory` if there is none.
+    /// Makes a step that logs an abort, and tells it to the session and to the other parts. `Memory` if memory runs out.
     #[tactic(auto, unfolding(protocol::specs::Cells::plan_abort))]
     pub fn aborts(&self, alloc: Global, txn: TxnId, parts: Parts) -> Result<Step, Fault>
         requires { may_drop self.now.memory.rows txn ≡ true }
@@ -141,7 +141,7 @@ impl State {
         Ok(self.drops(alloc, txn, Record::Abort { txn }, self.last(), out))
     }
 
-    /// Makes a list of a first message and of the outcome to each other part. `Memory` if there is none.
+    /// Makes a list of a first message and of the outcome to each other part. `Memory` if memory runs out.
     pub fn ending(
         &self,
         alloc: Global,
@@ -168,8 +168,8 @@ impl State {
         }
     }
 
-    /// Makes a step that ends the wounded transactions and changes the row. Those that wait with a prepare vote no. `Memory` if there
-    /// is none.
+    /// Makes a step that ends the wounded transactions and changes the row. Those that wait with a prepare vote no. `Memory` if memory
+    /// runs out.
     pub fn puts(
         &self,
         alloc: Global,
@@ -276,7 +276,7 @@ impl State {
         }
     }
 
-    /// Makes the answer to a read: the newest value, with the epoch. `Memory` if there is none for its copy.
+    /// Makes the answer to a read: the newest value, with the epoch. `Memory` if memory runs out.
     pub fn answer(&self, txn: TxnId, key: &Key) -> Result<Envelope, Fault>
         ensures answer { IfOk result
             (λ envelope. envelope ≡ answers (start_of self.now) txn key.now) }

@@ -214,7 +214,7 @@ impl State {
         self.rows.holds_all(txn, keys)
     }
 
-    /// Returns the transactions that a request for these locks wounds. `Memory` if there is none for the list.
+    /// Returns the transactions that a request for these locks wounds. `Memory` if memory runs out.
     pub fn in_way(&self, alloc: Global, txn: TxnId, needs: &[Lock]) -> Result<Ids, Fault>
         ensures ids { IfOk result (λ ids. ids ≡ in_way (start_of self.now) txn needs.now) }
         ensures memory { IfErr result (λ fault. fault ≡ Fault.Memory) }
@@ -223,7 +223,7 @@ impl State {
     }
 
     /// Makes the exclusive locks for these writes, and the list of transactions that the request wounds. If `is_undisputed` said yes,
-    /// the list is empty and is not searched for. `Memory` if there is none.
+    /// the list is empty and is not searched for. `Memory` if memory runs out.
     pub fn asks(
         &self,
         alloc: Global,

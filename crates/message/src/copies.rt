@@ -6,7 +6,7 @@ use std::alloc::Global;
 use units::{Fault, copy_value};
 
 impl Answer {
-    /// Makes an equal answer, which shares its value. `Memory` if there is none.
+    /// Makes an equal answer, which shares its value. `Memory` if memory runs out.
     pub fn copy(&self) -> Result<Answer, Fault>
         ensures same { IfOk result (λ copied. copied ≡ self.now) }
         ensures memory { IfErr result (λ fault. fault ≡ Fault.Memory) }
@@ -19,7 +19,7 @@ impl Answer {
 }
 
 impl ReadAnswer {
-    /// Makes an equal answer, which shares its value. `Memory` if there is none.
+    /// Makes an equal answer, which shares its value. `Memory` if memory runs out.
     pub fn copy(&self) -> Result<ReadAnswer, Fault>
         ensures same { IfOk result (λ copied. copied ≡ self.now) }
         ensures memory { IfErr result (λ fault. fault ≡ Fault.Memory) }
@@ -35,7 +35,7 @@ impl ReadAnswer {
 }
 
 impl Message {
-    /// Makes an equal message, whose lists of keys and writes are copied. `Memory` if there is none.
+    /// Makes an equal message, whose lists of keys and writes are copied. `Memory` if memory runs out.
     pub fn copy(&self, alloc: Global) -> Result<Message, Fault>
         ensures same { IfOk result (λ copied. copied ≡ self.now) }
         ensures memory { IfErr result (λ fault. fault ≡ Fault.Memory) }

@@ -56,7 +56,7 @@ impl Reads {
         })
     }
 
-    /// Copies the keys into memory of their own. `Memory` if there is none.
+    /// Copies the keys into memory of their own. `Memory` if memory runs out.
     pub fn copy(&self, alloc: Global) -> Result<Reads, Fault>
         ensures same { IfOk result (λ reads. reads ≡ self.now) }
         ensures memory { IfErr result (λ fault. fault ≡ Fault.Memory) }

@@ -91,7 +91,7 @@ fn read_now(state: &State, alloc: Global, txn: TxnId, key: &Key) -> Result<Step,
     state.puts(alloc, request, None, state.last(), None)
 }
 
-/// Plans the answer to a read that waited, now that its lock is granted. `Memory` if there is none.
+/// Plans the answer to a read that waited, now that its lock is granted. `Memory` if memory runs out.
 pub fn resume_read(state: &State, alloc: Global, txn: TxnId, key: &Key) -> Result<Step, Fault>
     requires { Asks state.now.memory.rows txn [] (to_read key.now) true }
     ensures planned { (earliest : ℕ)

@@ -30,7 +30,7 @@ pub struct Rebuild {
 impl Rebuild {
     ghost use Rattle.recovery.specs.Taken.{taken_by, setup_of};
 
-    /// Begins with no record. `Memory` if there is none.
+    /// Begins with no record. `Memory` if memory runs out.
     pub fn new(alloc: Global, setup: &Setup) -> Result<Rebuild, Fault>
         ensures setup { IfOk result (λ made. setup_of made ≡ setup.now) }
         ensures none { IfOk result (λ made. taken_by made ≡ []) }

@@ -17,7 +17,7 @@ use std::alloc::Global;
 use units::{Fault, Keys, Stamp, TxnId, Writes};
 
 /// Tells whether the record fits beside what stands. Its row has room, nobody conflicts with its locks, and its timestamp is above the
-/// horizon and its keys' versions. A horizon must not lie above the safe time. `Memory` if there is none.
+/// horizon and its keys' versions. A horizon must not lie above the safe time. `Memory` if memory runs out.
 pub fn fits_beside(state: &State, alloc: Global, item: &Record) -> Result<bool, Fault>
     requires recovered { IsRecovered state.now }
     requires follows { follows_next

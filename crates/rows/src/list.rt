@@ -35,7 +35,7 @@ impl Model for RowList {
 }
 
 impl RowList {
-    /// Makes an empty list with the memory for 1,024 rows. `Memory` if there is none.
+    /// Makes an empty list with the memory for 1,024 rows. `Memory` if memory runs out.
     pub fn new(alloc: Global) -> Result<RowList, Fault>
         ensures none { IfOk result (λ rows. rows ≡ []) }
         ensures memory { IfErr result (λ fault. fault ≡ Fault.Memory) }

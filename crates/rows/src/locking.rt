@@ -11,7 +11,7 @@ use crate::wait::Wait;
 use units::{Fault, Lock, TxnId};
 
 impl Rows {
-    /// Takes the memory for this many more locks of a transaction. `Memory` if there is none.
+    /// Takes the memory for this many more locks of a transaction. `Memory` if memory runs out.
     pub fn make_room(&mut self, txn: TxnId, more: usize) -> Result<(), Fault>
         requires { has_phase is_reading self.old.rows txn ≡ true }
         ensures rows { self.new.rows ≡ self.old.rows }

@@ -39,7 +39,7 @@ impl Model for Rows {
 }
 
 impl Rows {
-    /// Makes rows with the memory for all 1,024. `Memory` if there is none.
+    /// Makes rows with the memory for all 1,024. `Memory` if memory runs out.
     pub fn new(alloc: Global) -> Result<Rows, Fault>
         ensures none { IfOk result (λ rows. rows.rows ≡ []) }
         ensures memory { IfErr result (λ fault. fault ≡ Fault.Memory) }
@@ -108,7 +108,7 @@ impl Rows {
         true
     }
 
-    /// Returns the transactions that a request wounds, the oldest first. `Memory` if there is none for the list.
+    /// Returns the transactions that a request wounds, the oldest first. `Memory` if memory runs out.
     pub fn wounded(&self, alloc: Global, txn: TxnId, needs: &[Lock]) -> Result<Ids, Fault>
         ensures ok { IfOk result (λ ids. ids ≡ wounded (claims self.now.rows) txn needs.now) }
         ensures memory { IfErr result (λ fault. fault ≡ Fault.Memory) }

@@ -37,7 +37,7 @@ impl Votes {
     /// The most votes that can come: one from each of 16 shards.
     pub const MOST: usize = 16;
 
-    /// Makes an empty list with the memory for 16 votes. `Memory` if there is none.
+    /// Makes an empty list with the memory for 16 votes. `Memory` if memory runs out.
     pub fn none(alloc: Global) -> Result<Votes, Fault>
         ensures none { IfOk result (λ votes. votes ≡ []) }
         ensures memory { IfErr result (λ fault. fault ≡ Fault.Memory) }
@@ -96,7 +96,7 @@ impl Model for Gathering {
 }
 
 impl Gathering {
-    /// Takes the memory for the votes of a commit. `Memory` if there is none.
+    /// Takes the memory for the votes of a commit. `Memory` if memory runs out.
     pub fn new(alloc: Global, request: CommitRequest) -> Result<Gathering, Fault>
         ensures same { IfOk result (λ gathering. gathering ≡ request) }
         ensures memory { IfErr result (λ fault. fault ≡ Fault.Memory) }

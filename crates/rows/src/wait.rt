@@ -31,7 +31,7 @@ pub enum Wait {
 }
 
 impl PrepareRequest {
-    /// Copies the reads and writes into a request. `Memory` if there is none.
+    /// Copies the reads and writes into a request. `Memory` if memory runs out.
     pub fn copied(
         alloc: Global,
         coordinator: ShardNo,
@@ -52,7 +52,7 @@ impl PrepareRequest {
 }
 
 impl CommitRequest {
-    /// Copies the reads and writes into a request. `Memory` if there is none.
+    /// Copies the reads and writes into a request. `Memory` if memory runs out.
     pub fn copied(
         alloc: Global,
         latest: Stamp,

@@ -110,7 +110,7 @@ impl<'s> Tx<'s, Closing> {
 }
 
 impl<'s, S: Closed> Tx<'s, S> {
-    /// Makes the closing messages once more, for messages that were lost. They are the same each time. `Memory` if there is none.
+    /// Makes the closing messages once more, for messages that were lost. They are the same each time. `Memory` if memory runs out.
     pub fn again(&self, alloc: Global) -> Result<Outbox, Fault>
         ensures same { IfOk result (λ out. out ≡ closing_messages self.now.splits self.now.client) }
         ensures memory { IfErr result (λ fault. fault ≡ Fault.Memory) }

@@ -94,7 +94,7 @@ pub fn write_place(writes: &[Write], key: &Key) -> usize
     writes.len()
 }
 
-/// Puts a key at its place in the order of bytes. `Memory` if there is none.
+/// Puts a key at its place in the order of bytes. `Memory` if memory runs out.
 pub fn insert_key(keys: &mut Vec<Key>, key: Key) -> Result<(), Fault>
     ensures same { IfOk result (λ _. keys.new.items ≡ insert key_before key keys.old.items) }
     ensures memory { IfErr result (λ fault. fault ≡ Fault.Memory) }

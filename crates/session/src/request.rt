@@ -22,7 +22,7 @@ pub struct Request<'a> {
 }
 
 impl Request<'_> {
-    /// Makes the closing messages: Commit to the least part, then Prepare to each other part. `Memory` if there is none.
+    /// Makes the closing messages: Commit to the least part, then Prepare to each other part. `Memory` if memory runs out.
     #[tactic(auto, unfolding(crate::specs::Sessions::closing_messages))]
     pub fn messages(&self, alloc: Global) -> Result<Outbox, Fault>
         ensures same { IfOk result
@@ -49,7 +49,7 @@ impl Request<'_> {
         }
     }
 
-    /// Returns the shards that were read or written, or `None` if there are none. `Memory` if there is none for the list.
+    /// Returns the shards that were read or written, or `None` if there are none. `Memory` if memory runs out.
     pub fn parts(&self, alloc: Global) -> Result<Option<Parts>, Fault>
         ensures none { IfOk result
             (λ parts. IfNone parts
@@ -177,7 +177,7 @@ impl Request<'_> {
     }
 }
 
-/// Adds the shards of some answers to a list. `Memory` if there is none.
+/// Adds the shards of some answers to a list. `Memory` if memory runs out.
 pub fn push_taken(shards: &mut Vec<ShardNo>, taken: &[Answered]) -> Result<(), Fault>
     ensures same { IfOk result
         (λ _. shards.new.items ≡ shards.old.items ++ map (λ a. a.shard) taken.now) }
@@ -189,7 +189,7 @@ pub fn push_taken(shards: &mut Vec<ShardNo>, taken: &[Answered]) -> Result<(), F
     Ok(())
 }
 
-/// Adds the shards of some keys to a list. `Memory` if there is none.
+/// Adds the shards of some keys to a list. `Memory` if memory runs out.
 pub fn push_asked(shards: &mut Vec<ShardNo>, splits: &Splits, keys: &[Key]) -> Result<(), Fault>
     ensures same { IfOk result
         (λ _. shards.new.items ≡ shards.old.items ++ map (shard_of splits.now) keys.now) }

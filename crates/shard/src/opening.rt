@@ -31,7 +31,7 @@ pub(crate) struct Opening {
 impl Opening {
     ghost use Rattle.shard.specs.Taking.{entries_in, told_to};
 
-    /// Begins without an entry. `Memory` if there is none.
+    /// Begins without an entry. `Memory` if memory runs out.
     pub(crate) fn new(alloc: Global, setup: &Setup) -> Result<Opening, Fault>
         ensures setup { IfOk result (λ made. told_to made ≡ setup.now) }
         ensures none { IfOk result (λ made. entries_in made ≡ []) }

@@ -13,8 +13,8 @@ use record::Record;
 use std::alloc::Global;
 use units::{Fault, Line, Parts, TxnId};
 
-/// Returns the lines that count, in order. An answered read counts if its transaction committed, as the logs have it. `Memory` if there
-/// is none.
+/// Returns the lines that count, in order. An answered read counts if its transaction committed, as the logs have it. `Memory` if memory
+/// runs out.
 #[tactic(auto, unfolding(crate::specs::World::counted_lines))]
 pub fn counted(alloc: Global, logs: &[Vec<Record>], lines: Vec<Line>) -> Result<Vec<Line>, Fault>
     ensures counted { IfOk result

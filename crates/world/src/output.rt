@@ -38,7 +38,7 @@ impl RunOutput {
         }
     }
 
-    /// Puts out the messages, or replies with the refusal. `Memory` if there is none for them.
+    /// Puts out the messages, or replies with the refusal. `Memory` if memory runs out.
     pub fn reply(&mut self, answer: Result<Outbox, Fault>) -> Result<Reply, Fault>
         ensures { (w : World) → IsOutput self.old w → HasReplied w answer self.new result }
     {
@@ -52,7 +52,7 @@ impl RunOutput {
         }
     }
 
-    /// Adds the line if there is one, or replies with the refusal. `Memory` if there is none for it.
+    /// Adds the line if there is one, or replies with the refusal. `Memory` if memory runs out.
     pub fn reply_line(&mut self, answer: Result<Option<Line>, Fault>) -> Result<Reply, Fault>
         ensures { (w : World) → IsOutput self.old w → HasHeard w answer self.new result }
     {
@@ -67,7 +67,7 @@ impl RunOutput {
         }
     }
 
-    /// Adds a line for a look that was answered. `Memory` if there is none for it.
+    /// Adds a line for a look that was answered. `Memory` if memory runs out.
     pub fn note_look(&mut self, key: Key, at: Stamp, reply: Reply) -> Result<Reply, Fault>
         ensures { (w : World) → IsOutput self.old w → Notes w key at reply self.new result }
     {
