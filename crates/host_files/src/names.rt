@@ -48,8 +48,8 @@ pub enum Kind {
     Other,
 }
 
-/// A folder of the system that nobody else makes a store in meanwhile: it is locked (`flock`) until this is dropped. Names are
-/// looked at and opened without following a link. What the system refuses is `Device`, and the file and the reason are told.
+/// A folder in which nobody else makes a store meanwhile: it is locked (`flock`) until this is dropped. No link is followed when a name is
+/// looked at or opened. What the system refuses is `Device`, with the file and the reason.
 #[derive(Drop)]
 pub struct StoreFolder<'a, R> {
     rt: &'a R,
@@ -61,7 +61,8 @@ pub struct StoreFolder<'a, R> {
 }
 
 impl<'a, R: Files<File = File>> StoreFolder<'a, R> {
-    /// Locks a folder that is there: what it is, is asked before it is opened. Whether its names are on the device is not known.
+    /// Locks a folder that is there. It checks that it is a folder before it opens it. `Device` if it is no folder, or if another process has
+    /// it locked. Whether its names are on the device is not known yet.
     pub fn lock(rt: &'a R, alloc: Global, path: &'a str) -> Result<StoreFolder<'a, R>, Refused>
         ensures { IfErr result IsSystemRefusal }
     {
@@ -87,7 +88,7 @@ impl<'a, R: Files<File = File>> StoreFolder<'a, R> {
         format!(in self.alloc; "{path}/{name}")
     }
 
-    /// What stands under a name.
+    /// Tells what stands under a name. A link is not followed.
     pub fn kind(&self, name: Name) -> Result<Kind, Refused>
         ensures { IfErr result IsSystemRefusal }
     {
@@ -98,7 +99,7 @@ impl<'a, R: Files<File = File>> StoreFolder<'a, R> {
         }
     }
 
-    /// The bytes of a plain file, so many at most.
+    /// Reads the first bytes of a plain file, `most` at most.
     pub fn read(&self, name: Name, most: u64) -> Result<Vec<u8>, Refused>
         ensures { IfErr result IsSystemRefusal }
     {
@@ -112,7 +113,7 @@ impl<'a, R: Files<File = File>> StoreFolder<'a, R> {
         }
     }
 
-    /// Makes a new, empty file, whose name is on the device. It is refused where there is anything of that name.
+    /// Makes a new, empty file, whose name is on the device. It is refused if there is anything of that name.
     pub fn create(&self, name: Name) -> Result<FileDisk, Refused>
         ensures { IfErr result IsSystemRefusal }
     {
@@ -146,7 +147,7 @@ impl<'a, R: Files<File = File>> StoreFolder<'a, R> {
         }
     }
 
-    /// Takes a name away, under which something of this kind stands: of a link not what it leads to.
+    /// Takes a name away, under which something of this kind stands. Of a link, what it leads to stays.
     pub fn clear(&mut self, name: Name, kind: Kind) -> Result<(), Refused>
         ensures { IfErr result IsSystemRefusal }
     {
@@ -161,8 +162,8 @@ impl<'a, R: Files<File = File>> StoreFolder<'a, R> {
         }
     }
 
-    /// Gives a draft the name that it is to have, which nothing has. All names before it are on the device: so no crash leaves this one
-    /// without them.
+    /// Gives a draft its final name, which nothing may have yet. All earlier names are on the device, so no crash leaves this one without
+    /// them.
     pub fn name(&mut self, draft: Name, name: Name) -> Result<(), Refused>
         requires { IsTrue (names_are_synced self.old) }
         ensures { IfErr result IsSystemRefusal }
@@ -200,7 +201,8 @@ fn kind_of(found: io::Result<fs::Metadata>) -> Result<Kind, Cause> {
     }
 }
 
-/// The bytes of a plain file, so many at most; the null device has none. What it is, is asked before it is opened: so no pipe is waited for.
+/// Reads the first bytes of a plain file, `most` at most; the null device has none. It checks the kind of the file before it opens it, so it
+/// never waits for a pipe.
 pub fn read_front<R: Files<File = File>>(
     rt: &R,
     alloc: Global,

@@ -1,7 +1,7 @@
 //! Why a command did not come to its end.
 use units::Fault;
 
-/// A refusal, which is printed, or a write that failed, after which nothing is.
+/// Why a command failed: a refusal, which is printed, or a write that failed, after which nothing is printed.
 #[derive(Clone, Copy)]
 pub enum Failure {
     Refused(Fault),
