@@ -10,7 +10,7 @@ use std::alloc::Global;
 use std::sync::Wait;
 use units::{Fault, Reason, Setup};
 
-/// A desk; or the disk alone, where it was closed to be opened again, and that was refused.
+/// A desk; or the disk alone, after the desk was closed to be opened again and that was refused.
 #[derive(Drop)]
 pub enum Place<D: Disk + Drop, R: Wait + Drop> {
     Serving(Desk<D, R>),
@@ -21,7 +21,8 @@ impl<D: Disk + Drop, R: Wait + Drop> Place<D, R> {
     ghost use Rattle.node.specs.Seen.{seen_place};
     ghost use Rattle.node.specs.Restart.{HasRestarted, HasNotRestarted, disk_of_place};
 
-    /// What is stopped is opened again, as a core is, with a new board and so many viewers.
+    /// Opens what is stopped again, as a core is opened, with a new board and so many viewers. A desk that is not stopped is refused as
+    /// `again`, and stays. After any other refusal the disk is there alone.
     pub fn restart(
         self,
         rt: R,
@@ -54,7 +55,7 @@ impl<D: Disk + Drop, R: Wait + Drop> Place<D, R> {
         }
     }
 
-    /// Ends it, and gives its disk back as it is.
+    /// Ends the desk, and gives its disk back as it is.
     pub fn close(self) -> D
         ensures { result ≡ disk_of_place (seen_place self) }
     {
