@@ -13,7 +13,7 @@ use std::fs::File;
 use std::rt::Files;
 use units::{Fault, Parts, ShardNo, Splits, Stamp, TxnId};
 
-// What the log of a shard says of transactions, and where its records end.
+// What the log of a shard says of transactions, and the offset at which its records end.
 #[derive(Drop)]
 struct Known {
     facts: Facts,

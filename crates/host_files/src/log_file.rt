@@ -29,13 +29,13 @@ pub struct LogFile {
 #[derive(Drop)]
 struct Still {
     front: Vec<u8>,
-    // Where the area begins that was in force.
+    // The offset of the area that was in force.
     area: u64,
     end: End,
 }
 
 impl Still {
-    // The area that these bytes at the front of a file name, and where its records end now.
+    // The area that these bytes at the front of a file name, and the offset at which its records end now.
     fn of(alloc: Global, disk: &mut FileDisk, front: Vec<u8>) -> Result<Option<Still>, Fault>
         ensures { IfErr result IsSystemFault }
     {

@@ -23,8 +23,8 @@ pub struct End {
     pub byte: u8,
 }
 
-// To what the frames at the front of some bytes lead: to a closed gate; to a frame that does not end in the file; past these bytes, or to a
-// frame of which they show too little; or to no frame.
+// To what the frames at the front of some bytes lead: a closed gate, or a frame that does not end in the file. Or they lead past these bytes,
+// or to a frame of which they show too little. Or they are no frames.
 #[derive(Clone, Copy)]
 enum Way {
     Closed(u64, u8),
@@ -71,7 +71,7 @@ fn unfinished(disk: &mut FileDisk, gate: u64, len: u64) -> Result<Option<End>, F
     }
 }
 
-// Where the frames lead at the front of the bytes that are read next, of so many that are left in the file.
+// To what the frames lead at the front of the bytes that are read next, of so many that are left in the file.
 fn way_in(bytes: &[u8], left: u64) -> Way
     requires some { 1 ≤ left }
     requires piece { (length bytes.now ≡ left) ⊎ ((length bytes.now ≡ 65536) × (65536 ≤ left)) }

@@ -111,8 +111,8 @@ pub fn serve<N: Serves, W: Wait + time::Clock, P: Post, C: Clock, G: Gate>(
     unreachable!()
 }
 
-// What a node is in the midst of: its chores, the reads that wait to be taken, those that wait for a lock, how many letters were taken, how
-// many since it did its chores, and whether it had stopped then.
+// What a node is in the midst of: its chores, the reads that wait to be taken, and those that wait for a lock. It also counts the letters
+// that were taken, and those since its chores, and notes whether it had stopped then.
 #[derive(Drop)]
 struct Round {
     chores: Chores,

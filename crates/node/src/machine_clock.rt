@@ -6,8 +6,9 @@ use std::time;
 use truetime::{Clock, Reading};
 use units::Stamp;
 
-/// The machine's clock, in microseconds since 1970. A reading is from `epsilon` before it to `epsilon` after it. It is honest if the clock is within epsilon of
-/// the true time. There is no reading if the clock cannot be read, or if the reading would end beyond the last timestamp.
+/// The machine's clock, in microseconds since 1970. A reading is from `epsilon` before it to `epsilon` after it. It is honest if the
+/// clock is within epsilon of the true time. There is no reading if the clock cannot be read, or if the reading would end beyond the
+/// last timestamp.
 pub struct MachineClock<'a, R> {
     /// The runtime whose clock is read.
     pub rt: &'a R,

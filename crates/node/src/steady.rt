@@ -56,8 +56,7 @@ pub fn steady_over(now: Reading, from: Stamp, reached: &AtomicU64) -> Option<Rea
     Some(steady(now, from, reached))
 }
 
-// The reading that begins where one does, and ends there too, or at a timestamp from which it goes on or one that was reached, if that
-// is later.
+// The reading that begins as one does, and ends there too, or at a timestamp from which it goes on or one that was reached, if that is later.
 fn steady(now: Reading, from: Stamp, reached: Stamp) -> Reading
     ensures earliest { result.earliest ≡ now.earliest }
     ensures latest { result.latest ≡ max (max now.latest from) reached }
