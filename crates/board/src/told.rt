@@ -31,7 +31,7 @@ impl Model for Told {
 }
 
 impl Told {
-    // A list as one copy has had it, which is the second one or not, and as the other has.
+    /// Makes news of a list, as one copy has had it, which is the second one or not, and as the other has.
     pub(crate) fn of(
         is_second: bool,
         one: Beginning<BoardEntry>,

@@ -14,8 +14,7 @@ const LONGEST: u64 = 320;
 ///
 /// - **By silences**, if `give_up` is `None`: until `most` pauses of 20 milliseconds have passed, whatever is said meanwhile.
 /// - **By progress**: until `most` less one rounds of asking, but one at least, were answered by all who were asked, and nothing came of it.
-///   It also
-/// gives up once nothing new was said for `give_up` milliseconds. That the transaction is decided is new once.
+///   It also gives up once nothing new was said for `give_up` milliseconds. That the transaction is decided is new once.
 #[derive(Clone, Copy)]
 pub struct Patience {
     /// How many silences it waits through, or one more than the rounds.

@@ -18,7 +18,8 @@ use std::{slice, time};
 use units::{Fault, Key, Reason, ShardNo, Value, Write, copy_value};
 
 impl<'s, R: Wait + time::Clock> Wire<'_, 's, R> {
-    /// Reads a key: what the transaction has written to it, or else what its shard answers, which is the same each time.
+    /// Reads a key: what the transaction has written to it, or else what its shard answers, which is the same each time. It ends as `fetch`
+    /// does if there is no answer.
     #[tactic(auto, using(crate::proofs::Refusals::halts_for))]
     pub fn get(&mut self, tx: &mut Tx<'s, Open>, key: &Key) -> Result<Option<Value>, Halt>
         ensures sent { (sent : List Envelope) × (self.new.sent ≡ self.old.sent ++ sent)
@@ -34,7 +35,7 @@ impl<'s, R: Wait + time::Clock> Wire<'_, 's, R> {
         Ok(value_of(tx, key)?)
     }
 
-    /// Reads some keys, which are asked for together.
+    /// Reads some keys, which are asked for together. It ends as `fetch` does if there is no answer.
     #[tactic(auto, using(crate::proofs::Refusals::halts_for))]
     pub fn get_all(
         &mut self,
@@ -55,7 +56,12 @@ impl<'s, R: Wait + time::Clock> Wire<'_, 's, R> {
         Ok(values_of(self.alloc, tx, keys)?)
     }
 
-    /// Asks for some keys together, and waits for the answers. Each of these keys is then there for `get`.
+    /// Asks for some keys together, and waits for the answers. Each of these keys is then there for `get`. If it is not `Ok`, the code of the
+    /// transaction should return that:
+    ///
+    /// - `Again`: the transaction is doomed, clients are to stop, or it has waited for as long as it may;
+    /// - `Unserved`: a shard has refused a read of the transaction, or it has waited for as long as it may and a shard has stopped;
+    /// - `Refused`: a call was refused, as for want of memory.
     pub fn fetch(&mut self, tx: &mut Tx<'s, Open>, keys: &[Key]) -> Result<(), Halt>
         ensures sent { (sent : List Envelope) × (self.new.sent ≡ self.old.sent ++ sent)
             × AreReads tx.old.client.txn sent }

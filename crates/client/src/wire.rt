@@ -101,7 +101,7 @@ impl<'r, 's, R> Wire<'r, 's, R> {
         self.patience = self.patience.anew();
     }
 
-    // Its patience begins anew, and by progress it waits for the end for as long as any shard says anything.
+    /// Begins its patience anew. By progress it then waits for the end until nothing new was said for long (`Patience::insistent`).
     pub(crate) fn insist(&mut self)
         ensures { self.new ≡ self.old }
     {
@@ -199,7 +199,7 @@ impl<'s, R: Wait + time::Clock> Wire<'_, 's, R> {
         Ok(tx)
     }
 
-    // Waits for a message, or the word that a letter was refused.
+    /// Waits for a message, or the word that a letter was refused.
     pub(crate) fn hear(&mut self) -> Hearing
         ensures sent { self.new.sent ≡ self.old.sent }
         ensures heard { self.new.heard ≡ self.old.heard ++ end_heard result }
@@ -214,7 +214,7 @@ impl<'s, R: Wait + time::Clock> Wire<'_, 's, R> {
         }
     }
 
-    // Sends a message, for the first time or again.
+    /// Sends a message, for the first time or again.
     pub(crate) fn send(&mut self, envelope: Envelope, again: bool)
         ensures sent { self.new.sent ≡ self.old.sent ++ envelope ∷ [] }
         ensures heard { self.new.heard ≡ self.old.heard }
@@ -231,7 +231,7 @@ impl<'s, R: Wait + time::Clock> Wire<'_, 's, R> {
         }
     }
 
-    // Sends each message of an outbox, for the first time or again.
+    /// Sends each message of an outbox, for the first time or again.
     pub(crate) fn send_all(&mut self, outbox: Outbox, again: bool)
         ensures sent { self.new.sent ≡ self.old.sent ++ outbox }
         ensures heard { self.new.heard ≡ self.old.heard }

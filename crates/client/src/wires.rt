@@ -21,7 +21,7 @@ impl<'r, 's, R> Model for Wires<'r, 's, R> {
 }
 
 impl<'r, 's, R> Wires<'r, 's, R> {
-    /// Begins: there was no wire yet.
+    /// Begins with no wire.
     pub fn none() -> Wires<'r, 's, R>
         ensures { result ≡ [] }
     {

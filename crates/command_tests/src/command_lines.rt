@@ -12,7 +12,7 @@ use std::sync::Wait;
 use std::thread::Threads;
 use std::time;
 
-// What is printed.
+/// What is printed.
 #[derive(Clone, Copy)]
 pub enum Output {
     /// Nothing.
@@ -31,7 +31,7 @@ pub enum Output {
     Ends(&'static str),
 }
 
-// Command lines, one after another, that come to the same.
+/// Command lines, one after another, that come to the same.
 #[derive(Clone, Copy)]
 pub struct Step {
     /// The lines. Single spaces part the words, and a word that begins with `./` names something in the folder.
@@ -255,7 +255,7 @@ pub fn put(rt: &HostRuntime, test: &impl Abort, folder: &Folder, name: &str, byt
     folder.put(rt, name, bytes).ok().expect(test, name);
 }
 
-// Makes a folder with the files that the commands name.
+/// Makes a folder with the files that the commands name.
 pub fn furnished(rt: &HostRuntime, test: &impl Abort) -> Folder {
     let folder = Folder::new(rt).ok().expect(test, "a folder");
     let dir = folder.path(rt.alloc(), ".").ok().expect(test, "memory");

@@ -137,7 +137,7 @@ pub fn drive_by<
     drive_nodes(rt, alloc, settings, course, opened, clock, gate, watch)
 }
 
-/// The same by the machine's clock, whose readings are as wide as the settings say.
+/// Drives the shards (`drive_by`) by the machine's clock, whose readings are as wide as the settings say.
 pub(crate) fn drive_wide<
     R: Threads + Wait + time::Clock + Sync,
     D: Disk + Drop + Send,

@@ -25,9 +25,10 @@ struct Known {
 ///
 /// - it is no log, or damaged, or one of its records is of another shard or does not follow those before it;
 /// - it lacks the promise of a part of a commit, or the commit of an outcome, that the log of another shard tells of;
+/// - its decision leaves out, or puts below its timestamp, a promise that the log of another shard holds;
 /// - it holds no record at all, although the log of another shard shows that this one has served.
 ///
-/// The last two are `Damaged` at the end of its records. Put back all logs of one backup then.
+/// The last three are `Damaged` at the end of its records. Put back all logs of one backup then.
 pub fn agree<R: Files<File = File>>(
     folder: &StoreFolder<'_, R>,
     alloc: Global,

@@ -35,8 +35,9 @@ use units::{Fault, Reason, Splits};
 /// - a log of another shard, as its opening would refuse it.
 ///
 /// A folder without a manifest gets one, and the logs that are missing (`begin`). Each log that is there has to belong to its shard. One with
-/// a number beyond the shards is refused as `settings`. A lost log is refused too, and then nothing is made. Until the manifest has its name
-/// on the device, no log gets one, and nothing is written to a log that holds a record. After `Ok` all names are on the device.
+/// a number beyond the shards is refused as `settings`. A log that is missing while another one holds a record is lost: it is refused as
+/// `Device`, and nothing is made. Until the manifest has its name on the device, no log gets one, and nothing is written to a log that holds
+/// a record. After `Ok` all names are on the device.
 ///
 /// What is made here is a draft until it is whole: `shard-0.log.new`, `store.toml.new`. If there is a manifest, the draft of a missing log
 /// gets that log's name, whatever it holds. If there is none, the draft of a missing log is the log if it holds a record, and gets its name
@@ -197,7 +198,7 @@ fn opened<R: Files<File = File>>(
 }
 
 /// Tells why the logs of the store in a folder are refused now; `None` if they are not. Nothing is made or named. If the folder itself is
-/// refused, or another process has it locked, the refusal names no file.
+/// refused, or it is locked already, the refusal names no file.
 pub fn refusal_in<R: Files<File = File>>(
     rt: &R,
     alloc: Global,

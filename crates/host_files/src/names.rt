@@ -56,13 +56,13 @@ pub struct StoreFolder<'a, R> {
     alloc: Global,
     path: &'a str,
     folder: File,
-    // Every name that was made, changed or taken away is on the device.
+    /// Every name that was made, changed or taken away is on the device.
     pub(crate) synced: bool,
 }
 
 impl<'a, R: Files<File = File>> StoreFolder<'a, R> {
-    /// Locks a folder that is there. It checks that it is a folder before it opens it. `Device` if it is no folder, or if another process has
-    /// it locked. Whether its names are on the device is not known yet.
+    /// Locks a folder that is there. It checks that it is a folder before it opens it. `Device` if it is no folder, or if it is locked
+    /// already. Whether its names are on the device is not known yet.
     pub fn lock(rt: &'a R, alloc: Global, path: &'a str) -> Result<StoreFolder<'a, R>, Refused>
         ensures { IfErr result IsSystemRefusal }
     {

@@ -24,7 +24,7 @@ fn long() -> Duration {
 // So many versions are shown though nobody looks: to show more at once would keep a node from its letters.
 const MANY_VERSIONS: usize = 256;
 
-// An advance may log, and wait for a device. While letters go on, so many times as long pass after each as it took.
+// An advance may log, and wait for a device. While letters go on, the next one comes only after so many times as long as it took.
 const SHARE_OF_ADVANCES: u32 = 4;
 
 // A thread that sleeps wakes some 50 microseconds late, or a little more.
@@ -52,7 +52,7 @@ pub struct Chores {
 }
 
 impl Chores {
-    /// Begins: nothing was done yet, and what the node has is shown.
+    /// Begins with no chores done yet, and with all that the node has shown.
     pub fn new<N: Serves, W: Wait>(node: &N, rt: &W) -> Chores {
         Chores {
             done: None,

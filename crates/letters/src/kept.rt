@@ -32,7 +32,7 @@ pub struct Kept {
 }
 
 impl Kept {
-    /// Begins: none waits.
+    /// Begins with none that waits.
     pub fn none(alloc: Global) -> Kept {
         Kept {
             reads: Vec::new(alloc),
@@ -111,7 +111,7 @@ impl Kept {
         pause.min(left(rt, self.looked, moment()))
     }
 
-    /// Asks the node for them again if it may have ended some of them, but not more often than each millisecond.
+    /// Asks the node for them again if it may have ended some of them, but at most once a millisecond.
     pub fn look_after<N: Serves, W: Wait + time::Clock, P: Post, C: Clock>(
         &mut self,
         node: &N,

@@ -1,4 +1,4 @@
-//! What comes to a node, and what takes on that which it puts out.
+//! Letters to a node, replies to workers, and the post that takes on what a node puts out.
 use message::{Envelope, Message};
 use units::{Fault, ShardNo, Stamp, TxnId};
 

@@ -70,8 +70,8 @@ const READS_AT_MOST: usize = 1_024;
 /// told.
 ///
 /// - **Chores**: the node does them whenever no letter is there, and then waits for a letter until more are due. While letters come, it does
-/// them after 64 letters, or after the first letter that ends more than a millisecond after the last chores. After them the gate is told if
-/// the node has stopped.
+///   them after 64 letters, or after the first letter that ends more than a millisecond after the last chores. After them the gate is told if
+///   the node has stopped.
 /// - **Reads** are taken once no other letter is there. After 64 letters without chores up to 64 reads are taken first.
 pub fn serve<N: Serves, W: Wait + time::Clock, P: Post, C: Clock, G: Gate>(
     node: &N,

@@ -4,7 +4,7 @@ ghost use Rattle.node.specs.Renewed.{has_grown, measured};
 
 use units::Fault;
 
-/// How long a log is, by which it is told whether it has grown.
+/// How long a log was at its last turnover, to tell whether it has grown since.
 #[derive(Clone, Copy)]
 pub struct Measure {
     /// How many bytes the log had after its last turnover, or 0 if none was made since the desk was made.

@@ -21,7 +21,7 @@ impl<D: Disk + Drop, R: Wait + Drop> Place<D, R> {
     ghost use Rattle.node.specs.Seen.{seen_place};
     ghost use Rattle.node.specs.Restart.{HasRestarted, HasNotRestarted, disk_of_place};
 
-    /// Opens what is stopped again, as a core is opened, with a new board and so many viewers. A desk that is not stopped is refused as
+    /// Opens a stopped shard again, as a core is opened, with a new board and so many viewers. A desk that is not stopped is refused as
     /// `again`, and stays. After any other refusal the disk is there alone.
     pub fn restart(
         self,

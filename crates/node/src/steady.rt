@@ -43,7 +43,7 @@ impl<C: Clock> Clock for SteadyClock<'_, C> {
     }
 }
 
-/// Makes a reading end no earlier than a timestamp, and than the latest microsecond that another reading has reached. `None` if that is no
+/// Makes a reading end no earlier than a timestamp, nor than the latest microsecond that another reading has reached. `None` if that is no
 /// timestamp.
 pub fn steady_over(now: Reading, from: Stamp, reached: &AtomicU64) -> Option<Reading>
     ensures earliest { IfSome result (λ told. told.earliest ≡ now.earliest) }

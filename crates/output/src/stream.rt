@@ -9,7 +9,7 @@ use counts::Count;
 use std::io::Write;
 use units::Fault;
 
-/// A writer, and how many writes to it have failed, which only proofs see.
+/// A writer, and how many writes to it have failed. Only proofs see that number, and nothing else raises it.
 #[derive(Drop)]
 pub struct Stream<W: Write> {
     writer: W,

@@ -32,7 +32,7 @@ pub struct Report {
 }
 
 /// Plays the events over shards on disks in memory. Each step of a shard is a call of its core, and each step of a session one of its
-/// transaction. Each crash and each failing call is one of its disk. Events that are not lawful are refused with the number of the first that
+/// transaction. Crashes and failing calls are those of its disk. Events that are not lawful are refused with the number of the first that
 /// may not happen.
 pub fn play(alloc: Global, config: &Config, events: &[Event]) -> Result<Report, Fault>
     ensures report { IfOk result (λ report. IsReport config.now events.now report) }

@@ -3,7 +3,7 @@ use crate::given::{AMPLE, File, PLAY, print};
 use made::WrongRows;
 use std::alloc::Global;
 
-// A schedule, and what its report has to say.
+/// A schedule, and what its report has to say.
 pub struct Case {
     /// What the row is called.
     pub name: &'static str,

@@ -447,7 +447,7 @@ pub fn go_over(wrong: &mut WrongRows, alloc: Global) {
     wrong.unless(is_spent(alloc), "slots");
 }
 
-// Gives all kinds of stops. A body that names a table costs much to prove, so each is handed on.
+/// Gives all kinds of stops. A body that names a table costs much to prove, so each is handed on.
 pub fn all_stops() -> &'static [Stop] {
     &STOPS
 }

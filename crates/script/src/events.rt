@@ -43,7 +43,7 @@ fn act(happening: Happening, values: &Values) -> Result<Act, Fault> {
     }
 }
 
-// A crash or a failure in a step, which the words after its own name. If they name no shard, as those of a delivery, it is the same one.
+// A crash or a failure in the step that the words after its own tell. If they name no shard, as those of a delivery, it is the same one.
 fn stop_in(happening: Happening, stop: &Values, words: &[&str]) -> Result<Act, Fault> {
     let mut values = *stop;
     let Some((inner, [])) = values.read_form(&FORMS, words) else {

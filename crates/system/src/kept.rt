@@ -36,8 +36,8 @@ pub trait Files {
         None
     }
 
-    /// Tells what is wrong with the store in a folder whose keys are parted like that, if it is refused. The answer is `FILE: WORDS`, the
-    /// file in the folder, or words alone. It looks at the store once more, and makes nothing.
+    /// Tells what is wrong with the store in a folder whose keys are parted like that, if it is refused. The answer is
+    /// `FOLDER/FILE: WORDS`, `FOLDER/FILE`, or `FOLDER: WORDS`. It looks at the store once more, and makes nothing.
     fn why_unopened(&self, _alloc: Global, _folder: &str, _splits: &Splits) -> Option<String> {
         None
     }
