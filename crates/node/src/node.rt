@@ -92,7 +92,7 @@ impl<D: Disk + Drop, R: Wait + Drop> Node<D, R> {
         self.held.lock(rt).turn_over()
     }
 
-    /// Raises the core's horizon, but keeps so many microseconds before a reading; turns the log over if it has grown by `least` bytes or
+    /// Raises the core's horizon, but keeps so many microseconds before a reading. Then turns the log over if it has grown by `least` bytes or
     /// more, and by more than it held (`Desk::renew`). Both are done under the lock.
     pub fn renew<W: Wait>(
         &self,
