@@ -21,10 +21,13 @@ const NULL_DEVICE: u64 = 0x103;
 /// The name of a file in a store's folder. What is not whole yet has that of a draft.
 #[derive(Clone, Copy)]
 pub enum Name {
+    /// The manifest, `store.toml`.
     Manifest,
+    /// The draft of the manifest.
     ManifestDraft,
-    /// Of a shard.
+    /// The log of a shard.
     Log(usize),
+    /// The draft of the log of a shard.
     LogDraft(usize),
 }
 
@@ -42,7 +45,9 @@ impl fmt::Display for Name {
 /// What stands under a name.
 #[derive(Clone, Copy)]
 pub enum Kind {
+    /// There is nothing.
     Nothing,
+    /// A plain file.
     Plain,
     /// A link, a folder or a device.
     Other,

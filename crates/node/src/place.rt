@@ -13,7 +13,9 @@ use units::{Fault, Reason, Setup};
 /// A desk; or the disk alone, after the desk was closed to be opened again and that was refused.
 #[derive(Drop)]
 pub enum Place<D: Disk + Drop, R: Wait + Drop> {
+    /// The desk, which serves or is stopped.
     Serving(Desk<D, R>),
+    /// The disk alone.
     Resting(D),
 }
 

@@ -32,8 +32,11 @@ pub enum Does {
 /// What befalls a shard in what it does: nothing, a crash in a device call, or the failure of one.
 #[derive(Clone, Copy)]
 pub enum Stop {
+    /// Nothing.
     Never,
+    /// A crash in the device call of this number, with the fate of the write under way.
     CrashIn(u64, Fate),
+    /// The failure of the device call of this number.
     FailIn(u64),
 }
 
