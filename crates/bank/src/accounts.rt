@@ -9,22 +9,22 @@ use store::{Client, Ended, Fault, Halt, Key, Transaction, Value, View};
 /// How many accounts there are.
 pub const ACCOUNTS: u32 = 16;
 
-/// What each account begins with.
+/// What each account has at the beginning.
 pub const START: u64 = 1000;
 
-/// The key of an account.
+/// Gives the key of an account.
 pub fn key_of(account: u32) -> Result<Key, Fault> {
     let tens = b'0' + (account / 10 % 10) as u8;
     let ones = b'0' + (account % 10) as u8;
     Key::new(&[b'a', b'c', b'c', b't', b'-', tens, ones])
 }
 
-/// The value of a balance.
+/// Spells a balance as a value.
 pub fn value_of(alloc: Global, balance: u64) -> Result<Value, Fault> {
     Value::new(alloc, &balance.to_be_bytes())
 }
 
-/// The balance in a value. What is no balance counts nothing.
+/// Reads the balance in a value. No value, and one that spells no balance, count as 0.
 pub fn balance_in(value: &Option<Value>) -> u64 {
     let Some(value) = value else {
         return 0;
@@ -35,10 +35,11 @@ pub fn balance_in(value: &Option<Value>) -> u64 {
     }
 }
 
-/// How often the accounts are opened where nobody tells how that ended, as on a machine that has much else to do.
+/// How often it tries to open the accounts while nobody tells how that ended, as on a machine that has much else to do.
 const OPENINGS: u32 = 50;
 
-/// Opens all accounts with what they begin with, where there are none yet.
+/// Opens all accounts in one transaction, each with `START`, unless the first is there already. It tries at most 50 times, and does not say
+/// whether they are open.
 pub fn open_accounts<R: Wait + time::Clock>(
     alloc: Global,
     client: &mut Client<'_, R>,
@@ -68,7 +69,7 @@ fn open_once<R: Wait + time::Clock>(
     })
 }
 
-/// What two accounts have once an amount went from the first to the second: as much together as before. There is nothing where the first has
+/// Computes what two accounts have once an amount has gone from the first to the second: as much together as before. `None` if the first has
 /// too little, or the second would have too much.
 pub fn moved(has: u64, gets: u64, amount: u64) -> Option<(u64, u64)>
     ensures moved { IfSome result (λ left. (amount ≤ has) × (left.0 ≡ has - amount)
@@ -82,7 +83,7 @@ pub fn moved(has: u64, gets: u64, amount: u64) -> Option<(u64, u64)>
     Some((has - amount, gets + amount))
 }
 
-/// Moves money from one account to another. An account that has too little keeps what it has.
+/// Moves money from one account to another, in at most 50 attempts. Both keep what they have if `moved` gives nothing.
 pub fn transfer<R: Wait + time::Clock>(
     alloc: Global,
     client: &mut Client<'_, R>,
@@ -102,7 +103,7 @@ pub fn transfer<R: Wait + time::Clock>(
     })
 }
 
-/// What all accounts have together in a view.
+/// Adds up what all accounts have in a view.
 pub fn total<R: Wait + time::Clock>(view: &mut View<'_, '_, R>) -> Result<u64, Fault> {
     let mut total = 0_u64;
     for account in 0..ACCOUNTS {

@@ -18,17 +18,17 @@ use std::thread::Threads;
 use std::{env, rt, thread, time};
 use store::{Client, Fault, Options, Reason, Splits, Store, Unopened, UnopenedIn};
 
-/// How many tellers there are, beside one auditor.
+/// How many tellers there are, besides one auditor.
 const TELLERS: u64 = 3;
 
-/// For how many microseconds the past is kept where logs are renewed: ten seconds, which no audit takes.
+/// For how many microseconds the past is kept if logs are renewed: ten seconds, longer than any audit takes.
 const KEEP: u64 = 10_000_000;
 
 /// How much is to be done.
 #[derive(Clone, Copy)]
 struct Todo {
     transfers: u32,
-    /// By how many bytes a log grows before it is renewed, where it is.
+    /// By how many bytes a log grows before it is renewed; `None` if it is not.
     renew: Option<u64>,
 }
 

@@ -79,6 +79,7 @@ impl Absorb<BoardChange> for BoardCopy {
 }
 
 impl BoardCopy {
+    /// Makes an empty copy. `second` says which of the two copies it is.
     pub(crate) fn new(
         alloc: Global,
         list: Growing<BoardEntry>,
@@ -102,7 +103,7 @@ impl BoardCopy {
         }
     }
 
-    /// Prepares a copy of the entry. One that breaks the rule of boards is not taken.
+    /// Prepares a copy of the entry. `Memory` if there is none for it, or if a version is not above its key's others; then it is not taken.
     pub(crate) fn prepare(&mut self, entry: &BoardEntry) -> Result<(), Fault>
         ensures { Takes self.old
             (record self.old { ahead = self.old.ahead ++ entry.now ∷ [] }) result self.new }
@@ -124,7 +125,7 @@ impl BoardCopy {
         Ok(())
     }
 
-    /// Shows what is prepared, and lets the versions go that are below its horizon. This takes no memory.
+    /// Shows what is prepared, and lets the versions go that its horizon no longer needs. It takes no memory.
     pub(crate) fn commit(&mut self)
         ensures { self.new ≡ record self.old { list = self.old.ahead } }
     {
@@ -134,7 +135,7 @@ impl BoardCopy {
         self.list.follow(&self.ahead);
     }
 
-    /// Adds copies of the installs, then the horizon where it is above 0, and then the safe timestamp.
+    /// Adds copies of the installs, then the horizon if it is above 0, and then the safe timestamp.
     pub(crate) fn open(
         mut self,
         installs: &[Install],
@@ -157,7 +158,7 @@ impl BoardCopy {
         Ok(self)
     }
 
-    // Adds copies of the installs, the horizon and the safe timestamp. It says whether there was the memory.
+    // Adds copies of the installs, the horizon and the safe timestamp. Returns whether there was the memory.
     fn fill(&mut self, installs: &[Install], safe: Stamp, horizon: Stamp) -> bool
         requires { self.old.ahead ≡ [] }
         ensures { IsTrue result → self.new ≡ record self.old {
@@ -180,7 +181,7 @@ impl BoardCopy {
         true
     }
 
-    // Prepares a copy of a version. It says whether there was the memory.
+    // Prepares a copy of a version. Returns whether there was the memory.
     fn prepare_copy(&mut self, install: &Install) -> bool
         ensures { IsTrue result → self.new ≡ record self.old {
           ahead = self.old.ahead ++ BoardEntry.Installed install.now ∷ [];
@@ -195,7 +196,7 @@ impl BoardCopy {
         taken
     }
 
-    // Prepares a horizon, where it is above 0. It says whether there was the memory.
+    // Prepares a horizon, if it is above 0. Returns whether there was the memory.
     fn prepare_horizon(&mut self, horizon: Stamp) -> bool
         ensures { IsTrue result → self.new ≡ record self.old {
           ahead = self.old.ahead ++ horizon_entries horizon;
@@ -207,20 +208,21 @@ impl BoardCopy {
         self.prepare(&BoardEntry::Horizon(horizon)).is_ok()
     }
 
+    /// Tells which of the two copies of a board this is.
     pub(crate) fn is_second(&self) -> bool
         ensures { result ≡ self.now.second }
     {
         self.second
     }
 
-    /// The last safe timestamp.
+    /// Gives the last safe timestamp.
     pub(crate) fn safe(&self) -> Stamp
         ensures { result ≡ safe_on self.now.list }
     {
         self.safe
     }
 
-    /// The list so far.
+    /// Gives the list so far.
     pub(crate) fn so_far(&self) -> Beginning<BoardEntry>
         ensures { (result.entries ≡ self.now.list) × (result.names ≡ self.now.board)
             × (result.second ≡ self.now.second) }
@@ -228,7 +230,7 @@ impl BoardCopy {
         self.list.so_far()
     }
 
-    /// The list begins with a list that both copies of the board have had.
+    /// Shows that the list begins with a list that both copies of the board have had.
     pub(crate) fn begins_with(&self, first: &Beginning<BoardEntry>, second: &Beginning<BoardEntry>)
         requires sides { (first.now.second ≡ false) × (second.now.second ≡ true) }
         requires same { (second.now.names ≡ first.now.names)
@@ -243,7 +245,7 @@ impl BoardCopy {
         }
     }
 
-    /// The value of a key at a timestamp goes to the front of the buffer.
+    /// Puts the value of a key at a timestamp at the front of the buffer.
     pub(crate) fn look(
         &self,
         home: &Home,
@@ -284,7 +286,7 @@ fn add_version(versions: &mut Versions, install: &Install) -> Result<(), Fault>
     Ok(())
 }
 
-// Forgets the versions below a horizon, where it is above the one before. It takes no memory.
+// Forgets the versions below a horizon, if it is above the one before. It takes no memory.
 fn forget(versions: &mut Versions, before: Stamp, horizon: Stamp)
     ensures { Forgets versions.old.installs versions.new.installs before horizon }
 {

@@ -1,9 +1,11 @@
 //! What the copies of a board take in.
 use crate::entry::BoardEntry;
 
-/// An entry is prepared, for which there has to be memory. Then all that is prepared is shown, which takes none.
+/// What a copy of a board takes in.
 #[derive(Drop)]
 pub enum BoardChange {
+    /// An entry is prepared, which takes memory.
     Prepare(BoardEntry),
+    /// All that is prepared is shown, which takes no memory.
     Commit,
 }

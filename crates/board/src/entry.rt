@@ -3,15 +3,18 @@ ghost use Rattle.std.specs.Prelude.{◌≡◌, IfOk, IfErr};
 
 use units::{Fault, Install, Stamp};
 
-/// An entry of a board: a version, a timestamp up to which looks are answered from then on, or one below which none is answered any more.
+/// An entry of a board.
 #[derive(Drop)]
 pub enum BoardEntry {
+    /// A version.
     Installed(Install),
+    /// A timestamp up to which looks are answered from then on.
     Safe(Stamp),
+    /// A timestamp below which no look is answered any more.
     Horizon(Stamp),
 }
 
-/// An equal version, which shares its value.
+/// Makes an equal version, which shares its value.
 pub fn copy_install(install: &Install) -> Result<Install, Fault>
     ensures same { IfOk result (λ copy. copy ≡ install.now) }
     ensures memory { IfErr result (λ fault. fault ≡ Fault.Memory) }

@@ -19,7 +19,7 @@ use std::alloc::{AllocError, Global};
 use std::sync::{Arc, Wait};
 use units::{Fault, Install, Reason, ShardNo, Splits, Stamp};
 
-/// The most viewers of a board.
+/// The greatest number of viewers of a board.
 pub const MOST_VIEWERS: usize = 64;
 
 /// Refuses a number of viewers that no board has, as `many`: none, or more than 64.
@@ -75,8 +75,8 @@ fn viewers(
     Ok(viewers)
 }
 
-/// A board with these installs, this safe timestamp and this horizon, for the keys of one shard, with so many viewers. Its list begins
-/// with the installs; then comes the horizon, where it is above 0, and then the safe timestamp.
+/// Makes a board for the keys of one shard, and so many viewers, 1 to 64. Its list begins with the installs; then comes the horizon, if it is
+/// above 0, and then the safe timestamp.
 pub fn start<R: Wait + Drop>(
     rt: R,
     alloc: Global,

@@ -19,9 +19,10 @@ use std::marker::Model;
 use std::sync::Wait;
 use units::Fault;
 
+/// What writes the two copies of a board.
 pub(crate) type BoardWriter = Writer<BoardCopy, BoardChange, SeenStates, OneList>;
 
-/// Brings the spare copy up with all that came, and shows it. Refused for want of memory, it shows what it showed.
+/// Brings the spare copy up with all that came, and shows it. If memory is refused, it shows what it showed.
 fn step<R: Wait>(rt: &R, writer: BoardWriter) -> (BoardWriter, Result<(), AllocError>)
     requires { MayShow writer.desk.shown.value (drop writer.behind writer.log.items) }
     ensures values { ShowingGives writer.desk.shown.value result.0.desk.shown.value
@@ -32,7 +33,7 @@ fn step<R: Wait>(rt: &R, writer: BoardWriter) -> (BoardWriter, Result<(), AllocE
     writer.publish_as::<SeesList, R>(rt)
 }
 
-/// Prepares in the spare copy what it lacks, and shows that copy, by the same list. It says whether there was memory for all.
+/// Prepares in the spare copy what it lacks, and shows that copy, by the same list. Returns whether there was memory for all.
 fn prepare<R: Wait>(rt: &R, writer: BoardWriter) -> (BoardWriter, bool)
     requires quiet { is_quiet (drop writer.behind writer.log.items) ≡ true }
     requires lawful { is_board
@@ -73,7 +74,7 @@ fn commit<R: Wait>(rt: &R, writer: BoardWriter) -> BoardWriter
     unreachable!()
 }
 
-/// Shows a new board by the other copy, once: nobody looks at it yet. Refused for want of memory, it shows what it showed.
+/// Shows a new board by the other copy, once: nobody looks at it yet. If memory is refused, it shows what it showed.
 pub(crate) fn begin<R: Wait>(rt: &R, writer: BoardWriter) -> (BoardWriter, Result<(), AllocError>)
     requires none { drop writer.behind writer.log.items ≡ [] }
     ensures state { board_state result.0.desk.shown.value ≡ board_state writer.desk.shown.value }
@@ -108,8 +109,8 @@ fn settle<R: Wait>(rt: &R, writer: BoardWriter) -> (BoardWriter, Told)
     unreachable!()
 }
 
-/// Shows viewers the accepted entries too, by both copies, and gives news of that list.
-/// Both copies prepare them first, so that nothing is shown where there is no memory.
+/// Shows viewers the accepted entries too, by both copies, and gives news of that list. Both copies prepare them first, so that nothing is
+/// shown if memory is refused.
 fn show<R: Wait>(rt: &R, writer: BoardWriter) -> (BoardWriter, Result<Told, Fault>)
     requires quiet { is_quiet (drop writer.behind writer.log.items) ≡ true }
     requires longer { IsPrefix writer.desk.shown.value.list writer.desk.shown.value.ahead }
@@ -171,6 +172,7 @@ impl Model for Press {
 }
 
 impl Press {
+    /// Begins with a writer both of whose copies show the same list, with nothing prepared.
     pub(crate) fn over(writer: BoardWriter) -> Press
         requires none { drop writer.behind writer.log.items ≡ [] }
         requires same { writer.desk.shown.value.ahead ≡ writer.desk.shown.value.list }
@@ -197,6 +199,7 @@ impl Press {
         }
     }
 
+    /// Shows viewers all accepted entries (`show`).
     pub(crate) fn publish<R: Wait>(self, rt: &R) -> (Press, Result<Told, Fault>)
         ensures { PublishesAll self result.1 result.0 }
     {
@@ -205,6 +208,7 @@ impl Press {
         (Press { writer }, result)
     }
 
+    /// Ends the board. Viewers that look from then on are refused as `Stopped`.
     pub(crate) fn close<R: Wait>(self, rt: &R) {
         let Press { writer } = self;
         writer.take(rt);

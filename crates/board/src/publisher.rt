@@ -10,7 +10,8 @@ use std::marker::Model;
 use std::sync::Wait;
 use units::{Fault, Install, Stamp};
 
-/// The one who publishes on a board. It keeps the handle, since its drop waits for viewers that look. From then on viewers that look are refused.
+/// What publishes the list of a board. It keeps the handle, since its drop waits for viewers that look. From then on looks are refused as
+/// `Stopped`.
 pub struct Publisher<R: Wait + Drop> {
     press: Option<Press>,
     rt: R,
@@ -37,6 +38,7 @@ impl<R: Wait + Drop> Model for Publisher<R> {
 }
 
 impl<R: Wait + Drop> Publisher<R> {
+    /// Publishes by a writer between two calls.
     pub(crate) fn over(rt: R, press: Press) -> Publisher<R>
         ensures { result ≡ press }
     {
@@ -46,7 +48,7 @@ impl<R: Wait + Drop> Publisher<R> {
         }
     }
 
-    /// Accepts an entry, which viewers see once it is published.
+    /// Accepts an entry, which viewers see once it is published. `Memory` if there is none for it.
     fn add(&mut self, entry: BoardEntry) -> Result<(), Fault>
         requires { MayAccept self.old entry }
         ensures { Takes self.old (accepting self.old entry) result self.new }
@@ -57,7 +59,7 @@ impl<R: Wait + Drop> Publisher<R> {
         }
     }
 
-    /// Accepts a version.
+    /// Accepts a version, which viewers see once it is published.
     pub fn install(&mut self, install: Install) -> Result<(), Fault>
         requires { MayAccept self.old (BoardEntry.Installed install) }
         ensures { Takes self.old
@@ -66,7 +68,7 @@ impl<R: Wait + Drop> Publisher<R> {
         self.add(BoardEntry::Installed(install))
     }
 
-    /// Accepts a timestamp up to which looks are answered.
+    /// Accepts a timestamp up to which looks are answered once it is published.
     pub fn safe(&mut self, at: Stamp) -> Result<(), Fault>
         requires { MayAccept self.old (BoardEntry.Safe at) }
         ensures { Takes self.old (accepting self.old (BoardEntry.Safe at)) result self.new }
@@ -74,8 +76,8 @@ impl<R: Wait + Drop> Publisher<R> {
         self.add(BoardEntry::Safe(at))
     }
 
-    /// Accepts a timestamp below which no look is answered any more. Once it is published, the copies forget the versions that no look
-    /// from it up needs.
+    /// Accepts a timestamp below which no look is answered any more. Once it is published, the copies forget the versions that no look from
+    /// it up needs.
     pub fn horizon(&mut self, at: Stamp) -> Result<(), Fault>
         requires { MayAccept self.old (BoardEntry.Horizon at) }
         ensures { Takes self.old (accepting self.old (BoardEntry.Horizon at)) result self.new }
@@ -83,7 +85,8 @@ impl<R: Wait + Drop> Publisher<R> {
         self.add(BoardEntry::Horizon(at))
     }
 
-    /// Shows viewers the accepted entries too, all at one step. It waits for viewers that still look at the former list.
+    /// Shows viewers the accepted entries too, all at one step. It waits for viewers that still look at the former list. If memory is
+    /// refused, they see what they saw, and the entries are still to come: call it again.
     pub fn publish(&mut self) -> Result<Told, Fault>
         ensures { PublishesAll self.old result self.new }
     {

@@ -8,7 +8,7 @@ use crossbeam_utils::rule::{Outcome, Protocol};
 /// No value of it is made: a clause reads an array as a list, of any length.
 pub type SeenStates = [([BoardEntry; 0], [BoardEntry; 0], (u64, u64)); 0];
 
-/// A board has one list, which only grows.
+/// The rule that a board has one list, which only grows.
 pub struct OneList;
 
 impl Protocol<BoardCopy, SeenStates> for OneList {

@@ -8,8 +8,8 @@ use std::marker::Model;
 use truetime::Reading;
 use units::{Fault, Key, Seen, Stamp};
 
-/// A timestamp at which keys are looked for, by the viewers of the shards that they belong to. Where the reading is honest, all
-/// that was acknowledged before `start` is at or below it. Contracts see the timestamp.
+/// A timestamp at which keys are looked for, by the viewers of the shards that they belong to. If the reading is honest, all that was
+/// acknowledged before `start` is at or below it. Contracts see the timestamp.
 #[derive(Clone, Copy)]
 pub struct Snapshot {
     at: Stamp,
@@ -26,15 +26,15 @@ impl Model for Snapshot {
 }
 
 impl Snapshot {
-    /// A snapshot at the latest of the reading.
+    /// Starts a snapshot at the latest of the reading.
     pub fn start(now: &Reading) -> Snapshot
         ensures { result ≡ now.now.latest }
     {
         Snapshot { at: now.latest() }
     }
 
-    /// The look of the viewer at the snapshot's timestamp. It is refused as `NotYet` until the viewer's shard serves that
-    /// timestamp.
+    /// Looks at a key at the snapshot's timestamp, by the viewer of its shard. It is refused as `NotYet` until that shard serves the
+    /// timestamp: look again.
     pub fn look(&self, viewer: &mut Viewer, key: &Key, buffer: &mut [u8]) -> Result<Seen, Fault>
         ensures same { (viewer.new.board ≡ viewer.old.board) × (viewer.new.home ≡ viewer.old.home)
             × (viewer.new.told ≡ viewer.old.told) }

@@ -7,10 +7,12 @@ use growing::Beginning;
 use std::marker::Model;
 use units::Stamp;
 
-/// A list that a publisher has published, as both copies of the board have had it. It takes no room for the list.
+/// News of a list that a publisher has published, as both copies of the board have had it. It takes no room for the list.
 #[derive(Drop)]
 pub struct Told {
+    /// The list as the first copy has had it.
     pub(crate) first: Beginning<BoardEntry>,
+    /// The list as the second copy has had it.
     pub(crate) second: Beginning<BoardEntry>,
     safe: Stamp,
 }
@@ -29,7 +31,7 @@ impl Model for Told {
 }
 
 impl Told {
-    // A list as one copy has had it, which is the second one or not, and as the other has.
+    /// Makes news of a list, as one copy has had it, which is the second one or not, and as the other has.
     pub(crate) fn of(
         is_second: bool,
         one: Beginning<BoardEntry>,
@@ -56,7 +58,7 @@ impl Told {
         }
     }
 
-    /// The last safe timestamp of the list.
+    /// Gives the last safe timestamp of the list.
     pub fn safe(&self) -> Stamp
         ensures { result ≡ safe_on self.now.list }
     {

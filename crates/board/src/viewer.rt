@@ -19,7 +19,7 @@ use std::marker::Model;
 use std::sync::Arc;
 use units::{Fault, Key, Seen, Stamp};
 
-/// One who looks at a board.
+/// What a thread reads a board with. It never waits.
 pub struct Viewer {
     reader: Option<Reader<BoardCopy, SeenStates, OneList>>,
     home: Arc<Home, Global>,
@@ -62,6 +62,7 @@ impl Model for Viewer {
 }
 
 impl Viewer {
+    /// Makes a viewer that knows of the list that was told.
     pub(crate) fn over(
         reader: Reader<BoardCopy, SeenStates, OneList>,
         home: Arc<Home, Global>,
@@ -78,7 +79,7 @@ impl Viewer {
         }
     }
 
-    /// From now on a look sees a list that begins with what was told.
+    /// Makes each later look see a list that begins with what was told.
     pub fn learn(&mut self, told: &Told)
         requires { told.now.board ≡ self.old.board }
         ensures new { self.new ≡ record self.old { told = longer_of self.old.told told.now.list } }
@@ -89,7 +90,14 @@ impl Viewer {
         self.second = self.second.longer(&told.second);
     }
 
-    /// The value of a key at a timestamp, by the board's list at one step. It is stopped only where the board gives no entry.
+    /// Looks at a key at a timestamp, by the board's list at one step, and puts its value at the front of the buffer. The refusals, the first
+    /// that holds counts:
+    ///
+    /// - `Stopped`: the publisher has ended. Get a viewer of the new board.
+    /// - `Stranger`: the key is another shard's.
+    /// - `TooOld`: the timestamp is below the horizon. That is for good, so take a later one.
+    /// - `NotYet`: it is above the safe timestamp. Look again later.
+    /// - `Room`: the value is longer than the buffer, which stays as it is.
     pub fn look(&mut self, key: &Key, at: Stamp, buffer: &mut [u8]) -> Result<Seen, Fault>
         ensures same { (self.new.board ≡ self.old.board) × (self.new.home ≡ self.old.home)
             × (self.new.told ≡ self.old.told) }

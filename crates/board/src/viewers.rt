@@ -5,14 +5,15 @@ use crate::viewer::Viewer;
 use std::alloc::Global;
 use units::Fault;
 
-/// What workers look through, by the worker's number: a viewer of each shard, by the shard's number.
+/// What workers look through.
 #[derive(Drop)]
 pub struct Viewers {
+    /// The viewers of each worker, by its number: one of each shard, by the shard's number.
     pub by_worker: Vec<Vec<Viewer>>,
 }
 
 impl Viewers {
-    /// No viewer yet of so many workers.
+    /// Begins with so many workers that have no viewer yet.
     pub fn none(alloc: Global, workers: usize) -> Result<Viewers, Fault>
         ensures viewers { IfOk result (λ viewers. length viewers.by_worker.items ≡ workers) }
         ensures memory { IfErr result (λ fault. fault ≡ Fault.Memory) }
@@ -24,7 +25,7 @@ impl Viewers {
         Ok(Viewers { by_worker })
     }
 
-    /// One viewer of the next shard to each worker.
+    /// Gives each worker one viewer of the next shard.
     pub fn deal(&mut self, viewers: Vec<Viewer>) -> Result<(), Fault>
         ensures workers { length self.new.by_worker.items ≡ length self.old.by_worker.items }
         ensures memory { IfErr result (λ fault. fault ≡ Fault.Memory) }

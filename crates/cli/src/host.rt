@@ -31,10 +31,12 @@ use std::thread::Threads;
 use std::{rt, time};
 use units::Fault;
 
-/// Carries a command line out, with the files and threads of the machine, over standard output and standard error. Gives the
-/// status: 0, 1 for a verdict of no or for early, 2 for a fault. A fault is printed on standard error, except that after a failed
-/// write nothing more is printed. After the line of a fault one tells the file in which it lies, or what is wrong with the words, if that is
-/// known. If standard error is a terminal, a drive shows how far it is there.
+/// Carries out a command line, with the files and threads of the machine, over standard output and standard error. Returns the exit status:
+/// 0, 1 for a verdict of no or for early, 2 for a fault.
+///
+/// A fault is printed as a line on standard error, except that after a failed write nothing more is printed. A second line tells the file in
+/// which the fault lies, or what is wrong with the words, if that is known. If standard error is a terminal, a drive shows there how far it
+/// is.
 pub fn program<
     R: rt::Files<File = File> + Eprint + Input + RandomSource + Threads + Wait + time::Clock + Sync,
     O: Write,

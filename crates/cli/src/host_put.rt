@@ -12,14 +12,14 @@ use std::{rt, time};
 use store::{Client, Ended, Halt, Options, Store, Transaction};
 use units::{Fault, Key, Reason, Splits, Value};
 
-// How often the write is tried: no other client is there, and an abort may be left of what the store was in the midst of when it was closed.
+// How often the write is tried. No other client is there, but what the store was in the midst of when it was closed may abort it.
 const TRIES: u32 = 5;
 
 // How often 20 milliseconds may pass in silence: two seconds, since a store that was opened again waits until the last ceiling has passed.
 const PATIENCE: u32 = 100;
 
-/// Opens the store, commits the write as a transaction of its own, and closes the store. Says what became of the write. A refusal behind
-/// the commit, for want of memory alone, does not say that the write stands nowhere.
+/// Opens the store, commits the write as a transaction of its own, closes the store, and returns what became of the write. A refusal for want
+/// of memory may come after the commit: it does not say that the write stands nowhere.
 pub fn put_in_store<R: rt::Files<File = File> + RandomSource + Threads + Wait + time::Clock + Sync>(
     rt: &R,
     alloc: Global,

@@ -19,13 +19,16 @@ pub enum Ended {
     Unknown(TxnId),
 }
 
-/// Why the code of a transaction goes no further: the store wants the transaction run again, as a new one; its user wants it dropped; a
-/// call was refused; or a shard has refused a letter of the transaction, as one that has stopped or whose rows are full.
+/// Why the code of a transaction goes no further.
 #[derive(Clone, Copy, PartialEq, Eq)]
 pub enum Halt {
+    /// The store wants the transaction run again, as a new one.
     Again,
+    /// The user of the transaction wants it dropped.
     Abandon,
+    /// A call was refused.
     Refused(Fault),
+    /// A shard has refused a letter of the transaction: it has stopped, its rows are full, or it gave another fault.
     Unserved { shard: ShardNo, fault: Fault },
 }
 
@@ -57,7 +60,7 @@ impl From<Finished> for Ended {
     }
 }
 
-/// The end that a message told of this transaction, which it spends.
+/// Takes the end that a message told of this transaction, and spends the transaction.
 pub fn end_of<S: Closed>(tx: Tx<'_, S>, done: &Done) -> Ended
     requires { same_id tx.client.txn done.now.txn ≡ true }
     ensures { result ≡ ended_of (finished_as done.now.outcome) }

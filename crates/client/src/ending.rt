@@ -18,7 +18,8 @@ use std::time;
 use units::{Fault, Reason, ShardNo};
 
 impl<'s, R: Wait + time::Clock> Wire<'_, 's, R> {
-    /// Ends a transaction whose code has run: one that went to its end is closed, and any other is given up.
+    /// Ends a transaction whose code has run, and returns how it ended. It closes one whose code returned `Ok`, and gives up any other. After
+    /// `Again` and `Abandon` the answer is `Aborted`; after a refusal it is that fault.
     pub fn finish(&mut self, tx: Tx<'s, Open>, ran: Result<(), Halt>) -> Result<Ended, Fault>
         ensures committed { (at : ℕ) → result ≡ Ok (Committed at) → IsOk ran }
         ensures ended { (sent : List Envelope) × (heard : List End)
@@ -69,7 +70,7 @@ impl<'s, R: Wait + time::Clock> Wire<'_, 's, R> {
         }
     }
 
-    // Hears the end of a transaction that is closing. Where it does not come, the transaction is given up, and asked for once more.
+    // Hears the end of a transaction that is closing. If it does not come, the transaction is given up, and asked for once more.
     fn end(&mut self, tx: Tx<'s, Closing>) -> Ended
         ensures { (sent : List Envelope) × (heard : List End)
             × (self.new.sent ≡ self.old.sent ++ sent)
@@ -83,7 +84,7 @@ impl<'s, R: Wait + time::Clock> Wire<'_, 's, R> {
         }
     }
 
-    // Gives up a transaction that is closing, and asks once more how it ended; behind the word to stop nobody is told or asked.
+    // Gives up a transaction that is closing, and asks once more how it ended. After the word to stop nobody is told or asked.
     fn quit(&mut self, tx: Tx<'s, Closing>) -> Ended
         ensures { (sent : List Envelope) × (heard : List End)
             × (self.new.sent ≡ self.old.sent ++ sent)
@@ -115,8 +116,8 @@ impl<'s, R: Wait + time::Clock> Wire<'_, 's, R> {
         }
     }
 
-    // Waits for the end, and asks for it after each silence. There is none where it does not come, or a shard's refusal says that to wait
-    // on is in vain.
+    // Waits for the end, and asks for it after each silence. There is none if it does not come, or if a shard's refusal says that to wait on
+    // is in vain.
     fn await_end<S: Closed>(&mut self, tx: &Tx<'s, S>) -> Option<Done>
         ensures sent { (n : ℕ) × (self.new.sent ≡
             self.old.sent ++ times n (closing_messages tx.now.splits tx.now.client)) }
@@ -144,8 +145,9 @@ impl<'s, R: Wait + time::Clock> Wire<'_, 's, R> {
         unreachable!()
     }
 
-    // Whether it is in vain to wait on, since a shard has refused a letter of the transaction. Once it was asked for behind giving up, only
-    // where that is the shard which decides, and it has stopped: what another one refuses does not keep that one from telling the end.
+    // Whether it is in vain to wait on, since a shard has refused a letter of the transaction. While it closes, each refusal says so. After
+    // it was given up only one does: the shard that decides has stopped. What another shard refuses does not keep that one from telling the
+    // end.
     fn is_in_vain<S: Closed>(&self, tx: &Tx<'s, S>, refused: &Refused) -> bool {
         if tx.txn() != refused.txn {
             return false;
@@ -166,7 +168,7 @@ impl<'s, R: Wait + time::Clock> Wire<'_, 's, R> {
         decides
     }
 
-    // Sends the messages of the closing once more, where there is memory.
+    // Sends the messages of the closing once more, if there is memory.
     fn ask_again<S: Closed>(&mut self, tx: &Tx<'s, S>)
         ensures sent { (n : ℕ) × (self.new.sent ≡
             self.old.sent ++ times n (closing_messages tx.now.splits tx.now.client)) }

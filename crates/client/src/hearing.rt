@@ -2,14 +2,19 @@
 use letters::Refused;
 use message::{Done, Message};
 
-/// What a client hears: the end of a transaction, or any other message; that a shard has refused a letter, or keeps what was sent again;
-/// nothing for a pause, or that as long as it waits.
+/// What a client hears.
 #[derive(Drop)]
 pub enum Hearing {
+    /// The end of a transaction.
     End(Done),
+    /// Any other message.
     Heard(Message),
+    /// A shard has refused a letter.
     Refused(Refused),
+    /// A shard keeps what was sent again.
     UnderWay,
+    /// Nothing came for a pause.
     Silence,
+    /// Nothing came for as long as it waits.
     Enough,
 }

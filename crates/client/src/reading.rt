@@ -18,7 +18,8 @@ use std::{slice, time};
 use units::{Fault, Key, Reason, ShardNo, Value, Write, copy_value};
 
 impl<'s, R: Wait + time::Clock> Wire<'_, 's, R> {
-    /// The value of a key: what the transaction has written to it, or else what its shard answers, which is the same each time.
+    /// Reads a key: what the transaction has written to it, or else what its shard answers, which is the same each time. It ends as `fetch`
+    /// does if there is no answer.
     #[tactic(auto, using(crate::proofs::Refusals::halts_for))]
     pub fn get(&mut self, tx: &mut Tx<'s, Open>, key: &Key) -> Result<Option<Value>, Halt>
         ensures sent { (sent : List Envelope) × (self.new.sent ≡ self.old.sent ++ sent)
@@ -34,7 +35,7 @@ impl<'s, R: Wait + time::Clock> Wire<'_, 's, R> {
         Ok(value_of(tx, key)?)
     }
 
-    /// The values of some keys, which are asked for together.
+    /// Reads some keys, which are asked for together. It ends as `fetch` does if there is no answer.
     #[tactic(auto, using(crate::proofs::Refusals::halts_for))]
     pub fn get_all(
         &mut self,
@@ -55,7 +56,12 @@ impl<'s, R: Wait + time::Clock> Wire<'_, 's, R> {
         Ok(values_of(self.alloc, tx, keys)?)
     }
 
-    /// Asks for some keys together, and waits for the answers. Each of these keys is then there for `get`.
+    /// Asks for some keys together, and waits for the answers. Each of these keys is then there for `get`. If it is not `Ok`, the code of the
+    /// transaction should return that:
+    ///
+    /// - `Again`: the transaction is doomed, clients are to stop, or it has waited for as long as it may;
+    /// - `Unserved`: a shard has refused a read of the transaction, or it has waited for as long as it may and a shard has stopped;
+    /// - `Refused`: a call was refused, as for want of memory.
     pub fn fetch(&mut self, tx: &mut Tx<'s, Open>, keys: &[Key]) -> Result<(), Halt>
         ensures sent { (sent : List Envelope) × (self.new.sent ≡ self.old.sent ++ sent)
             × AreReads tx.old.client.txn sent }
@@ -71,7 +77,7 @@ impl<'s, R: Wait + time::Clock> Wire<'_, 's, R> {
         self.await_answers(tx)
     }
 
-    // Sends what is asked for, and waits for all answers. Behind the word to stop nothing is sent.
+    // Sends what is asked for, and waits for all answers. After the word to stop nothing is sent.
     fn await_answers(&mut self, tx: &mut Tx<'s, Open>) -> Result<(), Halt>
         ensures reads { IsReading self.old self.new tx.old tx.new }
         ensures refused { IfErr result IsReadHalt }
@@ -113,8 +119,8 @@ impl<'s, R: Wait + time::Clock> Wire<'_, 's, R> {
         }
     }
 
-    // Why the code of a transaction waits no longer: what it waits for may be in doubt for good, where a shard has stopped; or it is to be
-    // run again.
+    // Why the code of a transaction waits no longer. What it waits for may be in doubt for good, if a shard has stopped; or it is to be run
+    // again.
     fn why_enough(&self) -> Halt
         ensures { IsReadHalt result }
     {
@@ -127,8 +133,8 @@ impl<'s, R: Wait + time::Clock> Wire<'_, 's, R> {
         }
     }
 
-    // Takes a message where it is an answer, which may be to an earlier transaction. A shard passes over what is read there while an earlier
-    // read waits, so what it has not answered is sent again, where nothing else has come.
+    // Takes a message if it is an answer, which may be to an earlier transaction. A shard passes over what is read there while an earlier
+    // read waits. So what it has not answered is sent again, if nothing else has come.
     fn take(&mut self, tx: &mut Tx<'s, Open>, message: &Message) -> Result<(), Halt>
         ensures reads { IsReading self.old self.new tx.old tx.new }
         ensures refused { IfErr result IsReadHalt }
@@ -157,7 +163,7 @@ impl<'s, R: Wait + time::Clock> Wire<'_, 's, R> {
         }
     }
 
-    // Sends each read of a shard whose answer is awaited, where nothing else has come.
+    // Sends each read of a shard whose answer is awaited, if nothing else has come.
     fn send_awaited_of(&mut self, tx: &Tx<'s, Open>, shard: ShardNo)
         ensures sent { (sent : List Envelope) × (self.new.sent ≡ self.old.sent ++ sent)
             × AreReads tx.now.client.txn sent }
@@ -171,7 +177,7 @@ impl<'s, R: Wait + time::Clock> Wire<'_, 's, R> {
         }
     }
 
-    // Sends the read of a key, where it is the shard's.
+    // Sends the read of a key, if it is the shard's.
     fn send_at(&mut self, tx: &Tx<'s, Open>, key: &Key, shard: ShardNo)
         ensures sent { (sent : List Envelope) × (self.new.sent ≡ self.old.sent ++ sent)
             × AreReads tx.now.client.txn sent }
@@ -183,7 +189,7 @@ impl<'s, R: Wait + time::Clock> Wire<'_, 's, R> {
     }
 }
 
-/// What a transaction sees of a key that it has read or written stays, whatever it reads behind that.
+/// States that what a transaction sees of a key that it has read or written stays, whatever it reads after that.
 pub fn seen_stays()
     ensures { SeenStays }
 {}

@@ -8,19 +8,19 @@ pub struct Stop {
 }
 
 impl Stop {
-    /// It was not told yet.
+    /// Creates the word, which was not told yet.
     pub fn new() -> Stop {
         Stop {
             told: AtomicBool::new(false),
         }
     }
 
-    /// From now on each client waits for nothing any more, and gives each transaction up as it begins.
+    /// Tells it: from now on each client waits for nothing any more, and gives each transaction up as it begins.
     pub fn tell(&self) {
         self.told.store(true, Ordering::SeqCst);
     }
 
-    /// Whether that was told.
+    /// Tells whether the word was told.
     pub fn is_told(&self) -> bool {
         self.told.load(Ordering::SeqCst)
     }

@@ -24,10 +24,15 @@ use units::{Fault, Run, Splits, TxnId};
 /// proofs alone.
 #[derive(Drop)]
 pub struct Wire<'r, 's, R> {
+    /// The runtime with which it sends and hears.
     pub(crate) rt: &'r R,
+    /// The allocator of its messages.
     pub(crate) alloc: Global,
+    /// The network that carries its letters.
     pub(crate) network: &'s Network,
+    /// The word that it is to end.
     pub(crate) stop: &'s Stop,
+    /// What comes for its transactions.
     pub(crate) inbox: Receiver<Reply>,
     number: usize,
     patience: Patience,
@@ -46,8 +51,8 @@ impl<'r, 's, R> Model for Wire<'r, 's, R> {
 }
 
 impl<'r, 's, R> Wire<'r, 's, R> {
-    /// The wire of the client with this number in the network. In each transaction it waits 20 milliseconds in silence so often as
-    /// `patience` says, and once more as often where it has asked how the transaction ended.
+    /// Makes the wire of the client with this number in the network. In each transaction it waits through `patience` silences of 20
+    /// milliseconds. After it has given the transaction up while it closes, it waits through as many again.
     pub fn new(
         rt: &'r R,
         alloc: Global,
@@ -76,9 +81,11 @@ impl<'r, 's, R> Wire<'r, 's, R> {
         }
     }
 
-    /// The same wire, whose patience goes by progress: it counts only rounds of asking in which all shards say that the transaction waits
-    /// for others, 20 milliseconds at least each. An answer, or the word that it is decided, begins it anew. A shard that says nothing is
-    /// waited for, until so many milliseconds have passed in silence; and so is the end of a transaction that is given up while it closes.
+    /// Makes its patience go by progress. It then counts only rounds of asking in which all shards that were asked say that the transaction
+    /// waits for others; a round takes 20 milliseconds at least. An answer, or the word that it is decided, begins the count anew.
+    ///
+    /// A shard that says nothing is waited for until `give_up` milliseconds have passed without anything new. So is the end of a transaction
+    /// that is given up while it closes.
     pub fn by_progress(self, give_up: u64) -> Wire<'r, 's, R>
         ensures { result ≡ self.entry }
     {
@@ -94,7 +101,7 @@ impl<'r, 's, R> Wire<'r, 's, R> {
         self.patience = self.patience.anew();
     }
 
-    // Its patience begins anew, and by progress it waits for the end for as long as any shard says anything.
+    /// Begins its patience anew. By progress it then waits for the end until nothing new was said for long (`Patience::insistent`).
     pub(crate) fn insist(&mut self)
         ensures { self.new ≡ self.old }
     {
@@ -124,8 +131,8 @@ impl<'r, 's, R> Wire<'r, 's, R> {
         Hearing::UnderWay
     }
 
-    // A message that is no end was heard. By progress patience begins anew with an answer to the transaction; and where one that closes is told
-    // that it has ended at a shard, it asks there at once.
+    // A message that is no end was heard. By progress patience begins anew with an answer to the transaction. If one that closes is told that
+    // it has ended at a shard, it asks there at once.
     fn listen(&mut self, message: Message) -> Hearing
         ensures wire { self.new ≡ self.old }
         ensures end { end_heard result ≡ [] }
@@ -165,7 +172,8 @@ impl<'r, 's, R> Wire<'r, 's, R> {
 }
 
 impl<'s, R: Wait + time::Clock> Wire<'_, 's, R> {
-    /// A new transaction, whose messages come to this client from now on. A drawer that may draw no more is `TimeSpent`.
+    /// Begins a transaction, whose messages come to this client from now on. `TimeSpent` if the drawer may draw no more numbers: the store
+    /// has to be opened again, which begins a new run.
     pub fn begin(
         &mut self,
         run: Run,
@@ -191,7 +199,7 @@ impl<'s, R: Wait + time::Clock> Wire<'_, 's, R> {
         Ok(tx)
     }
 
-    // Waits for a message, or the word that a letter was refused.
+    /// Waits for a message, or the word that a letter was refused.
     pub(crate) fn hear(&mut self) -> Hearing
         ensures sent { self.new.sent ≡ self.old.sent }
         ensures heard { self.new.heard ≡ self.old.heard ++ end_heard result }
@@ -206,7 +214,7 @@ impl<'s, R: Wait + time::Clock> Wire<'_, 's, R> {
         }
     }
 
-    // Sends a message, for the first time or again.
+    /// Sends a message, for the first time or again.
     pub(crate) fn send(&mut self, envelope: Envelope, again: bool)
         ensures sent { self.new.sent ≡ self.old.sent ++ envelope ∷ [] }
         ensures heard { self.new.heard ≡ self.old.heard }
@@ -223,7 +231,7 @@ impl<'s, R: Wait + time::Clock> Wire<'_, 's, R> {
         }
     }
 
-    // Sends each message of an outbox, for the first time or again.
+    /// Sends each message of an outbox, for the first time or again.
     pub(crate) fn send_all(&mut self, outbox: Outbox, again: bool)
         ensures sent { self.new.sent ≡ self.old.sent ++ outbox }
         ensures heard { self.new.heard ≡ self.old.heard }

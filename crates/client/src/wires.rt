@@ -21,7 +21,7 @@ impl<'r, 's, R> Model for Wires<'r, 's, R> {
 }
 
 impl<'r, 's, R> Wires<'r, 's, R> {
-    /// There was none yet.
+    /// Begins with no wire.
     pub fn none() -> Wires<'r, 's, R>
         ensures { result ≡ [] }
     {
@@ -29,7 +29,7 @@ impl<'r, 's, R> Wires<'r, 's, R> {
         Wires { past }
     }
 
-    /// One more, which has put out and heard all that it will.
+    /// Adds a wire that has put out and heard all that it will.
     pub fn add(&mut self, wire: Wire<'r, 's, R>)
         ensures { self.new ≡ self.old ++ wire.entry ∷ [] }
     {

@@ -120,13 +120,13 @@ impl<R: Files> Files for Coarse<'_, R> {
     }
 }
 
-// By this clock a reading ends an epsilon behind a whole hundredth of a second, and a commit of an empty store is one microsecond later.
+// By this clock a reading ends an epsilon after a whole hundredth of a second. A commit of an empty store is one microsecond later.
 const PUT: Step = Step {
     output: Output::CommittedBehind(1_001),
     ..DONE
 };
 
-// It fails where the store that a write is put to has no epsilon, or another one than 1,000 microseconds.
+// Fails if the store that a write is put to has no epsilon, or another one than 1,000 microseconds.
 #[test]
 fn a_put_by_a_coarse_clock(rt: HostRuntime) {
     let folder = furnished(&rt, &rt);

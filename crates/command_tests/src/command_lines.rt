@@ -12,30 +12,39 @@ use std::sync::Wait;
 use std::thread::Threads;
 use std::time;
 
-// What is printed: of a drive its counts, whose first three are of so many transactions together, and the verdict yes; of a write that it is
-// committed, also so many microseconds behind a whole hundredth of a second; of a key its value, or lines of which the last ends so.
+/// What is printed.
 #[derive(Clone, Copy)]
 pub enum Output {
+    /// Nothing.
     Nothing,
+    /// The verdict yes.
     Yes,
+    /// The counts of a drive, whose first three are of so many transactions together, and the verdict yes.
     Driven(u64),
+    /// That a write is committed.
     Committed,
+    /// That a write is committed, so many microseconds after a whole hundredth of a second.
     CommittedBehind(u64),
+    /// This text.
     Is(&'static str),
+    /// Lines of which the last ends so.
     Ends(&'static str),
 }
 
-// Command lines, one after another, that come to the same: what is printed, the fault, and the status. Single spaces part the words of a line,
-// and a word that begins with `./` names something in the folder.
+/// Command lines, one after another, that come to the same.
 #[derive(Clone, Copy)]
 pub struct Step {
+    /// The lines. Single spaces part the words, and a word that begins with `./` names something in the folder.
     pub lines: &'static [&'static str],
+    /// What is printed to standard output.
     pub output: Output,
+    /// What is printed to standard error.
     pub fault: &'static str,
+    /// The exit status.
     pub status: u8,
 }
 
-/// Nothing is printed, and all is well.
+/// A step that prints nothing, with status 0.
 pub const DONE: Step = Step {
     lines: &[],
     output: Output::Nothing,
@@ -43,12 +52,14 @@ pub const DONE: Step = Step {
     status: 0,
 };
 
+/// A step that is refused as `Device`.
 pub const NO_DEVICE: Step = Step {
     fault: "fault: 2 Device\n",
     status: 2,
     ..DONE
 };
 
+/// A step that is refused as `NotALog`.
 pub const NO_LOG: Step = Step {
     fault: "fault: 12 NotALog\n",
     status: 2,
@@ -239,12 +250,12 @@ static TORN: [Step; 2] = [
 const IN_MEMORY: &str =
     "shards = 2\nsplits = [\"k0005\"]\nstride = 1000\nepsilon = 100\nworkers = 4\ntransactions = 50\nkeys = 10\n";
 
-/// Puts a file into a folder.
+/// Puts a file into a folder; ends the test if it cannot.
 pub fn put(rt: &HostRuntime, test: &impl Abort, folder: &Folder, name: &str, bytes: &[u8]) {
     folder.put(rt, name, bytes).ok().expect(test, name);
 }
 
-// A folder with what the commands name.
+/// Makes a folder with the files that the commands name.
 pub fn furnished(rt: &HostRuntime, test: &impl Abort) -> Folder {
     let folder = Folder::new(rt).ok().expect(test, "a folder");
     let dir = folder.path(rt.alloc(), ".").ok().expect(test, "memory");
@@ -279,7 +290,7 @@ fn committed(text: &str) -> Option<u64> {
     at.parse::<u64>().ok()
 }
 
-// Whether one is told that lies so many microseconds behind a whole hundredth of a second.
+// Whether one is told that is so many microseconds after a whole hundredth of a second.
 fn is_behind(text: &str, micros: u64) -> bool {
     match committed(text) {
         Some(at) => at % 10_000 == micros,
@@ -299,7 +310,7 @@ fn is_printed(text: &str, output: Output) -> bool {
     }
 }
 
-/// The words of a line, with the paths of what they name in the folder.
+/// Splits a line into words, with the paths of what they name in the folder.
 pub fn words_of(rt: &HostRuntime, test: &impl Abort, folder: &Folder, line: &str) -> Vec<String> {
     let mut words = Vec::new(rt.alloc());
     for word in line.split(' ') {
@@ -313,7 +324,7 @@ pub fn words_of(rt: &HostRuntime, test: &impl Abort, folder: &Folder, line: &str
     words
 }
 
-/// The same, lent.
+/// Lends these words.
 pub fn lent<'w>(test: &impl Abort, alloc: Global, words: &'w [String]) -> Vec<&'w str> {
     let mut lent = Vec::new(alloc);
     for word in words {
@@ -330,7 +341,7 @@ fn is_right(out: &[u8], err: &[u8], step: &Step) -> bool {
     is_printed(text, step.output) && err == step.fault.as_bytes()
 }
 
-/// Whether the program prints what the step says, and gives its status.
+/// Tells whether the program prints what the step says, and gives its status.
 pub fn prints<
     'w,
     R: Files<File = File> + Eprint + Input + RandomSource + Threads + Wait + time::Clock + Sync,
@@ -345,7 +356,7 @@ pub fn prints<
     right
 }
 
-/// Goes over some commands, one after another, as the program carries them out. Each is named by its line and its place among them.
+/// Carries out some commands, one after another, as the program does. Each is named by its line and its place among them.
 pub fn go_over<
     T: Files<File = File>
         + Eprint
@@ -371,6 +382,7 @@ pub fn go_over<
     }
 }
 
+// Fails if a command over files of the machine prints anything but its row, or gives another status.
 #[test]
 fn commands_over_files(rt: HostRuntime) {
     let folder = furnished(&rt, &rt);
@@ -409,7 +421,7 @@ fn without_its_end(bytes: &[u8]) -> &[u8] {
     &bytes[..bytes.len().min(95)]
 }
 
-// It fails where a migration writes over a file that is there, or changes the old one.
+// Fails if a migration writes over a file that is there, or changes the old one.
 #[test]
 fn migrated_logs(rt: HostRuntime) {
     let folder = furnished(&rt, &rt);

@@ -97,7 +97,7 @@ const RENEWED: [u8; 83] = [
     10, 0, 0, 0, 0, 0, 0, 0, 1, 0, 0, 0, 0, 0, 0, 0, 1, 0, 0, 0, 0, 0, 0, 0, 0x6f, 0, 1, 0,
 ];
 
-// A file with these frames in its first area, and the renewed log behind them, whose offset this is.
+// A file with these frames in its first area, and after them the renewed log, at this offset.
 fn turned_over(test: &impl Abort, alloc: Global, first: &[u8], offset: [u8; 2]) -> Vec<u8> {
     let mut bytes = with_slots(alloc, first).ok().expect(test, "memory");
     let added = bytes.extend_from_slice(&RENEWED);
@@ -133,7 +133,7 @@ fn is_short(rt: &HostRuntime, test: &impl Abort, folder: &Folder) -> bool {
     made && stays
 }
 
-// It fails where a compaction writes over a file that is there, changes the old one, makes an empty log, or exchanges both.
+// Fails if a compaction writes over a file that is there, changes the old one, makes an empty log, or exchanges both.
 #[test]
 fn compacted_logs(rt: HostRuntime) {
     let folder = furnished(&rt, &rt);

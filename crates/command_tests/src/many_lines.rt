@@ -17,7 +17,7 @@ static STEPS: [Step; 1] = [Step {
     ..DONE
 }];
 
-// Some 100 KB of right lines, 1,300 of them, and behind them a wrong one.
+// Some 100 KB of right lines, 1,300 of them, and after them a wrong one.
 fn many_lines(alloc: Global) -> Option<String> {
     let mut text = RIGHT.repeat(alloc, 1_300).ok()?;
     match text.push_str(LOST) {
@@ -29,7 +29,7 @@ fn many_lines(alloc: Global) -> Option<String> {
     }
 }
 
-// It fails where a verdict is on the first thousand lines, or where a text ends at 64 KiB.
+// Fails if a verdict is on the first thousand lines, or if a text ends at 64 KiB.
 #[test]
 fn a_verdict_on_many_lines(rt: HostRuntime) {
     let folder = furnished(&rt, &rt);

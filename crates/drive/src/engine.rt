@@ -26,18 +26,23 @@ use truetime::Clock;
 use units::{Fault, Line, Reason, Run, Stamp, Verdict};
 use workers::{Counts, Course, Report, Shared, Staff, Summary, Viewers, work_and_close};
 
-/// What a drive comes to, and what its verdict is on: the lines of all workers, and the disks with the logs of the shards.
+/// What a drive comes to, and what its verdict is on.
 #[derive(Drop)]
 pub struct Driven<D> {
+    /// The counts and the verdict.
     pub summary: Summary,
+    /// The lines of all workers.
     pub lines: Vec<Line>,
+    /// The disks with the logs of the shards, in order.
     pub disks: Vec<D>,
 }
 
-/// Why there is no verdict on a drive, and its counts, where its workers have reported.
+/// Why there is no verdict on a drive.
 #[derive(Clone, Copy)]
 pub struct NoVerdict {
+    /// The fault that ended it.
     pub fault: Fault,
+    /// Its counts, if its workers have reported.
     pub counts: Option<Counts>,
 }
 
@@ -69,7 +74,7 @@ impl From<Fault> for NoVerdict {
     }
 }
 
-/// The machine's clock, whose readings are as wide as the settings say.
+/// Makes a copy of the machine's clock, whose readings are as wide as the settings say.
 pub fn clock_of<'r, R>(rt: &'r R, settings: &Settings) -> MachineClock<'r, R>
     ensures { result.epsilon ≡ settings.now.epsilon }
 {
@@ -79,11 +84,12 @@ pub fn clock_of<'r, R>(rt: &'r R, settings: &Settings) -> MachineClock<'r, R>
     }
 }
 
-/// Drives the shards of some disks, one a shard, by a clock, of which each node and each worker has a copy; its readings do not go back,
-/// and end no earlier than the greatest timestamp of the logs. Each disk has a formatted log. Settings beyond their limits, and more or
-/// fewer disks than shards, are refused as `settings`; a disk that is refused, as `Core::open` refuses it. The watch is told of each turn,
-/// by the thread of its worker, and of each shard whose device fails: then the workers end soon, and there is no verdict, but `Device`.
-/// Where there is no verdict, the counts are told all the same.
+/// Drives the shards of some disks, one a shard, each with a formatted log. Each node and each worker has a copy of the clock. Their readings
+/// do not go back, and end no earlier than the greatest timestamp of the logs.
+///
+/// The watch is told of each turn, by the thread of its worker, and of each shard whose device fails. After such a failure the workers end
+/// soon, and it is refused as `Device`. Settings beyond their limits, and more or fewer disks than shards, are refused as `settings`. A disk
+/// is refused as `Core::open` refuses it. The counts are returned without a verdict too, once the workers have reported.
 pub fn drive_by<
     R: Threads + Wait + time::Clock + Sync,
     D: Disk + Drop + Send,
@@ -131,7 +137,7 @@ pub fn drive_by<
     drive_nodes(rt, alloc, settings, course, opened, clock, gate, watch)
 }
 
-/// The same by the machine's clock, whose readings are as wide as the settings say.
+/// Drives the shards (`drive_by`) by the machine's clock, whose readings are as wide as the settings say.
 pub(crate) fn drive_wide<
     R: Threads + Wait + time::Clock + Sync,
     D: Disk + Drop + Send,
@@ -232,7 +238,7 @@ fn drive_nodes<
     }
 }
 
-// A clock that does not go back behind the greatest timestamp of the logs.
+// A clock whose readings end no earlier than the greatest timestamp of the logs.
 fn steady_from<'a, C>(clock: C, last: Stamp, reached: &'a AtomicU64) -> SteadyClock<'a, C>
     ensures { (result.clock ≡ clock) × (result.from ≡ last) }
 {
@@ -355,7 +361,7 @@ fn run<
     report
 }
 
-// Runs the nodes and the workers, who are told where a node has stopped.
+// Runs the nodes and the workers, who are told when a node has stopped.
 fn run_all<
     N: Serves + Sync,
     R: Threads + Wait + time::Clock + Sync,
@@ -385,7 +391,7 @@ fn run_all<
     run_beside(rt, shared, course, served, staff, clock, &gate, watch)
 }
 
-// The nodes on a thread each, beside the workers. Where one has none, no worker begins.
+// The nodes on a thread each, beside the workers. If a node gets no thread, no worker begins.
 fn run_beside<
     N: Serves + Sync,
     R: Threads + Wait + time::Clock + Sync,

@@ -1,5 +1,5 @@
-//! The engine of a drive: nodes and workers on threads over the disks of some shards, and the verdict on what they leave; and drives over
-//! the machine's files.
+//! The engine of a drive, and drives over the machine's files. An engine runs nodes and workers on threads over the disks of some shards, and
+//! judges what they leave.
 #![tactic(auto)]
 
 mod engine;

@@ -25,8 +25,8 @@ use system::{Driven, NoVerdict};
 use units::{Fault, ShardNo};
 use workers::Summary;
 
-/// Runs shards and workers by some settings. The logs lie in the folder of the settings, where it has one, and else on disks in
-/// memory. Where there is a terminal, it shows how far the drive is, and each shard whose device fails. Then the drive ends soon, and is
+/// Runs shards and workers by some settings. The logs lie in the folder of the settings, if they name one, and else on disks in memory. If
+/// there is a terminal, it shows how far the drive is, and each shard whose device fails. After such a failure the drive ends soon, and is
 /// refused as `Device`, with its counts.
 pub fn drive_shards<
     R: rt::Files<File = File> + RandomSource + Threads + Wait + time::Clock + Sync,
@@ -60,8 +60,8 @@ pub fn drive_shards<
     driven
 }
 
-/// Runs shards and workers by some settings, as the command `drive` does, with a gate that the letters of the nodes go through. Gives
-/// the text that the command prints.
+/// Runs shards and workers by some settings, as the command `drive` does, with a gate that the letters of the nodes go through. Returns the
+/// text that the command prints.
 pub fn run<
     R: rt::Files<File = File> + RandomSource + Threads + Wait + time::Clock + Sync,
     G: Gate + Sync,
@@ -174,7 +174,7 @@ fn text_of(alloc: Global, summary: Summary) -> Result<String, Fault>
     Ok(format!(in alloc; "{summary}")?)
 }
 
-// What is printed where there is no verdict: nothing where there is no memory for it.
+// What is printed if there is no verdict: nothing if there is no memory for it.
 fn told_without(alloc: Global, none: engine::NoVerdict) -> NoVerdict
     ensures fault { result.fault ≡ none.fault }
     ensures text { IfSome result.text (λ text. (counts : Counts) × (none.counts ≡ Some counts)

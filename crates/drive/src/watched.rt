@@ -4,11 +4,14 @@ use letters::Gate;
 use progress::Watch;
 use units::ShardNo;
 
-/// A gate that letters go through; and where a node has stopped, the watch and the workers are told.
+/// A gate that letters go through. It also tells the watch and the workers when a node has stopped.
 #[derive(Drop)]
 pub struct Watched<'a, G, W> {
+    /// The gate that is told of each letter.
     pub gate: &'a G,
+    /// What is told which shard has stopped.
     pub watch: &'a W,
+    /// What tells the workers to stop.
     pub stop: &'a Stop,
 }
 

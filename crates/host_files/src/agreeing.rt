@@ -13,17 +13,22 @@ use std::fs::File;
 use std::rt::Files;
 use units::{Fault, Parts, ShardNo, Splits, Stamp, TxnId};
 
-// What the log of a shard says of transactions, and where its records end.
+// What the log of a shard says of transactions, and the offset at which its records end.
 #[derive(Drop)]
 struct Known {
     facts: Facts,
     end: u64,
 }
 
-/// Reads the logs of a store, and asks what the opening of one shard can not. A log is refused if it is none, if a record is of another
-/// shard or does not follow those before it, or if it lacks what the log of another shard says of it: the promise of each part of a
-/// commit, the commit of each outcome, or any record where that shard has served. Its fault is then `Damaged` where its records end.
-/// Nothing is written.
+/// Checks what the opening of one shard cannot: that the logs of a store are of one store and one moment. It reads them all, and writes
+/// nothing. A log is refused for the first of these that is wrong:
+///
+/// - it is no log, or damaged, or one of its records is of another shard or does not follow those before it;
+/// - it lacks the promise of a part of a commit, or the commit of an outcome, that the log of another shard tells of;
+/// - its decision leaves out, or puts below its timestamp, a promise that the log of another shard holds;
+/// - it holds no record at all, although the log of another shard shows that this one has served.
+///
+/// The last three are `Damaged` at the end of its records. Put back all logs of one backup then.
 pub fn agree<R: Files<File = File>>(
     folder: &StoreFolder<'_, R>,
     alloc: Global,

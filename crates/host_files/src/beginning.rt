@@ -15,9 +15,9 @@ use std::fs::File;
 use std::rt::Files;
 use units::{Fault, Reason, Splits};
 
-/// Begins a store in a folder: the logs that are there belong to it, a draft stands for each other one, and the manifest tells of
-/// them. A draft without a record is made anew, and one with a record is the log that once had its name; one of version 1 is refused.
-/// If a log holds a record and another one is missing, that one is lost: it is refused as `Device`, and nothing is made.
+/// Begins a store in a folder without a manifest. The logs that are there belong to it, each other log gets a draft, and then the manifest is
+/// written. A draft without a record is made anew; one with a record is the log, before it got its name. A draft of version 1 is refused. If
+/// a log holds a record and another one is missing, that one is lost: it is refused as `Device`, and nothing is made.
 pub fn begin<R: Files<File = File>>(
     folder: &mut StoreFolder<'_, R>,
     alloc: Global,
@@ -36,8 +36,8 @@ pub fn begin<R: Files<File = File>>(
     tell(folder, &manifest_text(alloc, splits, name)?)
 }
 
-/// The logs in a folder without a manifest are those of a store that may begin: none has a number beyond its shards, each belongs to its
-/// shard, and none is missing if another one holds a record.
+/// Checks whether a store may begin in a folder without a manifest; nothing is made. A log with a number beyond the shards is refused as
+/// `settings`. A log that is missing while another one holds a record is refused as `Device`. A log that is not its shard's is refused too.
 pub fn may_begin<R: Files<File = File>>(
     folder: &StoreFolder<'_, R>,
     alloc: Global,

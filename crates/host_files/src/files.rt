@@ -10,10 +10,11 @@ use std::rt;
 use system::{Files, Note};
 use units::{Fault, Splits};
 
-/// The files behind a runtime: texts are read as they are, links are followed, and logs are opened to be read alone, each as it stands
-/// at one moment. `create` makes a file, and nothing else does. Notes are told on standard error, where that is watched.
+/// The files of the machine. Texts are read as they are, and links are followed. Logs are opened to be read alone, each as it stands at one
+/// moment. `create` makes a file, and nothing else does. Notes go to standard error, if that is watched.
 #[derive(Drop)]
 pub struct HostFiles<'r, R> {
+    /// The runtime, through which the system is asked.
     pub rt: &'r R,
     /// Standard error is a terminal.
     pub is_watched: bool,
@@ -22,7 +23,7 @@ pub struct HostFiles<'r, R> {
 }
 
 impl<'r, R> HostFiles<'r, R> {
-    /// The files behind a runtime, none of which was refused yet.
+    /// Creates the files of a runtime. `is_watched` says whether notes are printed.
     pub fn new(rt: &'r R, is_watched: bool) -> HostFiles<'r, R> {
         HostFiles {
             rt,

@@ -25,23 +25,28 @@ use std::random::RandomSource;
 use std::rt::Files;
 use units::{Fault, Reason, Splits};
 
-/// The logs of a store in a folder, `shard-0.log` and so on, one more than there are splits, each open and locked. The folder has to be
-/// there, and is locked meanwhile.
+/// Opens and locks the logs of a store in a folder: `shard-0.log` and so on, one more than there are splits. The folder has to be there. It
+/// is locked until this returns.
 ///
-/// A folder with a manifest (`store.toml`) has one log a shard: where the manifest tells of other splits, or is none, that is refused
-/// as `settings`, then a log that is missing as `Device`, and then a log of another shard as its opening would refuse it. A folder
-/// without a manifest gets one, and the logs that are missing, where each log that is there belongs to its shard and none has a number
-/// beyond them (`settings`). Until the manifest has its name on the device no log gets one, and nothing is written to a log that
-/// holds a record. Before this returns all names are on the device.
+/// A folder with a manifest (`store.toml`) has one log a shard. These are refused, in this order:
 ///
-/// What is made here is a draft until it is whole: `shard-0.log.new`, `store.toml.new`. Where there is a manifest, a draft whose log is
-/// missing gets that name, whatever it holds. Where there is none, a draft that holds a record is the log, and gets its name too; one
-/// that is of version 1, damaged or another shard's is refused; and each other draft is taken away and made anew, also a link. A file
-/// that has the name of a log and is none, an empty one too, is never made anew: it is refused.
+/// - a manifest of other splits, or a file that is no manifest: `settings`;
+/// - a log that is missing and has no draft: `Device`;
+/// - a log of another shard, as its opening would refuse it.
 ///
-/// Then each log is read, before any takes a record: one that its opening would refuse by what its records say one after another, and
-/// one that lacks what the log of another shard says of it, which is of another moment or of another store, or new (`Damaged` where
-/// its records end). What was lost without a manifest is refused too, and then nothing is made (`begin`).
+/// A folder without a manifest gets one, and the logs that are missing (`begin`). Each log that is there has to belong to its shard. One with
+/// a number beyond the shards is refused as `settings`. A log that is missing while another one holds a record is lost: it is refused as
+/// `Device`, and nothing is made. Until the manifest has its name on the device, no log gets one, and nothing is written to a log that holds
+/// a record. After `Ok` all names are on the device.
+///
+/// What is made here is a draft until it is whole: `shard-0.log.new`, `store.toml.new`. If there is a manifest, the draft of a missing log
+/// gets that log's name, whatever it holds. If there is none, the draft of a missing log is the log if it holds a record, and gets its name
+/// too. One of version 1, a damaged one and one of another shard are refused. Any other is taken away and made anew, also a link. A file that
+/// has the name of a log and is none is never made anew, not even an empty one: it is refused.
+///
+/// Then all logs are read, before any takes a record (`agree`). A log is refused if its opening would refuse its records, one after another.
+/// It is refused as `Damaged` at the end of its records if it lacks what another log says of it. Then it is new, of another moment, or of
+/// another store.
 pub fn logs_in<R: Files<File = File> + RandomSource>(
     rt: &R,
     alloc: Global,
@@ -114,8 +119,8 @@ fn drawn<R: RandomSource>(rt: &R) -> Result<u64, Refused>
     }
 }
 
-// Gives each draft whose log is missing the name of the log. Before any is named each log is there, or its draft is. Behind it all names
-// are on the device.
+// Gives each draft whose log is missing the name of the log. Before any is named, each log is there or its draft is. After `Ok` all names are
+// on the device.
 fn name_all<R: Files<File = File>>(
     folder: &mut StoreFolder<'_, R>,
     splits: &Splits,
@@ -192,8 +197,8 @@ fn opened<R: Files<File = File>>(
     }
 }
 
-/// Why the logs of the store in a folder are refused, if they are now; nothing is made or named. A folder that is refused for what
-/// stands in no file, and one that is taken, gives nothing.
+/// Tells why the logs of the store in a folder are refused now; `None` if they are not. Nothing is made or named. If the folder itself is
+/// refused, or it is locked already, the refusal names no file.
 pub fn refusal_in<R: Files<File = File>>(
     rt: &R,
     alloc: Global,
@@ -226,7 +231,7 @@ fn look<R: Files<File = File>>(
     agree(folder, alloc, splits)
 }
 
-/// New logs of so many shards, on disks in memory.
+/// Makes new logs on disks in memory, one for each shard.
 pub fn logs_in_memory(alloc: Global, shards: usize) -> Result<Vec<SimDisk>, Fault>
     ensures all { IfOk result (λ logs. length logs.items ≡ shards) }
     ensures memory { IfErr result (λ fault. fault ≡ Memory) }

@@ -16,26 +16,26 @@ use units::Fault;
 // How often a file is looked at, while others get its name.
 const MOST_LOOKS: u32 = 3;
 
-/// The file of a log. One that was opened to be read holds still, while somebody appends to the log or renews it: it reads as it stood
-/// at one moment, which `go_on` moves to the present. What had not ended by then is not there. A file that holds no log, or a damaged
-/// one, reads as it is.
+/// The file of a log. A log that was opened to be read stays as it stood at one moment, while somebody appends to it or renews it. `go_on`
+/// moves that moment to the present. A record whose append had not ended by then is not there. A file that holds no log, or a damaged one,
+/// reads as it is.
 #[derive(Drop)]
 pub struct LogFile {
     disk: FileDisk,
     still: Option<Still>,
 }
 
-// What a log held at a moment, where that may change: the bytes before its first gate, and its closed gate.
+// What a log held at a moment, in what may change later: the bytes before its first gate, and its closed gate.
 #[derive(Drop)]
 struct Still {
     front: Vec<u8>,
-    // Where the area begins that was in force.
+    // The offset of the area that was in force.
     area: u64,
     end: End,
 }
 
 impl Still {
-    // The area that these bytes at the front of a file name, and where its records end now.
+    // The area that these bytes at the front of a file name, and the offset at which its records end now.
     fn of(alloc: Global, disk: &mut FileDisk, front: Vec<u8>) -> Result<Option<Still>, Fault>
         ensures { IfErr result IsSystemFault }
     {
@@ -100,7 +100,7 @@ impl Still {
 }
 
 impl LogFile {
-    /// A new file, which reads as what is written to it.
+    /// Creates a new file, which reads as what is written to it. It is refused if something has that name.
     pub fn create<R: Files<File = File>>(rt: &R, path: &str) -> Result<LogFile, Cause> {
         Ok(LogFile {
             disk: FileDisk::create(rt, path)?,
@@ -108,8 +108,8 @@ impl LogFile {
         })
     }
 
-    /// Opens a file that is there to be read alone, as it stands at a moment of this call. If another file has its name by then, that one is
-    /// looked at, and so on, three in all.
+    /// Opens a file that is there to be read alone, as it stands at a moment of this call. If another file has got its name by then, that one
+    /// is looked at instead. After three files it is refused as `Device`: it is being rewritten, so try again.
     pub fn open<R: Files<File = File>>(
         rt: &R,
         alloc: Global,
@@ -132,12 +132,12 @@ impl LogFile {
         Err(Refused::from(Cause::Rewritten))
     }
 
-    /// Why the last call failed that did.
+    /// Tells why the last call that failed did so.
     pub fn cause(&self) -> Option<Cause> {
         self.disk.cause()
     }
 
-    /// Moves the moment as which it reads to the present. Says whether something had been written meanwhile.
+    /// Moves the moment at which the log is read to the present. Returns whether something had been written meanwhile.
     pub fn go_on(&mut self, alloc: Global) -> Result<bool, Fault>
         ensures { IfErr result IsSystemFault }
     {
@@ -240,7 +240,8 @@ impl Disk for LogFile {
 // How often logs are gone over until none of them was written to meanwhile. A round is far shorter than what a record takes.
 const MOST_ROUNDS: u32 = 100_000;
 
-/// Makes logs that were opened one after the other, while somebody may write to them, read as all of them stand at one moment.
+/// Makes logs read as all of them stand at one moment, although they were opened one after the other while somebody may write to them.
+/// `Device` if they were written to in each of 100,000 rounds.
 pub fn at_one_moment(alloc: Global, logs: &mut [LogFile]) -> Result<(), Fault>
     ensures { IfErr result IsSystemFault }
 {

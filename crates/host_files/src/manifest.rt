@@ -5,11 +5,11 @@ ghost use Rattle.units.specs.declared.fault.Fault.TheVariants.{Memory};
 use std::alloc::Global;
 use units::{Fault, Key, Splits};
 
-/// How long a manifest may be: 16 shards take no more than 6,000 bytes.
+/// How many bytes of a manifest are read: 64 KiB. That of 16 shards takes no more than 6,000 bytes.
 pub const MOST_MANIFEST: u64 = 1 << 16;
 
-/// The manifest of a store with these splits, by the name that was drawn for it: a TOML text of the format's version, the number of
-/// shards, the splits, in which each byte but letters, digits, `_`, `-` and `.` stands as `\u00XX`, and the name.
+/// Writes the manifest of a store with these splits, and with the name that was drawn for it. It is a TOML text of the format's version, the
+/// number of shards, the splits, and the name. In a split each byte but letters, digits, `_`, `-` and `.` is written as `\u00XX`.
 pub fn manifest_text(alloc: Global, splits: &Splits, name: u64) -> Result<String, Fault>
     ensures { IfErr result (λ fault. fault ≡ Memory) }
 {
@@ -17,7 +17,7 @@ pub fn manifest_text(alloc: Global, splits: &Splits, name: u64) -> Result<String
     Ok(format!(in alloc; "{head}name = \"{name:016x}\"\n")?)
 }
 
-/// Whether a text is the manifest of a store with these splits, whatever its name is.
+/// Tells whether a text is the manifest of a store with these splits, whatever its name is.
 pub fn is_manifest_of(alloc: Global, text: &[u8], splits: &Splits) -> Result<bool, Fault>
     ensures { IfErr result (λ fault. fault ≡ Memory) }
 {

@@ -21,10 +21,13 @@ const NULL_DEVICE: u64 = 0x103;
 /// The name of a file in a store's folder. What is not whole yet has that of a draft.
 #[derive(Clone, Copy)]
 pub enum Name {
+    /// The manifest, `store.toml`.
     Manifest,
+    /// The draft of the manifest.
     ManifestDraft,
-    /// Of a shard.
+    /// The log of a shard.
     Log(usize),
+    /// The draft of the log of a shard.
     LogDraft(usize),
 }
 
@@ -42,26 +45,29 @@ impl fmt::Display for Name {
 /// What stands under a name.
 #[derive(Clone, Copy)]
 pub enum Kind {
+    /// There is nothing.
     Nothing,
+    /// A plain file.
     Plain,
     /// A link, a folder or a device.
     Other,
 }
 
-/// A folder of the system that nobody else makes a store in meanwhile: it is locked (`flock`) until this is dropped. Names are
-/// looked at and opened without following a link. What the system refuses is `Device`, and the file and the reason are told.
+/// A folder in which nobody else makes a store meanwhile: it is locked (`flock`) until this is dropped. No link is followed when a name is
+/// looked at or opened. What the system refuses is `Device`, with the file and the reason.
 #[derive(Drop)]
 pub struct StoreFolder<'a, R> {
     rt: &'a R,
     alloc: Global,
     path: &'a str,
     folder: File,
-    // Every name that was made, changed or taken away is on the device.
+    /// Every name that was made, changed or taken away is on the device.
     pub(crate) synced: bool,
 }
 
 impl<'a, R: Files<File = File>> StoreFolder<'a, R> {
-    /// Locks a folder that is there: what it is, is asked before it is opened. Whether its names are on the device is not known.
+    /// Locks a folder that is there. It checks that it is a folder before it opens it. `Device` if it is no folder, or if it is locked
+    /// already. Whether its names are on the device is not known yet.
     pub fn lock(rt: &'a R, alloc: Global, path: &'a str) -> Result<StoreFolder<'a, R>, Refused>
         ensures { IfErr result IsSystemRefusal }
     {
@@ -87,7 +93,7 @@ impl<'a, R: Files<File = File>> StoreFolder<'a, R> {
         format!(in self.alloc; "{path}/{name}")
     }
 
-    /// What stands under a name.
+    /// Tells what stands under a name. A link is not followed.
     pub fn kind(&self, name: Name) -> Result<Kind, Refused>
         ensures { IfErr result IsSystemRefusal }
     {
@@ -98,7 +104,7 @@ impl<'a, R: Files<File = File>> StoreFolder<'a, R> {
         }
     }
 
-    /// The bytes of a plain file, so many at most.
+    /// Reads the first bytes of a plain file, `most` at most.
     pub fn read(&self, name: Name, most: u64) -> Result<Vec<u8>, Refused>
         ensures { IfErr result IsSystemRefusal }
     {
@@ -112,7 +118,7 @@ impl<'a, R: Files<File = File>> StoreFolder<'a, R> {
         }
     }
 
-    /// Makes a new, empty file, whose name is on the device. It is refused where there is anything of that name.
+    /// Makes a new, empty file, whose name is on the device. It is refused if there is anything of that name.
     pub fn create(&self, name: Name) -> Result<FileDisk, Refused>
         ensures { IfErr result IsSystemRefusal }
     {
@@ -146,7 +152,7 @@ impl<'a, R: Files<File = File>> StoreFolder<'a, R> {
         }
     }
 
-    /// Takes a name away, under which something of this kind stands: of a link not what it leads to.
+    /// Takes a name away, under which something of this kind stands. Of a link, what it leads to stays.
     pub fn clear(&mut self, name: Name, kind: Kind) -> Result<(), Refused>
         ensures { IfErr result IsSystemRefusal }
     {
@@ -161,8 +167,8 @@ impl<'a, R: Files<File = File>> StoreFolder<'a, R> {
         }
     }
 
-    /// Gives a draft the name that it is to have, which nothing has. All names before it are on the device: so no crash leaves this one
-    /// without them.
+    /// Gives a draft its final name, which nothing may have yet. All earlier names are on the device, so no crash leaves this one without
+    /// them.
     pub fn name(&mut self, draft: Name, name: Name) -> Result<(), Refused>
         requires { IsTrue (names_are_synced self.old) }
         ensures { IfErr result IsSystemRefusal }
@@ -200,7 +206,8 @@ fn kind_of(found: io::Result<fs::Metadata>) -> Result<Kind, Cause> {
     }
 }
 
-/// The bytes of a plain file, so many at most; the null device has none. What it is, is asked before it is opened: so no pipe is waited for.
+/// Reads the first bytes of a plain file, `most` at most; the null device has none. It checks the kind of the file before it opens it, so it
+/// never waits for a pipe.
 pub fn read_front<R: Files<File = File>>(
     rt: &R,
     alloc: Global,

@@ -16,9 +16,13 @@ use units::{Fault, Keys, Parts, Reason, ShardNo, Splits, Writes};
 // How many bytes of a log are read for its first record that tells whose it is.
 const MOST_FRONT: u64 = 1 << 16;
 
-/// Why a record does not belong to the log of a shard: it names a key of another shard (`Stranger`), a shard that is not there
-/// (`settings`), or it stands in the log of another shard (`Damaged`). Openings, ceilings, horizons, aborts, outcomes and the
-/// base of a renewed log name none.
+/// Tells why a record does not belong to the log of a shard, if it does not:
+///
+/// - `Stranger`: it names a key of another shard;
+/// - `settings`: it names a shard that the store does not have;
+/// - `Damaged` at its offset: only another shard could have logged it.
+///
+/// Openings, ceilings, horizons, aborts, outcomes and the base of a renewed log fit every shard.
 pub fn misfit(splits: &Splits, shard: ShardNo, item: &Record, offset: u64) -> Option<Fault>
     ensures { IfSome result IsFolderFault }
 {
@@ -87,7 +91,7 @@ fn stranger(splits: &Splits, shard: ShardNo, reads: &Keys, writes: &Writes) -> O
     None
 }
 
-/// The first entry of a log that does not belong to its shard counts.
+/// Checks that all entries belong to the log of a shard. The fault is that of the first one that does not.
 pub fn all_fit(splits: &Splits, shard: ShardNo, entries: &[Entry]) -> Result<(), Fault>
     ensures { IfErr result IsFolderFault }
 {
@@ -99,8 +103,8 @@ pub fn all_fit(splits: &Splits, shard: ShardNo, entries: &[Entry]) -> Result<(),
     Ok(())
 }
 
-/// Whether the log in a file is that of its shard, by the first record in it that tells that, which is looked for among its
-/// first 64 KiB. Where there is none, or what is read is no log, the opening says so.
+/// Checks whether a log is that of its shard, by its first record that tells this, among its first 64 KiB. If none tells it, or the file
+/// holds no log, this is `Ok`: the opening decides.
 pub fn first_fits(
     alloc: Global,
     disk: &mut FileDisk,
@@ -123,7 +127,7 @@ pub fn first_fits(
     fits
 }
 
-/// So many bytes of a file, from an offset on.
+/// Reads `size` bytes of a file, from an offset on.
 pub fn part_of(alloc: Global, disk: &mut FileDisk, at: u64, size: u64) -> Result<Vec<u8>, Fault>
     ensures size { IfOk result (λ part. length part.items ≡ size) }
     ensures refused { IfErr result (λ fault. (fault ≡ Memory) ⊎ (fault ≡ Device)) }
@@ -135,7 +139,8 @@ pub fn part_of(alloc: Global, disk: &mut FileDisk, at: u64, size: u64) -> Result
     Ok(part)
 }
 
-/// Where the log begins in a file of this length, by its header and its slots, as far as it has these; nowhere, where they are those of no log.
+/// Finds the offset at which the log begins in a file of this length, by as much of its header and slots as it has. `None` if these are no
+/// log's.
 pub fn area_of(front: &[u8], len: u64) -> Option<u64>
     requires { (length front.now ≡ len) ⊎ ((length front.now ≡ 9224) × (9224 ≤ len)) }
 {
@@ -168,7 +173,7 @@ fn frames_fit(
     Ok(())
 }
 
-// What stands in a frame behind its length.
+// The body of a frame: what follows its length.
 fn body_of(bytes: &[u8]) -> Option<&[u8]>
     ensures { IfSome result (λ body. 4 + length body.now ≤ length bytes.now) }
 {

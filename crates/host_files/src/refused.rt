@@ -7,11 +7,14 @@ use std::alloc::{AllocError, AllocFailed};
 use std::fmt;
 use units::{Fault, ShardNo};
 
-/// Why the files of a store's folder are refused: the fault, and, if that is known, the file and what is wrong with it.
+/// Why the files of a store's folder are refused: the fault, and the file and what is wrong with it, if these are known.
 #[derive(Clone, Copy)]
 pub struct Refused {
+    /// The fault itself, by its number.
     pub fault: Fault,
+    /// The file that is refused, if it is one of the folder.
     pub file: Option<Name>,
+    /// What is wrong with it, besides the fault.
     pub why: Option<Why>,
 }
 
@@ -20,12 +23,13 @@ pub struct Refused {
 pub enum Why {
     /// The system refuses it, or it is missing.
     System(Cause),
-    /// It lacks what the log of this shard says of it: it is of another moment or of another store, or it is a new one.
+    /// It lacks what the log of this shard says of it. It is of another moment or another store, or it is new: put back all logs of one
+    /// backup.
     Older(ShardNo),
 }
 
 impl Refused {
-    /// The same of this file, if no other one is known.
+    /// Names the file that is refused, unless one is named already.
     pub fn of(self, file: Name) -> Refused
         ensures { result.fault ≡ self.fault }
     {
@@ -41,7 +45,7 @@ impl Refused {
         }
     }
 
-    /// The shard whose log it is.
+    /// Tells whose log the file is, if it is a log or the draft of one.
     pub fn shard(&self) -> Option<ShardNo> {
         match self.file {
             Some(Name::Log(shard) | Name::LogDraft(shard)) => {
@@ -51,14 +55,14 @@ impl Refused {
         }
     }
 
-    /// This file is missing from its store.
+    /// Refuses a store of which this file is missing.
     pub fn lost(file: Name) -> Refused
         ensures { result.fault ≡ Fault.Device }
     {
         Refused::from(Cause::Lost).of(file)
     }
 
-    /// The log of a shard lacks what that of another one says of it. Its records end at this offset.
+    /// Refuses the log of a shard, whose records end at this offset: it lacks what the log of another one says of it.
     pub fn older(shard: usize, offset: u64, than: ShardNo) -> Refused
         ensures { result.fault ≡ Fault.Damaged offset }
     {

@@ -3,7 +3,7 @@ ghost use Rattle.std.specs.Prelude.{◌≡◌, ◌≤◌};
 
 use units::ShardNo;
 
-/// The shard of a number.
+/// Gives the shard with a number.
 pub fn numbered(number: usize) -> ShardNo
     requires { number ≤ 15 }
     ensures { result ≡ number }

@@ -1,4 +1,4 @@
-//! Where the records of a log end, by the gates and lengths of their frames alone.
+//! At which offset the records of a log end, by the gates and lengths of their frames alone.
 ghost use Rattle.std.specs.Prelude.{◌≡◌, ◌⊎◌, ◌≤◌, ◌<◌, ℕ, IfErr, length};
 ghost use Rattle.host_files.specs.Folders.{IsSystemFault};
 ghost use Rattle.host_files.specs.declared.walking.Way.TheVariants.{Closed, Unfinished, On};
@@ -14,15 +14,17 @@ const PIECE: u64 = 1 << 16;
 
 const OPEN_GATE: u8 = 0xa5;
 
-/// The closed gate of a log, and its byte.
+/// The closed gate at which the records of a log end.
 #[derive(Clone, Copy)]
 pub struct End {
+    /// Its offset in the file.
     pub gate: u64,
+    /// The byte that stands there.
     pub byte: u8,
 }
 
-// Where the frames at the front of some bytes lead: to a closed gate; to a frame that does not end in the file; past these bytes, or
-// to a frame of which they show too little; or to no frame.
+// To what the frames at the front of some bytes lead: a closed gate, or a frame that does not end in the file. Or they lead past these bytes,
+// or to a frame of which they show too little. Or they are no frames.
 #[derive(Clone, Copy)]
 enum Way {
     Closed(u64, u8),
@@ -31,8 +33,8 @@ enum Way {
     Broken,
 }
 
-/// The closed gate of the log whose frames begin there. A frame that does not end in the file as long as it is when this begins, but that
-/// is longer by then, is not there yet: its gate counts as closed. There is none if the file is damaged.
+/// Finds the closed gate of the log whose frames begin at an offset; `None` if the file is damaged. A frame may end beyond the file's length
+/// at the start of this call. If the file has grown since, that frame is still being written: its gate counts as closed.
 pub fn end_behind(alloc: Global, disk: &mut FileDisk, from: u64) -> Result<Option<End>, Fault>
     ensures { IfErr result IsSystemFault }
 {
@@ -69,7 +71,7 @@ fn unfinished(disk: &mut FileDisk, gate: u64, len: u64) -> Result<Option<End>, F
     }
 }
 
-// Where the frames lead at the front of the bytes that are read next, of so many that are left in the file.
+// To what the frames lead at the front of the bytes that are read next, of so many that are left in the file.
 fn way_in(bytes: &[u8], left: u64) -> Way
     requires some { 1 ≤ left }
     requires piece { (length bytes.now ≡ left) ⊎ ((length bytes.now ≡ 65536) × (65536 ≤ left)) }

@@ -11,7 +11,7 @@ use record::{Record, learn_agrees};
 use std::alloc::Global;
 use units::{Fault, ShardNo};
 
-/// The records of some entries, as the log of a shard.
+/// Takes the records out of some entries, as the log of a shard. A record that does not follow those before it is `Damaged` at its gate.
 pub fn records_of(alloc: Global, entries: &[Entry], shard: ShardNo) -> Result<Vec<Record>, Fault>
     ensures { MatchResult result
         (λ records. records_behind shard [] entries.now ≡ Ok records.items)
@@ -25,7 +25,7 @@ pub fn records_of(alloc: Global, entries: &[Entry], shard: ShardNo) -> Result<Ve
     Ok(records)
 }
 
-// Takes one more record behind those that were taken, which are what is known.
+// Takes one more record after those that were taken, which are what is known.
 fn take(
     facts: &mut Facts,
     records: &mut Vec<Record>,

@@ -8,9 +8,8 @@ use system::{Files, open_all, read_text};
 use texts::lines;
 use units::{Fault, Reason, Verdict};
 
-/// The verdict on the logs in the files of shards 0, 1 and so on, 16 at most, and on the lines of a report in another file. That
-/// one is read first, and all logs are opened before the first is read. Bytes that are no text are a fault of line 1. Logs are opened to be
-/// read alone.
+/// Judges the logs in the files of shards 0, 1 and so on, 16 at most, with the lines of a report in another file. The report is read first,
+/// and all logs are opened before the first is read. A report that is no text is a fault of line 1. Logs are opened to be read alone.
 pub fn inspect_files<F: Files>(
     alloc: Global,
     files: &F,

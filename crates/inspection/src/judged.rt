@@ -14,7 +14,7 @@ use record::Record;
 use std::alloc::Global;
 use units::{Fault, Line, Verdict};
 
-/// The verdict on the logs that some disks hold, of shards 0, 1 and so on, and on the lines of a report. The disks are handed back.
+/// Judges the logs on the disks of shards 0, 1 and so on, with the lines of a report. It hands the disks back with the verdict.
 pub fn judge<D: Disk + Drop>(
     alloc: Global,
     disks: Vec<D>,

@@ -12,8 +12,8 @@ use record::Record;
 use std::alloc::Global;
 use units::{Fault, Line, Reason, ShardNo, Verdict};
 
-/// The verdict on the logs that the disks of shards 0, 1 and so on hold, 16 at most, and on the lines of a report. A record that
-/// does not follow those before it is damage at its gate; which keys belong to a shard is not asked. Nothing is written.
+/// Judges the logs on the disks of shards 0, 1 and so on, 16 at most, with the lines of a report. More disks are refused as `many`. A record
+/// that does not follow those before it is `Damaged` at its gate. It does not ask which keys belong to a shard, and writes nothing.
 pub fn inspect_disks<D: Disk + Drop>(
     alloc: Global,
     disks: Vec<D>,
@@ -82,7 +82,7 @@ fn shard_of_count(count: usize) -> Option<ShardNo>
     }
 }
 
-/// The records of the log of a shard, and its disk, which reads as it did.
+/// Reads the records of the log of a shard, and gives its disk back, which reads as it did.
 pub fn read_log<D: Disk>(
     alloc: Global,
     disk: D,

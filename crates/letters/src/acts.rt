@@ -9,7 +9,7 @@ use std::sync::Wait;
 use truetime::Clock;
 use units::{MOST_ROWS, TxnId};
 
-/// The node takes an input, and what it puts out is posted; where it refuses the letter of a session, that is. It says whether it was taken.
+/// Gives the node an input, and posts what it puts out. If it refuses the letter of a session, that is posted. Returns whether it was taken.
 pub fn act<N: Serves, W: Wait, P: Post, C: Clock>(
     node: &N,
     rt: &W,
@@ -28,8 +28,8 @@ pub fn act<N: Serves, W: Wait, P: Post, C: Clock>(
     }
 }
 
-/// The node takes a message, as any other input. It says whether it keeps what a session asks for; where the session has sent that again, in
-/// a round, it is told so.
+/// Gives the node a message, as any other input. Returns whether the node keeps what a session asks for. If the session has sent that again,
+/// in a round, it is told so.
 pub fn deliver<N: Serves, W: Wait, P: Post, C: Clock>(
     node: &N,
     rt: &W,
@@ -57,7 +57,7 @@ pub fn deliver<N: Serves, W: Wait, P: Post, C: Clock>(
     keeps
 }
 
-// The node takes an input. Where it refuses the letter of a session, the post is told.
+// The node takes an input. If it refuses the letter of a session, the post is told.
 fn taken<N: Serves, W: Wait, P: Post, C: Clock>(
     node: &N,
     rt: &W,
@@ -99,7 +99,7 @@ fn is_decided<N: Serves, W: Wait>(node: &N, rt: &W, txn: TxnId) -> bool {
     false
 }
 
-/// Whether a node that has taken a session's message, and put this out, keeps what that asks for: nothing of it answers the session, and no
+/// Tells whether a node that has taken a session's message keeps what that asks for: nothing of what it put out answers the session, and no
 /// vote is refused.
 pub fn keeps(input: &Input, out: &[Envelope]) -> bool
     ensures { result ≡ keeps input.now out.now }
@@ -136,7 +136,7 @@ fn is_answer(txn: TxnId, envelope: &Envelope) -> bool
     }
 }
 
-/// The transaction whose session has sent an input: that of a read, a prepare, a commit or a giving up.
+/// Tells the transaction whose session has sent an input: that of a read, a prepare, a commit or a giving up.
 pub fn session_of(input: &Input) -> Option<TxnId>
     ensures { result ≡ session_of input.now }
 {

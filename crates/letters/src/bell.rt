@@ -8,8 +8,8 @@ use units::Stamp;
 // `park_timeout` compares a number below this, the low 32 bits.
 const LOW: u64 = 0x1_0000_0000;
 
-/// Whoever looked at a shard in vain rings, and waits; its node tells up to when it serves, which wakes those who wait. It takes no
-/// memory.
+/// The wake-up flag of a shard, with the time that it serves (its bell). A reader that got `NotYet` sets the flag, and waits. The node tells
+/// up to when it serves, which wakes those who wait. It takes no memory.
 pub struct Bell {
     rung: AtomicBool,
     served: AtomicU64,
@@ -22,7 +22,7 @@ impl Drop for Bell {
 }
 
 impl Bell {
-    /// Nobody has rung, and nothing is told yet.
+    /// Creates a bell whose flag is not set, and which was told nothing.
     pub fn new() -> Bell {
         Bell {
             rung: AtomicBool::new(false),
@@ -30,28 +30,28 @@ impl Bell {
         }
     }
 
-    /// It says whether this was the first since it was silenced.
+    /// Sets the wake-up flag. Returns whether this was the first time since it was cleared.
     pub fn ring(&self) -> bool {
         !self.rung.swap(true, Ordering::SeqCst)
     }
 
-    /// Whether somebody rang since it was silenced.
+    /// Tells whether the wake-up flag is set.
     pub fn is_rung(&self) -> bool {
         self.rung.load(Ordering::SeqCst)
     }
 
-    /// Nobody rings any more.
+    /// Clears the wake-up flag; called before an advance.
     pub fn silence(&self) {
         self.rung.store(false, Ordering::SeqCst);
     }
 
-    /// The node serves up to this timestamp.
+    /// Notes up to which timestamp the node serves, and wakes those who wait.
     pub fn tell(&self, served: Stamp) {
         self.served.store(served.micros(), Ordering::SeqCst);
         self.served.wake_all();
     }
 
-    /// Waits until the node has told that it serves a timestamp, or until so long has passed.
+    /// Waits until the node has told that it serves a timestamp, or until `longest` has passed.
     pub fn wait<R: Wait + time::Clock>(&self, rt: &R, at: Stamp, longest: Duration) {
         let start = Instant::now(rt).ok();
         for _wake in rt.forever() {
@@ -66,7 +66,7 @@ impl Bell {
     }
 }
 
-/// How much of a pause is left since then: nothing where the clock can't be read, or there is no moment.
+/// Tells how much of a pause is left after a moment: nothing if there is no moment, or the clock cannot be read.
 pub fn left<W: time::Clock>(rt: &W, since: Option<Instant>, pause: Duration) -> Duration {
     let Some(since) = since else {
         return Duration::ZERO;

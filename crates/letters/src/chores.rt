@@ -10,8 +10,8 @@ use std::time::{Duration, Instant};
 use truetime::{Clock, Reading};
 use units::{MOST_ROWS, Stamp};
 
-// A millisecond: so long a node goes without chores at most, waits behind its last letter before it advances, and lets pass between two
-// advances where nothing else happens.
+// A millisecond: a node goes without chores no longer than that. It also waits that long after its last letter before it advances, and
+// between two advances if nothing else happens.
 fn moment() -> Duration {
     Duration::from_millis(1)
 }
@@ -24,7 +24,7 @@ fn long() -> Duration {
 // So many versions are shown though nobody looks: to show more at once would keep a node from its letters.
 const MANY_VERSIONS: usize = 256;
 
-// An advance may log, and wait for a device. Under letters that go on, so many times as long pass behind each as it took.
+// An advance may log, and wait for a device. While letters go on, the next one comes only after so many times as long as it took.
 const SHARE_OF_ADVANCES: u32 = 4;
 
 // A thread that sleeps wakes some 50 microseconds late, or a little more.
@@ -35,8 +35,11 @@ const FIRST_ASK: u64 = 20;
 
 const LAST_ASK: u64 = 640;
 
-/// When a node did its chores last, and took a letter or settled; when it advanced last, how long that took, and how many versions it
-/// showed then; and when it asked last for what is prepared, and how many milliseconds it waits before it asks again.
+/// When a node last did its chores, and what it needs for the next ones:
+///
+/// - when it last took a letter or settled;
+/// - when it last advanced, how long that took, and how many versions it showed then;
+/// - when it last asked for what is prepared, and how many milliseconds it waits before it asks again.
 #[derive(Clone, Copy)]
 pub struct Chores {
     done: Option<Instant>,
@@ -49,7 +52,7 @@ pub struct Chores {
 }
 
 impl Chores {
-    /// Nothing was done yet, and what the node has is shown.
+    /// Begins with no chores done yet, and with all that the node has shown.
     pub fn new<N: Serves, W: Wait>(node: &N, rt: &W) -> Chores {
         Chores {
             done: None,
@@ -62,18 +65,22 @@ impl Chores {
         }
     }
 
-    /// Whether none was done for a millisecond.
+    /// Tells whether no chores were done for a millisecond.
     pub fn are_late<W: time::Clock>(&self, rt: &W) -> bool {
         left(rt, self.done, moment()) == Duration::ZERO
     }
 
-    /// A letter was taken.
+    /// Notes that a letter was taken.
     pub fn took_letter<W: time::Clock>(&mut self, rt: &W) {
         self.busy = Instant::now(rt).ok();
     }
 
-    /// Does what is due: waits go on, what is decided is settled once its timestamp has passed, what was prepared long ago is asked
-    /// for, and the node advances where that is wanted. It says how long nothing more is due, where no letter comes.
+    /// Does what is due, and returns for how long nothing more is due if no letter comes:
+    ///
+    /// - waits that can be granted go on;
+    /// - what is decided is settled once its timestamp has passed;
+    /// - what was prepared long ago is asked for;
+    /// - the node advances if that is wanted.
     pub fn tend<N: Serves, W: Wait + time::Clock, P: Post, C: Clock>(
         &mut self,
         node: &N,
@@ -100,7 +107,7 @@ impl Chores {
         }
     }
 
-    // How long it is until the node advances: where somebody looked in vain, or it has versions that it did not show.
+    // How long it is until the node advances: if somebody got `NotYet`, or if it has versions that it did not show.
     fn until_advance<N: Serves, W: Wait + time::Clock, P: Post>(
         &self,
         node: &N,
@@ -147,7 +154,7 @@ impl Chores {
         };
     }
 
-    // Asks for what was prepared long ago, each time that it finds any twice as long behind the last.
+    // Asks for what was prepared long ago. Each time that it finds any, it waits twice as long before it asks again.
     fn ask_in_turn<N: Serves, W: Wait + time::Clock, P: Post, C: Clock>(
         &mut self,
         node: &N,

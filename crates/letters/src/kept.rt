@@ -14,14 +14,16 @@ use units::{Key, ShardNo, Stamp, TxnId};
 // So many are kept in mind. The session of another one hears when it asks again.
 const MOST: usize = 1_024;
 
-// So long a node does not look after them again.
+// For so long a node does not look after them again.
 fn moment() -> Duration {
     Duration::from_millis(1)
 }
 
-/// Transactions that wait with a read or a commit, each with a key that it waits for; whether another one has closed since the node looked
-/// after them, which may have ended them; and when it did. A node tells nobody that it has ended one of these. So it is asked to read that key for
-/// them again: it answers that it refuses where it has ended the transaction, and nothing while that waits.
+/// Transactions that wait with a read or a commit, each with a key that it waits for. It also notes whether another transaction has closed
+/// since the node looked after them, and when it did that.
+///
+/// A transaction that closes may end some of them, and a node tells nobody of that. So the node is asked to read the key for each of them
+/// again. It answers that it refuses if it has ended the transaction, and nothing while that waits.
 #[derive(Drop)]
 pub struct Kept {
     reads: Vec<Read>,
@@ -30,7 +32,7 @@ pub struct Kept {
 }
 
 impl Kept {
-    /// None yet.
+    /// Begins with none that waits.
     pub fn none(alloc: Global) -> Kept {
         Kept {
             reads: Vec::new(alloc),
@@ -39,7 +41,7 @@ impl Kept {
         }
     }
 
-    /// One more waits, where there is memory to keep that in mind.
+    /// Notes that one more waits. It passes over it if 1,024 wait already, or there is no memory.
     pub fn add(&mut self, read: Read) {
         if self.reads.len() < MOST && !self.has(&read) {
             drop(self.reads.push(read));
@@ -56,8 +58,8 @@ impl Kept {
         false
     }
 
-    /// A message is about to be taken. A transaction that closes waits no more with a read, and may end others. It says with which key the
-    /// transaction waits where the node keeps the message.
+    /// Looks at a message that is about to be taken. A transaction that closes no longer waits with a read, and may end others. Returns the
+    /// key with which the transaction waits, if the node keeps the message.
     pub fn see(&mut self, message: &Message) -> Option<Read> {
         match message {
             Message::Read(read) => Some(*read),
@@ -101,7 +103,7 @@ impl Kept {
         }
     }
 
-    /// How long nobody has to look after them.
+    /// Tells for how long nobody has to look after them, `pause` at most.
     pub fn pause<W: time::Clock>(&self, rt: &W, pause: Duration) -> Duration {
         if !self.disturbed || self.reads.is_empty() {
             return pause;
@@ -109,7 +111,7 @@ impl Kept {
         pause.min(left(rt, self.looked, moment()))
     }
 
-    /// The node is asked for them again, where it may have ended some of them, and not more often than each millisecond.
+    /// Asks the node for them again if it may have ended some of them, but at most once a millisecond.
     pub fn look_after<N: Serves, W: Wait + time::Clock, P: Post, C: Clock>(
         &mut self,
         node: &N,
@@ -137,10 +139,12 @@ impl Kept {
     }
 }
 
-/// A post that takes out of those that wait whose answer goes by.
+/// A post that also takes those out of `kept` whose answer goes by.
 #[derive(Drop)]
 pub struct Watched<'p, P> {
+    /// The post that takes messages on.
     pub post: &'p mut P,
+    /// The transactions that wait.
     pub kept: &'p mut Kept,
 }
 

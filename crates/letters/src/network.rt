@@ -14,8 +14,9 @@ use std::time::Duration;
 use std::{thread, time};
 use units::{Fault, ShardNo, Stamp, TxnId};
 
-/// The inboxes and bells of all nodes, by shard, the inboxes of all workers, who runs which transaction, and which shards have stopped. A
-/// letter to nobody, to one who is gone, or for which there is no memory, is lost.
+/// What carries letters to nodes and answers to workers. It has the inboxes and bells of all nodes, by shard, and the inboxes of all workers.
+/// It knows who runs which transaction, and which shards have stopped. A letter to nobody, to one who is gone, or for which there is no
+/// memory, is lost.
 pub struct Network {
     nodes: Vec<Sender<Letter>>,
     bells: Vec<Bell>,
@@ -39,12 +40,14 @@ impl Drop for Network {
 /// The inboxes of a network, to be read.
 #[derive(Drop)]
 pub struct Inboxes {
+    /// Those of the nodes, by shard.
     pub nodes: Vec<Receiver<Letter>>,
+    /// Those of the workers, by number.
     pub workers: Vec<Receiver<Reply>>,
 }
 
 impl Network {
-    /// A network of so many nodes and workers.
+    /// Creates a network of so many nodes and workers, with their inboxes.
     pub fn new(alloc: Global, nodes: usize, workers: usize) -> Result<(Network, Inboxes), Fault>
         ensures inboxes { IfOk result (λ made.
             (length made.1.nodes.items ≡ nodes) × (length made.1.workers.items ≡ workers)) }
@@ -75,7 +78,7 @@ impl Network {
         }
     }
 
-    /// From now on what goes to the session of a transaction goes to this worker.
+    /// Sends what comes for the session of a transaction to this worker from now on.
     pub fn run<R: Wait>(&self, rt: &R, worker: usize, txn: TxnId) {
         self.sessions.lock(rt).run(worker, txn);
     }
@@ -92,7 +95,7 @@ impl Network {
         }
     }
 
-    /// Sends a message of a session again, in this round: a shard that keeps it says so (`Reply::UnderWay`).
+    /// Sends a message of a session again, in this round. A shard that keeps it says so (`Reply::UnderWay`).
     pub fn send_again<R: Wait>(&self, rt: &R, envelope: Envelope, round: u64) {
         let Envelope { to, message } = envelope;
         match to {
@@ -123,12 +126,12 @@ impl Network {
         }
     }
 
-    /// Whether the shard has stopped, as its gate was told.
+    /// Tells whether the shard has stopped, as its gate was told.
     pub fn has_stopped(&self, shard: ShardNo) -> bool {
         self.stopped.load(Ordering::SeqCst) & bit(shard) != 0
     }
 
-    /// The first shard that has stopped.
+    /// Gives the first shard that has stopped.
     pub fn stopped_shard(&self) -> Option<ShardNo> {
         for number in 0..MOST_SHARDS {
             if let Some(shard) = ShardNo::new(number) {
@@ -149,8 +152,8 @@ impl Network {
         }
     }
 
-    /// Who looked in vain at a shard, at a timestamp, waits until its node has told that it serves that, or so long. The first since the node
-    /// last served wakes it by a letter.
+    /// Waits until a shard's node has told that it serves a timestamp, or until `longest` has passed. A reader that got `NotYet` calls it.
+    /// The first such reader since the node last cleared the flag wakes it by a letter.
     pub fn await_served<R: Wait + time::Clock>(
         &self,
         rt: &R,
@@ -268,10 +271,12 @@ fn channels<T: Drop>(
     Ok(())
 }
 
-/// Posts what a node puts out, and passes on to those who look at what it shows.
+/// The post of a node over a network. It also tells readers what the node serves.
 #[derive(Drop)]
 pub struct Mail<'r, 's, R> {
+    /// The runtime with which it sends.
     pub rt: &'r R,
+    /// The network that carries what it sends.
     pub network: &'s Network,
 }
 

@@ -8,16 +8,19 @@ use std::sync::Wait;
 use std::time;
 use std::time::Duration;
 
-/// What a node does next: take a letter, or nothing, since none came, or end, since none can come any more.
+/// What a node does next.
 #[derive(Drop)]
 pub enum Next {
+    /// It takes this letter.
     Take(Letter),
+    /// No letter came.
     Nothing,
+    /// It ends, since no letter can come any more.
     Gone,
 }
 
-/// Reads that came beside letters which are not taken yet. They are taken behind those: a transaction that closes is firm then, and does
-/// not wound one that began to read just before it. Where there is no room for a read more, the first does not wait.
+/// Reads that came while other letters were not taken yet. They are taken after those. A transaction that closes is firm by then, and does
+/// not wound one that began to read just before it. If there is no room for one read more, the first is taken.
 #[derive(Drop)]
 pub struct Waiting {
     reads: VecDeque<Letter>,
@@ -25,7 +28,7 @@ pub struct Waiting {
 }
 
 impl Waiting {
-    /// None yet, and room for so many, where there is memory.
+    /// Begins with no read, and with room for so many. It has no room if memory is refused.
     pub fn none(alloc: Global, room: usize) -> Waiting {
         match VecDeque::with_capacity(alloc, room) {
             Ok(reads) => Waiting {
@@ -39,18 +42,18 @@ impl Waiting {
         }
     }
 
-    /// Whether no read waits.
+    /// Tells whether no read waits.
     pub fn is_none(&self) -> bool {
         self.reads.is_empty()
     }
 
-    /// The first of those that wait.
+    /// Takes out the first of those that wait.
     pub fn next(&mut self) -> Option<Letter> {
         self.reads.pop_front()
     }
 
-    /// The next letter to be taken: the first of the inbox that is no read, and else the first read. Where nothing is there, one is waited
-    /// for, for so long at most. The end comes behind all reads that wait, and behind it nothing.
+    /// Takes the next letter: the first of the inbox that is no read, or else the first read. If neither is there, it waits for a letter, for
+    /// `pause` at most. The word to close comes after all reads that wait, and nothing comes after it.
     pub fn first_of<W: Wait + time::Clock>(
         &mut self,
         rt: &W,
@@ -77,7 +80,7 @@ impl Waiting {
         Next::Nothing
     }
 
-    // The first of those that wait, where the inbox has nothing. Where none waits and nobody is left to send any, that was all.
+    // The first of those that wait, if the inbox has nothing. If none waits and nobody is left to send any, that was all.
     fn next_read(&mut self, error: RecvTimeoutError) -> Next {
         match (self.next(), error) {
             (Some(letter), _) => Next::Take(letter),
@@ -86,7 +89,7 @@ impl Waiting {
         }
     }
 
-    // Lets a read wait, behind those that do; where there is no room, the first of them goes in its place. The end waits too. Any other
+    // Lets a read wait, after those that do. If there is no room, the first of them goes in its place. The word to close waits too. Any other
     // letter is handed back.
     fn keep(&mut self, letter: Letter) -> Option<Letter> {
         match &letter {

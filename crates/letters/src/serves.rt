@@ -14,20 +14,22 @@ use std::time::Duration;
 use truetime::Clock;
 use units::{Fault, ShardNo, Stamp, TxnId};
 
-/// The standing of transactions that wait for a node's chores: decided and not settled, or prepared.
+/// The standing of transactions that a node's chores ask for.
 #[derive(Clone, Copy)]
 pub enum Due {
+    /// Decided and not settled.
     Decided,
+    /// Prepared.
     Prepared,
 }
 
 /// What a node does for the thread that serves it. Each call but `shard` is under the node's lock.
 pub trait Serves {
-    /// The shard's number.
+    /// Gives the number of its shard.
     fn shard(&self) -> ShardNo;
 
-    /// Takes an input at a reading that is taken under the lock. What it puts out, or why it was refused; where the clock has no reading, as
-    /// `TimeSpent`.
+    /// Takes an input at a reading that is taken under the lock. Returns what it puts out, or why it was refused: `TimeSpent` if the clock
+    /// has no reading.
     fn take<W: Wait, C: Clock>(
         &self,
         rt: &W,
@@ -35,38 +37,42 @@ pub trait Serves {
         input: &Input,
     ) -> Result<Outbox, Fault>;
 
-    /// Whether there is a wait that can be granted.
+    /// Tells whether a transaction waits whose wait can be granted.
     fn is_ready<W: Wait>(&self, rt: &W) -> bool;
 
-    /// A transaction that is decided and not settled, of the least timestamp, with it.
+    /// Gives the transaction with the least timestamp that is decided and not settled, with that timestamp.
     fn earliest_decided<W: Wait>(&self, rt: &W) -> Option<(TxnId, Stamp)>;
 
-    /// The n-th transaction of this standing, and the timestamp that it is prepared or decided at.
+    /// Gives the n-th transaction of this standing, with the timestamp at which it is prepared or decided.
     fn due<W: Wait>(&self, rt: &W, due: Due, n: usize) -> Option<(TxnId, Stamp)>;
 
-    /// Whether its device failed, so that it takes nothing more.
+    /// Tells whether its device has failed, so that it takes nothing more.
     fn is_stopped<W: Wait>(&self, rt: &W) -> bool;
 
-    /// How many versions the shard has.
+    /// Counts the versions of the shard.
     fn versions<W: Wait>(&self, rt: &W) -> usize;
 
-    /// Advances to the latest of a reading that is taken under the lock, and shows that. Up to when it serves then.
+    /// Advances to the latest of a reading that is taken under the lock, and shows that. Returns the timestamp up to which it serves then;
+    /// `None` if it was refused, or the clock has no reading.
     fn keep_up<W: Wait, C: Clock>(&self, rt: &W, clock: &mut C) -> Option<Stamp>;
 
-    /// Memory for letters that wait.
+    /// Gives the allocator of letters that wait.
     fn alloc(&self) -> Global;
 }
 
 // So many letters are taken in a row before a node does its chores.
 const LETTERS_IN_A_ROW: u64 = 64;
 
-// So many reads wait at most. On a slow device a worker sends one again each 20 milliseconds.
+// So many reads wait at most. While a device is slow, a worker sends one again each 20 milliseconds.
 const READS_AT_MOST: usize = 1_024;
 
-/// Serves the letters of the inbox until one says to close, or the inbox is closed. Whenever none is there the node does its
-/// chores, and then waits for a letter until more are due. Where it refuses the letter of a session, the post is told. No stream of
-/// letters keeps it from them for more than 64 letters or, but for one letter, a millisecond. Behind its chores the gate is told where the
-/// node has stopped. Reads are taken behind the letters that came beside them, 64 at most.
+/// Serves the letters of the inbox until one says to close, or the inbox is closed. If the node refuses the letter of a session, the post is
+/// told.
+///
+/// - **Chores**: the node does them whenever no letter is there, and then waits for a letter until more are due. While letters come, it does
+///   them after 64 letters, or after the first letter that ends more than a millisecond after the last chores. After them the gate is told if
+///   the node has stopped.
+/// - **Reads** are taken once no other letter is there. After 64 letters without chores up to 64 reads are taken first.
 pub fn serve<N: Serves, W: Wait + time::Clock, P: Post, C: Clock, G: Gate>(
     node: &N,
     rt: &W,
@@ -105,8 +111,8 @@ pub fn serve<N: Serves, W: Wait + time::Clock, P: Post, C: Clock, G: Gate>(
     unreachable!()
 }
 
-// What a node is in the midst of: its chores, the reads that wait to be taken, those that wait for a lock, how many letters were taken, how many came since it did its chores, and
-// whether it had stopped then.
+// What a node is in the midst of: its chores, the reads that wait to be taken, and those that wait for a lock. It also counts the letters
+// that were taken, and those since its chores, and notes whether it had stopped then.
 #[derive(Drop)]
 struct Round {
     chores: Chores,
@@ -117,8 +123,8 @@ struct Round {
     stopped: bool,
 }
 
-// Does the chores, behind the reads that wait where other letters have kept them back for long, and tells the gate where the node has
-// stopped. It says how long nothing more is due.
+// Does the chores, and tells the gate if the node has stopped. After many letters in a row, reads that wait are taken first. Returns for how
+// long nothing more is due.
 fn tend<N: Serves, W: Wait + time::Clock, P: Post, C: Clock, G: Gate>(
     node: &N,
     rt: &W,
@@ -166,8 +172,7 @@ fn take_reads<N: Serves, W: Wait + time::Clock, P: Post, C: Clock, G: Gate>(
     }
 }
 
-// Takes a letter, which is the next one of the gate. It says whether more are taken. The word that somebody looked in vain only wakes the
-// node.
+// Takes a letter, which is the next one of the gate. Returns whether more are taken. The word that a reader got `NotYet` only wakes the node.
 fn take<N: Serves, W: Wait + time::Clock, P: Post, C: Clock, G: Gate>(
     node: &N,
     rt: &W,
@@ -197,7 +202,7 @@ fn take<N: Serves, W: Wait + time::Clock, P: Post, C: Clock, G: Gate>(
     goes_on
 }
 
-// Takes a message, which a session may have sent again. Where its transaction waits with it that is kept in mind.
+// Takes a message, which a session may have sent again. If its transaction waits with it, that is kept in mind.
 fn take_message<N: Serves, W: Wait + time::Clock, P: Post, C: Clock>(
     node: &N,
     rt: &W,

@@ -21,7 +21,7 @@ impl Model for Sessions {
 }
 
 impl Sessions {
-    /// So many workers that run none.
+    /// Begins with so many workers that run no transaction.
     pub fn new(alloc: Global, workers: usize) -> Result<Sessions, Fault>
         ensures workers { IfOk result (λ sessions. length sessions ≡ workers) }
         ensures memory { IfErr result (λ fault. fault ≡ Fault.Memory) }
@@ -30,7 +30,7 @@ impl Sessions {
         Ok(Sessions { running })
     }
 
-    /// The worker runs this transaction, and no other. A number that no worker has changes nothing.
+    /// Notes that the worker runs this transaction, and no other. A number that no worker has changes nothing.
     pub fn run(&mut self, worker: usize, txn: TxnId)
         ensures { self.new ≡ slice_set self.old worker (Some txn) }
     {
@@ -39,7 +39,7 @@ impl Sessions {
         }
     }
 
-    /// The first worker that runs the transaction.
+    /// Finds the first worker that runs the transaction.
     pub fn worker_of(&self, txn: TxnId) -> Option<usize>
         ensures one { IfSome result (λ worker. slice_get self.now worker ≡ Some (Some txn)) }
         ensures first { IfSome result

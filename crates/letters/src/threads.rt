@@ -17,13 +17,17 @@ use units::Fault;
 /// What one node is served with.
 #[derive(Drop)]
 pub struct Served<'a, N, P, C> {
+    /// The node.
     pub node: &'a N,
+    /// The letters that it takes.
     pub inbox: Receiver<Letter>,
+    /// The post for what it puts out.
     pub post: P,
+    /// The clock at whose readings it takes them.
     pub clock: C,
 }
 
-/// What each of some nodes is served with, over a network.
+/// Puts together what each of some nodes is served with, over a network.
 pub fn to_serve<'r, 's, 'n, N, R: Wait, C: Clock + Copy>(
     rt: &'r R,
     alloc: Global,
@@ -46,7 +50,7 @@ pub fn to_serve<'r, 's, 'n, N, R: Wait, C: Clock + Copy>(
     Ok(all)
 }
 
-/// Starts a thread of a scope for each node, which serves it. It says whether all have started.
+/// Starts a thread of a scope for each node, which serves it. Returns whether all have started.
 pub fn start_in<
     's,
     'e,
@@ -72,7 +76,8 @@ pub fn start_in<
     all
 }
 
-/// Serves each node on a thread of its own, until all have ended. Where a thread does not start, the others are served.
+/// Serves each node on a thread of its own, until all have ended. If a thread does not start, the others are served, and then it is refused
+/// as `Memory`.
 pub fn start<
     N: Serves + Sync,
     W: Threads + Wait + time::Clock + Sync,

@@ -23,9 +23,8 @@ use std::sync::Wait;
 use truetime::Reading;
 use units::{Fault, Install, Setup, Stamp};
 
-/// A core, the publisher of its board, how many of its versions the board was handed, the first ones, and the horizon that it was
-/// told. The board's served time and its horizon are at most the core's. The handle is for the publisher, which waits for viewers.
-/// The core's log is measured whenever it is turned over.
+/// The core of a shard with the publisher of its board (the desk). The board shows the first versions of the core; its served time and its
+/// horizon are at most the core's. The handle `R` is for the publisher, which waits for viewers. The core's log is measured at each turnover.
 pub struct Desk<D: Disk + Drop, R: Wait + Drop> {
     alloc: Global,
     core: Core<D>,
@@ -46,7 +45,7 @@ impl<D: Disk + Drop, R: Wait + Drop> Drop for Desk<D, R> {
 impl<D: Disk + Drop, R: Wait + Drop> Desk<D, R> {
     ghost use Rattle.node.specs.SeenDesk.{seen_desk};
 
-    /// A desk for a core, and so many viewers of its board, which shows the core's versions, its horizon and its served time.
+    /// Makes a desk for a core, and so many viewers of its board. The board shows the core's versions, its horizon and its served time.
     pub fn new(
         rt: R,
         alloc: Global,
@@ -100,9 +99,10 @@ impl<D: Disk + Drop, R: Wait + Drop> Desk<D, R> {
         }
     }
 
-    /// A desk for the shard whose log a disk holds, and so many viewers of its board: the log is taken up as the core does, and
-    /// the next opening is logged. The disk is given back where it is refused: as it was where no board has so many viewers, and
-    /// with the opening logged where memory for the board is refused.
+    /// Opens the shard whose log a disk holds, as a core opens it, and makes so many viewers of its board. The next opening is logged.
+    ///
+    /// If it is refused, the disk comes back: as it was if no board has so many viewers, and with the opening logged if memory for the board
+    /// is refused.
     pub fn open(
         rt: R,
         alloc: Global,
@@ -145,7 +145,7 @@ impl<D: Disk + Drop, R: Wait + Drop> Desk<D, R> {
         }
     }
 
-    /// Exactly the step of the core, with its page where a book is kept. The board stays.
+    /// Takes the step of the core, with its page if a book is kept. The board stays as it is.
     pub fn deliver(&mut self, now: &Reading, input: &Input) -> Result<Outbox, Fault>
         ensures stepped { HasTaken D.keeps_model D.obeys D.file D.clock D.since D.failures D.plan
             (seen_desk self.old).core (seen_desk self.new).core (seen_desk self.old).book
@@ -163,9 +163,8 @@ impl<D: Disk + Drop, R: Wait + Drop> Desk<D, R> {
         self.core.on(self.alloc, now, input)
     }
 
-    /// Asks the core for the horizon that keeps so many microseconds: as far behind the earliest of the reading, and no later than what
-    /// is served. Where that is above the core's horizon the core takes it as an input, and else nothing happens. The board stays: it is
-    /// told by the next advance.
+    /// Raises the core's horizon, but keeps so many microseconds of the past. The horizon is that much before the earliest of the reading,
+    /// and not above the time that is served. If the core's horizon is not below it, nothing happens. The next advance tells the board.
     pub fn keep_for(&mut self, now: &Reading, micros: u64) -> Result<(), Fault>
         ensures kept { HasKept D.keeps_model D.obeys D.file D.clock D.since D.failures D.plan
             (seen_desk self.old) (seen_desk self.new) now.now micros result }
@@ -183,7 +182,7 @@ impl<D: Disk + Drop, R: Wait + Drop> Desk<D, R> {
         Ok(())
     }
 
-    /// Exactly the core's turnover of its log. The board and the book stay, and the log is measured.
+    /// Turns the core's log over, and measures it. The board and the book stay as they are.
     pub fn turn_over(&mut self) -> Result<(), Fault>
         ensures turned { HasTurnedOver D.keeps_model D.obeys D.file D.clock D.since D.failures D.plan
             (seen_desk self.old) (seen_desk self.new) result }
@@ -195,8 +194,10 @@ impl<D: Disk + Drop, R: Wait + Drop> Desk<D, R> {
         turned
     }
 
-    /// `keep_for`, and where that was not refused a turnover of the log, if this has grown: by so many bytes at least since its turnover was
-    /// tried last, or the desk was made, and by more than it had behind the last turnover of the desk.
+    /// Calls `keep_for`, and turns the log over if it has grown. If `keep_for` is refused, so is this, and the log is not turned over.
+    ///
+    /// It has grown if it is longer by `least` bytes or more than when a turnover was last tried, or the desk was made. It also has to be
+    /// longer by more than it held after the desk's last turnover.
     pub fn renew(&mut self, now: &Reading, micros: u64, least: u64) -> Result<(), Fault>
         ensures renewed { HasRenewed D.keeps_model D.obeys D.file D.clock D.since D.failures D.plan
             (seen_desk self.old) (seen_desk self.new) now.now micros least result }
@@ -209,8 +210,8 @@ impl<D: Disk + Drop, R: Wait + Drop> Desk<D, R> {
         self.turn_over()
     }
 
-    /// Advances the core, and publishes its new versions, its horizon where it was raised, and its served time. Where memory for the board
-    /// is refused, the core has advanced, and the board shows what it showed.
+    /// Advances the core, and publishes its new versions, its served time, and its horizon if that was raised. If memory for the board is
+    /// refused, the core has advanced all the same, and the board shows what it showed until a later advance.
     pub fn advance(&mut self, now: &Reading, to: Stamp) -> Result<Told, Fault>
         ensures advanced { IfOk result
             (HasAdvanced D.keeps_model D.obeys D.file D.clock D.since D.failures D.plan
@@ -235,7 +236,7 @@ impl<D: Disk + Drop, R: Wait + Drop> Desk<D, R> {
         )
     }
 
-    /// The core, to be read.
+    /// Gives the core, to be read.
     pub fn core(&self) -> &Core<D>
         ensures core { seen result.now ≡ (seen_desk self.now).core }
         ensures book { book_of result.now ≡ (seen_desk self.now).book }
@@ -293,7 +294,7 @@ fn board_of<R: Wait + Drop>(
     start(rt, alloc, installs, safe, horizon, splits, setup.shard, n)
 }
 
-// Hands the board the versions that it lacks, the horizon where it was raised, and the served time, and publishes them.
+// Hands the board the versions that it lacks, the horizon if it was raised, and the served time, and publishes them.
 fn show<R: Wait + Drop>(
     installs: &[Install],
     safe: Stamp,
@@ -371,7 +372,7 @@ fn hand_one<R: Wait + Drop>(
     Ok(())
 }
 
-// Hands the board, which has all versions, the horizon where it is above the one that the board was told.
+// Hands the board, which has all versions, the horizon if it is above the one that the board was told.
 fn hand_horizon<R: Wait + Drop>(
     installs: &[Install],
     safe: Stamp,

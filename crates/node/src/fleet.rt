@@ -15,9 +15,9 @@ use std::sync::Wait;
 use std::thread::Threads;
 use units::{Book, Epoch, Fault, Reason, Run, Setup, ShardNo, Splits, Stamp, Stride};
 
-/// What is asked of nodes besides being served: each gives its disk back.
+/// What a node does besides being served: it gives its disk back.
 pub trait Closes<D>: Sized {
-    /// Ends the node.
+    /// Ends the node, and gives its disk back.
     fn close(self) -> D;
 }
 
@@ -27,18 +27,21 @@ impl<D: Disk + Drop, H: Wait + Drop> Closes<D> for Node<D, H> {
     }
 }
 
-/// Nodes over opened disks, by shard; the viewers of each worker, by shard; the greatest epoch, which is the run of all ids; and the greatest
-/// timestamp of the logs.
+/// The nodes of a store over its opened disks.
 #[derive(Drop)]
 pub struct Opened<N> {
+    /// The nodes, by shard.
     pub nodes: Vec<N>,
+    /// The viewers of each worker, by shard.
     pub viewers: Viewers,
+    /// The greatest epoch of the openings, which is the run of all ids.
     pub epoch: Epoch,
+    /// The greatest timestamp of the logs.
     pub last: Stamp,
 }
 
 impl<N: Drop> Opened<N> {
-    // One node more, of an opening of this epoch, behind a log with this greatest timestamp. Its viewers are dealt out.
+    // One node more, of an opening of this epoch, over a log with this greatest timestamp. Its viewers are dealt out.
     fn add(&mut self, node: N, viewers: Vec<Viewer>, epoch: Epoch, last: Stamp) -> Result<(), Fault>
         ensures viewers { length self.new.viewers.by_worker.items
             ≡ length self.old.viewers.by_worker.items }
@@ -56,8 +59,8 @@ impl<N: Drop> Opened<N> {
     }
 }
 
-/// Opens the disks of shards 0, 1 and so on side by side, each with a viewer for each worker. Where there are more or fewer disks than
-/// shards, that is refused as `settings`. Else the first shard that is refused counts.
+/// Opens the disks of shards 0, 1 and so on side by side, each with a viewer for each worker. More or fewer disks than shards are refused as
+/// `settings`. Otherwise the fault is that of the first shard that is refused.
 pub fn open_shards<'r, R: Threads + Wait + Sync, D: Disk + Drop + Send>(
     rt: &'r R,
     alloc: Global,
@@ -160,7 +163,7 @@ fn nodes_over<D: Disk + Drop, H: Wait + Copy>(
     Ok(opened)
 }
 
-// The shard of a number, where there may be one.
+// The shard of a number, if there may be one.
 fn shard_at(number: usize) -> Option<ShardNo>
     ensures { number < 16 → result ≡ Some number }
 {
@@ -256,7 +259,7 @@ fn later(epoch: Epoch, other: Epoch) -> Epoch
     }
 }
 
-/// The run of all ids: the greatest epoch.
+/// Gives the run of all ids of an opening: its greatest epoch.
 pub fn run_of(epoch: Epoch) -> Run
     ensures { result ≡ epoch }
 {

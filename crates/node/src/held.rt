@@ -24,11 +24,12 @@ use std::sync::Wait;
 use truetime::Reading;
 use units::{Fault, Setup, Stamp, TxnId};
 
-/// What a node's lock holds: what its shard is told, and the place. Whenever the lock is free the place is there, and its core, where it has
-/// one, was told the same.
+/// What the lock of a node guards. Whenever the lock is free, the place is there, and its core, if it has one, was told the same setup.
 #[derive(Drop)]
 pub struct Held<D: Disk + Drop, R: Wait + Drop> {
+    /// What the shard is told when it is opened.
     pub setup: Setup,
+    /// The desk, or the disk of one that was stopped.
     pub place: Option<Place<D, R>>,
     ghost there: { IsSome place },
     ghost told: { told_of setup (option_map seen_place place) ≡ setup },
@@ -37,7 +38,7 @@ pub struct Held<D: Disk + Drop, R: Wait + Drop> {
 impl<D: Disk + Drop, R: Wait + Drop> Held<D, R> {
     ghost use Rattle.node.specs.SeenHeld.{seen_held};
 
-    /// A core that is served, and so many viewers of its board.
+    /// Serves a core, and makes so many viewers of its board. If that is refused, the core comes back.
     pub fn new(
         rt: R,
         alloc: Global,
@@ -75,7 +76,7 @@ impl<D: Disk + Drop, R: Wait + Drop> Held<D, R> {
         }
     }
 
-    /// One step of the core. A disk alone is refused as a core that is stopped.
+    /// Takes a step of the core. A disk alone refuses as a stopped core does.
     pub fn deliver(&mut self, now: &Reading, input: &Input) -> Result<Outbox, Fault>
         ensures delivered { Became (seen_held self.old) (seen_held self.new)
             (λ old. λ new. HasDelivered D.keeps_model D.obeys D.file D.clock D.since D.failures D.plan
@@ -88,7 +89,7 @@ impl<D: Disk + Drop, R: Wait + Drop> Held<D, R> {
         }
     }
 
-    /// Advances the core and publishes its board.
+    /// Advances the core and publishes its board. A disk alone refuses as a stopped core does.
     pub fn advance(&mut self, now: &Reading, to: Stamp) -> Result<Told, Fault>
         ensures advanced { IfOk result (λ told. Became (seen_held self.old) (seen_held self.new)
             (λ old. λ new. HasAdvancedIn D.keeps_model D.obeys D.file D.clock D.since D.failures D.plan
@@ -104,7 +105,7 @@ impl<D: Disk + Drop, R: Wait + Drop> Held<D, R> {
         }
     }
 
-    /// Advances to the latest of the reading, and shows that. Up to when it serves then, where it was not refused.
+    /// Advances to the latest of the reading, and shows that. Returns the timestamp up to which it serves then; `None` if it was refused.
     pub fn keep_up(&mut self, now: &Reading) -> Option<Stamp>
         ensures kept { IfSome result (λ safe. Became (seen_held self.old) (seen_held self.new)
             (λ old. λ new. HasKeptUp D.keeps_model D.obeys D.file D.clock D.since D.failures D.plan
@@ -119,7 +120,7 @@ impl<D: Disk + Drop, R: Wait + Drop> Held<D, R> {
         }
     }
 
-    /// Asks the core for the horizon that keeps so many microseconds. A disk alone is refused as a core that is stopped.
+    /// Raises the core's horizon, but keeps so many microseconds (`Desk::keep_for`). A disk alone refuses as a stopped core does.
     pub fn keep_for(&mut self, now: &Reading, micros: u64) -> Result<(), Fault>
         ensures kept { Became (seen_held self.old) (seen_held self.new)
             (λ old. λ new. HasKeptIn D.keeps_model D.obeys D.file D.clock D.since D.failures D.plan
@@ -132,7 +133,7 @@ impl<D: Disk + Drop, R: Wait + Drop> Held<D, R> {
         }
     }
 
-    /// Turns the log of the core over. A disk alone is refused as a core that is stopped.
+    /// Turns the log of the core over. A disk alone refuses as a stopped core does.
     pub fn turn_over(&mut self) -> Result<(), Fault>
         ensures turned { Became (seen_held self.old) (seen_held self.new)
             (λ old. λ new. HasTurnedIn D.keeps_model D.obeys D.file D.clock D.since D.failures D.plan
@@ -145,7 +146,7 @@ impl<D: Disk + Drop, R: Wait + Drop> Held<D, R> {
         }
     }
 
-    /// Asks the core for that horizon, and turns its log over where it has grown. A disk alone is refused as a core that is stopped.
+    /// Raises the horizon, and turns the log over if it has grown (`Desk::renew`). A disk alone refuses as a stopped core does.
     pub fn renew(&mut self, now: &Reading, micros: u64, least: u64) -> Result<(), Fault>
         ensures renewed { Became (seen_held self.old) (seen_held self.new)
             (λ old. λ new. HasRenewedIn D.keeps_model D.obeys D.file D.clock D.since D.failures D.plan
@@ -158,7 +159,7 @@ impl<D: Disk + Drop, R: Wait + Drop> Held<D, R> {
         }
     }
 
-    /// Whether there is a wait that can be granted.
+    /// Tells whether a transaction waits whose wait can be granted.
     pub fn is_ready(&self) -> bool
         ensures { IsUnder (seen_held self.now) (λ place. result ≡ is_ready_in place) }
     {
@@ -168,7 +169,7 @@ impl<D: Disk + Drop, R: Wait + Drop> Held<D, R> {
         }
     }
 
-    /// The n-th transaction of this standing, and the timestamp that it is prepared or decided at.
+    /// Gives the n-th transaction of this standing, with the timestamp at which it is prepared or decided.
     pub fn due(&self, due: Due, n: usize) -> Option<(TxnId, Stamp)>
         ensures { IsUnder (seen_held self.now) (λ place. result ≡ due_in place due n) }
     {
@@ -181,7 +182,7 @@ impl<D: Disk + Drop, R: Wait + Drop> Held<D, R> {
         }
     }
 
-    /// A transaction that is decided and not settled, of the least timestamp, with it. There is none in a disk alone.
+    /// Gives the transaction with the least timestamp that is decided and not settled, with that timestamp. A disk alone has none.
     pub fn earliest_decided(&self) -> Option<(TxnId, Stamp)>
         ensures { IsUnder (seen_held self.now) (λ place. IsEarliestIn place result) }
     {
@@ -191,7 +192,7 @@ impl<D: Disk + Drop, R: Wait + Drop> Held<D, R> {
         }
     }
 
-    /// Whether the core is stopped. A disk alone is.
+    /// Tells whether the core is stopped. A disk alone is.
     pub fn is_stopped(&self) -> bool
         ensures { IsUnder (seen_held self.now) (λ place. result ≡ is_at_rest place) }
     {
@@ -201,7 +202,7 @@ impl<D: Disk + Drop, R: Wait + Drop> Held<D, R> {
         }
     }
 
-    /// How many versions the core has. A disk alone has none.
+    /// Counts the versions of the core. A disk alone has none.
     pub fn versions(&self) -> usize
         ensures { IsUnder (seen_held self.now) (λ place. result ≡ versions_in place) }
     {
@@ -211,7 +212,7 @@ impl<D: Disk + Drop, R: Wait + Drop> Held<D, R> {
         }
     }
 
-    /// What is stopped is opened again, as it was told before, with a new board and so many viewers.
+    /// Opens the shard again, as it was told before, with a new board and so many viewers (`Place::restart`).
     pub fn restart(&mut self, rt: R, alloc: Global, n: usize) -> Result<Vec<Viewer>, Fault>
         ensures restarted { IfOk result (λ viewers. Became (seen_held self.old) (seen_held self.new)
             (λ old. λ new. HasRestarted D.keeps_model D.obeys D.file D.clock D.since D.failures D.plan
@@ -231,7 +232,7 @@ impl<D: Disk + Drop, R: Wait + Drop> Held<D, R> {
         viewers
     }
 
-    /// Ends it, and gives its disk back as it is.
+    /// Ends the desk, and gives its disk back as it is.
     pub fn close(self) -> D
         ensures { IsUnder (seen_held self) (λ place. result ≡ disk_of_place place) }
     {

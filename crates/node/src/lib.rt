@@ -1,5 +1,5 @@
-//! Nodes: a desk, which is a shard's core with the publisher of its board, under a lock, as threads serve it by the letters of an inbox; and
-//! shards that are opened together, a node over the disk of each, with the clock that they share.
+//! Nodes. A node is a desk under a lock: the core of a shard and the publisher of its board. Threads serve it by the letters of an inbox.
+//! Shards are opened together, with a node over the disk of each, and with the clock that they share.
 #![tactic(auto)]
 
 mod desk;

@@ -6,10 +6,13 @@ use std::time;
 use truetime::{Clock, Reading};
 use units::Stamp;
 
-/// Readings of the machine's clock: the microseconds since 1970, and epsilon microseconds before and after. They are honest where the
-/// clock is within epsilon of the true time.
+/// The machine's clock, in microseconds since 1970. A reading is from `epsilon` before it to `epsilon` after it. It is honest if the
+/// clock is within epsilon of the true time. There is no reading if the clock cannot be read, or if the reading would end beyond the
+/// last timestamp.
 pub struct MachineClock<'a, R> {
+    /// The runtime whose clock is read.
     pub rt: &'a R,
+    /// How far the clock may be from the true time, in microseconds.
     pub epsilon: u64,
 }
 
@@ -37,7 +40,7 @@ impl<R: time::Clock> Clock for MachineClock<'_, R> {
     }
 }
 
-// The interval around a time. There is none where it ends past the last timestamp.
+// The interval around a time. There is none if it ends after the last timestamp.
 fn around(micros: u64, epsilon: u64) -> Option<Reading>
     ensures { MatchOption result (2 ^ 62 ≤ micros + epsilon)
         (λ now. (now.earliest ≡ micros - epsilon) × (now.latest ≡ micros + epsilon)) }

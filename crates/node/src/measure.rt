@@ -4,16 +4,17 @@ ghost use Rattle.node.specs.Renewed.{has_grown, measured};
 
 use units::Fault;
 
-/// How many bytes a log had behind its last turnover, or 0 where none was made since; and where it ended when one was tried last, or when
-/// nothing was known of it.
+/// How long a log was at its last turnover, to tell whether it has grown since.
 #[derive(Clone, Copy)]
 pub struct Measure {
+    /// How many bytes the log had after its last turnover, or 0 if none was made since the desk was made.
     pub held: u64,
+    /// The offset at which it ended when a turnover was last tried, or when the desk was made.
     pub ended: u64,
 }
 
 impl Measure {
-    /// Whether a log that ends at this gate has grown by more than it held, and by so many bytes at least.
+    /// Tells whether a log that ends at this gate has grown by more than it held, and by `least` bytes at least.
     pub fn has_grown(&self, gate: u64, least: u64) -> bool
         ensures { result ≡ has_grown self.now gate least }
     {
@@ -21,7 +22,7 @@ impl Measure {
         self.held < growth && least <= growth
     }
 
-    /// Behind a turnover, which was done or refused. The new area begins right behind the former gate.
+    /// Measures the log after a turnover, which was done or refused. The new area begins right after the former gate.
     pub fn behind(&self, former: u64, gate: u64, turned: &Result<(), Fault>) -> Measure
         ensures { result ≡ measured self.now former gate turned.now }
     {

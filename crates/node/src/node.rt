@@ -18,10 +18,13 @@ use std::sync::{Mutex, Wait};
 use truetime::Reading;
 use units::{Fault, ShardNo, Stamp};
 
-/// A node. Whenever its lock is free, the desk keeps what a desk keeps, or the disk is there alone.
+/// A node: a desk under a lock. Whenever the lock is free, the desk keeps its invariants, or the disk is there alone.
 pub struct Node<D: Disk + Drop, R: Wait + Drop> {
+    /// The allocator of its letters.
     pub(crate) alloc: Global,
+    /// The number of its shard.
     pub(crate) shard: ShardNo,
+    /// The desk under its lock.
     pub(crate) held: Mutex<Held<D, R>>,
 }
 
@@ -37,7 +40,7 @@ impl<D: Disk + Drop, R: Wait + Drop> Drop for Node<D, R> {
 }
 
 impl<D: Disk + Drop, R: Wait + Drop> Node<D, R> {
-    /// A node for a core, and so many viewers of its board.
+    /// Makes a node for a core, and so many viewers of its board. If that is refused, the core comes back.
     pub fn new(
         rt: R,
         alloc: Global,
@@ -63,12 +66,12 @@ impl<D: Disk + Drop, R: Wait + Drop> Node<D, R> {
         }
     }
 
-    /// The shard's number.
+    /// Gives the number of its shard.
     pub fn shard(&self) -> ShardNo {
         self.shard
     }
 
-    /// One step of the core, under the lock.
+    /// Takes a step of the core, under the lock.
     pub fn deliver<W: Wait>(&self, rt: &W, now: &Reading, input: &Input) -> Result<Outbox, Fault>
         ensures { IfErr result (λ fault. IsTrue (refuses_input fault)) }
     {
@@ -89,8 +92,8 @@ impl<D: Disk + Drop, R: Wait + Drop> Node<D, R> {
         self.held.lock(rt).turn_over()
     }
 
-    /// Asks the core for the horizon that keeps so many microseconds behind a reading, and turns the log over where it has grown, by so many
-    /// bytes at least, under the lock (`Desk::renew`).
+    /// Raises the core's horizon, but keeps so many microseconds before a reading. Then turns the log over if it has grown by `least` bytes or
+    /// more, and by more than it held (`Desk::renew`). Both are done under the lock.
     pub fn renew<W: Wait>(
         &self,
         rt: &W,
@@ -103,9 +106,11 @@ impl<D: Disk + Drop, R: Wait + Drop> Node<D, R> {
         self.held.lock(rt).renew(now, micros, least)
     }
 
-    /// Opens the disk of a node that was stopped again, with a new board and so many viewers. A node that is not stopped is
-    /// refused. Where the opening or the board is refused, the node keeps the disk alone, and may be asked again; till then it
-    /// refuses letters as a core that is stopped. The viewers of the old board are refused from then on.
+    /// Opens the disk of a stopped node again, with a new board and so many viewers. The viewers of the old board are refused from then on. A
+    /// node that is not stopped is refused as `again`, and goes on.
+    ///
+    /// If the opening or the board is refused, the node keeps the disk alone: call `restart` again. Until then it refuses letters as a
+    /// stopped core does.
     pub fn restart<W: Wait>(
         &self,
         rt: &W,

@@ -52,9 +52,9 @@ impl<D: Disk + Drop> Drop for Opening<D> {
     }
 }
 
-/// Opens the logs of some disks, each of a shard that is told a setup, all at once: each by a thread of its own, where one starts, and
-/// else by the caller. Each result is what `Core::open` gives, in the order of the disks. All memory but what the openings themselves
-/// take is taken before any disk is opened; where it is refused, all disks come back.
+/// Opens the logs of some disks all at once, each of a shard that is told a setup. Each is opened by a thread of its own, or by the caller if
+/// no thread starts. The results are those of `Core::open`, in the order of the disks. All other memory is taken first: if it is refused, no
+/// disk is opened, and all come back.
 pub fn open_all<R: Threads + Sync, D: Disk + Drop + Send>(
     rt: &R,
     alloc: Global,

@@ -10,10 +10,12 @@ use std::alloc::Global;
 use std::sync::Wait;
 use units::{Fault, Reason, Setup};
 
-/// A desk; or the disk alone, where it was closed to be opened again, and that was refused.
+/// A desk; or the disk alone, after the desk was closed to be opened again and that was refused.
 #[derive(Drop)]
 pub enum Place<D: Disk + Drop, R: Wait + Drop> {
+    /// The desk, which serves or is stopped.
     Serving(Desk<D, R>),
+    /// The disk alone.
     Resting(D),
 }
 
@@ -21,7 +23,8 @@ impl<D: Disk + Drop, R: Wait + Drop> Place<D, R> {
     ghost use Rattle.node.specs.Seen.{seen_place};
     ghost use Rattle.node.specs.Restart.{HasRestarted, HasNotRestarted, disk_of_place};
 
-    /// What is stopped is opened again, as a core is, with a new board and so many viewers.
+    /// Opens a stopped shard again, as a core is opened, with a new board and so many viewers. A desk that is not stopped is refused as
+    /// `again`, and stays. After any other refusal the disk is there alone.
     pub fn restart(
         self,
         rt: R,
@@ -54,7 +57,7 @@ impl<D: Disk + Drop, R: Wait + Drop> Place<D, R> {
         }
     }
 
-    /// Ends it, and gives its disk back as it is.
+    /// Ends the desk, and gives its disk back as it is.
     pub fn close(self) -> D
         ensures { result ≡ disk_of_place (seen_place self) }
     {

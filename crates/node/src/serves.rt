@@ -63,9 +63,9 @@ impl<D: Disk + Drop, R: Wait + Drop> Serves for Node<D, R> {
 }
 
 impl<D: Disk + Drop, R: Wait + Drop> Node<D, R> {
-    /// Asks the core for the horizon that keeps so many microseconds behind a reading, which is taken under the lock. The board is told by the
-    /// next advance. A service that wants the past for a while calls it now and then; an idle node does not. Where the clock has no reading,
-    /// it is refused as `TimeSpent`.
+    /// Raises the core's horizon, but keeps so many microseconds before a reading, which is taken under the lock. The next advance tells the
+    /// board. If the clock has no reading, it is refused as `TimeSpent`. An idle node does not do this by itself: a service that keeps the
+    /// past for a while calls it now and then.
     pub fn keep_by<W: Wait, C: Clock>(
         &self,
         rt: &W,
@@ -81,7 +81,7 @@ impl<D: Disk + Drop, R: Wait + Drop> Node<D, R> {
         }
     }
 
-    /// `renew` at a reading that is taken under the lock. Where the clock has none, it is refused as `TimeSpent`.
+    /// Calls `renew` at a reading that is taken under the lock. If the clock has none, it is refused as `TimeSpent`.
     pub fn renew_by<W: Wait, C: Clock>(
         &self,
         rt: &W,
@@ -98,8 +98,8 @@ impl<D: Disk + Drop, R: Wait + Drop> Node<D, R> {
         }
     }
 
-    /// Serves the letters of the inbox until one says to close, or the inbox is closed. Whenever none is there the node does its
-    /// chores, and every millisecond or 64 letters while letters come.
+    /// Serves the letters of the inbox until one says to close, or the inbox is closed. The node does its chores whenever no letter is there.
+    /// While letters come, it does them after each millisecond or 64 letters.
     pub fn serve<W: Wait + time::Clock, P: Post, C: Clock, G: Gate>(
         &self,
         rt: &W,

@@ -6,12 +6,15 @@ use std::sync::atomic::{AtomicU64, Ordering};
 use truetime::{Clock, Reading};
 use units::Stamp;
 
-/// A clock over another that does not go back: its copies share the latest microsecond that a reading of one of them reached. A reading
-/// that would end before that, or before a timestamp from which it goes on, ends there; where it begins is left as it is, so it holds whatever
-/// the reading below holds.
+/// A clock over another one that does not go back. Its copies share the latest microsecond that a reading of one of them reached. A reading
+/// that would end before that, or before `from`, ends there instead. It begins at the same time as the reading below, so it holds whatever
+/// that one holds.
 pub struct SteadyClock<'a, C> {
+    /// The clock below.
     pub clock: C,
+    /// The timestamp before which no reading ends.
     pub from: Stamp,
+    /// The latest microsecond that a reading has reached.
     pub reached: &'a AtomicU64,
 }
 
@@ -40,8 +43,8 @@ impl<C: Clock> Clock for SteadyClock<'_, C> {
     }
 }
 
-/// A reading of a clock, as it is where none may end before a timestamp from which it goes on, or before the latest microsecond that one
-/// has reached. There is none where that is no timestamp.
+/// Makes a reading end no earlier than a timestamp, nor than the latest microsecond that another reading has reached. `None` if that is no
+/// timestamp.
 pub fn steady_over(now: Reading, from: Stamp, reached: &AtomicU64) -> Option<Reading>
     ensures earliest { IfSome result (λ told. told.earliest ≡ now.earliest) }
     ensures latest { IfSome result (λ told. now.latest ≤ told.latest) }
@@ -53,8 +56,7 @@ pub fn steady_over(now: Reading, from: Stamp, reached: &AtomicU64) -> Option<Rea
     Some(steady(now, from, reached))
 }
 
-// The reading that begins where one does, and ends there too, or at a timestamp from which it goes on or one that was reached, if that
-// is later.
+// The reading that begins as one does, and ends there too, or at a timestamp from which it goes on or one that was reached, if that is later.
 fn steady(now: Reading, from: Stamp, reached: Stamp) -> Reading
     ensures earliest { result.earliest ≡ now.earliest }
     ensures latest { result.latest ≡ max (max now.latest from) reached }

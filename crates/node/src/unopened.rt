@@ -4,11 +4,12 @@ ghost use Rattle.std.specs.Prelude.{◌≡◌};
 use std::fmt;
 use units::{Fault, ShardNo};
 
-/// Why the shards of a store are not opened: the fault, and the first shard that is refused. There is no such shard where the fault is of
-/// all of them: the settings are refused, or memory is wanting before any disk is opened.
+/// Why the shards of a store are not opened.
 #[derive(Clone, Copy, PartialEq, Eq)]
 pub struct Unopened {
+    /// The first shard that is refused. `None` if the settings are refused, or memory before any disk is opened.
     pub shard: Option<ShardNo>,
+    /// The fault of that shard, or of all of them.
     pub fault: Fault,
 }
 
@@ -41,7 +42,9 @@ impl fmt::Display for Unopened {
 /// The same of a store in a folder, to be printed: the folder, or the file of the shard's log in it, and the fault.
 #[derive(Clone, Copy)]
 pub struct UnopenedIn<'a> {
+    /// The folder of the store.
     pub folder: &'a str,
+    /// Why it is not opened.
     pub unopened: Unopened,
 }
 

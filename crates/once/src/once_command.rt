@@ -21,8 +21,8 @@ use std::io::Write;
 use truetime::Reading;
 use units::{Fault, Key, Stamp, Value};
 
-/// Commits the write at the first reading and settles it at the second, in a new shard on the disk. Gives 0, or 1 where that
-/// is too early, and the disk, which holds what was printed.
+/// Commits the write at the first reading and settles it at the second, in a new shard on the disk. The status is 0, or 1 if the second
+/// reading is too early. The disk comes back; its log holds what was printed.
 pub fn once<O: Write>(
     alloc: Global,
     key: Key,

@@ -18,7 +18,7 @@ use units::{
     Book, Fault, Key, Parts, Setup, ShardNo, Splits, Stamp, Stride, TxnId, Value, Write, Writes,
 };
 
-/// The shard with a new log, on a disk that does not fail.
+/// Opens a shard with a new log, on a disk that does not fail.
 pub fn open_new(alloc: Global, disk: SimDisk) -> Result<Core<SimDisk>, (Fault, SimDisk)>
     requires { disk_plan disk ≡ Never }
     ensures log { IfOk result (λ core. HasLog new_log (seen core)) }
@@ -34,7 +34,7 @@ pub fn open_new(alloc: Global, disk: SimDisk) -> Result<Core<SimDisk>, (Fault, S
     }
 }
 
-/// Commits the write at a reading, and gives its timestamp.
+/// Commits the write at a reading, and returns its timestamp.
 pub fn commit(
     alloc: Global,
     core: &mut Core<SimDisk>,
@@ -60,7 +60,7 @@ pub fn commit(
     }
 }
 
-/// Settles it at a reading: not before its timestamp has surely passed.
+/// Settles the transaction at a reading. `false` if its timestamp has not surely passed: settle it again at a later reading.
 pub fn settle(alloc: Global, core: &mut Core<SimDisk>, at: &Reading) -> Result<bool, Fault>
     ensures { (key value : List ℕ) (stamp : ℕ)
         → HasLog (decided_log key value stamp) (seen core.old)
@@ -84,7 +84,7 @@ pub fn settle(alloc: Global, core: &mut Core<SimDisk>, at: &Reading) -> Result<b
     }
 }
 
-/// The transaction that commits the write.
+/// Names the transaction that commits the write.
 pub fn only_txn() -> TxnId
     ensures { result ≡ only_txn }
 {

@@ -1,10 +1,12 @@
 //! Why a command did not come to its end.
 use units::Fault;
 
-/// A refusal, which is printed, or a write that failed, after which nothing is.
+/// Why a command failed. A refusal is printed; after a write that failed nothing is.
 #[derive(Clone, Copy)]
 pub enum Failure {
+    /// The command was refused for this fault.
     Refused(Fault),
+    /// A write to an output failed.
     Unwritten,
 }
 

@@ -9,7 +9,7 @@ use counts::Count;
 use std::io::Write;
 use units::Fault;
 
-/// A writer, and how often a write to it has failed, which only proofs see. Nothing else raises that number.
+/// A writer, and how many writes to it have failed. Only proofs see that number, and nothing else raises it.
 #[derive(Drop)]
 pub struct Stream<W: Write> {
     writer: W,
@@ -19,7 +19,7 @@ pub struct Stream<W: Write> {
 impl<W: Write> Stream<W> {
     ghost use Rattle.output.specs.Streams.{writer_of, failures_of};
 
-    /// Nothing has failed yet.
+    /// Creates a stream over a writer; none of its writes has failed.
     pub fn new(writer: W) -> Stream<W>
         ensures over { writer_of result ≡ writer }
         ensures none { failures_of result ≡ 0 }
@@ -30,7 +30,7 @@ impl<W: Write> Stream<W> {
         }
     }
 
-    /// The writer, with what was printed.
+    /// Gives back the writer, with what was printed.
     pub fn into_writer(self) -> W
         ensures { result ≡ writer_of self }
     {

@@ -23,7 +23,7 @@ impl fmt::Display for VerdictText {
     }
 }
 
-/// The status of a command that comes to a verdict: 0 for yes, and 1 for a no.
+/// Gives the exit status of a command with a verdict: 0 for yes, and 1 for no.
 pub fn status_of(verdict: Verdict) -> u8
     ensures { result ≡ exit_status verdict }
 {

@@ -14,22 +14,26 @@ use std::alloc::Global;
 use units::{Fault, Line, Reason};
 use world::{Config, Event, Reply, counted};
 
-/// What a run comes to: the reply to each event and how many messages had been put out behind it, every message that was put
-/// out, the disk that each shard ends with, the log that a read of it gives, and the lines that count. A line of a read counts
-/// where its transaction committed.
+/// What a run comes to.
 #[derive(Drop)]
 pub struct Report {
+    /// The reply to each event.
     pub replies: Vec<Reply>,
+    /// How many messages had been put out after each event.
     pub counts: Vec<u64>,
+    /// Every message that was put out.
     pub bag: Bag,
+    /// The disk that each shard ends with.
     pub disks: Vec<SimDisk>,
+    /// The log that a read of each disk gives.
     pub logs: Vec<Vec<Record>>,
+    /// The lines that count; that of a read counts if its transaction committed.
     pub lines: Vec<Line>,
 }
 
-/// Plays the events over shards on disks in memory: each step of a shard is a call of its core, each step of a session one of
-/// its transaction, each crash and each failing call one of its disk. Events that are not lawful are refused with the number
-/// of the first that may not happen.
+/// Plays the events over shards on disks in memory. Each step of a shard is a call of its core, and each step of a session one of its
+/// transaction. Crashes and failing calls are those of its disk. Events that are not lawful are refused with the number of the first that
+/// may not happen.
 pub fn play(alloc: Global, config: &Config, events: &[Event]) -> Result<Report, Fault>
     ensures report { IfOk result (λ report. IsReport config.now events.now report) }
     ensures refused { IfErr result (λ fault. IsNoReport config.now events.now fault) }
@@ -48,8 +52,8 @@ pub fn play(alloc: Global, config: &Config, events: &[Event]) -> Result<Report, 
     }
 }
 
-/// Whether each event may happen after those before it: true times do not fall, readings hold them, messages were put out
-/// before they come, and sessions, shards and views exist.
+/// Tells whether each event may happen after those before it. True times do not fall, and readings hold them. Messages were put out before
+/// they come. Sessions, shards and views exist.
 pub fn lawful(alloc: Global, config: &Config, events: &[Event]) -> Result<bool, Fault>
     ensures answer { IfOk result (λ fair. fair ≡ lawful config.now events.now) }
     ensures memory { IfErr result (λ fault. fault ≡ Fault.Memory) }
@@ -64,7 +68,7 @@ pub fn lawful(alloc: Global, config: &Config, events: &[Event]) -> Result<bool, 
     }
 }
 
-// Each event happens, where it may.
+// Each event happens, if it may.
 fn play_all(
     run: &mut Run<'_>,
     alloc: Global,

@@ -10,7 +10,7 @@ static JUDGED: [Asked; 11] = [
     Asked {
         lines: &[
             "once a 1 100 110 112 121",
-            // Words behind `--` ask for no help.
+            // Words after `--` ask for no help.
             "once -- -h --help 100 110 112 121",
         ],
         printed: "commit 1.1 at 111\ndone 1.1 committed 111\n",
@@ -689,7 +689,7 @@ fn go_over(wrong: &mut WrongRows, alloc: Global, rows: &[Asked]) {
     }
 }
 
-/// Goes over what is answered, also of help and where a write fails.
+/// Goes over what is answered, also over help, and over writes that fail.
 pub fn go_over_answers(wrong: &mut WrongRows, alloc: Global) {
     for rows in [
         judged(),
@@ -711,7 +711,7 @@ pub fn go_over_refusals(wrong: &mut WrongRows, alloc: Global) {
     }
 }
 
-/// Of no log nothing is told. No command line asks for that.
+/// Tells whether nothing is told of no log. No command line asks for that.
 pub fn counts_no_log(alloc: Global) -> bool {
     match stats_files(alloc, &Memory { files: &[] }, &[]) {
         Ok(text) => {

@@ -509,7 +509,7 @@ fn reads() -> &'static [Case] {
     &READS
 }
 
-/// All rows.
+/// Gives all rows.
 pub fn cases() -> [&'static [Case]; 2] {
     [messages(), reads()]
 }

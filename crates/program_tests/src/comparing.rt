@@ -3,11 +3,13 @@ use crate::given::{AMPLE, File, PLAY, print};
 use made::WrongRows;
 use std::alloc::Global;
 
-// A schedule and what its report says, without the events that were only done: first the other events, and then the messages,
-// the logs, the lines and the verdict, which is a yes.
+/// A schedule, and what its report has to say.
 pub struct Case {
+    /// What the row is called.
     pub name: &'static str,
+    /// The text of the schedule.
     pub schedule: &'static str,
+    /// The report without the events that were only done: the other events, the messages, the logs, the lines, and the verdict yes.
     pub report: &'static str,
 }
 
@@ -27,7 +29,7 @@ fn is_wanted(report: &str, wanted: &str) -> bool {
     left.next().is_none()
 }
 
-/// The schedule comes to what is wanted.
+/// Tells whether the schedule comes to what is wanted.
 pub fn reports(alloc: Global, schedule: &str, wanted: &str) -> bool {
     let file = File {
         path: "a.schedule",
@@ -43,7 +45,7 @@ pub fn reports(alloc: Global, schedule: &str, wanted: &str) -> bool {
     right
 }
 
-/// Goes over tables of schedules, which come to what is wanted.
+/// Plays tables of schedules, each of which has to come to what is wanted.
 pub fn go_over(wrong: &mut WrongRows, alloc: Global, tables: &[&[Case]]) {
     for cases in tables {
         for case in *cases {

@@ -3,8 +3,8 @@ use crate::comparing::Case;
 
 // Crashes between events, and a lost outcome.
 static CRASHES: [Case; 5] = [
-    // A ceiling is above the time that was served before the crash. What is promised behind the opening is above the ceiling. A
-    // view is answered while its shard is down.
+    // A ceiling is above the time that was served before the crash. What is promised after the opening is above the ceiling. A view is
+    // answered while its shard is down.
     Case {
         name: "a ceiling and a crash",
         schedule: "shards 2
@@ -52,7 +52,7 @@ look z 200 none
 verdict yes
 ",
     },
-    // What was read before a crash does not hold behind the opening: the vote is refused, which aborts.
+    // What was read before a crash does not hold after the opening: the vote is refused, which aborts.
     Case {
         name: "a read before a crash",
         schedule: "shards 2
@@ -90,7 +90,7 @@ begin 1.1 0
 verdict yes
 ",
     },
-    // What is read behind the opening holds in its epoch.
+    // What is read after the opening holds in its epoch.
     Case {
         name: "a read behind an opening",
         schedule: "shards 2
@@ -227,8 +227,8 @@ verdict yes
 
 // Crashes in device calls, and failing calls.
 static CALLS: [Case; 4] = [
-    // The crash comes behind the last call of a settling, so its message is not put out. The Commit is delivered once more, and
-    // its answer acknowledges. The promise's vote is the same as before a crash.
+    // The crash comes after the last call of a settling, so its message is not put out. The Commit is delivered once more, and its answer
+    // acknowledges. The promise's vote is the same as before a crash.
     Case {
         name: "crashes behind the last call",
         schedule: "shards 2
@@ -272,8 +272,8 @@ ack 1.2 200 12
 verdict yes
 ",
     },
-    // Openings that are cut short. The record of the first is kept, since the crash in its last call makes its open gate whole, and
-    // so is that of the second, of which that call fails. The failure of a call that the fifth does not make does not come.
+    // Openings that are cut short. The record of the first is kept: the crash in its last call makes its open gate whole. So is that of the
+    // second, of which that call fails. The failure of a call that the fifth does not make does not come.
     Case {
         name: "openings that are cut short",
         schedule: "shards 2
@@ -370,9 +370,9 @@ look a 111 =1
 verdict yes
 ",
     },
-    // Horizons that are cut short. The first is lost; the second is kept, since its gate is whole. The third fails behind the gate: the
-    // shard answers as before until it is opened. A horizon that is not above the former makes no call, so none of its calls fails, and a
-    // crash in one comes behind it.
+    // Horizons that are cut short. The first is lost; the second is kept, since its gate is whole. The third fails after the gate: the shard
+    // answers as before until it is opened. A horizon that is not above the former makes no call. So none of its calls fails, and a crash in
+    // one comes after it.
     Case {
         name: "horizons that are cut short",
         schedule: "shards 1
@@ -442,7 +442,7 @@ fn in_calls() -> &'static [Case] {
     &CALLS
 }
 
-/// All rows.
+/// Gives all rows.
 pub fn crashes() -> [&'static [Case]; 2] {
     [between(), in_calls()]
 }

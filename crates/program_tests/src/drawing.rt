@@ -1,4 +1,4 @@
-//! Lawful lists of events are drawn from a seed, one after the other: each from what was put out so far and from which shards
+//! Lawful lists of events are drawn from a seed, one event after the other. Each is drawn from what was put out so far and from which shards
 //! are up, and then it happens.
 ghost use Rattle.std.specs.Prelude.{◌<◌, ◌-◌, ◌^◌};
 
@@ -17,7 +17,7 @@ static DIGITS: [u8; 10] = [b'0', b'1', b'2', b'3', b'4', b'5', b'6', b'7', b'8',
 // What a crash may leave of each byte of a write: that of an open gate, that of a closed one, and others.
 static BYTES: [u8; 4] = [0xa5, 0x00, 0x37, 0xff];
 
-/// The length of a list.
+/// How many events a list has.
 pub const LENGTH: usize = 300;
 
 // A list so far: its last step, the sessions 1 to `begun` have begun, and the messages below `next` were delivered in their
@@ -36,8 +36,8 @@ struct Drawn {
 }
 
 impl Drawn {
-    // A number below a limit, or 0 where the limit is 0. It is drawn by the upper 31 bits of a linear congruential generator
-    // modulo 2^64, with the multiplier 6364136223846793005 and the increment 1442695040888963407.
+    // A number below a limit, or 0 if the limit is 0. It is drawn by the upper 31 bits of a linear congruential generator modulo 2^64, with
+    // the multiplier 6364136223846793005 and the increment 1442695040888963407.
     fn below(&mut self, limit: u64) -> u64 {
         self.random = self
             .random
@@ -50,7 +50,7 @@ impl Drawn {
         }
     }
 
-    // One of some bytes, or 0 where there is none.
+    // One of some bytes, or 0 if there is none.
     fn one_of(&mut self, bytes: &[u8]) -> u8 {
         let number = self.below(bytes.len() as u64) as usize;
         match bytes.get(number) {
@@ -162,7 +162,7 @@ impl Drawn {
         }
     }
 
-    // A shard does something for a transaction, or it goes on where there is none.
+    // A shard does something for a transaction, or it goes on if there is none.
     fn serve(&mut self, shard: u8, txn: u64, does: Does) {
         self.step.txn = txn;
         if txn == 0 {
@@ -286,7 +286,7 @@ impl Drawn {
         };
     }
 
-    // What a shard does where a call of it fails, or where it crashes.
+    // What a shard does in which a call of it fails, or it crashes.
     fn act(&mut self, sight: &Sight<'_>, shard: u8, seen: Seen) {
         self.now(shard, Does::Resume);
         match self.below(5) {
@@ -378,7 +378,7 @@ impl Drawn {
     }
 }
 
-// The step of a number happens in a run, where it may.
+// The step of a number happens in a run, if it may.
 fn happens(run: &mut Run<'_>, alloc: Global, number: usize, step: &Step) -> bool
     requires { number < 2 ^ 64 - 1 }
 {
@@ -416,7 +416,7 @@ fn fill(
     true
 }
 
-/// Draws a list of events over so many shards, from a seed, with turnovers of logs or without. False where one does not happen.
+/// Draws a list of events over so many shards, from a seed, with turnovers of logs or without. Returns `false` if one does not happen.
 pub fn is_drawn(
     steps: &mut Vec<Step>,
     alloc: Global,

@@ -33,7 +33,7 @@ fn judge_report(
     judge(told)
 }
 
-/// A list is played, and judged.
+/// Plays a list, and judges it. Returns what is wrong, or an empty text.
 pub fn play_one(
     alloc: Global,
     config: &Config,
@@ -79,21 +79,25 @@ fn draw_all(rt: &impl Abort, alloc: Global, first: u64) {
     end(rt, wrong);
 }
 
+// Fails if the report of a drawn list contradicts itself: seeds 1 to 50.
 #[test]
 fn runs_from_1(rt: HostRuntime) {
     draw_all(&rt, rt.alloc(), 1);
 }
 
+// The same of the seeds 51 to 100.
 #[test]
 fn runs_from_51(rt: HostRuntime) {
     draw_all(&rt, rt.alloc(), 51);
 }
 
+// The same of the seeds 101 to 150.
 #[test]
 fn runs_from_101(rt: HostRuntime) {
     draw_all(&rt, rt.alloc(), 101);
 }
 
+// The same of the seeds 151 to 200.
 #[test]
 fn runs_from_151(rt: HostRuntime) {
     draw_all(&rt, rt.alloc(), 151);

@@ -1,6 +1,6 @@
-//! One transaction over three shards is stopped at each device call of each append: the shard crashes in the call, or the call fails.
-//! Then the shard is opened, each message comes once more, the transaction is settled, and each message comes again. In the end it is
-//! committed on all three, at one timestamp. So it is too where each shard's log was turned over behind the decision.
+//! One transaction over three shards is stopped at each device call of each append: the shard crashes in the call, or the call fails. Then
+//! the shard is opened, each message comes once more, the transaction is settled, and each message comes again. In the end it is committed on
+//! all three, at one timestamp. The same has to hold if each shard's log was turned over after the decision.
 use crate::given::{AMPLE, File, PLAY, print};
 use crate::stops::{Stop, all_stops};
 use made::WrongRows;
@@ -68,8 +68,8 @@ static STEPS: [Step; 8] = [
     },
 ];
 
-// A step in which its shard stops, by its place among the steps, and the transaction's timestamp: where the step's record is kept, and
-// where it is not.
+// A step in which its shard stops, by its place among the steps. The transaction's timestamp is `kept` if the step's record is kept, and else
+// `lost`.
 struct Stopped {
     name: &'static str,
     place: usize,
@@ -119,7 +119,7 @@ static STOPPED: [Stopped; 6] = [
 // The place of the decision among the steps.
 const DECISION: usize = 4;
 
-// Behind the decision each shard's log is turned over.
+// After the decision each shard's log is turned over.
 const TURNED: &str = "236 turn 0
 236 turn 1
 236 turn 2
@@ -134,7 +134,7 @@ fn all_stopped() -> &'static [Stopped] {
     &STOPPED
 }
 
-// Adds the events up to the stop, and the opening behind it.
+// Adds the events up to the stop, and the opening after it.
 fn add_stop(
     text: &mut String,
     stopped: &Stopped,
@@ -284,7 +284,7 @@ fn go_over_calls(wrong: &mut WrongRows, alloc: Global, stopped: &Stopped, turned
     }
 }
 
-/// Goes over all rows, and those behind the decision once more where each shard's log was turned over behind it.
+/// Goes over all rows. Those after the decision come twice: the second time each shard's log is turned over after it.
 pub fn go_over(wrong: &mut WrongRows, alloc: Global) {
     for stopped in all_stopped() {
         go_over_calls(wrong, alloc, stopped, false);

@@ -104,7 +104,7 @@ static LOGS: [File<'static>; 14] = [
         path: "bare.log",
         bytes: BARE,
     },
-    // Opened 1, and behind the closed gate what a crash left of Opened 2.
+    // Opened 1, and after the closed gate what a crash left of Opened 2.
     File {
         path: "unfinished.log",
         bytes: b"SPNLOG02\xa5\0\0\0\x09\x01\0\0\0\0\0\0\0\x01\0\0\0\0\x09\x01\0\0",
@@ -169,8 +169,8 @@ static STORES: [File<'static>; 11] = [
         path: "two/store.toml",
         bytes: TWO_SHARDS,
     },
-    // Opened 1; Commit 1.2 at 200 by shards 0 and 1, with a=1; its outcome; Commit 1.3 at 300, which erases a; its outcome;
-    // Commit 1.4 at 400, with a line feed and a backslash.
+    // Opened 1. Commit 1.2 at 200 by shards 0 and 1, with a=1; its outcome. Commit 1.3 at 300, which erases a; its outcome. Commit 1.4 at
+    // 400, with a line feed and a backslash.
     File {
         path: "two/shard-0.log",
         bytes: b"SPNLOG02\xa5\0\0\0\x09\x01\0\0\0\0\0\0\0\x01\
@@ -251,7 +251,7 @@ static FAULTY: [File<'static>; 8] = [
 
 // Logs whose numbers are told.
 static COUNTED: [File<'static>; 5] = [
-    // Opened 1; Commit 1.2 at 200 by shard 0, with a=1; Abort 1.3; Ceiling 300; Opened 2; and behind the closed gate what a crash left.
+    // Opened 1; Commit 1.2 at 200 by shard 0, with a=1; Abort 1.3; Ceiling 300; Opened 2. After the closed gate stands what a crash left.
     File {
         path: "kinds.log",
         bytes: b"SPNLOG02\xa5\0\0\0\x09\x01\0\0\0\0\0\0\0\x01\
@@ -306,7 +306,7 @@ static RENEWED: [File<'static>; 6] = [
         path: "renewed/lost.lines",
         bytes: b"look a 111 =9\nack 1.4 401 7\n",
     },
-    // Base 1 200 0; versions of a at 111 and, erased, at 200; 1.1 settled at 111 by shard 0, and 1.2 at 200 by shards 0 and 1; Opened 2;
+    // Base 1 200 0; versions of a at 111 and, erased, at 200. 1.1 settled at 111 by shard 0, and 1.2 at 200 by shards 0 and 1. Opened 2;
     // Commit 1.4 at 400 by shard 0, with a=7.
     File {
         path: "renewed/shard-0.log",
@@ -398,7 +398,7 @@ fn given() -> &'static [File<'static>] {
     &GIVEN
 }
 
-/// All files. No two have one path.
+/// Gives all files. No two have one path.
 pub fn all_files() -> [&'static [File<'static>]; 8] {
     [
         lists(),

@@ -9,16 +9,19 @@ use std::io;
 use std::io::Write;
 use units::{Fault, Verdict};
 
-/// A file. One of a log is told without its slots.
+/// A file in memory.
 #[derive(Clone, Copy)]
 pub struct File<'f> {
+    /// The path under which a command asks for it.
     pub path: &'static str,
+    /// What it holds. A log is told without its slots.
     pub bytes: &'f [u8],
 }
 
-/// Some files, in a few lists.
+/// The files of a system, in memory.
 #[derive(Clone, Copy)]
 pub struct Memory<'f> {
+    /// The files, in a few lists.
     pub files: &'f [&'f [File<'f>]],
 }
 
@@ -77,8 +80,8 @@ impl Hints for Memory<'_> {
     }
 }
 
-// Drives nothing. What came of it is told by the settings, some of which are told too: a drive of one key is torn, and one of two has counts
-// and no verdict.
+// Drives nothing. The settings tell what came of it, and some of them are told too. A drive of one key is torn, and one of two has counts and
+// no verdict.
 fn told(alloc: Global, settings: &Settings) -> Result<Driven, NoVerdict> {
     if settings.keys == 2 {
         return Err(NoVerdict {
@@ -112,15 +115,18 @@ fn ended(_alloc: Global, write: Put<'_>) -> Result<Ended, Fault> {
     }
 }
 
-/// How many writes each output takes before it fails, and whether all that is printed is compared, or how it begins.
+/// How many writes each output takes before it fails, and how it is compared.
 #[derive(Clone, Copy)]
 pub struct Writes {
+    /// How many standard output takes.
     pub out: u32,
+    /// How many standard error takes.
     pub err: u32,
+    /// Whether all that is printed is compared, or only how it begins.
     pub whole: bool,
 }
 
-/// All is printed and compared.
+/// Outputs that take all writes, and are compared whole.
 pub const AMPLE: Writes = Writes {
     out: 1_000_000,
     err: 1_000_000,
@@ -148,15 +154,18 @@ impl Write for Paper {
     }
 }
 
-/// What was printed to both outputs, and the status.
+/// What a command came to.
 #[derive(Drop)]
 pub struct Printed {
+    /// What was printed to standard output.
     pub out: Vec<u8>,
+    /// What was printed to standard error.
     pub err: Vec<u8>,
+    /// The exit status.
     pub status: u8,
 }
 
-/// Carries a command line over some files out. Where memory is wanting for its words it has none.
+/// Carries out a command line over some files. If memory is refused for its words, it has none.
 pub fn print(alloc: Global, files: &[&[File<'_>]], line: &str, writes: Writes) -> Printed {
     let words = match words_of(alloc, line) {
         Ok(words) => words,
@@ -188,18 +197,22 @@ pub fn print(alloc: Global, files: &[&[File<'_>]], line: &str, writes: Writes) -
     }
 }
 
-/// Command lines that come to the same: what is printed to both outputs, how many writes these take, and the status.
+/// Command lines that come to the same.
 #[derive(Clone, Copy)]
 pub struct Asked {
-    /// Single spaces part the words of a line.
+    /// The lines. Single spaces part the words of a line.
     pub lines: &'static [&'static str],
+    /// What is printed to standard output.
     pub printed: &'static str,
+    /// What is printed to standard error.
     pub refused: &'static str,
+    /// How many writes the outputs take.
     pub writes: Writes,
+    /// The exit status.
     pub status: u8,
 }
 
-/// Nothing is printed, and all is well.
+/// A row that prints nothing, with status 0.
 pub const TAKEN: Asked = Asked {
     lines: &[],
     printed: "",
@@ -208,13 +221,13 @@ pub const TAKEN: Asked = Asked {
     status: 0,
 };
 
-/// Nothing is printed, and it is refused.
+/// A row that prints nothing, with status 2.
 pub const REFUSED: Asked = Asked { status: 2, ..TAKEN };
 
 /// The words that play the file `a.schedule`.
 pub const PLAY: &str = "play a.schedule";
 
-/// The words of a line. An empty line has none.
+/// Splits a line into words. An empty line has none.
 pub fn words_of(alloc: Global, line: &str) -> Result<Vec<&str>, AllocError> {
     let mut words = Vec::new(alloc);
     if !line.is_empty() {
@@ -225,7 +238,7 @@ pub fn words_of(alloc: Global, line: &str) -> Result<Vec<&str>, AllocError> {
     Ok(words)
 }
 
-/// Whether a line over some files comes to what the row says.
+/// Tells whether a line over some files comes to what the row says.
 pub fn comes_to(alloc: Global, files: &[&[File<'_>]], line: &str, row: &Asked) -> bool {
     let printed = print(alloc, files, line, row.writes);
     let wanted = row.printed.as_bytes();

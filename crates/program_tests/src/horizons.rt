@@ -1,4 +1,4 @@
-//! A shard forgets what is below a horizon: nothing above what it serves, and what is forgotten stays so, also behind an opening.
+//! A shard forgets what is below a horizon: nothing above what it serves, and what is forgotten stays so, also after an opening.
 use crate::comparing::Case;
 
 static HORIZONS: [Case; 3] = [
@@ -199,7 +199,7 @@ verdict yes
     },
 ];
 
-/// All rows.
+/// Gives all rows.
 pub fn horizons() -> &'static [Case] {
     &HORIZONS
 }

@@ -66,9 +66,9 @@ fn value_before(told: &[Told], key: u8, at: u64, txn: u64) -> u8 {
     value
 }
 
-// Where a row is not true, what it is. There is one timestamp for a transaction, or none: records and messages agree with its
-// decision, a promise is not above it, and what began after an acknowledgement is above that. What was acknowledged stands
-// whole, and what was read is what stood just before.
+// What a row is, if it is not true. A transaction has one timestamp, or none: records and messages agree with its decision, a promise is not
+// above it, and what began after an acknowledgement is above that. What was acknowledged stands whole, and what was read is what stood just
+// before.
 fn untrue(told: &[Told], one: &Told, last: u64) -> &'static str {
     let decided = decision(told, one.txn);
     let at = decided.at;
@@ -100,7 +100,7 @@ fn untrue(told: &[Told], one: &Told, last: u64) -> &'static str {
     if is_true { "" } else { name }
 }
 
-/// The first row of a report that is not true.
+/// Finds the first row of a report that is not true. Returns what it is, or an empty text.
 pub fn judge(told: &[Told]) -> &'static str {
     let mut last: u64 = 0;
     for one in told {

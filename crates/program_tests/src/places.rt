@@ -1,4 +1,4 @@
-//! Where the faults of commands lie.
+//! In which file the faults of commands lie.
 use crate::files::all_files;
 use crate::given::{Memory, words_of};
 use commands::place_of;
@@ -6,7 +6,7 @@ use made::{FIRST_GATE, WrongRows};
 use std::alloc::Global;
 use units::{Fault, Reason};
 
-// A command line, the fault for which it was refused, and where that lies: an empty text where nobody can say.
+// A command line, the fault for which it was refused, and the place of that: an empty text if nobody can say.
 struct Row {
     line: &'static str,
     fault: Fault,
@@ -203,7 +203,7 @@ fn of_runs() -> &'static [Row] {
     &OF_RUNS
 }
 
-// Whether the fault lies where the row says.
+// Whether the fault lies in the place that the row names.
 fn lies(alloc: Global, row: &Row) -> bool {
     let Ok(words) = words_of(alloc, row.line) else {
         return false;

@@ -57,8 +57,8 @@ fn rests(does: Does, standing: Standing) -> bool {
     }
 }
 
-// What the shard of a step is behind it, where the reply is one that is due: a refusal as stopped where it rests, and no other;
-// a refusal of the device alone where a call was to fail; of a crash that it came; and of an opening that it is done.
+// What the shard of a step is after it, if the reply is one that is due. A shard that rests refuses as stopped, and no other does. Only a
+// call that was to fail is refused by the device. Of a crash it is said that it came, and of an opening that it is done.
 fn behind(standing: Standing, step: &Step, said: Said, totals: &mut Totals) -> Option<Standing> {
     let rests = rests(step.does, standing);
     let (opens, crashes) = match step.does {
@@ -105,8 +105,8 @@ struct Forgotten {
     most: u64,
 }
 
-// Whether the reply is due by what is forgotten. What a shard was asked to forget is surely so where that is done, and it may be where the
-// shard stopped. A look below what is surely so shows nothing, and only one below what may be is too old.
+// Whether the reply is due by what is forgotten. What a shard was asked to forget is surely forgotten if that is done, and may be if the
+// shard stopped. A look below what is surely forgotten shows nothing, and only one below what may be is too old.
 fn agrees(forgotten: &mut Forgotten, step: &Step, reply: &Reply, totals: &mut Totals) -> bool {
     match (step.does, reply) {
         (Does::Forget, Reply::Done) => {
@@ -140,7 +140,7 @@ fn receiver(report: &Report, number: u64) -> u8 {
     }
 }
 
-/// There is a reply to each event, and each is one that is due by which shards are up, and by what they have forgotten.
+/// Tells whether there is a reply to each event, and each is due by which shards are up, and by what they have forgotten.
 pub fn are_due(report: &Report, steps: &[Step], totals: &mut Totals) -> bool {
     let mut standings = [Standing::Up; 3];
     let mut all_forgotten = [Forgotten { sure: 0, most: 0 }; 3];

@@ -36,8 +36,8 @@ stride 7
 4 fail 0 4 turn 0
 ";
 
-// What a schedule is read as: why it is refused, or how many events it has, and of the first one, where it is a stop in another
-// event, the shard, the call, and the shard that the other one names.
+// What a schedule is read as: why it is refused, or how many events it has. If the first is a stop in another event, it also has the shard,
+// the call, and the shard that the other event names.
 enum Read {
     Refused(Reason),
     As(usize, Option<(u8, u64, u8)>),

@@ -2,13 +2,16 @@
 use lives::{Life, RunShard};
 use message::{Address, Envelope, Message};
 
-/// A message: the shard that it is for, or 255 where it is for a session, and its transaction, where it tells the coordinator
-/// of it, asks a part to promise, or answers a reader, and else 0.
+/// A message, by the number of the transaction that it is about, or 0.
 #[derive(Clone, Copy)]
 pub struct Sent {
+    /// The shard that it is for, or 255 if it is for a session.
     pub shard: u8,
+    /// The transaction of a commit or a vote, which is for its coordinator.
     pub coordinator: u64,
+    /// The transaction of a prepare, which asks a part to promise.
     pub part: u64,
+    /// The transaction of a reader that is answered.
     pub reader: u64,
 }
 
@@ -20,7 +23,7 @@ pub static OTHER: Sent = Sent {
     reader: 0,
 };
 
-/// What a message is seen as.
+/// Sees a message as numbers.
 pub fn sent_of(envelope: &Envelope) -> Sent {
     let mut sent = OTHER;
     if let Address::Shard(shard) = envelope.to {
@@ -36,26 +39,32 @@ pub fn sent_of(envelope: &Envelope) -> Sent {
     sent
 }
 
-/// A shard: how many views it made, the first transaction that it has decided to commit and not settled, or 0, and the time that it serves,
-/// or 0 while it is down.
+/// A shard of a run.
 #[derive(Clone, Copy)]
 pub struct Seen {
+    /// Its core is up.
     pub is_up: bool,
+    /// It is down.
     pub is_down: bool,
+    /// How many views it made.
     pub views: u64,
+    /// The first transaction that it has decided to commit and not settled, or 0.
     pub decided: u64,
+    /// The time that it serves, or 0 while it is down.
     pub safe: u64,
 }
 
-/// A run: its messages, and its shards.
+/// What is seen of a run.
 #[derive(Clone, Copy)]
 pub struct Sight<'s> {
+    /// The messages that were put out.
     pub sent: &'s [Sent],
+    /// Its first three shards.
     pub shards: [Seen; 3],
 }
 
 impl Sight<'_> {
-    /// The first shard that is not up.
+    /// Finds the first shard that is not up.
     pub fn resting(&self) -> Option<u8> {
         for number in 0..3 {
             if !self.shards[number as usize].is_up {
@@ -65,7 +74,7 @@ impl Sight<'_> {
         None
     }
 
-    /// The first shard with a decision that is not settled, and its transaction, or 0.
+    /// Finds the first shard with a decision that is not settled, and its transaction, or 0.
     pub fn unsettled(&self) -> (u8, u64) {
         for number in 0..3 {
             let decided = self.shards[number as usize].decided;
@@ -76,7 +85,7 @@ impl Sight<'_> {
         (0, 0)
     }
 
-    /// The first message for a shard among the eight from a number on.
+    /// Finds the first message for a shard among the eight from a number on.
     pub fn next_for(&self, shard: u8, first: u64) -> Option<u64> {
         for number in first..first.saturating_add(8) {
             match self.sent.get(number as usize) {
@@ -111,12 +120,12 @@ fn seen_at(shards: &[RunShard], number: usize) -> Seen {
     seen
 }
 
-/// The first three shards.
+/// Sees the first three shards as numbers.
 pub fn seen_of(shards: &[RunShard]) -> [Seen; 3] {
     [seen_at(shards, 0), seen_at(shards, 1), seen_at(shards, 2)]
 }
 
-/// Pushes the messages behind those that were seen. False where there is no memory for them.
+/// Adds the messages after those that were seen. Returns `false` if there is no memory for them.
 pub fn push_sent(sent: &mut Vec<Sent>, envelopes: &[Envelope]) -> bool {
     for number in sent.len()..envelopes.len() {
         if sent.push(sent_of(&envelopes[number])).is_err() {

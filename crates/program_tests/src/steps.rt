@@ -32,24 +32,38 @@ pub enum Does {
 /// What befalls a shard in what it does: nothing, a crash in a device call, or the failure of one.
 #[derive(Clone, Copy)]
 pub enum Stop {
+    /// Nothing.
     Never,
+    /// A crash in the device call of this number, with the fate of the write under way.
     CrashIn(u64, Fate),
+    /// The failure of the device call of this number.
     FailIn(u64),
 }
 
-/// A step, with its true time. What it does says which of the other numbers count. The number is that of a message or a view.
+/// A step, as plain numbers. What it does says which of them count.
 #[derive(Clone, Copy)]
 pub struct Step {
+    /// The true time at which it happens.
     pub time: u64,
+    /// What happens.
     pub does: Does,
+    /// What befalls the shard in it.
     pub stop: Stop,
+    /// The shard that does it.
     pub shard: u8,
+    /// The number of the transaction, of run 1.
     pub txn: u64,
+    /// The key, of one byte.
     pub key: u8,
+    /// The value, of one byte.
     pub value: u8,
+    /// The number of a message or a view.
     pub number: u64,
+    /// The timestamp of a look, an advance or a horizon.
     pub at: u64,
+    /// The earliest of the reading.
     pub earliest: u64,
+    /// The latest of the reading.
     pub latest: u64,
 }
 
@@ -85,7 +99,7 @@ fn doing(step: &Step, txn: TxnId, at: Stamp, now: Reading) -> Doing {
     }
 }
 
-// What happens, where the numbers are within their limits.
+// What happens, if the numbers are within their limits.
 fn act(alloc: Global, step: &Step) -> Result<Act, Fault> {
     let (Some(txn), Some(shard)) = (TxnId::new(1, step.txn), ShardNo::new(step.shard)) else {
         return Err(Fault::Stranger);
@@ -114,7 +128,7 @@ fn act(alloc: Global, step: &Step) -> Result<Act, Fault> {
     })
 }
 
-/// The event that a step is.
+/// Makes the event that a step is.
 pub fn event(alloc: Global, step: &Step) -> Result<Event, Fault> {
     let act = act(alloc, step)?;
     Ok(Event {
@@ -123,8 +137,8 @@ pub fn event(alloc: Global, step: &Step) -> Result<Event, Fault> {
     })
 }
 
-/// The step of the list without turnovers: in the place of one a transaction is nudged that nobody has begun, which is refused, and makes no
-/// device call.
+/// Makes the step of the list without turnovers. In the place of a turnover a transaction is nudged that nobody has begun: that is refused,
+/// and makes no device call.
 pub fn unturned(step: &Step) -> Step {
     let mut other = *step;
     if let Does::Turn = step.does {
@@ -141,7 +155,7 @@ fn push_events(events: &mut Vec<Event>, alloc: Global, steps: &[Step]) -> Result
     Ok(())
 }
 
-/// The report of some steps, or why they are not played.
+/// Plays some steps. Returns the report, or why they are not played.
 pub fn play_steps(alloc: Global, config: &Config, steps: &[Step]) -> Result<Report, Fault> {
     let mut events = Vec::new(alloc);
     let report = match push_events(&mut events, alloc, steps) {
@@ -152,7 +166,7 @@ pub fn play_steps(alloc: Global, config: &Config, steps: &[Step]) -> Result<Repo
     report
 }
 
-/// One to four shards without a stride. They are split at the last ones of `g`, `m` and `s`, but two at `m`.
+/// Makes one to four shards without a stride. They are split at the last ones of `g`, `m` and `s`, but two at `m`.
 pub fn config(alloc: Global, shards: u64) -> Result<Config, Fault> {
     let (g, m, s) = (Key::new(b"g")?, Key::new(b"m")?, Key::new(b"s")?);
     let splits = match shards {

@@ -1,14 +1,16 @@
-//! A stop at each device call: the call fails, or the shard crashes in it. The first call of an append writes a record behind the gate, the
+//! A stop at each device call: the call fails, or the shard crashes in it. The first call of an append writes a record after the gate, the
 //! second makes that durable, the third opens the gate, and the fourth makes that durable. A turnover makes one call more.
 use crate::comparing::reports;
 use made::WrongRows;
 use std::alloc::{AllocError, Global};
 
-/// A stop in a call, with the fate of the write under way where it is a crash, and in how many of the last calls what was written is kept:
-/// the gate is opened by the last but one.
+/// A stop in a device call.
 pub struct Stop {
+    /// The word of the event: `crash` or `fail`.
     pub word: &'static str,
+    /// What a crash makes of the write under way; empty if the call fails.
     pub fate: &'static str,
+    /// In how many of the last calls it keeps what was written; the last but one opens the gate.
     pub kept: u64,
 }
 
@@ -43,11 +45,12 @@ static STOPS: [Stop; 5] = [
 ];
 
 impl Stop {
+    /// Tells whether the call fails; else the shard crashes in it.
     pub fn fails(&self) -> bool {
         self.fate.is_empty()
     }
 
-    /// Whether what was written is kept by this stop in a call, of so many.
+    /// Tells whether this stop keeps what was written, in a call of so many.
     pub fn keeps(&self, call: u64, calls: u64) -> bool {
         call.saturating_add(self.kept) >= calls
     }
@@ -163,7 +166,7 @@ verdict yes
     },
 ];
 
-// A schedule comes to what is wanted, where there was memory for both.
+// A schedule comes to what is wanted, if there was memory for both.
 fn comes_to(
     alloc: Global,
     schedule: Result<String, AllocError>,
@@ -200,8 +203,8 @@ event 5 none
     comes_to(alloc, schedule, wanted)
 }
 
-// What shard 1 is to do as it stops, in so many calls; what comes before and then; what is said of a crash, and of a call that fails,
-// where that is tried; and what is said then where what was written is lost, and where it is kept.
+// What shard 1 is to do as it stops, in so many calls, and what comes before it and then. What is said of a crash, and of a call that fails
+// if that is tried. Then, what is said if what was written is lost, and if it is kept.
 struct Act {
     name: &'static str,
     calls: u64,
@@ -237,7 +240,7 @@ verdict yes
 ";
 
 static ACTS: [Act; 3] = [
-    // It serves up to the same time behind the opening. Where it is lost, the ceiling was not logged before the crash.
+    // It serves up to the same time after the opening. If it is lost, the ceiling was not logged before the crash.
     Act {
         name: "an advance",
         calls: 4,
@@ -277,7 +280,7 @@ look z 200 none
 verdict yes
 ",
     },
-    // It serves up to 200, and is to forget what is below 150. Where the horizon was not logged a look below it is answered, until it is
+    // It serves up to 200, and is to forget what is below 150. If the horizon was not logged, a look below it is answered, until it is
     // logged.
     Act {
         name: "a horizon",
@@ -359,7 +362,7 @@ stride 0
     comes_to(alloc, schedule, format!(in alloc; "{said}{left}"))
 }
 
-// A stop in each call comes to what the row says, and so does a crash behind the last. The place is that of the stop, and of the call.
+// A stop in each call comes to what the row says, and so does a crash after the last. The place is that of the stop, and of the call.
 fn go_over_calls(wrong: &mut WrongRows, alloc: Global, act: &Act) {
     for (number, stop) in all_stops().iter().enumerate() {
         let calls = if stop.fails() {
@@ -444,7 +447,7 @@ pub fn go_over(wrong: &mut WrongRows, alloc: Global) {
     wrong.unless(is_spent(alloc), "slots");
 }
 
-// A body that names a table costs much to prove, so each is handed on.
+/// Gives all kinds of stops. A body that names a table costs much to prove, so each is handed on.
 pub fn all_stops() -> &'static [Stop] {
     &STOPS
 }

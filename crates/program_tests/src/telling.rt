@@ -5,33 +5,49 @@ use record::Record;
 use std::alloc::Global;
 use units::{Line, Parts, ShardNo, Stamp, TxnId, Value, Writes};
 
-/// What a row tells of: a record of a log, a part of a decision that is not its coordinator, a write of a decision or of a
-/// promise, a horizon, a message on how a transaction ended, or a line.
+/// What a row tells of.
 #[derive(Clone, Copy, PartialEq, Eq)]
 pub enum Kind {
+    /// A commit decision in a log.
     Commit,
+    /// A part of a decision that is not its coordinator.
     Part,
+    /// A write of a decision or of a promise.
     Write,
+    /// A promise in a log.
     Prepare,
+    /// An outcome in a log.
     Outcome,
+    /// A horizon in a log.
     Horizon,
+    /// A message on how a transaction ended.
     Message,
+    /// A line of a begin.
     Begin,
+    /// A line of an acknowledgement.
     Ack,
+    /// A line of a read.
     Read,
+    /// A line of a look.
     Look,
 }
 
-/// A row, by its kind: the shard of its log or the part, the transaction, its timestamp, the coordinator, a key, and a value, or
-/// 0 for none.
+/// A row. Its kind says which of the numbers count.
 #[derive(Clone, Copy, PartialEq, Eq)]
 pub struct Told {
+    /// What it tells of.
     pub kind: Kind,
+    /// The shard of its log, or the part.
     pub shard: usize,
+    /// The transaction.
     pub txn: u64,
+    /// The timestamp.
     pub at: u64,
+    /// The coordinator.
     pub coordinator: usize,
+    /// The key.
     pub key: u8,
+    /// The value, or 0 for none.
     pub value: u8,
 }
 
@@ -62,7 +78,7 @@ fn byte_of(bytes: &[u8]) -> u8 {
     }
 }
 
-/// The byte of a value, or 0 for none.
+/// Gives the byte of a value, or 0 for none.
 pub fn value_of(value: &Option<Value>) -> u8 {
     match value {
         Some(value) => byte_of(value.as_bytes()),
@@ -86,7 +102,7 @@ fn end_of(outcome: Option<Stamp>) -> u64 {
     }
 }
 
-// Puts in a row. False where a number is strange.
+// Puts in a row. `false` if a number is strange.
 fn put(told: &mut Vec<Told>, one: Told) -> bool {
     one.key != STRANGE && one.value != STRANGE && one.txn != STRANGER && told.push(one).is_ok()
 }
@@ -162,7 +178,7 @@ fn put_record(told: &mut Vec<Told>, shard: usize, item: &Record) -> bool {
     put(told, one)
 }
 
-// The records of a log, whose openings are to be numbered from 1. Its horizons are to rise, and what comes behind one is above it.
+// The records of a log, whose openings are to be numbered from 1. Its horizons are to rise, and what comes after one is above it.
 fn put_log(told: &mut Vec<Told>, shard: usize, log: &[Record]) -> bool {
     let mut last: u64 = 0;
     let mut horizon: u64 = 0;
@@ -237,7 +253,7 @@ fn put_line(told: &mut Vec<Told>, line: &Line) -> bool {
     put(told, one)
 }
 
-/// Puts in all that a report tells: records, then messages, then lines. Says what is wrong with it by itself.
+/// Puts in all that a report tells: records, then messages, then lines. Returns what is wrong with it by itself.
 pub fn put_report(told: &mut Vec<Told>, report: &Report) -> &'static str {
     for (shard, log) in report.logs.iter().enumerate() {
         if !put_log(told, shard, log) {
@@ -247,7 +263,7 @@ pub fn put_report(told: &mut Vec<Told>, report: &Report) -> &'static str {
     put_said(told, report)
 }
 
-/// Puts in what a report tells beside its logs.
+/// Puts in what a report tells besides its logs. Returns what is wrong with it by itself.
 pub fn put_said(told: &mut Vec<Told>, report: &Report) -> &'static str {
     if !put_messages(told, report.bag.as_slice()) {
         return "the id of a message";

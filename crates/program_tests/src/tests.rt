@@ -10,6 +10,7 @@ use crate::{
 };
 use made::WrongRows;
 
+// Fails if a command, a schedule or a refusal comes to anything but its row.
 #[test]
 fn answers(rt: HostRuntime) {
     let alloc = rt.alloc();
@@ -29,6 +30,7 @@ fn answers(rt: HostRuntime) {
     end(&rt, wrong);
 }
 
+// Fails if a written run with crashes, horizons or turnovers reports anything but its row.
 #[test]
 fn whole_runs(rt: HostRuntime) {
     let alloc = rt.alloc();
@@ -40,6 +42,7 @@ fn whole_runs(rt: HostRuntime) {
     end(&rt, wrong);
 }
 
+// Fails if a stop in a device call leaves anything but its row says.
 #[test]
 fn stops_in_calls(rt: HostRuntime) {
     let alloc = rt.alloc();
@@ -48,6 +51,7 @@ fn stops_in_calls(rt: HostRuntime) {
     end(&rt, wrong);
 }
 
+// Fails if a transaction that is stopped in any call of its appends is not committed whole in the end.
 #[test]
 fn stops_in_each_call(rt: HostRuntime) {
     let alloc = rt.alloc();

@@ -2,24 +2,33 @@
 use crate::telling::{Kind, Told};
 use made::WrongRows;
 
-/// Lines of some kinds, values in those of reads and looks, horizons, what was asked for and refused as too early of these, looks that were
-/// too old, and stops of shards: crashes, failures of calls, and accepted openings.
+/// How much there is of each kind in drawn lists and their reports.
 #[derive(Clone, Copy)]
 pub struct Totals {
+    /// Lines of acknowledgements.
     pub acknowledged: u64,
+    /// Lines of reads.
     pub read: u64,
+    /// Lines of looks.
     pub looked: u64,
+    /// Rows among these with a value.
     pub valued: u64,
+    /// Horizons in logs.
     pub forgotten: u64,
+    /// Horizons that were refused as too early.
     pub early: u64,
+    /// Looks that were too old.
     pub old: u64,
+    /// Crashes of shards.
     pub crashed: u64,
+    /// Calls that failed.
     pub failed: u64,
+    /// Openings that were accepted.
     pub opened: u64,
 }
 
 impl Totals {
-    /// Nothing so far.
+    /// Begins to count: there was nothing so far.
     pub fn none() -> Totals {
         Totals {
             acknowledged: 0,
@@ -52,7 +61,7 @@ impl Totals {
         }
     }
 
-    /// Goes over what there has to be enough of, to judge.
+    /// Checks that there is enough of each kind to judge by.
     pub fn go_over(&self, wrong: &mut WrongRows) {
         for (count, least, name) in [
             (self.acknowledged, 100, "acknowledgements"),

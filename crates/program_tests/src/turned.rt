@@ -32,7 +32,7 @@ fn is_same(one: &Reply, other: &Reply) -> bool {
     }
 }
 
-// The reply to a turnover, and to the nudge in its place: the one is done where the other is refused. In all else both are one.
+// The reply to a turnover, and to the nudge in its place: the one is done if the other is refused. In all else both are one.
 fn is_turned(one: &Reply, other: &Reply, turns: &mut Turns) -> bool {
     match (one, other) {
         (Reply::Done, Reply::Refused(Fault::Stranger)) => {

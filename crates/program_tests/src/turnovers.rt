@@ -35,7 +35,7 @@ look a 111 =1
 verdict yes
 ",
     },
-    // What stands at either shard stands in its new log, also behind an opening.
+    // What stands at either shard stands in its new log, also after an opening.
     Case {
         name: "a promise and a decision are turned over",
         schedule: "shards 2
@@ -228,7 +228,7 @@ verdict yes
     },
 ];
 
-/// All rows.
+/// Gives all rows.
 pub fn turnovers() -> &'static [Case] {
     &TURNOVERS
 }

@@ -9,7 +9,7 @@ use world::{Config, Event};
 // Each list is one of two shards.
 const FRONT: &str = "shards 2\nsplit m\nstride 0\n";
 
-// A list, with the number of the first event that may not happen, where there is one.
+// A list, with the number of the first event that may not happen, if there is one.
 struct List {
     name: &'static str,
     events: &'static str,
@@ -193,7 +193,7 @@ static STOPPED: [List; 8] = [
     },
 ];
 
-// The events are played and lawful, or neither, where a number is given: that of the first that may not happen.
+// The events are played and lawful; or they are neither, if a number is given: that of the first that may not happen.
 fn are_judged(alloc: Global, config: &Config, events: &[Event], first: Option<u64>) -> bool {
     let refused = match play(alloc, config, events) {
         Ok(report) => {

@@ -2,7 +2,7 @@
 use made::WrongRows;
 use std::process::Abort;
 
-/// Ends the test where rows are wrong, with all of them.
+/// Ends the test if rows are wrong, and names all of them.
 pub fn end(rt: &impl Abort, wrong: WrongRows) {
     assert!(rt; wrong.is_none(), "{}", wrong.text());
     drop(wrong);

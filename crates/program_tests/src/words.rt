@@ -39,7 +39,7 @@ fn is_once(command: &Command) -> bool {
     }
 }
 
-// Where there is memory, want of it is not the answer.
+// If there is memory, want of it is not the answer.
 fn is_taken(alloc: Global, line: &str, wanted: bool) -> bool {
     let Ok(words) = words_of(alloc, line) else {
         return false;

@@ -5,7 +5,7 @@ use std::alloc::Global;
 use texts::{NO_WORD, Values, number, value};
 use units::Fault;
 
-/// The event of a line: its true time, and what happens.
+/// Reads the event of a line: its true time, and what happens.
 pub fn event(alloc: Global, words: &[&str]) -> Result<Event, Fault> {
     let [time, words @ ..] = words else {
         return Err(NO_WORD);
@@ -24,7 +24,7 @@ pub fn event(alloc: Global, words: &[&str]) -> Result<Event, Fault> {
     Ok(Event { time, act })
 }
 
-// What happens, where no more words stand behind its own.
+// What happens, if no more words follow its own.
 fn act(happening: Happening, values: &Values) -> Result<Act, Fault> {
     match happening {
         Happening::Begin => Ok(Act::Begin(values.txn)),
@@ -43,8 +43,7 @@ fn act(happening: Happening, values: &Values) -> Result<Act, Fault> {
     }
 }
 
-// A crash or a failure in what the words behind its own say. Where they name no shard, as those of a delivery, it is the same
-// one.
+// A crash or a failure in the step that the words after its own tell. If they name no shard, as those of a delivery, it is the same one.
 fn stop_in(happening: Happening, stop: &Values, words: &[&str]) -> Result<Act, Fault> {
     let mut values = *stop;
     let Some((inner, [])) = values.read_form(&FORMS, words) else {

@@ -1,8 +1,8 @@
 //! The forms of the lines of events.
 use texts::{Form, Kind};
 
-/// What happens, by the form of its line. Behind the words of `Write` stands the value, and behind those of `CrashIn` and
-/// `FailIn` what is under way.
+/// What happens, by the form of its line. A value follows the words of `Write`. Those of `CrashIn` and `FailIn` are followed by the step in
+/// which it happens.
 #[derive(Clone, Copy)]
 pub enum Happening {
     Begin,
@@ -26,7 +26,7 @@ pub enum Happening {
     Open,
 }
 
-/// The forms. Of two with one name the first that fits counts.
+/// The forms of all lines of events. If two have one name, the first that fits counts.
 pub static FORMS: [Form<Happening>; 19] = [
     Form {
         name: "begin",

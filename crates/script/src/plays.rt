@@ -8,10 +8,12 @@ use playing::{Config, Event, Report, play, reports};
 use std::alloc::Global;
 use units::{Fault, Verdict};
 
-/// A run that was played and judged: its report and the verdict.
+/// A run that was played and judged.
 #[derive(Drop)]
 pub struct Played {
+    /// What the run came to.
     pub report: Report,
+    /// The verdict on its report.
     pub verdict: Verdict,
 }
 

@@ -9,8 +9,8 @@ use std::alloc::Global;
 use texts::{Kind, LineReader, NO_WORD, Values};
 use units::{Fault, Key, Splits, Stride};
 
-/// The shards and the events that a text tells. A line outside the grammar is refused with its number, from 1, as `syntax`;
-/// a head that ends early, with the number of the line that it lacks. Splits that do not ascend are refused as `splits`.
+/// Reads the shards and the events of a text. A line outside the grammar is refused as `syntax`, with its number from 1. If the head ends
+/// early, the number is that of the first line that it lacks. Splits that do not ascend are refused as `splits`.
 pub fn schedule(alloc: Global, text: &str) -> Result<(Config, Vec<Event>), Fault>
     ensures { IfErr result IsNoSchedule }
 {

@@ -9,7 +9,7 @@ use std::fmt;
 use texts::Text;
 use units::Fault;
 
-/// The text of a report, with the verdict on it.
+/// Writes the text of a report, with the verdict on it.
 pub fn report(alloc: Global, played: &Played) -> Result<String, Fault>
     ensures { IfErr result (λ fault. fault ≡ Fault.Memory) }
 {
@@ -33,7 +33,7 @@ impl fmt::Display for Played {
     }
 }
 
-// Each event with its reply, and behind it the messages that it put out.
+// Each event with its reply, and after it the messages that it put out.
 fn write_events<W: fmt::Write>(f: &mut fmt::Formatter<W>, report: &Report) -> fmt::Result {
     let envelopes = report.bag.as_slice();
     let mut first = 0;

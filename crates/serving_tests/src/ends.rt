@@ -58,7 +58,7 @@ fn quit_ends_the_lines(rt: HostRuntime) {
     assert!(rt; are_answers(&told, b'0', &[b"committed *", b"=1"]));
 }
 
-// Where nobody reads the answers, no more lines are taken.
+// If nobody reads the answers, no more lines are taken.
 #[test]
 fn lines_end_with_their_reader(rt: HostRuntime) {
     let parts: [(u64, &[u8]); 2] = [(0, b"put a 1\n"), (300, b"get a\n")];

@@ -118,6 +118,7 @@ static ROWS: [Row; 9] = [
     ),
 ];
 
+// Fails if a client is answered anything but its row, or the lines do not go on to their end.
 #[test]
 fn clients_are_answered(rt: HostRuntime) {
     for (_name, lines, zero, one) in &ROWS {

@@ -11,11 +11,14 @@ use std::{thread, time};
 use store::{Client, Options, Store};
 use units::{Key, Splits};
 
-/// Lines that come one part after another, each so many milliseconds after the one before.
+/// A stream of lines that come one part after another.
 #[derive(Drop)]
 pub struct Parts<'a, R> {
+    /// The runtime by which it waits.
     pub rt: &'a R,
+    /// The parts: how many milliseconds each comes after the one before, and its bytes.
     pub parts: &'a [(u64, &'a [u8])],
+    /// The number of the next part.
     pub at: usize,
 }
 
@@ -35,7 +38,9 @@ impl<R: time::Clock> Read for Parts<'_, R> {
 /// A stream that keeps what is written to it, or that nobody reads.
 #[derive(Drop)]
 pub struct Paper {
+    /// What was written to it.
     pub bytes: Vec<u8>,
+    /// Nobody reads it, so each write fails.
     pub is_gone: bool,
 }
 
@@ -53,7 +58,7 @@ impl Write for Paper {
     }
 }
 
-/// What a store of four clients over two shards, which part at `m`, answers to the parts of a stream. A transaction may be idle for so
+/// Gives what a store of four clients over two shards, which part at `m`, answers to the parts of a stream. A transaction may be idle for so
 /// many milliseconds.
 pub fn answers<R: Threads + Wait + time::Clock + Sync + Abort>(
     rt: &R,
@@ -82,7 +87,7 @@ pub fn answers<R: Threads + Wait + time::Clock + Sync + Abort>(
     (served.ok().expect(rt, "lines that were answered"), bytes)
 }
 
-/// Whether the answers of a client, in their order, are these. One that ends with `*` stands for each that begins so.
+/// Tells whether the answers of a client, in their order, are these. One that ends with `*` stands for each that begins so.
 pub fn are_answers(bytes: &[u8], client: u8, wanted: &[&[u8]]) -> bool {
     let mut next = 0;
     for line in bytes.split(|byte| *byte == b'\n') {

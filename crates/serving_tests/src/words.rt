@@ -71,6 +71,7 @@ fn in_d(dir: &str, choices: &Choices) -> Option<[u64; 7]> {
     ])
 }
 
+// Fails if words of `serve` choose other options than their row says.
 #[test]
 fn options_are_chosen(rt: HostRuntime) {
     for (words, right) in &ROWS {
@@ -89,6 +90,7 @@ static REFUSED: [(&[&str], Fault); 8] = [
     (&["make"], COMMAND),
 ];
 
+// Fails if wrong words of `make` or `serve` are taken, or refused with another fault.
 #[test]
 fn other_words_are_refused(rt: HostRuntime) {
     for (words, fault) in &REFUSED {

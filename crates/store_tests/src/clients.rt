@@ -13,17 +13,18 @@ use units::{Fault, Key, Splits, Stride, Value};
 /// A key of shard 0 and one of shard 1.
 pub const KEYS: [&[u8]; 2] = [b"a", b"z"];
 
-/// So many disks with an empty log.
+/// Makes so many disks with an empty log.
 pub fn disks_of(rt: &impl Abort, alloc: Global, logs: usize) -> Vec<SimDisk> {
     logs_in_memory(alloc, logs).ok().expect(rt, "logs")
 }
 
-/// Options of a store of so many clients over one shard.
+/// Makes the options of a store of so many clients over one shard.
 pub fn of_one_shard(rt: &impl Abort, alloc: Global, clients: u64) -> Options {
     Options::new(Splits::new(alloc, &[]).ok().expect(rt, "splits"), clients)
 }
 
-/// Options of a store of one client over two shards, which part at `m`. A client waits two seconds, so that what it hears in one was told.
+/// Makes the options of a store of one client over two shards, which part at `m`. A client waits two seconds, so that what it hears in one
+/// was told.
 pub fn of_two_shards(rt: &impl Abort, alloc: Global, stride: u64) -> Options {
     let split = Key::new(b"m").ok().expect(rt, "a key");
     let splits = Splits::new(alloc, &[split]).ok().expect(rt, "splits");
@@ -33,7 +34,7 @@ pub fn of_two_shards(rt: &impl Abort, alloc: Global, stride: u64) -> Options {
     options
 }
 
-/// A store over disks.
+/// Opens a store over disks; ends the test if it is refused.
 pub fn store_of<'r, R: Threads + Wait + Sync + Abort>(
     rt: &'r R,
     alloc: Global,
@@ -44,7 +45,7 @@ pub fn store_of<'r, R: Threads + Wait + Sync + Abort>(
     store.ok().expect(rt, "a store")
 }
 
-/// How a transaction ends that writes a value to keys.
+/// Writes a value to keys in a transaction, and returns how it ended.
 pub fn write<R: Wait + time::Clock>(
     alloc: Global,
     client: &mut Client<'_, R>,
@@ -60,7 +61,7 @@ pub fn write<R: Wait + time::Clock>(
     })
 }
 
-/// How a transaction that writes 1 to keys ended, where that took less than a second.
+/// Writes 1 to keys in a transaction. Returns how it ended, if that took less than a second.
 pub fn write_soon<R: Wait + time::Clock>(
     rt: &R,
     alloc: Global,
@@ -76,7 +77,7 @@ pub fn write_soon<R: Wait + time::Clock>(
     }
 }
 
-/// What a view tells of a key: this value, or why none. Another value is told as `Room`, which no row has.
+/// Tells whether a view has this value at a key, or why it has none. Another value, or none, is told as `Room`, which no row has.
 pub fn tells<R: Wait + time::Clock>(
     view: &mut View<'_, '_, R>,
     key: &[u8],
@@ -88,7 +89,7 @@ pub fn tells<R: Wait + time::Clock>(
     }
 }
 
-/// What a new view of the client tells of each of these keys: that it has this value, or why one has not.
+/// Tells whether a new view of the client has this value at each of these keys, or why one has not.
 pub fn sees<R: Wait + time::Clock>(
     client: &mut Client<'_, R>,
     keys: &[&[u8]],

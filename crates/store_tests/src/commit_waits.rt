@@ -10,8 +10,9 @@ use std::time;
 use std::time::{Duration, Instant};
 use store::{Client, Ended};
 
-// How many microseconds the true time may be from the machine's clock, and how many milliseconds the quickest of some commits takes: at least
-// that twice, less one, and less than `most`. A client asks again only behind 20 milliseconds in silence: what is told sooner was told unasked.
+// How many microseconds the true time may be from the machine's clock, and how many milliseconds the quickest of some commits takes. That is
+// at least twice the former, less one, and less than `most`. A client asks again only after 20 milliseconds in silence: what is told sooner
+// was told unasked.
 struct Row {
     name: &'static str,
     epsilon: u64,
@@ -105,7 +106,7 @@ fn goes<R: Threads + Wait + time::Clock + Sync + Abort>(rt: &R, alloc: Global, r
     }
 }
 
-// It fails where a store's clock has a smaller epsilon than its options, or no client is told that its transaction has settled.
+// Fails if a store's clock has a smaller epsilon than its options, or if no client is told that its transaction has settled.
 #[test]
 fn commits_wait_for_the_epsilon(rt: HostRuntime) {
     let mut wrong = WrongRows::none(rt.alloc());

@@ -6,7 +6,7 @@ use std::alloc::Global;
 use std::process::Abort;
 use units::{Key, Splits, Stride};
 
-/// So many disks with an empty log, and one without, where one is blank.
+/// Makes so many disks with an empty log, and one more without a log if `blank` is set.
 pub fn disks_of(rt: &impl Abort, alloc: Global, logs: u8, blank: bool) -> Vec<SimDisk> {
     let mut disks = Vec::new(alloc);
     for _shard in 0..logs {
@@ -20,7 +20,7 @@ pub fn disks_of(rt: &impl Abort, alloc: Global, logs: u8, blank: bool) -> Vec<Si
     disks
 }
 
-/// So many disks with an empty log, of which that one fails at that call, where it is one of them.
+/// Makes so many disks with an empty log. The disk of the shard fails at that call, if there is one.
 pub fn failing(rt: &impl Abort, alloc: Global, logs: u8, shard: u8, call: u64) -> Vec<SimDisk> {
     let mut disks = disks_of(rt, alloc, logs, false);
     if let Some(disk) = disks.get_mut(usize::from(shard)) {
@@ -29,7 +29,7 @@ pub fn failing(rt: &impl Abort, alloc: Global, logs: u8, shard: u8, call: u64) -
     disks
 }
 
-/// Settings of two shards, which part at `k0005`, with a stride of 1,000 and a clock that is within 100.
+/// Makes the settings of two shards, which part at `k0005`, with a stride of 1,000 and a clock that is within 100 microseconds.
 pub fn settings_of(
     rt: &impl Abort,
     alloc: Global,
@@ -49,7 +49,7 @@ pub fn settings_of(
     }
 }
 
-/// The splits of three shards, which part at `k0003` and `k0006`.
+/// Makes the splits of three shards, which part at `k0003` and `k0006`.
 pub fn three_parts(rt: &impl Abort, alloc: Global) -> Splits {
     let first = Key::new(b"k0003").expect(rt, "a key");
     let second = Key::new(b"k0006").expect(rt, "a key");

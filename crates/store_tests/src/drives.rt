@@ -17,9 +17,9 @@ use truetime::{Clock, Reading};
 use units::{Fault, Line, Reason, Stamp, Stride, Verdict};
 use workers::{Counts, Summary};
 
-// Why a drive is refused; or how many transactions are tried, how many commits and answered looks there are at least, and of
-// which run the ids are. That each transaction is counted once is proved of drives; that the verdict is yes is not. Where no look
-// need be answered that is by chance.
+// Why a drive is refused; or how many transactions are tried, and how many commits and answered looks there are at least. The run is that of
+// all ids. That each transaction is counted once is proved of drives; that the verdict is yes is not. If no look need be answered, that is by
+// chance.
 #[derive(Clone, Copy)]
 enum Comes {
     Refused(Fault),
@@ -202,7 +202,7 @@ fn are_of(lines: &[Line], run: u64) -> bool {
     true
 }
 
-// Whether one worker's lines are in order: their moments are 0, 1, 2 and so on, each drawn once, when what it tells of is done; and each
+// Whether one worker's lines are in order. Their moments are 0, 1, 2 and so on, each drawn once, when what it tells of is done. Each
 // acknowledgement and each look is at a later timestamp than those before, since a commit waits and the clock does not go back.
 fn are_in_turn(lines: &[Line]) -> bool {
     let mut next: u64 = 0;
@@ -265,7 +265,7 @@ pub struct Ends {
 }
 
 impl Ends {
-    /// It was told nothing so far.
+    /// Begins to count: it was told nothing so far.
     pub fn none() -> Ends {
         Ends {
             committed: AtomicU64::new(0),
@@ -274,7 +274,7 @@ impl Ends {
         }
     }
 
-    /// Whether it was told as many of each end as a drive counts.
+    /// Tells whether it was told as many of each end as a drive counts.
     pub fn are(&self, counts: Counts) -> bool {
         self.committed.load(Ordering::SeqCst) == counts.committed
             && self.aborted.load(Ordering::SeqCst) == counts.aborted
@@ -293,7 +293,7 @@ impl Watch for Ends {
     }
 }
 
-// Drives the disks as the row says, and compares what that comes to, and what a watch is told of its turns. The disks behind it, where it
+// Drives the disks as the row says, and compares what that comes to, and what a watch is told of its turns. Returns the disks after it, if it
 // is not refused.
 fn go<R: Threads + Wait + time::Clock + Sync + Abort>(
     wrong: &mut WrongRows,
@@ -334,6 +334,7 @@ fn go<R: Threads + Wait + time::Clock + Sync + Abort>(
     disks
 }
 
+// Fails if a drive comes to anything but its row, also over the disks that the one before it has left.
 #[test]
 fn drives(rt: HostRuntime) {
     let gate = Meeting::new(&rt, false);
@@ -363,7 +364,7 @@ static LOW_KEYS_AGAIN: Row = Row {
     ..SECOND
 };
 
-// It fails where the run of all ids is not the greatest epoch of the shards, but that of the last one.
+// Fails if the run of all ids is not the greatest epoch of the shards, but that of the last one.
 #[test]
 fn greatest_epoch(rt: HostRuntime) {
     let gate = Meeting::new(&rt, false);
@@ -419,10 +420,9 @@ fn are_counted(kept: &Kept, summary: &Summary, reads: u64) -> bool {
         && (summary.counts.unknown > 0 || kept.writes == reads)
 }
 
-// A drive of one worker, with a stride of ten seconds and a clock that is within a tenth of one. Commit wait takes as long as a
-// reading is wide, but for how far two clocks of the machine go apart meanwhile. Ceilings are logged a stride ahead: one at
-// each shard that is looked at, since all is over within five seconds. And what was written behind a number is the next one, at
-// each key that was read.
+// A drive of one worker, with a stride of ten seconds and a clock that is within a tenth of one. Commit wait takes as long as a reading is
+// wide, but for how far two clocks of the machine go apart meanwhile. Ceilings are logged a stride ahead: one at each shard that is looked
+// at, since all is over within five seconds. And what was written after a number is the next one, at each key that was read.
 #[test]
 fn as_settings_say(rt: HostRuntime) {
     let mut settings = settings_of(&rt, rt.alloc(), 1, 6, 3);
@@ -464,7 +464,7 @@ fn as_settings_say(rt: HostRuntime) {
     end(&rt, wrong);
 }
 
-// It fails where nodes are served one after the other, or one letter at a time over both.
+// Fails if nodes are served one after the other, or one letter at a time over both.
 #[test]
 fn nodes_in_turn(rt: HostRuntime) {
     let gate = Meeting::new(&rt, true);
@@ -477,8 +477,8 @@ fn nodes_in_turn(rt: HostRuntime) {
     assert!(rt; sound && gate.have_met());
 }
 
-// A clock by which nobody is told that a transaction has committed: it has no reading, so that each letter is lost; or its readings all
-// begin at 0, so that no wait is over, and each ends later than the one before.
+// A clock by which nobody is told that a transaction has committed. Either it has no reading, so that each letter is lost. Or its readings
+// all begin at 0, so that no wait is over, and each ends later than the one before.
 #[derive(Clone, Copy)]
 struct Stuck<'a> {
     reached: Option<&'a AtomicU64>,
@@ -492,8 +492,8 @@ impl Clock for Stuck<'_> {
     }
 }
 
-// Whether a drive of one worker and one transaction by such a clock counts an abort, where it is to be one, and else an end that nobody
-// knows, as the watch is told; and no answered look, since letters are lost, or since what is decided of the key is before the look and not settled.
+// Whether a drive of one worker and one transaction by such a clock counts the right end, as the watch is told. That is an abort, or else an
+// end that nobody knows. No look is answered: letters are lost, or what is decided of the key is before the look and not settled.
 fn is_untold<R: Threads + Wait + time::Clock + Sync + Abort>(
     rt: &R,
     alloc: Global,
@@ -517,9 +517,9 @@ fn is_untold<R: Threads + Wait + time::Clock + Sync + Abort>(
     untold
 }
 
-// It fails where nodes lose every letter, as they do with a clock that has no reading; where an abort is counted as an end that nobody knows,
-// or such an end as an abort; where the watch is told of another end than is counted; and where a look that nobody answered is told and
-// counted.
+// Fails if nodes lose every letter, as they do with a clock that has no reading. It also fails if an abort is counted as an end that nobody
+// knows, or such an end as an abort. So it does if the watch is told of another end than is counted, or if a look that nobody answered is
+// told and counted.
 #[test]
 fn lose_every_letter(rt: HostRuntime) {
     let gate = Meeting::new(&rt, false);

@@ -52,8 +52,8 @@ const OF_LOW_PROMISE: &[u8] =
     b"SPNLOG02\xa5\0\0\0\x09\x01\0\0\0\0\0\0\0\x01\xa5\0\0\0\x24\x03\0\0\0\0\0\0\0\x01\0\0\0\0\0\0\0\x02\
 \0\0\0\0\0\0\0\0\xc8\0\0\0\x01\x01\x61\x01\0\x01\x31\0";
 
-// Renewed logs: Base 1 111 0; and a version of z at 111, z=1, or 1.1 that is settled at 111 with parts 0, or a promise of 1.1 that is closed,
-// aborted by shard 0; a closed gate.
+// Renewed logs: Base 1 111 0; then one of three, and a closed gate. The first is a version of z at 111, z=1. The second is 1.1, settled at
+// 111 with parts 0. The third is a promise of 1.1 that is closed, aborted by shard 0.
 const OF_HIGH_VERSION: &[u8] =
     b"SPNLOG02\xa5\0\0\0\x19\x08\0\0\0\0\0\0\0\x01\0\0\0\0\0\0\0\x6f\0\0\0\0\0\0\0\0\
 \xa5\0\0\0\x0f\x09\x01\x7a\0\0\0\0\0\0\0\x6f\x01\0\x01\x31\0";
@@ -74,17 +74,22 @@ const OTHER_SPLITS: &[u8] =
 const MORE_SHARDS: &[u8] =
     b"version = 1\nshards = 3\nsplits = [\"m\", \"n\"]\nname = \"0123456789abcdef\"\n";
 
-// A name, and the bytes of its file.
+/// The name of a file, and its bytes.
 pub type Named = (&'static str, &'static [u8]);
 
-// What is in a folder, with a link to `precious` where there is one; why its logs are refused, if they are; and which files are left
-// with which bytes. Of a new manifest only the front is known.
+/// A folder, and what is left of it once its logs were asked for.
 pub struct Scene {
+    /// What the scene is called.
     pub what: &'static str,
+    /// The files in the folder.
     pub files: &'static [Named],
+    /// The name of a link to `precious`, if there is one.
     pub link: Option<&'static str>,
+    /// Why the logs are refused, if they are.
     pub refused: Option<Fault>,
+    /// The files that are left. Of a new manifest only the front is known.
     pub left: &'static [Named],
+    /// The names that nothing has afterwards.
     pub gone: &'static [&'static str],
 }
 
@@ -104,7 +109,7 @@ const TAKEN: Scene = Scene {
     ],
 };
 
-// What is made in an empty folder, and the drafts of that.
+/// The names of what is made in an empty folder, and of the drafts of that.
 pub static MADE: [&str; 6] = [
     "store.toml",
     "store.toml.new",
@@ -524,27 +529,33 @@ static STRANGE: [Scene; 6] = [
     },
 ];
 
-// A body that names a table costs much to prove, so each table is handed on.
+/// Gives the scenes of an empty folder, of stores, and of manifests. A body that names a table costs much to prove, so each table is handed
+/// on.
 pub fn stores() -> &'static [Scene] {
     &STORES
 }
 
+/// Gives the scenes of logs without a manifest.
 pub fn logs() -> &'static [Scene] {
     &LOGS
 }
 
+/// Gives the scenes of logs without a manifest that belong to the other shard.
 pub fn strangers() -> &'static [Scene] {
     &STRANGERS
 }
 
+/// Gives the scenes of logs of other moments and other stores.
 pub fn beside() -> &'static [Scene] {
     &BESIDE
 }
 
+/// Gives the scenes of drafts, and of logs that were emptied.
 pub fn emptied() -> &'static [Scene] {
     &EMPTIED
 }
 
+/// Gives the scenes of version 1, of a draft that is cut, and of links.
 pub fn strange() -> &'static [Scene] {
     &STRANGE
 }

@@ -11,8 +11,8 @@ use std::{thread, time};
 use store::{Client, Ended};
 use units::Fault;
 
-// How many microseconds are kept, and by how many bytes a log has to grow; how a view ends beside two seconds of later commits to the key
-// that it reads, and how many milliseconds behind its opening at least.
+// How many microseconds are kept, and by how many bytes a log has to grow. How a view ends beside two seconds of later commits to the key
+// that it reads, and how many milliseconds after its opening at least.
 struct Row {
     name: &'static str,
     keep: Option<u64>,
@@ -50,7 +50,7 @@ const COMMITS: u32 = 200;
 
 const PAUSE: u64 = 10;
 
-// How a view ended and how long that took, and whether new views of both clients tell the last value behind it.
+// How a view ended and how long that took, and whether new views of both clients tell the last value after it.
 #[derive(Clone, Copy)]
 struct Seen {
     old: Result<(), Fault>,
@@ -66,7 +66,7 @@ fn commits<R: Wait + time::Clock>(alloc: Global, writer: &mut Client<'_, R>, val
     )
 }
 
-// How a view of the first value ends beside later commits, where all are made.
+// How a view of the first value ends beside later commits, if all are made.
 fn ends<R: Wait + time::Clock>(rt: &R, alloc: Global, clients: Vec<Client<'_, R>>) -> Option<Seen> {
     let mut clients = clients;
     let mut reader = clients.pop()?;
@@ -117,7 +117,7 @@ fn goes<R: Threads + Wait + time::Clock + Sync + Abort>(rt: &R, alloc: Global, r
     }
 }
 
-// It fails where a store does not ask its shards to forget, or keeps less than it is told, and where but one client can look or is answered.
+// Fails if a store does not ask its shards to forget, or keeps less than it is told, or if only one client can look or is answered.
 #[test]
 fn old_views_are_refused_where_the_past_is_forgotten(rt: HostRuntime) {
     let mut wrong = WrongRows::none(rt.alloc());

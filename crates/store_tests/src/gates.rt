@@ -16,6 +16,7 @@ pub struct Meeting<'a, R> {
 }
 
 impl<'a, R> Meeting<'a, R> {
+    /// Creates a gate that holds the first letters, or none, and that no letter has reached.
     pub fn new(rt: &'a R, holds: bool) -> Meeting<'a, R> {
         Meeting {
             rt,
@@ -26,7 +27,7 @@ impl<'a, R> Meeting<'a, R> {
         }
     }
 
-    /// Whether both have come, and none was held in vain.
+    /// Tells whether both letters have come, and none was held in vain.
     pub fn have_met(&self) -> bool {
         self.first.load(Ordering::SeqCst) == 1
             && self.second.load(Ordering::SeqCst) == 1

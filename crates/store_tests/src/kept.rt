@@ -1,4 +1,4 @@
-//! What the logs hold behind a drive.
+//! What the logs hold after a drive.
 use gatelog::{Entry, GateLog};
 use record::Record;
 use simdisk::SimDisk;
@@ -21,7 +21,7 @@ pub struct Kept {
 }
 
 impl Kept {
-    /// What the logs of some disks hold.
+    /// Reads what the logs of some disks hold.
     pub fn of(rt: &impl Abort, alloc: Global, disks: Vec<SimDisk>) -> Kept {
         let mut kept = Kept {
             committed: Vec::new(alloc),
@@ -68,7 +68,7 @@ impl Kept {
         }
     }
 
-    // Adds the writes of a transaction, where it has committed.
+    // Adds the writes of a transaction, if it has committed.
     fn add_writes(&mut self, rt: &impl Abort, txn: TxnId, writes: &[Write]) {
         if !self.committed.contains(&txn) {
             return;
@@ -92,7 +92,7 @@ impl Kept {
         self.greatest.push((key, number)).ok().expect(rt, "memory");
     }
 
-    /// The sum of the greatest numbers of all keys.
+    /// Adds up the greatest numbers of all keys.
     pub fn sum(&self) -> u64 {
         let mut sum: u64 = 0;
         for (_, greatest) in &self.greatest {
@@ -102,7 +102,7 @@ impl Kept {
     }
 }
 
-// The number that a value spells, and 0 where it spells none.
+// The number that a value spells, and 0 if it spells none.
 fn number_in(value: &Value) -> u64 {
     match str::from_utf8(value.as_bytes()) {
         Ok(word) => word.parse::<u64>().unwrap_or(0),

@@ -9,10 +9,10 @@ use units::ShardNo;
 // The log of the only shard.
 const LOG: &str = "shard-0.log";
 
-// The letter behind which it is lost: by then some transactions have committed, and many are to come.
+// The letter after which it is lost: by then some transactions have committed, and many are to come.
 const LETTER: u64 = 30;
 
-// Closes the gate of the first record of the log behind a letter, so that it reads as empty.
+// Closes the gate of the first record of the log after a letter, so that it reads as empty.
 #[derive(Clone, Copy)]
 struct Losing<'a> {
     rt: &'a HostRuntime,
@@ -29,7 +29,7 @@ impl Gate for Losing<'_> {
     }
 }
 
-// The log goes on behind the closed gate, and nothing of it is read.
+// The log goes on after the closed gate, and nothing of it is read.
 fn lose(rt: &HostRuntime, folder: &Folder) {
     let Ok(mut log) = folder.read(rt, LOG) else {
         return;
@@ -54,7 +54,7 @@ fn settings_in(rt: &HostRuntime, test: &impl Abort, folder: &Folder) -> Settings
     settings
 }
 
-// It fails where a drive over files says yes whatever its logs have lost.
+// Fails if a drive over files says yes whatever its logs have lost.
 #[test]
 fn a_drive_that_lost_its_log(rt: HostRuntime) {
     let folder = Folder::new(&rt).ok().expect(&rt, "a folder");

@@ -24,6 +24,7 @@ fn is_around<R: time::Clock>(rt: &R, epsilon: u64) -> bool {
         && latest.saturating_sub(earliest) == epsilon.saturating_mul(2)
 }
 
+// Fails if a reading is not epsilon wide to both sides of the machine's clock: for 0, a millisecond and a second.
 #[test]
 fn readings_are_around_the_clock(rt: HostRuntime) {
     assert!(rt; is_around(&rt, 0) && is_around(&rt, 1_000) && is_around(&rt, 1_000_000));

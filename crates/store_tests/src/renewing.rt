@@ -13,7 +13,7 @@ use std::time::Duration;
 use std::{thread, time};
 use store::{Client, Ended, Store};
 
-// By how many bytes a log has to grow, and whether it was turned over behind a second of commits.
+// By how many bytes a log has to grow, and whether it was turned over after a second of commits.
 struct Row {
     name: &'static str,
     renew: Option<u64>,
@@ -117,7 +117,7 @@ fn goes<R: Threads + Wait + time::Clock + Sync + Abort>(rt: &R, alloc: Global, r
     }
 }
 
-// It fails where a store renews no log, or each.
+// Fails if a store renews no log, or each.
 #[test]
 fn logs_of_stores_are_renewed(rt: HostRuntime) {
     let mut wrong = WrongRows::none(rt.alloc());

@@ -1,4 +1,4 @@
-//! Services over disks in memory: what a client is told where a shard's device fails, and what a store goes on from that is opened again.
+//! Services over disks in memory: what a client is told if a shard's device fails, and from what a store goes on that is opened again.
 use crate::clients::{KEYS, disks_of, of_two_shards, store_of, write_soon};
 use crate::verdict::end;
 use made::WrongRows;
@@ -131,7 +131,7 @@ fn goes<R: Threads + Wait + time::Clock + Sync + Abort>(rt: &R, alloc: Global, r
     }
 }
 
-// It fails where a letter that a shard refuses is silence to its client, or all shards have stopped with one.
+// Fails if a client hears nothing of a letter that a shard refuses, or if all shards have stopped with one.
 #[test]
 fn services_hear_of_stopped_shards(rt: HostRuntime) {
     let mut wrong = WrongRows::none(rt.alloc());
@@ -141,8 +141,8 @@ fn services_hear_of_stopped_shards(rt: HostRuntime) {
     end(&rt, wrong);
 }
 
-// Whether a transaction that reads a key which a stopped shard has left in doubt, on the other one, is refused as `Stopped` within two seconds,
-// though it may be tried fifty times.
+// Whether a transaction is refused as `Stopped` within two seconds, though it may be tried fifty times. It reads a key on the other shard,
+// which a stopped shard has left in doubt.
 fn is_left_in_doubt<R: Wait + time::Clock>(
     rt: &R,
     alloc: Global,
@@ -175,7 +175,7 @@ fn is_left_in_doubt<R: Wait + time::Clock>(
     soon && ended == Err(Fault::Stopped)
 }
 
-// It fails where a client tries on what a stopped shard has left in doubt.
+// Fails if a client tries on what a stopped shard has left in doubt.
 #[test]
 fn what_is_left_in_doubt_is_not_tried_on(rt: HostRuntime) {
     let alloc = rt.alloc();
@@ -245,8 +245,8 @@ fn opened<R: Threads + Wait + time::Clock + Sync + Abort>(
     (seen.expect(rt, "a client"), disks)
 }
 
-// It fails where a store's ids begin anew, or its clock does, which the log of shard 0 is ten seconds ahead of: that of its clients, or that
-// by which shard 1 is served, which nobody has looked at before.
+// Fails if a store's ids begin anew, or its clock does: the log of shard 0 is ten seconds ahead of that. The clock is that of its clients, or
+// that by which shard 1 is served, which nobody has looked at before.
 #[test]
 fn stores_go_on_from_their_logs(rt: HostRuntime) {
     let disks = disks_of(&rt, rt.alloc(), 2);
@@ -260,7 +260,7 @@ fn stores_go_on_from_their_logs(rt: HostRuntime) {
     end(&rt, wrong);
 }
 
-// It fails where the shard is not named that is refused.
+// Fails if the refusal does not name the shard that is refused.
 #[test]
 fn refused_shards_are_named(rt: HostRuntime) {
     let alloc = rt.alloc();

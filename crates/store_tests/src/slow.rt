@@ -5,11 +5,14 @@ use std::time::Duration;
 use std::{thread, time};
 use units::Fault;
 
-/// A disk in memory each of whose syncs takes so many milliseconds.
+/// A disk in memory whose syncs are slow.
 #[derive(Drop)]
 pub struct Slow<'a, R> {
+    /// The disk in memory.
     pub disk: SimDisk,
+    /// The runtime by which it waits.
     pub rt: &'a R,
+    /// How many milliseconds each sync takes.
     pub millis: u64,
 }
 
@@ -22,7 +25,7 @@ impl<R: time::Clock> Disk for Slow<'_, R> {
 
     ghost keeps_model = { Unit {0} };
 
-    // Which calls fail, no plan says.
+    // No plan says which calls fail.
     ghost obeys = { ⊥ };
 
     ghost file = { λ d. disk_file d.disk };

@@ -17,8 +17,8 @@ use std::time::{Duration, Instant};
 use units::Fault;
 use workers::Counts;
 
-// How many shards there are, two or three; which one's disk fails, at which of its calls from the opening on, and whether the drive has
-// begun by then.
+// How many shards there are, two or three; whose disk fails, and at which of its calls from the opening on. `begins` says whether the drive
+// has begun by then.
 #[derive(Clone, Copy)]
 struct Row {
     name: &'static str,
@@ -113,7 +113,7 @@ impl Told {
         }
     }
 
-    // One stop was told, of this shard, where there is one.
+    // One stop was told, of this shard, if there is one.
     fn has_stop(&self, stopped: Option<usize>) -> bool {
         for (shard, stops) in self.stops.iter().enumerate() {
             let wanted = if stopped == Some(shard) { 1 } else { 0 };
@@ -124,8 +124,8 @@ impl Told {
         true
     }
 
-    // It was told of each turn that the drive counts, and of the stop; and of nothing, where the drive has not begun, which has no counts.
-    // The turns behind the stop, which are most of them, are aborted, and none of these has a look.
+    // It was told of each turn that the drive counts, and of the stop. If the drive has not begun, it has no counts, and nothing was told.
+    // The turns after the stop, which are most of them, are aborted, and none of these has a look.
     fn is_right(&self, row: &Row, counts: Option<Counts>) -> bool {
         match counts {
             Some(counts) => {
@@ -161,8 +161,8 @@ fn settings_for(rt: &impl Abort, alloc: Global, shards: u8) -> Settings {
     settings
 }
 
-// Whether a drive as the row says is refused as `Device` within ten seconds, though each turn that waits for a shard in vain takes two; and
-// what is told of it is right.
+// Whether a drive as the row says is refused as `Device` within ten seconds, though each turn that waits for a shard in vain takes two. What
+// is told of it has to be right.
 fn goes<R: Threads + Wait + time::Clock + Sync + Abort>(rt: &R, alloc: Global, row: &Row) -> bool {
     let settings = settings_for(rt, alloc, row.shards);
     let told = Told::new();
@@ -184,6 +184,7 @@ fn goes<R: Threads + Wait + time::Clock + Sync + Abort>(rt: &R, alloc: Global, r
     is_refused && took < Duration::from_secs(10)
 }
 
+// Fails if a drive goes on for long after a device has failed, or tells it wrong.
 #[test]
 fn stops(rt: HostRuntime) {
     let mut wrong = WrongRows::none(rt.alloc());

@@ -34,7 +34,7 @@ impl<'r> Faulty<'r> {
         }
     }
 
-    // Counts a call, which fails where it is the one.
+    // Counts a call, which fails if it is the one.
     fn call(&self) -> io::Result<()> {
         if self.calls.fetch_add(1, Ordering::SeqCst) == self.fails {
             Err(io::Error::from(io::ErrorKind::StorageFull))
@@ -169,7 +169,7 @@ fn is_left(rt: &HostRuntime, test: &impl Abort, folder: &Folder, scene: &Scene) 
     scene.refused.is_some() || !lacks(rt, test, folder, "store.toml")
 }
 
-// Why the logs of a folder are refused, while a call of the runtime fails, where one does; and whether one did.
+// Why the logs of a folder are refused, while a call of the runtime fails, if one does; and whether one did.
 fn asked(
     rt: &HostRuntime,
     test: &impl Abort,
@@ -192,8 +192,8 @@ fn asked(
     (fault, faulty.has_failed())
 }
 
-// Whether a scene goes as it should, while each of its calls fails in turn and then none. It tells what is refused, or `Device`, and
-// the call behind it goes as if none had failed.
+// Whether a scene goes as it should, while each of its calls fails in turn and then none. It tells what is refused, or `Device`, and the call
+// after it goes as if none had failed.
 fn goes(rt: &HostRuntime, test: &impl Abort, scene: &Scene) -> bool {
     for fails in 0..200 {
         let folder = Folder::new(rt).ok().expect(test, "a folder");
@@ -212,6 +212,7 @@ fn goes(rt: &HostRuntime, test: &impl Abort, scene: &Scene) -> bool {
     false
 }
 
+// Fails if a folder is taken, refused or left otherwise than its scene says.
 #[test]
 fn folders(rt: HostRuntime) {
     let mut wrong = WrongRows::none(rt.alloc());
@@ -291,7 +292,7 @@ fn went_well(text: &str) -> bool {
         && text.ends_with("\nverdict yes\n")
 }
 
-// The logs behind a drive over a folder, which goes well.
+// The logs after a drive over a folder, which goes well.
 fn driven<R: Files<File = File> + RandomSource + Threads + Wait + time::Clock + Sync + Abort>(
     rt: &HostRuntime,
     test: &R,
@@ -308,7 +309,7 @@ fn driven<R: Files<File = File> + RandomSource + Threads + Wait + time::Clock + 
     [first.expect(test, "a log"), second.expect(test, "a log")]
 }
 
-// What a log has behind what it was.
+// What a log has after what it was.
 fn rest_of<'a>(before: &[u8], after: &'a [u8]) -> Option<&'a [u8]> {
     let (_, kept) = before.split_last()?;
     after.strip_prefix(kept)
@@ -338,7 +339,7 @@ fn a_second_drive(rt: HostRuntime) {
     assert!(rt; folder.remove(&rt) && went);
 }
 
-// Why a drive over a folder is refused, where it is.
+// Why a drive over a folder is refused, if it is.
 fn drive_refused<R: Files<File = File> + RandomSource + Threads + Wait + time::Clock + Sync>(
     rt: &R,
     alloc: Global,

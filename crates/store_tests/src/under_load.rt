@@ -13,8 +13,8 @@ use std::{thread, time};
 use store::{Client, Ended, Halt, Options, Store, Transaction};
 use units::{Key, Splits, Value};
 
-// So many clients, each of which writes a key of its own to each of two shards so often, over devices whose syncs take so many milliseconds; and
-// an epsilon in microseconds. No two of them are in each other's way, so each transaction commits at once, however long that takes.
+// So many clients, each of which writes a key of its own to each of two shards so often. The devices' syncs take so many milliseconds, and
+// the epsilon is in microseconds. No two clients are in each other's way, so each transaction commits at once, however long that takes.
 struct Row {
     name: &'static str,
     clients: u64,
@@ -118,7 +118,7 @@ fn goes<R: Threads + Wait + time::Clock + Sync + Abort>(rt: &R, alloc: Global, r
     }
 }
 
-// It fails where a client gives up a transaction that is under way at its shards, or tells it `Unknown`.
+// Fails if a client gives up a transaction that is under way at its shards, or tells it `Unknown`.
 #[test]
 fn clients_wait_for_slow_shards(rt: HostRuntime) {
     let mut wrong = WrongRows::none(rt.alloc());
@@ -128,7 +128,7 @@ fn clients_wait_for_slow_shards(rt: HostRuntime) {
     end(&rt, wrong);
 }
 
-// Adds one to a key of shard 0 and one of shard 1, by reads one behind the other, with a rest between them in the first attempt.
+// Adds one to a key of shard 0 and one of shard 1, by reads one after the other, with a rest between them in the first attempt.
 fn add<R: Wait + time::Clock>(
     rt: &R,
     alloc: Global,
@@ -207,8 +207,8 @@ fn both<R: Threads + Wait + time::Clock + Sync>(
     }
 }
 
-// It fails where clients that wait for each other go on waiting for longer than the second that this may take: they do for no more than 160
-// milliseconds, behind 50 of rest.
+// Fails if clients that wait for each other go on waiting for longer than a second. They do so for no more than 160 milliseconds, after 50 of
+// rest.
 #[test]
 fn deadlocks(rt: HostRuntime) {
     let alloc = rt.alloc();

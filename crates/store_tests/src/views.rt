@@ -1,4 +1,5 @@
-//! Stores over two shards: when a view stands that is opened behind a commit, and what views tell, also once the store is opened again.
+//! Stores over two shards: at which timestamp a view stands that is opened after a commit, and what views tell, also once the store is opened
+//! again.
 use crate::clients::{KEYS, disks_of, of_two_shards, sees, store_of, write};
 use crate::verdict::end;
 use drive::MachineClock;
@@ -12,8 +13,8 @@ use std::time;
 use store::{Client, Ended, Options, Store};
 use truetime::Clock;
 
-// What is so of a view behind a commit: it stands no sooner, it stands between two readings of the machine's clock, and a view tells what was
-// written on both shards.
+// What is so of a view after a commit. It stands no sooner, and between two readings of the machine's clock. A view tells what was written on
+// both shards.
 #[derive(Clone, Copy)]
 struct Told {
     behind: bool,
@@ -66,7 +67,7 @@ fn latest<R: time::Clock>(rt: &R) -> Option<u64> {
     }
 }
 
-// What is so behind a commit.
+// What is so after a commit.
 fn behind_commit<R: Wait + time::Clock>(
     rt: &R,
     alloc: Global,
@@ -104,7 +105,7 @@ fn stays<R: Wait + time::Clock>(clients: Vec<Client<'_, R>>) -> bool {
     seen
 }
 
-// Whether that is so of a store over the disks, where they are taken.
+// Whether that is so of a store over the disks, if they are taken.
 fn stays_over<R: Threads + Wait + time::Clock + Sync + Abort>(
     rt: &R,
     alloc: Global,
@@ -122,8 +123,8 @@ fn stays_over<R: Threads + Wait + time::Clock + Sync + Abort>(
     }
 }
 
-// It fails where the clock of a store is not the machine's, or a view stands by a reading from before, and where the disks of a store that is
-// closed are not handed back by shard.
+// Fails if the clock of a store is not the machine's, or a view stands by a reading from before. It also fails if the disks of a store that
+// is closed are not handed back by shard.
 #[test]
 fn views_tell_what_was_committed(rt: HostRuntime) {
     let alloc = rt.alloc();

@@ -37,7 +37,7 @@ const HELD: u64 = 50;
 
 const LONGEST: u32 = 5_000;
 
-// Reads the key, says so, and ends a while behind that.
+// Reads the key, says so, and ends a while after that.
 fn hold<R: Wait + time::Clock>(
     rt: &R,
     client: &mut Client<'_, R>,
@@ -130,7 +130,7 @@ fn goes<R: Threads + Wait + time::Clock + Sync + Abort>(rt: &R, alloc: Global, r
     }
 }
 
-// It fails where a shard is not told that a transaction is given up, or does not go on with what waits for it.
+// Fails if a shard is not told that a transaction is given up, or does not go on with what waits for it.
 #[test]
 fn locks_are_given_back(rt: HostRuntime) {
     let mut wrong = WrongRows::none(rt.alloc());
@@ -163,7 +163,7 @@ fn append(rt: &impl Abort, alloc: Global, log: &mut GateLog<SimDisk>, record: Re
     drop(log.append(staged).ok().expect(rt, "a record").spend());
 }
 
-// A disk whose log has it, behind an opening.
+// A disk whose log has it, after an opening.
 fn promised(rt: &impl Abort, alloc: Global) -> SimDisk {
     let format = GateLog::format(SimDisk::new(alloc));
     let mut log = format.ok().expect(rt, "a log");
@@ -187,7 +187,7 @@ fn commits<R: Wait + time::Clock>(rt: &R, alloc: Global, clients: Vec<Client<'_,
     committed
 }
 
-// It fails where a shard does not ask how what it has promised ended.
+// Fails if a shard does not ask how what it has promised ended.
 #[test]
 fn promises_are_asked_for(rt: HostRuntime) {
     let alloc = rt.alloc();

@@ -1,24 +1,30 @@
 //! What a command asks of the system.
 use units::{Fault, Verdict};
 
-/// A system, by its files, and by what drives shards on its threads: that runs shards and workers by some settings.
+/// A system: its files, and what runs a drive (shards and workers) on its threads.
 #[derive(Clone, Copy)]
 pub struct System<F, D> {
+    /// Its files.
     pub files: F,
+    /// What runs a drive by some settings.
     pub drive: D,
 }
 
-/// What came of a drive: the text that tells it, and the verdict on the logs.
+/// What came of a drive.
 #[derive(Drop)]
 pub struct Driven {
+    /// The text that the command prints.
     pub text: String,
+    /// The verdict on the logs.
     pub verdict: Verdict,
 }
 
-/// Why there is no verdict on a drive, and the text that tells its counts, where its workers have reported.
+/// Why there is no verdict on a drive.
 #[derive(Drop)]
 pub struct NoVerdict {
+    /// The fault that ended the drive.
     pub fault: Fault,
+    /// The text with its counts, if its workers have reported.
     pub text: Option<String>,
 }
 

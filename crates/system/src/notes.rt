@@ -2,10 +2,12 @@
 use std::fmt;
 use units::Fault;
 
-/// An opening of a shard would refuse its log for this fault.
+/// A note: an opening of the shard would refuse its log.
 #[derive(Clone, Copy)]
 pub struct Note {
+    /// The number of the shard.
     pub shard: usize,
+    /// The fault with which the opening would refuse it.
     pub fault: Fault,
 }
 

@@ -8,10 +8,10 @@ use gatelog::{GateLog, is_old, migrate};
 use std::alloc::Global;
 use units::{Fault, Reason};
 
-/// How many bytes a text may have: 256 MiB. No more than one byte beyond is read of a file.
+/// The greatest length of a text: 256 MiB. Of a longer file one byte more is read.
 pub const MOST_TEXT: u64 = 1 << 28;
 
-/// The text of a file. A text of more than 256 MiB, and bytes that are no UTF-8, are refused for the reason that is given.
+/// Reads the text of a file. A text of more than 256 MiB, and bytes that are no UTF-8, are refused for the reason that is given.
 pub fn read_text<F: Files>(
     alloc: Global,
     files: &F,
@@ -26,7 +26,7 @@ pub fn read_text<F: Files>(
     text_of(bytes, no_text)
 }
 
-// Some bytes as a text, where they are one and not too many.
+// Some bytes as a text, if they are one and not too many.
 fn text_of(bytes: Vec<u8>, no_text: Reason) -> Result<String, Fault>
     ensures refused { IfErr result (λ fault. fault ≡ BadRequest no_text) }
     ensures limit { IfOk result (λ text. length (string_bytes text) ≤ 2 ^ 28) }
@@ -37,7 +37,7 @@ fn text_of(bytes: Vec<u8>, no_text: Reason) -> Result<String, Fault>
     String::from_utf8(bytes).map_err(|_error| Fault::BadRequest(no_text))
 }
 
-/// Makes a file with a new log. `Device` where there is something of that name, or where the system refuses.
+/// Makes a file with a new log. `Device` if there is something of that name, or if the system refuses.
 pub fn format_file<F: Files>(alloc: Global, files: &F, path: &str) -> Result<(), Fault>
     ensures { IfErr result (λ fault. (fault ≡ Memory) ⊎ (fault ≡ Device)) }
 {
@@ -52,7 +52,7 @@ pub fn format_file<F: Files>(alloc: Global, files: &F, path: &str) -> Result<(),
 }
 
 /// Makes a file with the records of another one, which holds a log of version 1 and stays as it is. What is wrong with the old file counts
-/// first, and then nothing is made; then `Device`, where there is something of the new one's name.
+/// first, and then nothing is made. After that it is `Device` if there is something of the new name.
 pub fn migrate_file<F: Files>(alloc: Global, files: &F, old: &str, new: &str) -> Result<(), Fault>
     ensures { IfErr result IsNotMigrated }
 {
@@ -68,7 +68,7 @@ pub fn migrate_file<F: Files>(alloc: Global, files: &F, old: &str, new: &str) ->
     }
 }
 
-/// Opens some files to be read, in their order. All of them read as they stand at one moment behind that.
+/// Opens some files to be read, in their order. All of them read as they stand at one moment after they were opened.
 pub fn open_all<F: Files>(alloc: Global, files: &F, paths: &[&str]) -> Result<Vec<F::Log>, Fault>
     ensures all { IfOk result (λ opened. length opened.items ≡ length paths.now) }
     ensures refused { IfErr result (λ fault. (fault ≡ Memory) ⊎ (fault ≡ Device)) }

@@ -12,10 +12,12 @@ use units::Fault;
 /// How many places a piece holds at most.
 pub const PIECE: usize = 4096;
 
-/// A place, and the head of the key there: a search reads little else.
+/// A place in a list of versions, with the head of the key there. A search reads little else.
 #[derive(Clone, Copy)]
 pub struct Spot {
+    /// The place of the version.
     pub place: usize,
+    /// The head of its key.
     pub head: u64,
 }
 
@@ -47,7 +49,7 @@ impl Model for Piece {
 }
 
 impl Piece {
-    /// A piece without places.
+    /// Makes a piece without places. It takes the memory for all that it may hold.
     pub fn new(alloc: Global) -> Result<Piece, Fault>
         ensures none { IfOk result (λ piece. piece ≡ []) }
         ensures memory { IfErr result (λ fault. fault ≡ Fault.Memory) }
@@ -56,7 +58,7 @@ impl Piece {
         Ok(Piece { spots, last: 0 })
     }
 
-    /// How many places it holds.
+    /// Counts its places.
     pub fn len(&self) -> usize
         ensures same { result ≡ length self.now }
         ensures most { result ≤ 4096 }
@@ -64,7 +66,7 @@ impl Piece {
         self.spots.len()
     }
 
-    /// One of its places.
+    /// Gives one of its places.
     pub fn get(&self, at: usize) -> Spot
         requires { at < length self.now }
         ensures { result ≡ slice_index_or self.now at result }
@@ -72,15 +74,15 @@ impl Piece {
         self.spots[at]
     }
 
-    /// The head of its last place, 0 where it holds none.
+    /// Gives the head of its last place, or 0 if it holds none.
     pub fn last(&self) -> u64
         ensures { result ≡ last_head self.now }
     {
         self.last
     }
 
-    /// The first place whose head is not below a number, where heads ascend. A loop, and not the deque's own search, which waits for
-    /// each spot before it asks for the next: here the processor goes on with a guess, which is faster where spots miss the cache.
+    /// Finds the first place whose head is not below a number, if heads ascend. It is a loop of its own, because the deque's search waits for
+    /// each spot before it asks for the next. Here the processor goes on with a guess, which is faster if spots miss the cache.
     pub fn first_at(&self, head: u64) -> usize
         ensures within { result ≤ length self.now }
         ensures most { result ≤ 4096 }
@@ -109,7 +111,7 @@ impl Piece {
         self.last = last_head(&self.spots);
     }
 
-    /// Keeps so many from the front, and the space of all.
+    /// Keeps so many places from the front, and the space of all.
     pub fn shorten(&mut self, len: usize)
         ensures { self.new ≡ take len self.old }
     {
@@ -127,7 +129,7 @@ impl Piece {
         self.last = last_head(&self.spots);
     }
 
-    /// Puts a place into a full piece, whose last one is handed out. It takes no memory.
+    /// Puts a place into a full piece, and hands out its last one. It takes no memory.
     pub fn pass(&mut self, at: usize, spot: Spot) -> Spot
         requires at { at < length self.old }
         requires full { 4096 ≤ length self.old }
@@ -142,7 +144,7 @@ impl Piece {
     }
 }
 
-// Puts a place in, where there is space.
+// Puts a place in, if there is space.
 fn put(spots: &mut VecDeque<Spot>, at: usize, spot: Spot)
     requires at { at ≤ deque_len spots.old }
     requires room { deque_len spots.old < deque_capacity spots.old }

@@ -11,8 +11,8 @@ use crate::search::find;
 use counts::Count;
 use units::{Install, Stamp};
 
-/// Drops the places of versions below a horizon: of each key those of all below it, save the newest that is not above it. One pass,
-/// without memory.
+/// Drops the places of versions below a horizon: of each key those of all below it, except the newest that is not above it. It takes one pass
+/// and no memory.
 pub fn forget(installs: &[Install], places: &mut Places, horizon: Stamp)
     requires within { AreWithin places.old.places (length installs.now) }
     requires order { AscendsByVersion (arranged installs.now places.old.places) }
@@ -40,7 +40,8 @@ pub fn forget(installs: &[Install], places: &mut Places, horizon: Stamp)
     places.shorten(kept);
 }
 
-/// The next version is of the same key, and not above the horizon. So no look from the horizon up reads the one at this place.
+/// Tells whether the next version is of the same key, and not above the horizon. Then no look from the horizon up reads the one at this
+/// place.
 pub fn is_passed(installs: &[Install], places: &Places, at: usize, horizon: Stamp) -> bool
     requires within { AreWithin places.now.places (length installs.now) }
     requires at { at < length places.now.places }

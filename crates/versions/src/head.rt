@@ -5,9 +5,9 @@ ghost use Rattle.versions.specs.Heads.{AreBytes, number, head, prefix_of, common
 use std::cmp::Ordering;
 use units::Key;
 
-/// The eight bytes of a key behind a prefix as one number, the first of them its greatest digit, with zeros for those that are
-/// missing. A key that does not begin with the prefix has the least or the greatest number, as it is before or behind those that
-/// do. So heads order as their keys do, where they differ.
+/// Computes the head of a key: the eight bytes of the key after a prefix, as one number. The first byte is its greatest digit, and missing
+/// bytes count as zero. A key that does not begin with the prefix gets the least number if it comes before those that do, and else the
+/// greatest. So two keys are in the order of their heads, if these differ.
 pub fn head(prefix: &Option<Key>, key: &Key) -> u64
     ensures head { result ≡ head (prefix_of prefix.now) key.now }
     ensures bytes { AreBytes key.now }
@@ -15,7 +15,7 @@ pub fn head(prefix: &Option<Key>, key: &Key) -> u64
     head_behind(prefix_bytes(prefix), key.as_bytes())
 }
 
-/// The bytes of a prefix that is kept as a key, none where there is no key.
+/// Gives the bytes of a prefix that is kept as a key, or none if there is no key.
 pub fn prefix_bytes(prefix: &Option<Key>) -> &[u8]
     ensures { result.now ≡ prefix_of prefix.now }
 {
@@ -59,7 +59,7 @@ fn digit(bytes: &[u8], at: usize) -> u64
     }
 }
 
-/// What both keys begin with, as far as it is a key.
+/// Gives the beginning that both keys share, if it is a key.
 pub fn shared(first: &Key, last: &Key) -> Option<Key>
     ensures { prefix_of result ≡ common_prefix first.now last.now }
 {

@@ -13,7 +13,7 @@ use crate::search::{self, place};
 use units::{Install, Key, Stamp, Value};
 
 impl Places {
-    /// The timestamp is above all versions of the key, so that one may be installed there.
+    /// Tells whether the timestamp is above all versions of the key, so that one may be installed there.
     pub fn takes(&self, installs: &[Install], key: &Key, at: Stamp) -> bool
         requires { (horizon : ℕ) × Orders horizon installs.now (length installs.now) self.now }
         ensures { result ≡ is_above installs.now key.now at }
@@ -21,7 +21,7 @@ impl Places {
         search::is_above(installs, self, key, at)
     }
 
-    /// The most recent value of a key: none where there is none or it was erased.
+    /// Gives the most recent value of a key: `None` if there is none or it was erased.
     pub fn latest<'a>(&self, installs: &'a [Install], key: &Key) -> Option<&'a Value>
         requires { (horizon : ℕ) × Orders horizon installs.now (length installs.now) self.now }
         ensures { option_copied result ≡ latest installs.now key.now }
@@ -29,7 +29,7 @@ impl Places {
         search::latest(installs, self, key)
     }
 
-    /// The value that a key has at a timestamp, which is not below what was forgotten: none where there is none or it was erased.
+    /// Gives the value that a key has at a timestamp that is not below what was forgotten: `None` if there is none or it was erased.
     pub fn at<'a>(&self, installs: &'a [Install], key: &Key, at: Stamp) -> Option<&'a Value>
         requires { (horizon : ℕ) × (horizon ≤ at)
             × Orders horizon installs.now (length installs.now) self.now }
@@ -38,7 +38,7 @@ impl Places {
         search::value_at(installs, self, key, at)
     }
 
-    /// The version at a place in order, where a horizon leaves it: where it is not passed by the next one.
+    /// Gives the version at a place in order, if a horizon leaves it: if the next one does not make it unneeded (`is_passed`).
     pub fn left<'a>(
         &self,
         installs: &'a [Install],
@@ -56,8 +56,8 @@ impl Places {
         Some(&installs[self.get(at)])
     }
 
-    /// Takes in the versions that came behind the first so many, whose places are known: the writes of one transaction, above their
-    /// keys' others. There is room, and it takes no memory.
+    /// Takes in the versions after the first so many, whose places are known. They are the writes of one transaction, above their keys'
+    /// others. There is room, and it takes no memory.
     pub fn follow(&mut self, installs: &[Install], known: usize)
         requires known { (horizon : ℕ) × Orders horizon installs.now known self.old }
         requires behind { AreBehind installs.now known }
@@ -72,8 +72,8 @@ impl Places {
         }
     }
 
-    /// Forgets the versions below a horizon: of each key the places of all below it go, save that of the newest which is not above
-    /// it. The versions stay where they stand, in a list that is somebody else's. It takes no memory, and what goes leaves its room.
+    /// Forgets the versions below a horizon: of each key the places of all below it go, except that of the newest that is not above it. The
+    /// versions stay in their list, which is somebody else's. It takes no memory, and what goes leaves its room.
     pub fn forget(&mut self, installs: &[Install], horizon: Stamp)
         requires { (before : ℕ) × Orders before installs.now (length installs.now) self.old }
         ensures versions { arranged installs.now self.new.places ≡

@@ -13,12 +13,12 @@ use std::alloc::Global;
 use std::marker::Model;
 use units::{Fault, Key};
 
-/// The places, by key and timestamp, of versions that stand in a list as they were installed, beside each the head of its key, and
-/// the room for more. The list is somebody else's, and each look-up is given it.
+/// The places, by key and timestamp, of versions that stand in a list as they were installed. Beside each place is the head of its key, and
+/// there is room for more. The list is somebody else's, and each look-up is given it.
 #[derive(Drop)]
 pub struct Places {
     spots: Sequence,
-    // What heads are behind: none where that is empty.
+    // The prefix after which heads begin: none if it is empty.
     prefix: Option<Key>,
 }
 
@@ -38,7 +38,7 @@ impl Model for Places {
 }
 
 impl Places {
-    /// No place, and no room.
+    /// Begins without a place, and without room.
     pub fn none(alloc: Global) -> Places
         ensures places { result.places ≡ [] }
         ensures heads { result.heads ≡ [] }
@@ -50,14 +50,14 @@ impl Places {
         }
     }
 
-    /// How many there are.
+    /// Counts the places.
     pub fn len(&self) -> usize
         ensures { result ≡ length self.now.places }
     {
         self.spots.len()
     }
 
-    /// One of the places.
+    /// Gives one of the places.
     pub(crate) fn get(&self, at: usize) -> usize
         requires { at < length self.now.places }
         ensures { result ≡ slice_index_or self.now.places at 0 }
@@ -65,7 +65,7 @@ impl Places {
         self.spots.get(at).place
     }
 
-    /// The head beside a place.
+    /// Gives the head beside a place.
     pub(crate) fn head(&self, at: usize) -> u64
         requires { at < length self.now.places }
         ensures { result ≡ slice_index_or self.now.heads at 0 }
@@ -73,8 +73,8 @@ impl Places {
         self.spots.get(at).head
     }
 
-    /// From the first head that is not below a number to the first that is above it, where heads ascend. The contract speaks of the
-    /// heads at both ends alone.
+    /// Finds the places from the first head that is not below a number to the first that is above it, if heads ascend. The contract speaks
+    /// only of the heads at both ends.
     pub(crate) fn range(&self, head: u64) -> (usize, usize)
         ensures order { result.0 ≤ result.1 }
         ensures within { result.1 ≤ length self.now.places }
@@ -112,7 +112,7 @@ impl Places {
         low
     }
 
-    /// The head that a key has beside these places.
+    /// Computes the head that a key has beside these places.
     pub(crate) fn head_of(&self, key: &Key) -> u64
         ensures head { result ≡ head self.now.prefix key.now }
         ensures bytes { AreBytes key.now }
@@ -147,14 +147,14 @@ impl Places {
         self.spots.insert(at, Spot { place, head });
     }
 
-    /// Heads are behind this prefix.
+    /// Tells whether heads begin after this prefix.
     pub(crate) fn are_behind(&self, prefix: &Option<Key>) -> bool
         ensures { result ≡ same_key self.now.prefix (prefix_of prefix.now) }
     {
         prefix_bytes(&self.prefix) == prefix_bytes(prefix)
     }
 
-    /// Heads are behind this prefix from now on. Those that stand are to be written anew.
+    /// Lets heads begin after this prefix from now on. Those that stand are to be written anew.
     pub(crate) fn set_prefix(&mut self, prefix: Option<Key>)
         ensures prefix { self.new.prefix ≡ prefix_of prefix }
         ensures places { self.new.places ≡ self.old.places }
@@ -203,7 +203,7 @@ impl Places {
         self.spots.set(to, spot);
     }
 
-    /// Keeps so many from the front. The space of the others is room from then on.
+    /// Keeps so many places from the front. The space of the others is room from then on.
     pub(crate) fn shorten(&mut self, len: usize)
         requires { len ≤ length self.old.places }
         ensures places { self.new.places ≡ take len self.old.places }

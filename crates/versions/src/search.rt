@@ -26,8 +26,8 @@ fn is_not_after(install: &Install, key: &Key, at: u64, compared: &mut Count) -> 
     }
 }
 
-// The version at a place in order is of this key, whose head is given, and the timestamp, or it comes before them. The version
-// is read only where the heads are equal.
+// The version at a place in order is of this key, whose head is given, and the timestamp, or it comes before them. The version is read only
+// if the heads are equal.
 fn is_not_after_at(
     installs: &[Install],
     places: &Places,
@@ -60,7 +60,7 @@ fn is_not_after_at(
     }
 }
 
-/// How many versions are not after the key and the timestamp, in microseconds, and how many were compared to find that.
+/// Counts the versions that are not after the key and the timestamp, in microseconds. Returns this, and how many were compared to find it.
 pub fn find(
     installs: &[Install],
     places: &Places,
@@ -97,8 +97,8 @@ pub fn find(
     (low, probes)
 }
 
-// How many versions are not after the key and the timestamp, in microseconds. Where all are, as where keys come in order, one
-// comparison finds that.
+// How many versions are not after the key and the timestamp, in microseconds. If all are, as when keys come in order, one comparison finds
+// that.
 fn count(installs: &[Install], places: &Places, key: &Key, at: u64) -> usize
     requires within { AreWithin places.now.places (length installs.now) }
     requires order { AscendsByVersion (arranged installs.now places.now.places) }
@@ -118,8 +118,8 @@ fn count(installs: &[Install], places: &Places, key: &Key, at: u64) -> usize
     among(installs, places, key, key_head, at)
 }
 
-// The same, where the last is after them. The heads leave those whose head is the key's, mostly one or none, and of these alone versions
-// are read.
+// The same, if the last is after them. The heads leave those whose head is the key's, mostly one or none, and only of these versions are
+// read.
 fn among(installs: &[Install], places: &Places, key: &Key, key_head: u64, at: u64) -> usize
     requires within { AreWithin places.now.places (length installs.now) }
     requires order { AscendsByVersion (arranged installs.now places.now.places) }
@@ -144,7 +144,7 @@ fn among(installs: &[Install], places: &Places, key: &Key, key_head: u64, at: u6
     low
 }
 
-// The newest of so many versions from the front, where it is of the key.
+// The newest of so many versions from the front, if it is of the key.
 fn newest_in<'a>(
     installs: &'a [Install],
     places: &Places,
@@ -182,7 +182,7 @@ fn newest_of<'a>(installs: &'a [Install], places: &Places, key: &Key) -> Option<
     newest_in(installs, places, key, Stamp::MAX, count)
 }
 
-/// The timestamp is above all versions of the key.
+/// Tells whether the timestamp is above all versions of the key.
 #[tactic(auto, using(crate::proofs::Newest::above_newest))]
 pub fn is_above(installs: &[Install], places: &Places, key: &Key, at: Stamp) -> bool
     requires within { AreWithin places.now.places (length installs.now) }
@@ -197,7 +197,7 @@ pub fn is_above(installs: &[Install], places: &Places, key: &Key, at: Stamp) -> 
     }
 }
 
-/// The most recent value of a key: none where there is none or it was erased.
+/// Gives the most recent value of a key: `None` if there is none or it was erased.
 #[tactic(auto, using(crate::proofs::Newest::latest_is))]
 pub fn latest<'a>(installs: &'a [Install], places: &Places, key: &Key) -> Option<&'a Value>
     requires within { AreWithin places.now.places (length installs.now) }
@@ -209,7 +209,7 @@ pub fn latest<'a>(installs: &'a [Install], places: &Places, key: &Key) -> Option
     newest_of(installs, places, key)?.value.as_ref()
 }
 
-/// The value that a key has at a timestamp: none where there is none or it was erased.
+/// Gives the value that a key has at a timestamp: `None` if there is none or it was erased.
 #[tactic(auto, using(crate::proofs::Newest::at_time_is))]
 pub fn value_at<'a>(
     installs: &'a [Install],
@@ -252,7 +252,7 @@ pub fn install(installs: &mut Vec<Install>, places: &mut Places, new: Install)
     place(installs, places, at);
 }
 
-/// Puts in the place of the version that stands there, behind those whose places are known. There is room.
+/// Puts in the place of the version that stands there, after those whose places are known. There is room.
 pub fn place(installs: &[Install], places: &mut Places, at: usize)
     requires there { at < length installs.now }
     requires within { AreWithin places.old.places at }
@@ -277,9 +277,9 @@ pub fn place(installs: &[Install], places: &mut Places, at: usize)
     renew(installs, places);
 }
 
-// Where the number of places is a power of two the prefix is looked at again, and where it has become another all heads are written
-// anew: an install pays for two of them at most, in the mean. The prefix is what all keys share but those of the first and the last
-// sixteenth, which may begin as they like.
+// If the number of places is a power of two, the prefix is looked at again. If it has become another, all heads are written anew: an install
+// pays for two of them at most, on average. The prefix is what all keys share but those of the first and the last sixteenth, which may begin
+// as they like.
 fn renew(installs: &[Install], places: &mut Places)
     requires within { AreWithin places.old.places (length installs.now) }
     requires heads { AreHeads places.old.prefix (arranged installs.now places.old.places)

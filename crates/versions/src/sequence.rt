@@ -8,10 +8,10 @@ use std::alloc::Global;
 use std::marker::Model;
 use units::Fault;
 
-/// Places in order, beside the room for more. One more moves those of its piece, and one from each later piece to the next.
+/// Places in order, with room for more. To put one in moves those of its piece, and one from each later piece to the next.
 #[derive(Drop)]
 pub struct Sequence {
-    // Each is full where a later one holds a place.
+    // Each is full if a later one holds a place.
     pieces: Vec<Piece>,
     len: usize,
     // For how many there is space.
@@ -31,7 +31,7 @@ impl Model for Sequence {
 }
 
 impl Sequence {
-    /// No place, and no room.
+    /// Begins without a place, and without room.
     pub fn none(alloc: Global) -> Sequence
         ensures { result.spots ≡ [] }
     {
@@ -42,14 +42,14 @@ impl Sequence {
         }
     }
 
-    /// How many there are.
+    /// Counts the places.
     pub fn len(&self) -> usize
         ensures { result ≡ length self.now.spots }
     {
         self.len
     }
 
-    /// One of the places.
+    /// Gives one of the places.
     pub fn get(&self, at: usize) -> Spot
         requires { at < length self.now.spots }
         ensures { result ≡ slice_index_or self.now.spots at result }
@@ -57,8 +57,8 @@ impl Sequence {
         self.pieces[at / PIECE].get(at % PIECE)
     }
 
-    /// The first place whose head is not below a number, where heads ascend: the piece is found by halves, and the place in it. The
-    /// contract speaks of the heads there and right before alone.
+    /// Finds the first place whose head is not below a number, if heads ascend. It halves the pieces, and then the places in one. The
+    /// contract speaks only of the heads there and right before.
     pub fn first_at(&self, head: u64) -> usize
         ensures within { result ≤ length self.now.spots }
         ensures below { 0 < result → slice_index_or (heads_of self.now.spots) (result - 1) 0 < head }
@@ -136,7 +136,7 @@ impl Sequence {
         self.pieces[at / PIECE].set(at % PIECE, spot);
     }
 
-    /// Keeps so many from the front. The space of the others is room from then on.
+    /// Keeps so many places from the front. The space of the others is room from then on.
     pub fn shorten(&mut self, len: usize)
         requires { len ≤ length self.old.spots }
         ensures spots { self.new.spots ≡ take len self.old.spots }

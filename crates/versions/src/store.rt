@@ -15,7 +15,7 @@ use std::alloc::Global;
 use std::marker::Model;
 use units::{Fault, Install, Key, Stamp, Value, Write, Writes};
 
-/// The versions of keys. Contracts see them ascending by key and timestamp, beside the room for more.
+/// The versions of keys. Contracts see them ascending by key and timestamp, with the room for more.
 pub struct Versions {
     // As they were installed.
     installs: Vec<Install>,
@@ -52,7 +52,7 @@ impl Model for Versions {
 }
 
 impl Versions {
-    /// No version, and no room.
+    /// Begins without a version, and without room.
     pub fn none(alloc: Global) -> Versions
         ensures { result.installs ≡ [] }
     {
@@ -81,7 +81,7 @@ impl Versions {
         Ok(())
     }
 
-    /// The timestamp is above all versions of the key, so that one may be installed there.
+    /// Tells whether the timestamp is above all versions of the key, so that one may be installed there.
     pub fn takes(&self, key: &Key, at: Stamp) -> bool
         ensures { result ≡ is_above self.now.installs key.now at }
     {
@@ -116,8 +116,8 @@ impl Versions {
         }
     }
 
-    /// Forgets the versions below a horizon: of each key all below it go, save the newest that is not above it. So values at the
-    /// horizon or later stay as they are, and so does what is taken as new. It takes no memory, and what goes leaves its room.
+    /// Forgets the versions below a horizon: of each key all below it go, except the newest that is not above it. So values at the horizon or
+    /// later stay as they are, and so does what is taken as new. It takes no memory, and what goes leaves its room.
     pub fn forget(&mut self, horizon: Stamp)
         ensures installs { self.new.installs ≡ pruned horizon self.old.installs }
         ensures room { self.old.room ≤ self.new.room }
@@ -130,22 +130,22 @@ impl Versions {
         self.room += before - self.places.len();
     }
 
-    /// The most recent value of a key: none where there is none or it was erased.
+    /// Gives the most recent value of a key: `None` if there is none or it was erased.
     pub fn latest(&self, key: &Key) -> Option<&Value>
         ensures { option_copied result ≡ latest self.now.installs key.now }
     {
         search::latest(&self.installs, &self.places, key)
     }
 
-    /// The value that a key has at a timestamp: none where there is none or it was erased.
+    /// Gives the value that a key has at a timestamp: `None` if there is none or it was erased.
     pub fn at(&self, key: &Key, at: Stamp) -> Option<&Value>
         ensures { option_copied result ≡ at_time self.now.installs key.now at }
     {
         search::value_at(&self.installs, &self.places, key, at)
     }
 
-    /// How many versions are not after a key and timestamp, and how many were compared to find that: as many as their number
-    /// has binary digits, or one less. Each comparison raises the caller's count, which only proofs see.
+    /// Counts the versions that are not after a key and timestamp. Returns this, and how many were compared to find it: as many as their
+    /// number has binary digits, or one less. Each comparison raises the caller's count, which only proofs see.
     pub fn find(&self, key: &Key, at: Stamp, compared: &mut Count) -> (usize, u32)
         ensures count { result.0 ≡ count_not_after key.now at self.now.installs }
         ensures probes { (digits : ℕ) → length self.now.installs < 2 ^ digits → result.1 ≤ digits }

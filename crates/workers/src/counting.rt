@@ -5,8 +5,8 @@ ghost use Rattle.std.specs.Fmt.{decimal};
 use std::alloc::Global;
 use units::{Fault, Value};
 
-/// The decimal number one above the one that was read, where no value counts 0. What spells no number counts 0 too, and the
-/// greatest number of 64 bits is written again.
+/// Computes what a turn writes after a read: the decimal number one above the one that was read. No value, and a value that spells no number,
+/// count as 0. The greatest number of 64 bits is written again.
 pub fn next_value(alloc: Global, read: &Option<Value>) -> Result<Value, Fault>
     ensures none { read.now ≡ None → IfOk result (λ next. next ≡ decimal 1) }
     ensures number { (n : ℕ) → n < 2 ^ 64 - 1 → read.now ≡ Some (decimal n)

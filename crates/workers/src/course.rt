@@ -5,17 +5,20 @@ ghost use Rattle.workers.specs.Course.{IsDrivable};
 use settings::Settings;
 use units::{Fault, Reason};
 
-/// How much the workers of a drive do: 1 to 64 workers, 1 to 100,000 transactions each, over 1 to 10,000 keys.
+/// How much the workers of a drive do.
 #[derive(Clone, Copy)]
 pub struct Course {
+    /// How many workers there are, from 1 to 64.
     pub workers: u64,
+    /// How many transactions each of them runs, from 1 to 100,000.
     pub transactions: u64,
+    /// How many keys they read and write, from 1 to 10,000.
     pub keys: u64,
     ghost drivable: { IsDrivable workers transactions keys },
 }
 
 impl Course {
-    /// What the settings ask for. A number out of its limits is refused as `settings`.
+    /// Takes the course out of the settings. A number beyond its limits is refused as `settings`.
     pub fn of(settings: &Settings) -> Result<Course, Fault>
         ensures same { IfOk result (λ course. (course.workers ≡ settings.now.workers)
             × (course.transactions ≡ settings.now.transactions)

@@ -22,11 +22,14 @@ use units::Fault;
 // So often a worker waits 20 milliseconds in silence before it gives a transaction up: two seconds.
 const PATIENCE: u32 = 100;
 
-/// What the workers are made of, one of each for each worker: inboxes by the workers' numbers, drawers, and viewers of each shard.
+/// What the workers are made of, one of each for each worker.
 #[derive(Drop)]
 pub struct Staff {
+    /// The inboxes, by the workers' numbers.
     pub inboxes: Vec<Receiver<Reply>>,
+    /// What each worker draws its numbers with.
     pub drawers: Drawers,
+    /// A viewer of each shard, for each worker.
     pub viewers: Viewers,
 }
 
@@ -90,8 +93,8 @@ fn workers<'r, 's, R, C: Copy, W>(
     Ok(workers)
 }
 
-/// The workers of a course do their turns, each on a thread of its own where one can be made, and then the nodes are sent the end.
-/// What all of them report.
+/// Runs the workers of a course until each has done its turns, and then sends the nodes the end. Each worker gets a thread of its own, if one
+/// can be made. Returns what all of them report.
 pub fn work_and_close<
     R: Threads + Wait + time::Clock + Sync,
     C: Clock + Copy + Send,

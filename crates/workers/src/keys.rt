@@ -7,7 +7,7 @@ use std::alloc::Global;
 use units::{Fault, Key};
 
 impl Course {
-    /// The keys of a worker's turn, both counted from 0: one where the two are the same.
+    /// Gives the keys of a worker's turn, both counted from 0. It is one key if the two are the same.
     pub fn turn_keys(&self, alloc: Global, worker: u64, turn: u64) -> Result<Vec<Key>, Fault>
         requires worker { worker < 64 }
         requires turn { turn < 100000 }
@@ -20,7 +20,7 @@ impl Course {
     }
 }
 
-// The keys of two numbers, once where they are equal.
+// The keys of two numbers, once if they are equal.
 fn keys_once(alloc: Global, first: u64, second: u64) -> Result<Vec<Key>, Fault>
     requires first { first < 10000 }
     requires second { second < 10000 }

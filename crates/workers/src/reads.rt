@@ -24,7 +24,7 @@ pub struct Reads {
 }
 
 impl Reads {
-    /// No read yet of a transaction.
+    /// Begins the reads of a transaction; there is none yet.
     pub fn none(alloc: Global, txn: TxnId) -> Reads
         ensures { (result.txn ≡ txn) × (result.asked.items ≡ []) }
     {
@@ -34,7 +34,7 @@ impl Reads {
         }
     }
 
-    /// A key was read, and had this value.
+    /// Notes that a key was read, and had this value.
     pub fn keep(&mut self, key: Key, value: Option<Value>) -> Result<(), Fault>
         ensures txn { self.new.txn ≡ self.old.txn }
         ensures keys { OnOk result (asked_keys self.new.asked.items ≡

@@ -8,28 +8,36 @@ use std::alloc::Global;
 use tickets::{Drawer, Tickets};
 use units::{Fault, Run, Splits};
 
-/// What all workers share: the run of their ids, the splits, the network, and the sources of the ids' numbers and of the moments
-/// of lines.
+/// What all workers of a drive share.
 #[derive(Drop)]
 pub struct Shared {
+    /// The allocator of all that they take.
     pub alloc: Global,
+    /// The run of their ids.
     pub run: Run,
+    /// The splits between the shards.
     pub splits: Splits,
+    /// What carries their letters, and the answers.
     pub network: Network,
+    /// The source of the ids' numbers.
     pub ids: Tickets,
+    /// The source of the moments of lines.
     pub moments: Tickets,
+    /// The word that workers are to end.
     pub stop: Stop,
 }
 
-/// What each worker has of its own to draw with.
+/// What each worker draws its numbers with, by its number.
 #[derive(Drop)]
 pub struct Drawers {
+    /// One for the ids of its transactions.
     pub ids: Vec<Drawer>,
+    /// One for the moments of its lines.
     pub moments: Vec<Drawer>,
 }
 
 impl Shared {
-    /// What the workers of a course share, over so many nodes.
+    /// Makes what the workers of a course share, over so many nodes.
     pub fn new(
         alloc: Global,
         course: Course,

@@ -7,18 +7,21 @@ use progress::Ended;
 use std::fmt;
 use units::Verdict;
 
-/// How many transactions were committed, were aborted, or were given up while their end was not known, and how many looks were
-/// answered.
+/// What the workers did.
 #[derive(Clone, Copy)]
 pub struct Counts {
+    /// How many transactions were committed.
     pub committed: u64,
+    /// How many were aborted.
     pub aborted: u64,
+    /// How many were given up while their end was not known.
     pub unknown: u64,
+    /// How many looks were answered.
     pub looks: u64,
 }
 
 impl Counts {
-    /// Nothing was done.
+    /// Begins to count: nothing was done yet.
     pub fn none() -> Counts
         ensures { (tried result ≡ 0) × (result.committed ≡ 0) × (result.looks ≡ 0) }
     {
@@ -30,7 +33,7 @@ impl Counts {
         }
     }
 
-    /// Counts a transaction, and the look behind it where it was answered.
+    /// Counts a transaction, and the look after it if that was answered.
     pub fn add(&mut self, ended: Ended, looked: bool)
         requires { (tried self.old + 1 < 2 ^ 64) × (self.old.looks ≤ tried self.old) }
         ensures tried { tried self.new ≡ tried self.old + 1 }
@@ -51,7 +54,7 @@ impl Counts {
 }
 
 impl Counts {
-    /// Adds what others did.
+    /// Adds what other workers did.
     pub fn merge(&mut self, other: Counts)
         requires { (tried self.old + tried other < 2 ^ 64)
             × (self.old.looks + other.looks < 2 ^ 64) }
@@ -90,7 +93,9 @@ impl fmt::Display for Counts {
 /// The counts and the verdict, to be printed: five lines.
 #[derive(Clone, Copy)]
 pub struct Summary {
+    /// What the workers did.
     pub counts: Counts,
+    /// The verdict on the logs and on the workers' lines.
     pub verdict: Verdict,
 }
 

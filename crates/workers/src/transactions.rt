@@ -16,7 +16,7 @@ use truetime::Clock;
 use units::{Fault, Key, Line};
 
 impl<'s, R: Wait + time::Clock, C: Clock + Drop, W: Watch> Worker<'_, 's, R, C, W> {
-    /// A transaction that reads keys, and writes to each the number that follows. Its lines are put behind those that are there.
+    /// Runs a transaction that reads keys, and writes to each the number that follows. Its lines are put after those that are there.
     pub fn transact(&mut self, keys: &[Key], lines: &mut Vec<Line>) -> Result<Ended, Fault>
         ensures { MatchResult result (λ ended. (told : List Line)
             × IsTransaction keys.now ended told
@@ -43,8 +43,8 @@ impl<'s, R: Wait + time::Clock, C: Clock + Drop, W: Watch> Worker<'_, 's, R, C, 
         }
     }
 
-    // Reads the keys, and writes what follows. Where a shard has refused a letter of the transaction, it is to be run again, as behind any
-    // other abort: the drive goes on.
+    // Reads the keys, and writes what follows. If a shard has refused a letter of the transaction, it is to be run again, as after any other
+    // abort: the drive goes on.
     fn read(&mut self, tx: &mut Tx<'s, Open>, reads: &mut Reads, keys: &[Key]) -> Result<(), Halt>
         requires { reads.old.asked.items ≡ [] }
         ensures txn { reads.new.txn ≡ reads.old.txn }

@@ -20,27 +20,38 @@ use tickets::Drawer;
 use truetime::Clock;
 use units::{Fault, Key, Line, Seen, Stamp, Value};
 
-/// A worker, with its wire, and a viewer of each shard, by the shard's number. The watch is told by the clock of `rt`.
+/// A worker of a drive, which runs its turns one after the other.
 #[derive(Drop)]
 pub struct Worker<'r, 's, R, C, W> {
+    /// The runtime, by whose clock the watch is told.
     pub rt: &'r R,
+    /// What its transactions send and hear with.
     pub wire: Wire<'r, 's, R>,
+    /// What all workers share.
     pub shared: &'s Shared,
+    /// Its number, from 0.
     pub number: usize,
+    /// What it draws the ids of its transactions with.
     pub ids: Drawer,
+    /// What it draws the moments of its lines with.
     pub moments: Drawer,
+    /// A viewer of each shard, by the shard's number.
     pub viewers: Vec<Viewer>,
+    /// The clock at whose readings it looks.
     pub clock: C,
+    /// What is told of each turn.
     pub watch: &'r W,
     ghost few: { number < 64 },
     ghost ids_drawn: { ids.source ≡ shared.now.ids },
     ghost moments_drawn: { moments.source ≡ shared.now.moments },
 }
 
-/// What a worker did: counts, and the lines of a report.
+/// What a worker did.
 #[derive(Drop)]
 pub struct Report {
+    /// How its transactions and looks ended.
     pub counts: Counts,
+    /// The lines of its part of the report.
     pub lines: Vec<Line>,
 }
 
@@ -64,8 +75,8 @@ impl<R: Wait + time::Clock, C: Clock + Drop, W: Watch> Worker<'_, '_, R, C, W> {
         Ok(Report { counts, lines })
     }
 
-    // A transaction, whose end the watch is told, and then a look at its first key, of which it is told where it was answered. It says
-    // whether it was.
+    // Runs a transaction, and tells the watch how it ended; then looks at its first key, and tells the watch if that was answered. Returns
+    // both.
     fn turn(&mut self, keys: &[Key], lines: &mut Vec<Line>) -> Result<(Ended, bool), Fault>
         ensures { MatchResult result (λ turned. (told : List Line)
             × IsTurn keys.now turned.0 turned.1 told
@@ -85,7 +96,7 @@ impl<R: Wait + time::Clock, C: Clock + Drop, W: Watch> Worker<'_, '_, R, C, W> {
         Ok((ended, looked))
     }
 
-    // Looks at the first of some keys at the latest of a reading. It says whether it was answered.
+    // Looks at the first of some keys at the latest of a reading. Returns whether it was answered.
     fn look_at_first(&mut self, keys: &[Key], lines: &mut Vec<Line>) -> Result<bool, Fault>
         ensures { MatchResult result (λ looked. (told : List Line) × IsLooked looked keys.now told
             × (lines.new.items ≡ lines.old.items ++ told)) (λ fault. fault ≡ Fault.Memory) }
@@ -106,8 +117,8 @@ impl<R: Wait + time::Clock, C: Clock + Drop, W: Watch> Worker<'_, '_, R, C, W> {
         Ok(true)
     }
 
-    // Looks at a key at the snapshot, which is at this timestamp, a hundred times at most, and not behind the word to stop, until its
-    // shard serves that. The tries are a millisecond apart, or less, where the shard has told that it serves the timestamp.
+    // Looks at a key at the snapshot, which is at this timestamp, until its shard serves that: a hundred times at most, and not after the
+    // word to stop. The tries are a millisecond apart, or less if the shard has told that it serves the timestamp.
     fn look_for(
         &mut self,
         snapshot: &Snapshot,
@@ -168,7 +179,7 @@ impl Report {
     }
 }
 
-/// What the workers of a course did together.
+/// Adds up what the workers of a course did.
 pub fn merged(
     alloc: Global,
     course: Course,
