@@ -60,7 +60,7 @@ pub trait Serves {
     fn alloc(&self) -> Global;
 }
 
-// So many letters are taken in a row before a node does its chores.
+// So many letters are taken in a row before a node does its chores and takes reads that wait.
 const LETTERS_IN_A_ROW: u64 = 64;
 
 // So many reads wait at most. While a device is slow, a worker sends one again each 20 milliseconds.
@@ -72,7 +72,7 @@ const READS_AT_MOST: usize = 1_024;
 /// - **Chores**: the node does them whenever no letter is there, and then waits for a letter until more are due. While letters come, it does
 ///   them after 64 letters, or after the first letter that ends more than a millisecond after the last chores. After them the gate is told if
 ///   the node has stopped.
-/// - **Reads** are taken once no other letter is there. After 64 letters without chores up to 64 reads are taken first.
+/// - **Reads** are taken once no other letter is there. After each 64 letters up to 64 reads are taken, also if other letters never cease.
 pub fn serve<N: Serves, W: Wait + time::Clock, P: Post, C: Clock, G: Gate>(
     node: &N,
     rt: &W,
@@ -112,7 +112,7 @@ pub fn serve<N: Serves, W: Wait + time::Clock, P: Post, C: Clock, G: Gate>(
 }
 
 // What a node is in the midst of: its chores, the reads that wait to be taken, and those that wait for a lock. It also counts the letters
-// that were taken, and those since its chores, and notes whether it had stopped then.
+// that were taken, and those since many in a row last let reads through, and notes whether it had stopped at its last chores.
 #[derive(Drop)]
 struct Round {
     chores: Chores,
@@ -123,8 +123,8 @@ struct Round {
     stopped: bool,
 }
 
-// Does the chores, and tells the gate if the node has stopped. After many letters in a row, reads that wait are taken first. Returns for how
-// long nothing more is due.
+// Does the chores, and tells the gate if the node has stopped. After many letters, reads that wait are taken first: chores that were late
+// meanwhile do not put them off. Returns for how long nothing more is due.
 fn tend<N: Serves, W: Wait + time::Clock, P: Post, C: Clock, G: Gate>(
     node: &N,
     rt: &W,
@@ -135,8 +135,8 @@ fn tend<N: Serves, W: Wait + time::Clock, P: Post, C: Clock, G: Gate>(
 ) -> Duration {
     if round.in_a_row >= LETTERS_IN_A_ROW {
         take_reads(node, rt, post, clock, gate, round);
+        round.in_a_row = 0;
     }
-    round.in_a_row = 0;
     round.kept.look_after(node, rt, post, clock);
     let pause = round.chores.tend(
         node,
