@@ -6,9 +6,10 @@
 #     edits     from the first crate whose wrong bodies were tried, until the last of them was refused
 #     runs      of the programs and the tests, once nothing is left to prove
 # The first three go beside one another. After a gate that passed, the programs that it built run with each growth of their memory refused, the
-# tests of the clients run over the program, and the wrong bodies are tried of the crates whose contracts are others than at the parent of HEAD,
-# or at the commit BASE. What the gate prints passes through, and its exit status is passed on. If a misuse or a wrong body is not refused, a
-# program does not end as it should when memory is refused, or a client's test fails, that is the last line, and the status is 1.
+# tests of the clients run over the program, and four histories of its threads are judged. Then the wrong bodies are tried of the crates whose
+# contracts are others than at the parent of HEAD, or at the commit BASE. What the gate prints passes through, and its exit status is passed on.
+# If a misuse or a wrong body is not refused, a program does not end as it should when memory is refused, a client's test fails, or a history breaks
+# a rule, that is the last line, and the status is 1.
 set -u
 RT_JOBS=$(scripts/jobs.sh 40)
 export RT_JOBS
@@ -67,6 +68,9 @@ fi
 if [ "$status" -eq 0 ]; then
     scripts/refused_memory.sh </dev/null 2>&1 || unended=yes
     scripts/clients.sh </dev/null 2>&1 || unserved=yes
+    if python3 --version >/dev/null 2>&1; then
+        scripts/histories.py 4 </dev/null 2>&1 || untold=yes
+    fi
     scripts/wrong_bodies.sh --changed ${BASE:+"$BASE"} </dev/null 2>&1 || passed_on=yes
 fi
 
@@ -91,6 +95,10 @@ if [ -n "${passed_on:-}" ]; then
 fi
 if [ -n "${unserved:-}" ]; then
     echo 'clients: FAILED'
+    exit 1
+fi
+if [ -n "${untold:-}" ]; then
+    echo 'histories: FAILED'
     exit 1
 fi
 exit "$status"
