@@ -16,7 +16,7 @@ use Rattle.board.specs.Look.{is_at_home}
 use Rattle.board.specs.Views.{LookedBy, Viewing}
 use Rattle.board.specs.declared.entry.BoardEntry.{BoardEntry}
 use Rattle.board.specs.declared.home.Home.{Home}
-use Rattle.store.specs.Views.{IsLater, IsNewest, IsShown, IsUnseenBy, seen_in}
+use Rattle.store.specs.Views.{IsLater, IsNewest, IsShown, IsUnseenBy, IsUnserved, seen_in}
 
 prefix_self : {A : Type 0} (xs : List A) → IsPrefix xs xs
 prefix_self xs = ([], append-nil xs)
@@ -152,11 +152,27 @@ stopped_is : (fault : Fault) → is_stopped {A = Seen} (Err fault) ≡ true → 
 stopped_is Stopped is = refl
 stopped_is _ is = absurd (true≢false (sym is))
 
+-- a viewer that has only waited: it has seen nothing, or a list that does not serve the timestamp
+abbrev pub Waits : Viewing → Viewing → Bytes → ℕ → Type 0
+Waits old now key at = (now ≡ old) ⊎ IsUnserved old now key at
+
+pub later_of : (old now : Viewing) (key : Bytes) (at : ℕ) → Waits old now key at → IsLater old now
+later_of old now key at (inl same) = subst (λ (v : Viewing). IsLater old v) (sym same) (not_later old)
+later_of old now key at (inr is) = is.0.later
+
+pub waits_of : {A : Type 0} (old now : Viewing) (key : Bytes) (at : ℕ) → (A × (now ≡ old)) ⊎ IsUnserved old now key at → Waits old now key at
+waits_of old now key at (inl is) = inl is.1
+waits_of old now key at (inr is) = inr is
+
+-- a viewer behind a look that is refused, which has only waited till then
 pub unseen : (old now after : Viewing) (key : Bytes) (at : ℕ) (buffer new : List ℕ) (result : Result Seen Fault) (fault : Fault)
-    → IsLater old now → Stays now after → (result ≡ Err Stopped → (after ≡ now) × (new ≡ buffer))
+    → Waits old now key at → Stays now after → (result ≡ Err Stopped → (after ≡ now) × (new ≡ buffer))
     → ((result ≡ Err Stopped → ⊥) → LookedBy now key at buffer result after new) → result ≡ Err fault → IsUnseenBy old after key at fault
-unseen old now after key at buffer new result fault later same stopped looked refused = by_kind (is_stopped {A = Seen} (Err fault)) refl
+unseen old now after key at buffer new result fault waits same stopped looked refused = by_kind (is_stopped {A = Seen} (Err fault)) refl
   where
+    later : IsLater old now
+    later = later_of old now key at waits
+
     by_cause : IsNewest old after
         → IsRefusedLook (is_at_home now.home key) (horizon_on after.seen) (safe_on after.seen) at fault
         ⊎ ((fault ≡ Room) × IsHeld (is_at_home now.home key) (horizon_on after.seen) (safe_on after.seen) at (shown_at after.seen key at))
@@ -166,19 +182,38 @@ unseen old now after key at buffer new result fault later same stopped looked re
     by_cause list (inr is) =
         inl (list, inr (inl is.0, subst (λ (h : Home). IsTrue (is_at_home h key)) later.home is.1.home, is.1.recent, is.1.served, is.1.some))
 
+    as_before : after ≡ now → Waits old now key at → IsUnserved old after key at ⊎ (after ≡ old)
+    as_before stays (inl same) = inr (stays ∙ same)
+    as_before stays (inr is) = inl (subst (λ (v : Viewing). IsUnserved old v key at) (sym stays) is)
+
     by_kind : (b : Bool) → is_stopped {A = Seen} (Err fault) ≡ b → IsUnseenBy old after key at fault
     by_kind true is =
         let fault_is = stopped_is fault is in
-        inr (fault_is, subst (λ (v : Viewing). IsLater old v) (sym (stopped (refused ∙ ap Err fault_is)).0) later)
+        inr (fault_is, as_before (stopped (refused ∙ ap Err fault_is)).0 waits)
     by_kind false is =
         let by = looked (λ stopped. true≢false (sym (ap is_stopped stopped) ∙ (ap is_stopped refused ∙ is))) in
         by_cause (newest old now after key at buffer new result later same by)
         (refused_for (is_at_home now.home key) (horizon_on after.seen) (safe_on after.seen) at (shown_at after.seen key at) (length buffer) fault
         (sym refused ∙ by.answered))
 
-pub later_by : (old after : Viewing) (key : Bytes) (at : ℕ) (fault : Fault) → IsUnseenBy old after key at fault → IsLater old after
-later_by old after key at fault (inl is) = is.0.later
-later_by old after key at fault (inr is) = is.1
+abbrev is_not_yet : Fault → Bool
+is_not_yet NotYet = true
+is_not_yet _ = false
+
+-- what is refused as not served yet is not served
+pub unserved : (old after : Viewing) (key : Bytes) (at : ℕ) → IsUnseenBy old after key at NotYet → IsUnserved old after key at
+unserved old after key at (inl (list, inl (inl is))) = absurd (true≢false (ap is_not_yet is.0))
+unserved old after key at (inl (list, inl (inr (inl is)))) = absurd (true≢false (ap is_not_yet is.0))
+unserved old after key at (inl (list, inl (inr (inr is)))) = (list, is.1, is.2, is.3)
+unserved old after key at (inl (list, inr is)) = absurd (no_room is.0)
+  where
+    no_room : (NotYet ≡ Room) ⊎ (NotYet ≡ Memory) → ⊥
+    no_room (inl is) = true≢false (ap is_not_yet is)
+    no_room (inr is) = true≢false (ap is_not_yet is)
+unserved old after key at (inr is) = absurd (true≢false (ap is_not_yet is.0))
+
+pub not_yet : (old after : Viewing) (key : Bytes) (at : ℕ) → IsUnserved old after key at → IsUnseenBy old after key at NotYet
+not_yet old after key at is = inl (is.0, inl (inr (inr (refl, is.1, is.2, is.3))))
 
 -- a value that a look has found, and that is not handed on
 pub too_much : (old now after : Viewing) (key : Bytes) (at : ℕ) (buffer new : List ℕ) (seen : Seen) (r : Result (Option Bytes) Fault)

@@ -1,5 +1,5 @@
 -- What a view tells of a key, why it tells nothing, and of which time it is.
-use Rattle.std.specs.Prelude.{◌≡◌, ◌⊎◌, ◌+◌, ◌≤◌, ℕ, true, false, nat_lt, List, take, slice_get, slice_set, Option, Some, None, IsTrue, IsSome}
+use Rattle.std.specs.Prelude.{◌≡◌, ◌⊎◌, ◌+◌, ◌≤◌, ◌<◌, ℕ, true, false, nat_lt, List, take, slice_get, slice_set, Option, Some, None, IsTrue, IsSome}
 use mathlib.Core.List.{IsPrefix}
 use Rattle.units.specs.Keys.{Bytes}
 use Rattle.units.specs.Looks.{IsRefusedLook}
@@ -48,13 +48,19 @@ abbrev pub IsTooMuch : Home → List BoardEntry → Bytes → ℕ → Fault → 
 IsTooMuch home list key at fault =
     ((fault ≡ Room) ⊎ (fault ≡ Memory)) × IsTrue (is_at_home home key) × (horizon_on list ≤ at) × (at ≤ safe_on list) × IsSome (shown_at list key at)
 
+-- a timestamp is not below the horizon of the list of the shard's board that the viewer has seen last, and the list does not serve it
+abbrev pub IsUnserved : Viewing → Viewing → Bytes → ℕ → Type 0
+IsUnserved viewer after key at =
+    IsNewest viewer after × IsTrue (is_at_home viewer.home key) × (horizon_on after.seen ≤ at) × (safe_on after.seen < at)
+
 -- Why a view does not tell the value of a key at a timestamp. By the list of its shard's board that the viewer has seen last, a look is refused:
--- the key belongs elsewhere, the timestamp is below the horizon, or it is not served; or the value is too much. Or the board gives no entry.
+-- the key belongs elsewhere, the timestamp is below the horizon, or it is not served; or the value is too much. Or the shard has stopped: that
+-- list does not serve the timestamp, or the board gives no entry and has shown nothing.
 abbrev pub IsUnseenBy : Viewing → Viewing → Bytes → ℕ → Fault → Type 0
 IsUnseenBy viewer after key at fault =
     (IsNewest viewer after
     × (IsRefusedLook (is_at_home viewer.home key) (horizon_on after.seen) (safe_on after.seen) at fault ⊎ IsTooMuch viewer.home after.seen key at fault))
-    ⊎ ((fault ≡ Stopped) × IsLater viewer after)
+    ⊎ ((fault ≡ Stopped) × (IsUnserved viewer after key at ⊎ (after ≡ viewer)))
 
 -- of some viewers by shard, the one of this shard has looked, and no other one: what it was and has become keeps this
 abbrev pub LookedAt : List Viewing → List Viewing → ℕ → (Viewing → Viewing → Type 0) → Type 0

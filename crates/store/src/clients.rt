@@ -7,6 +7,7 @@ ghost use Rattle.store.specs.Views.{IsPresent};
 
 use crate::shared::Shared;
 use crate::steady::StoreClock;
+use crate::view::MOST_BYTES;
 use crate::{Ended, Halt, Transaction, View};
 use board::{Snapshot, Viewer};
 use client::{Wire, Wires};
@@ -31,6 +32,8 @@ pub struct Client<'s, R> {
     pub(crate) drawer: Drawer,
     pub(crate) past: Wires<'s, 's, R>,
     pub(crate) viewers: Vec<Viewer>,
+    // Where its views read a value, one after the other.
+    pub(crate) room: Box<[u8; MOST_BYTES]>,
     pub(crate) clock: StoreClock<'s, R>,
     pub(crate) patience: u32,
 }
@@ -163,6 +166,7 @@ impl<'s, R: Wait + time::Clock> Client<'s, R> {
             rt: self.rt,
             shared: self.shared,
             viewers: &mut self.viewers,
+            room: &mut *self.room,
             snapshot: Snapshot::start(&now),
             at: now.latest(),
         })

@@ -5,6 +5,7 @@ ghost use Rattle.store.specs.Attempts.{IsFresh};
 use crate::clients::Client;
 use crate::shared::Shared;
 use crate::steady::StoreClock;
+use crate::view::MOST_BYTES;
 use board::Viewers;
 use client::Wires;
 use crossbeam_channel::Receiver;
@@ -26,6 +27,7 @@ impl Crew {
         &mut self,
         rt: &'s R,
         shared: &'s Shared,
+        room: Box<[u8; MOST_BYTES]>,
         clock: StoreClock<'s, R>,
         patience: u32,
     ) -> Option<Client<'s, R>>
@@ -48,6 +50,7 @@ impl Crew {
             drawer,
             past: Wires::none(),
             viewers,
+            room,
             clock,
             patience,
         })
@@ -73,7 +76,8 @@ pub fn clients_of<'s, R>(
     let mut crew = crew;
     let mut clients = Vec::new(shared.alloc);
     for _client in 0..crew.inboxes.len() {
-        let Some(client) = crew.next(rt, shared, clock, patience) else {
+        let room = Box::new(shared.alloc, [0; MOST_BYTES])?;
+        let Some(client) = crew.next(rt, shared, room, clock, patience) else {
             break;
         };
         clients.push(client)?;

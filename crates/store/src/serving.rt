@@ -30,7 +30,7 @@ pub fn serve_kept<
     R: Threads + Wait + time::Clock + Sync,
     D: Disk + Drop + Send,
     H: Wait + Drop + Send,
-    T: Drop,
+    T,
     F: for<'s> FnOnce(Vec<Client<'s, R>>) -> T,
 >(
     rt: &R,
@@ -57,7 +57,7 @@ pub fn serve_kept<
 fn serve_nodes<
     N: Serves + Sync,
     R: Threads + Wait + time::Clock + Sync,
-    T: Drop,
+    T,
     F: for<'s> FnOnce(Vec<Client<'s, R>>) -> T,
 >(
     rt: &R,
@@ -136,7 +136,7 @@ fn work_beside<
     N: Serves + Sync,
     R: Threads + Wait + time::Clock + Sync,
     P: Post + Send + Drop,
-    T: Drop,
+    T,
     F: for<'s> FnOnce(Vec<Client<'s, R>>) -> T,
 >(
     rt: &'a R,
@@ -183,7 +183,7 @@ fn work_beside<
 fn work_with<
     'a,
     R: Threads + Wait + time::Clock + Sync,
-    T: Drop,
+    T,
     F: for<'s> FnOnce(Vec<Client<'s, R>>) -> T,
 >(
     rt: &'a R,

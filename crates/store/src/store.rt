@@ -1,5 +1,5 @@
 //! An open store.
-ghost use Rattle.std.specs.Prelude.{◌≡◌, ◌⊎◌, ◌<◌, ◌+◌, All, length, Err, IfErr, IfNone, IfOk, IsOk};
+ghost use Rattle.std.specs.Prelude.{◌≡◌, ◌⊎◌, ◌<◌, ◌≤◌, ◌+◌, [], All, length, Err, IfErr, IfNone, IfOk, IsOk, vec_capacity};
 ghost use Rattle.node.specs.Unopened.{IsFirst, IsLastIn, IsRunOver, IsUnmade, unopened_for};
 ghost use Rattle.host_files.specs.Folders.{IsFolderFault};
 ghost use Rattle.store.specs.Attempts.{IsFresh};
@@ -97,9 +97,9 @@ impl<'r, R: Threads + Wait + Sync, D: Disk + Drop + Send> Store<'r, R, D> {
 
 impl<'r, R: Threads + Wait + time::Clock + Sync, D: Disk + Drop + Send> Store<'r, R, D> {
     /// Serves the store on threads of its own while `work` goes on with its clients, and closes it after that. What `work` gave comes
-    /// with the disks, by shard. It is refused as `Memory` if there is no thread or no memory for it. That may come after `work` has ended, and what
-    /// it gave is lost then.
-    pub fn serve<T: Drop, F: for<'s> FnOnce(Vec<Client<'s, R>>) -> T>(
+    /// with the disks, by shard. It is refused as `Memory` if there is no thread or no memory for it, and then `work` has not begun. So what
+    /// `work` gave is never lost: its type need not be one that may be dropped.
+    pub fn serve<T, F: for<'s> FnOnce(Vec<Client<'s, R>>) -> T>(
         self,
         work: F,
     ) -> Result<(T, Vec<D>), Fault>
@@ -122,11 +122,19 @@ impl<'r, R: Threads + Wait + time::Clock + Sync, D: Disk + Drop + Send> Store<'r
             epoch,
             last,
         } = opened;
+        let Ok(disks) = Vec::with_capacity(alloc, nodes.len()) else {
+            drop(options);
+            drop(nodes);
+            drop(viewers);
+            drop(work);
+            return Err(Fault::Memory);
+        };
         let answer = serve_kept(rt, alloc, &options, epoch, last, &nodes, viewers, work);
         drop(options);
         match answer {
-            Ok(answer) => Ok((answer, closed(alloc, nodes)?)),
+            Ok(answer) => Ok((answer, closed(nodes, disks))),
             Err(fault) => {
+                disks.destroy_empty();
                 drop(nodes);
                 Err(fault)
             }
@@ -170,17 +178,15 @@ impl<'r, R: Files<File = File> + RandomSource + Threads + Wait + Sync> Store<'r,
     }
 }
 
-// Closes the nodes.
-fn closed<D: Disk + Drop, H: Wait + Drop>(
-    alloc: Global,
-    nodes: Vec<Node<D, H>>,
-) -> Result<Vec<D>, Fault>
-    ensures disks { IfOk result (λ disks. length disks.items ≡ length nodes.items) }
-    ensures refused { IfErr result (λ fault. fault ≡ Fault.Memory) }
+// Closes the nodes, and adds their disks to the list, which has the room.
+fn closed<D: Disk + Drop, H: Wait + Drop>(nodes: Vec<Node<D, H>>, disks: Vec<D>) -> Vec<D>
+    requires empty { disks.items ≡ [] }
+    requires room { length nodes.items ≤ vec_capacity disks }
+    ensures { length result.items ≡ length nodes.items }
 {
-    let mut disks = Vec::new(alloc);
+    let mut disks = disks;
     for node in nodes {
-        disks.push(node.close())?;
+        disks.push_reserved(node.close());
     }
-    Ok(disks)
+    disks
 }

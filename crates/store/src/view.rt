@@ -11,12 +11,16 @@ use std::time;
 use std::time::Duration;
 use units::{Fault, Key, Seen, Stamp, Value};
 
+/// So many bytes a value has at most.
+pub(crate) const MOST_BYTES: usize = 4_096;
+
 /// What stands at a timestamp: all that was acknowledged before the view was opened, and nothing in part. It takes no locks.
 #[derive(Drop)]
 pub struct View<'c, 's, R> {
     pub(crate) rt: &'s R,
     pub(crate) shared: &'s Shared,
     pub(crate) viewers: &'c mut Vec<Viewer>,
+    pub(crate) room: &'c mut [u8; MOST_BYTES],
     pub(crate) snapshot: Snapshot,
     pub(crate) at: Stamp,
     ghost one: { snapshot ≡ at },
@@ -30,9 +34,11 @@ impl<R: Wait + time::Clock> View<'_, '_, R> {
         self.at
     }
 
-    /// The value of a key. It waits until the key's shard serves the timestamp, some seconds at most, and is then refused as `NotYet`. The
-    /// value is right for good: nothing that is committed later stands at or below the timestamp there. If the shard has forgotten what
-    /// its keys were then, it is refused as `TooOld`: then another view has to be opened.
+    /// The value of a key. It waits until the key's shard serves the timestamp, some seconds at most, and is then refused as `NotYet`: the
+    /// same call may be answered later. The value is right for good: nothing that is committed later stands at or below the timestamp there.
+    ///
+    /// If the shard has stopped and does not serve the timestamp, it is refused as `Stopped` at once, until the store is opened again. If the
+    /// shard has forgotten what its keys were then, it is refused as `TooOld`: then another view has to be opened.
     pub fn get(&mut self, key: &Key) -> Result<Option<Value>, Fault>
         ensures at { self.new.at ≡ self.old.at }
         ensures splits { self.new.shared.now.splits ≡ self.old.shared.now.splits }
@@ -48,7 +54,17 @@ impl<R: Wait + time::Clock> View<'_, '_, R> {
     {
         let shard = self.shared.splits.shard_of(key);
         match self.viewers.get_mut(usize::from(shard.number())) {
-            Some(viewer) => shown(self.rt, self.shared, viewer, self.snapshot, self.at, key),
+            Some(viewer) => {
+                shown(
+                    self.rt,
+                    self.shared,
+                    viewer,
+                    self.snapshot,
+                    self.at,
+                    key,
+                    self.room,
+                )
+            }
             None => Err(Fault::Stranger),
         }
     }
@@ -59,7 +75,8 @@ const TRIES: u32 = 3_000;
 
 const PAUSE: u64 = 1;
 
-// What a viewer tells of a key at a timestamp, once its shard serves that.
+// What a viewer tells of a key at a timestamp, once its shard serves that. A shard that has stopped shows nothing new from then on: so it is
+// asked whether it has before the look.
 fn shown<R: Wait + time::Clock>(
     rt: &R,
     shared: &Shared,
@@ -67,17 +84,23 @@ fn shown<R: Wait + time::Clock>(
     snapshot: Snapshot,
     at: Stamp,
     key: &Key,
+    room: &mut [u8; MOST_BYTES],
 ) -> Result<Option<Value>, Fault>
     ensures shown { IfOk result (IsShown viewer.old viewer.new key.now snapshot) }
     ensures refused { IfErr result (IsUnseenBy viewer.old viewer.new key.now snapshot) }
 {
     let shard = shared.splits.shard_of(key);
     let longest = Duration::from_millis(PAUSE);
-    let mut buffer = [0; 4096];
     for _try in 0..TRIES {
-        match snapshot.look(viewer, key, &mut buffer) {
-            Ok(seen) => return value_seen(shared.alloc, seen, &buffer),
-            Err(Fault::NotYet) => shared.network.await_served(rt, shard, at, longest),
+        let has_stopped = shared.network.has_stopped(shard);
+        match snapshot.look(viewer, key, room) {
+            Ok(seen) => return value_seen(shared.alloc, seen, room),
+            Err(Fault::NotYet) => {
+                if has_stopped {
+                    return Err(Fault::Stopped);
+                }
+                shared.network.await_served(rt, shard, at, longest);
+            }
             Err(fault) => return Err(fault),
         }
     }

@@ -28,6 +28,8 @@ mod services;
 #[cfg(test)]
 mod slow;
 #[cfg(test)]
+mod stopped_views;
+#[cfg(test)]
 mod stops;
 #[cfg(test)]
 mod store_folders;

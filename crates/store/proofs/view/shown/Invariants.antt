@@ -1,10 +1,6 @@
 use Rattle.std.proofs.Common.{◌≡◌, ◌⊎◌}
-use Rattle.units.specs.declared.fault.Fault.TheVariants.{NotYet}
-use Rattle.store.specs.Views.{IsLater, IsUnseenBy}
+use Rattle.store.specs.Views.{IsUnserved}
 use Rattle.store.proofs.view.shown.Given as goal
 
 abbrev pub invariant-loop-try : goal.invariant-loop-try
-invariant-loop-try g l = record {
-  later : IsLater l.fn.viewer l.viewer;
-  waits : (l._try ≡ 0) ⊎ IsUnseenBy l.fn.viewer l.viewer l.key l.snapshot NotYet;
-}
+invariant-loop-try g l = ((l._try ≡ 0) × (l.viewer ≡ l.fn.viewer)) ⊎ IsUnserved l.fn.viewer l.viewer l.key l.snapshot

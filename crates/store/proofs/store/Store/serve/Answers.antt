@@ -3,9 +3,9 @@ use Rattle.store.specs.Standing.{Standing}
 use Rattle.store.proofs.store.Store.serve.Goals as goal
 
 -- the clients are of the run, the splits and the clock of the store
-pub returns-in_ok-closed-in-Ok-clause-clients : goal.returns-in_ok-closed-in-Ok-clause-clients
-returns-in_ok-closed-in-Ok-clause-clients g c =
-    let worked = c.in-Ok.ensures.clients in (
+pub returns-in-Ok-answer-clause-clients : goal.returns-in-Ok-answer-clause-clients
+returns-in-Ok-answer-clause-clients g c =
+    let worked = c.in-Ok-answer.ensures.clients in (
       worked.0,
       worked.1,
       λ k d lt. (
