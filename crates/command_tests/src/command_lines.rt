@@ -27,8 +27,14 @@ pub enum Output {
     CommittedBehind(u64),
     /// This text.
     Is(&'static str),
-    /// Lines of which the last ends so.
+    /// A text that begins so.
+    Begins(&'static str),
+    /// A text that ends so.
     Ends(&'static str),
+    /// So many lines.
+    Lines(usize),
+    /// More than so many lines.
+    Over(usize),
 }
 
 /// Command lines, one after another, that come to the same.
@@ -306,7 +312,10 @@ fn is_printed(text: &str, output: Output) -> bool {
         Output::Committed => committed(text).is_some(),
         Output::CommittedBehind(micros) => is_behind(text, micros),
         Output::Is(right) => text == right,
+        Output::Begins(first) => text.starts_with(first),
         Output::Ends(last) => text.ends_with(last),
+        Output::Lines(count) => text.lines().count() == count,
+        Output::Over(count) => text.lines().count() > count,
     }
 }
 
