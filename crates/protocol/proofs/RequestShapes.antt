@@ -1,7 +1,7 @@
 -- The plans of reads, prepares and commits have a shape.
-use Rattle.std.proofs.Common.{refl, arith, sym, ap}
+use Rattle.std.proofs.Common.{refl, arith}
 use Rattle.std.specs.Prelude.{ℕ, ◌+◌, ◌≡◌, ◌<◌, max, Bool, true, false, nat_lt, nat_eq, List, [], ◌∷◌, Some, None, Ok}
-use Rattle.std.proofs.lemmas.Bool.{false≢true, and_from}
+use Rattle.std.proofs.lemmas.Bool.{and_from}
 use Rattle.units.specs.Lists.{head, when}
 use Rattle.units.specs.Ids.{Id}
 use Rattle.units.specs.Keys.{Bytes}
@@ -10,18 +10,16 @@ use Rattle.units.specs.declared.lock.Lock.{Lock}
 use Rattle.units.specs.declared.writes.Write.{Write}
 use Rattle.message.specs.declared.message.Prepare.{Prepare}
 use Rattle.message.specs.declared.message.Commit.{Commit}
-use Rattle.protocol.specs.Rows.{Idle, WaitsRead, WaitsPrepare, WaitsCommit, Collecting, IsPrepared, IsDecided, Voted, Standing, IsUnknown, WasEnded}
-use Rattle.protocol.specs.Rows.{HasRow, WasAborted, WasSettled, WasClosed, held_in}
+use Rattle.protocol.specs.Rows.{Idle, WaitsRead, WaitsPrepare, WaitsCommit, Collecting, IsPrepared, IsDecided, Voted, held_in}
 use Rattle.protocol.specs.Plan.{Before, stands, is_crowded, in_way, opens}
-use Rattle.protocol.specs.Cells.{commit_stamp, other_parts, still_stand, answers, to_read, plan_read_now, plan_read_row, plan_read, plan_promise}
-use Rattle.protocol.specs.Cells.{plan_prepare_now, plan_prepare_fresh, plan_prepare, plan_abort, plan_decide, plan_commit_granted, plan_commit_now}
-use Rattle.protocol.specs.Cells.{plan_commit_fresh, plan_commit}
+use Rattle.protocol.specs.Cells.{commit_stamp, other_parts, still_stand, answers, to_read, plan_read_now, plan_read_row, plan_promise}
+use Rattle.protocol.specs.Cells.{plan_prepare_now, plan_prepare_fresh, plan_abort, plan_decide, plan_commit_granted, plan_commit_now, plan_commit_fresh}
 use Rattle.protocol.specs.Sound.{holds_writes}
 use Rattle.protocol.proofs.InWay.{in_way_gone, holds_exclusive}
 use Rattle.protocol.proofs.Shapes.{Shaped, IsEnd, IsAbort, IsLock, IsWait, IsPromise, IsDecision, IsCleared, is_undecided, is_loose, all_fit}
 use Rattle.protocol.proofs.Shapes.{granted_to, reads_held}
 use Rattle.protocol.proofs.Choices.{Ascends, planned, refused, shaped_cond, shape_cond, shaped_err, shaped_roomed, shaped_idle, shaped_reply}
-use Rattle.protocol.proofs.Choices.{undecided, cleared, clear, held_at, held_unknown, reads_still, reads_granted}
+use Rattle.protocol.proofs.Choices.{undecided, cleared, clear, reads_still, reads_granted}
 
 -- ---- read
 
@@ -47,26 +45,11 @@ shaped_read_now b t k up loose = shaped_roomed b (is_crowded b t) _ (λ room.
       room = room;
     }) refl)))
 
-shaped_read_row : (b : Before) (t : Id) (k : Bytes) (held : List Lock) (waits : Bool) → Ascends b → (waits ≡ false → is_loose (stands b t) ≡ true)
+pub shaped_read_row : (b : Before) (t : Id) (k : Bytes) (held : List Lock) (waits : Bool) → Ascends b → is_loose (stands b t) ≡ true
     → Shaped b (plan_read_row b t k held waits)
 unfolding plan_read_row
 shaped_read_row b t k held waits up loose =
-    shaped_cond b _ _ _ (λ _. shaped_reply b (answers b t k ∷ [])) (λ _. shaped_cond b waits _ _ (λ _. shaped_idle b) (λ e. shaped_read_now b t k up (loose e)))
-
-waits_already : (b : Before) (t : Id) → true ≡ false → is_loose (stands b t) ≡ true
-waits_already b t e = absurd (false≢true (sym e))
-
-pub shaped_read : (b : Before) (t : Id) (k : Bytes) (s : Standing) → Ascends b → stands b t ≡ s → Shaped b (plan_read b t k s)
-unfolding plan_read
-shaped_read b t k IsUnknown up e = shaped_read_now b t k up (ap is_loose e)
-shaped_read b t k (HasRow held Idle) up e = shaped_read_row b t k held false up (λ _. ap is_loose e)
-shaped_read b t k (HasRow held (WaitsRead j)) up e = shaped_read_row b t k held true up (waits_already b t)
-shaped_read b t k (HasRow held (WaitsPrepare c rs ws)) up e = shaped_read_row b t k held true up (waits_already b t)
-shaped_read b t k (HasRow held (WaitsCommit l ps rs ws)) up e = shaped_read_row b t k held true up (waits_already b t)
-shaped_read b t k (HasRow held (Collecting l ps rs ws votes)) up e = shaped_idle b
-shaped_read b t k (HasRow held (IsPrepared c p)) up e = shaped_idle b
-shaped_read b t k (HasRow held (IsDecided s ps)) up e = shaped_idle b
-shaped_read b t k _ up e = shaped_reply b _
+    shaped_cond b _ _ _ (λ _. shaped_reply b (answers b t k ∷ [])) (λ _. shaped_cond b waits _ _ (λ _. shaped_idle b) (λ e. shaped_read_now b t k up loose))
 
 -- ---- prepare
 
@@ -105,28 +88,13 @@ shaped_prepare_now b earliest m up loose lower read = shaped_roomed b (is_crowde
       room = room;
     }) refl)))
 
-shaped_prepare_fresh : (b : Before) (earliest : ℕ) (m : Prepare) (held : List Lock) → Ascends b
+pub shaped_prepare_fresh : (b : Before) (earliest : ℕ) (m : Prepare) (held : List Lock) → Ascends b
     → is_loose (stands b m.txn) ≡ true → nat_lt m.coordinator b.shard ≡ true → held_in b.memory.rows m.txn ≡ held →
     Shaped b (plan_prepare_fresh b earliest m held)
 unfolding plan_prepare_fresh
 shaped_prepare_fresh b earliest m held up loose lower same =
     shaped_cond b (still_stand b m.reads.epoch m.reads.keys held) _ _ (λ k. shaped_prepare_now b earliest m up loose lower
     (reads_still b m.txn m.reads.epoch m.reads.keys held same k)) (λ _. planned b _ (IsEnd m.txn _ (undecided b m.txn loose) refl))
-
-pub shaped_prepare : (b : Before) (earliest : ℕ) (m : Prepare) (s : Standing) → Ascends b → nat_lt m.coordinator b.shard ≡ true
-    → stands b m.txn ≡ s → Shaped b (plan_prepare b earliest m s)
-unfolding plan_prepare
-shaped_prepare b earliest m IsUnknown up lower e = shaped_prepare_fresh b earliest m [] up (ap is_loose e) lower (held_unknown b m.txn e)
-shaped_prepare b earliest m (HasRow held Idle) up lower e =
-    shaped_prepare_fresh b earliest m held up (ap is_loose e) lower (held_at b m.txn held Idle e)
-shaped_prepare b earliest m (HasRow held (WaitsRead k)) up lower e =
-    shaped_prepare_fresh b earliest m held up (ap is_loose e) lower (held_at b m.txn held (WaitsRead k) e)
-shaped_prepare b earliest m (HasRow held (WaitsPrepare f qs vs)) up lower e = shaped_idle b
-shaped_prepare b earliest m WasEnded up lower e = shaped_reply b _
-shaped_prepare b earliest m (HasRow held (IsPrepared f p)) up lower e = shaped_reply b _
-shaped_prepare b earliest m (WasClosed None) up lower e = shaped_reply b _
-shaped_prepare b earliest m (WasClosed (Some s)) up lower e = shaped_idle b
-shaped_prepare b earliest m _ up lower e = refused b _
 
 -- ---- commit
 
@@ -188,7 +156,7 @@ shaped_commit_now b latest m up loose first read = shaped_roomed b (is_crowded b
       room = room;
     }) refl)))
 
-shaped_commit_fresh : (b : Before) (latest : ℕ) (m : Commit) (held : List Lock) → Ascends b
+pub shaped_commit_fresh : (b : Before) (latest : ℕ) (m : Commit) (held : List Lock) → Ascends b
     → is_loose (stands b m.txn) ≡ true → when (nat_eq b.shard) (head m.parts) ≡ true → held_in b.memory.rows m.txn ≡ held →
     Shaped b (plan_commit_fresh b latest m held)
 unfolding plan_commit_fresh
@@ -196,19 +164,3 @@ shaped_commit_fresh b latest m held up loose first same =
     shaped_cond b (still_stand b m.reads.epoch m.reads.keys held) _ _ (λ k. shaped_err b _ _ _
     (shaped_commit_now b latest m up loose first (reads_still b m.txn m.reads.epoch m.reads.keys held same k)))
     (λ _. shaped_abort b m.txn m.parts (undecided b m.txn loose))
-
-pub shaped_commit : (b : Before) (latest : ℕ) (m : Commit) (s : Standing) → Ascends b
-    → when (nat_eq b.shard) (head m.parts) ≡ true → stands b m.txn ≡ s → Shaped b (plan_commit b latest m s)
-unfolding plan_commit
-shaped_commit b latest m IsUnknown up first e = shaped_commit_fresh b latest m [] up (ap is_loose e) first (held_unknown b m.txn e)
-shaped_commit b latest m (HasRow held Idle) up first e =
-    shaped_commit_fresh b latest m held up (ap is_loose e) first (held_at b m.txn held Idle e)
-shaped_commit b latest m (HasRow held (WaitsRead k)) up first e =
-    shaped_commit_fresh b latest m held up (ap is_loose e) first (held_at b m.txn held (WaitsRead k) e)
-shaped_commit b latest m (HasRow held (WaitsCommit l qs ss vs)) up first e = shaped_idle b
-shaped_commit b latest m (HasRow held (Collecting l qs ss vs us)) up first e = shaped_idle b
-shaped_commit b latest m (HasRow held (IsDecided s qs)) up first e = shaped_idle b
-shaped_commit b latest m WasEnded up first e = shaped_abort b m.txn m.parts (ap is_undecided e)
-shaped_commit b latest m WasAborted up first e = shaped_reply b _
-shaped_commit b latest m (WasSettled s qs) up first e = shaped_reply b _
-shaped_commit b latest m _ up first e = refused b _
