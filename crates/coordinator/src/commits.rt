@@ -22,7 +22,6 @@ use units::{Fault, Ids, Lock, Parts, Stamp, TxnId};
 
 /// A commit: where the reads still stand and the locks of what is written are granted, a transaction of this shard alone is
 /// decided at once, and one of several collects votes; else it is aborted, or waits.
-#[tactic(auto, unfolding(protocol::specs::Cells::plan_commit))]
 pub fn on_commit(
     state: &State,
     alloc: Global,

@@ -1,14 +1,12 @@
 //! How a transaction that this shard decides ends: given up, asked for, or settled.
 ghost use Rattle.std.specs.Prelude.{◌≡◌, true, IfOk, IfErr};
 ghost use Rattle.protocol.specs.Outputs.{outcome_to};
-ghost use Rattle.protocol.specs.Cells.{plan_abort_for};
 ghost use Rattle.memory.specs.CodeRows.{may_close, phase_of};
 ghost use Rattle.memory.specs.RowTable.{has_phase};
 ghost use Rattle.memory.specs.row.Row.{Row};
 ghost use Rattle.memory.specs.Carry.{IsFit, may_drop};
-ghost use Rattle.memory.specs.Kept.{start_of};
-ghost use Rattle.memory.specs.Standings.{standing_in, HasRowIn, MakesPlan, MakesReply, PlansGiveUp};
-ghost use Rattle.coordinator.specs.ByMessage.{PlansAsk, PlansSettle, MakesSettled};
+ghost use Rattle.memory.specs.Standings.{standing_in, HasRowIn, MakesReply, PlansGiveUp};
+ghost use Rattle.coordinator.specs.ByMessage.{PlansAsk, PlansSettle, MakesAbortFor, MakesSettled};
 
 use crate::parts::is_of_part;
 use memory::{RowCollecting, Standing, State, Step, done_to, outcome_to};
@@ -34,7 +32,6 @@ pub fn give_up(
 }
 
 /// The question how a transaction ended. One that is not known, or only reads, is aborted before it is answered.
-#[tactic(auto, unfolding(protocol::specs::Cells::plan_ask))]
 pub fn on_ask(state: &State, alloc: Global, ask: &Ask) -> Result<Step, Fault>
     ensures planned { PlansAsk state.now ask.now (standing_in state.now ask.now.txn) result }
     ensures fit { IfOk result (IsFit state.now) }
@@ -84,8 +81,7 @@ fn answer(state: &State, alloc: Global, ask: &Ask, outcome: Option<Stamp>) -> Re
 // The transaction is aborted, and the shard that asked is told.
 fn abort_for(state: &State, alloc: Global, ask: &Ask) -> Result<Step, Fault>
     requires { may_drop state.now.memory.rows ask.now.txn ≡ true }
-    ensures plan { MakesPlan state.now
-        (plan_abort_for (start_of state.now) ask.now.from ask.now.txn) result }
+    ensures plan { MakesAbortFor state.now ask.now result }
     ensures fit { IfOk result (IsFit state.now) }
     ensures memory { IfErr result (λ fault. fault ≡ Fault.Memory) }
 {
@@ -99,7 +95,6 @@ fn abort_for(state: &State, alloc: Global, ask: &Ask) -> Result<Step, Fault>
 
 /// A decided transaction is settled, once its timestamp has surely passed: its session and the other parts are told. Nobody is
 /// told of a commit before (commit wait): the end is made of the word that it has passed.
-#[tactic(auto, unfolding(protocol::specs::Cells::plan_settle))]
 pub fn settle(state: &State, alloc: Global, now: &Reading, txn: TxnId) -> Result<Step, Fault>
     ensures planned { PlansSettle state.now now.now.earliest txn (standing_in state.now txn)
         result }

@@ -13,7 +13,6 @@ use units::Fault;
 
 /// A giving up of a transaction that collects no votes here: one that reads, or is not known, is ended, and a prepare that it
 /// waits with is refused; any other goes on. One that collects votes `coordinator::give_up` aborts.
-#[tactic(auto, unfolding(protocol::specs::Cells::plan_give_up))]
 pub fn on_give_up(state: &State, alloc: Global, given: &GiveUp) -> Result<Step, Fault>
     requires { has_phase is_collecting state.now.memory.rows given.now.txn ≡ false }
     ensures planned { PlansGiveUp state.now given.now.txn (standing_in state.now given.now.txn)

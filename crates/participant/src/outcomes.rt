@@ -18,7 +18,6 @@ use units::{Fault, TxnId};
 
 /// The outcome of a transaction. A promise is closed by it, where it comes from the coordinator and is not below the
 /// promise; a transaction that made none here may be aborted, and never committed.
-#[tactic(auto, unfolding(protocol::specs::Cells::plan_outcome))]
 pub fn on_outcome(state: &State, alloc: Global, told: &Outcome) -> Result<Step, Fault>
     ensures planned { PlansOutcome state.now told.now (standing_in state.now told.now.txn) result }
     ensures fit { IfOk result (IsFit state.now) }
@@ -81,7 +80,6 @@ fn close(state: &State, alloc: Global, told: &Outcome) -> Step
 }
 
 /// A prepared transaction's coordinator is asked how it ended.
-#[tactic(auto, unfolding(protocol::specs::Cells::plan_nudge))]
 pub fn on_nudge(state: &State, alloc: Global, txn: TxnId) -> Result<Step, Fault>
     ensures planned { PlansNudge state.now txn (standing_in state.now txn) result }
     ensures fit { IfOk result (IsFit state.now) }

@@ -19,7 +19,6 @@ use units::{Fault, ShardNo, Stamp, TxnId};
 
 /// A prepare: where the reads still stand and the locks of what is written are granted, a promise is logged at a timestamp
 /// above all that was served, and voted for; else the vote is refused, or the transaction waits.
-#[tactic(auto, unfolding(protocol::specs::Cells::plan_prepare))]
 pub fn on_prepare(
     state: &State,
     alloc: Global,

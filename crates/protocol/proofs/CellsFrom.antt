@@ -19,7 +19,7 @@ use Rattle.protocol.specs.Rows.{Phase, Idle, WaitsRead, WaitsPrepare, WaitsCommi
 use Rattle.protocol.specs.Rows.{HasRow, WasAborted, WasSettled, WasClosed, claims, is_firm, held_in}
 use Rattle.protocol.specs.Plan.{Before, stands}
 use Rattle.protocol.specs.Cells.{Cell, ToRefuse, ToRest, ToReply, Provided, ToRead, ToPrepare, ToCommit, ToEnd, ToAbort, ToAbortFor, ToCount, ToClose}
-use Rattle.protocol.specs.Cells.{ToAnswer, ToPromise, ToGrant, ToSettle, ToServe, ToForget, is_outcome_for}
+use Rattle.protocol.specs.Cells.{ToGoOn, ToSettle, ToServe, ToForget, is_outcome_for}
 use Rattle.protocol.specs.Table.{read_cell, prepare_cell, commit_cell, tell_cell, vote_cell, unpromised_cell, outcome_cell, give_up_cell, ask_cell}
 use Rattle.protocol.specs.Table.{go_on_cell, resume_cell, settle_cell, nudge_cell}
 use Rattle.protocol.specs.Step.{is_for, message_cell, cell}
@@ -90,9 +90,7 @@ IsFrom setup b now i (ToAbortFor n t) = (is_undecided (stands b t) ≡ true) × 
 IsFrom setup b now i (ToCount n t vote l ps rs ws votes) =
     IsHeard setup i (Message.Vote (record { from = n; txn = t; vote = vote })) × IsIn b t (Collecting l ps rs ws votes)
 IsFrom setup b now i (ToClose t outcome) = MayClose setup b i t outcome
-IsFrom setup b now i (ToAnswer t k) = IsNext b t (WaitsRead k)
-IsFrom setup b now i (ToPromise earliest t c rs ws) = IsNext b t (WaitsPrepare c rs ws)
-IsFrom setup b now i (ToGrant t l ps rs ws) = IsNext b t (WaitsCommit l ps rs ws)
+IsFrom setup b now i (ToGoOn earliest t wait) = IsNext b t wait
 IsFrom setup b now i (ToSettle earliest t s ps) = IsIn b t (IsDecided s ps) × (earliest ≡ now.earliest)
 IsFrom setup b now i (ToServe latest stride at) = i ≡ Input.Advance at
 IsFrom setup b now i (ToForget at) = i ≡ Input.Forget at
@@ -190,9 +188,7 @@ module _ (setup : Setup) (b : Before) (now : Interval) (i : Input) where
   ask_from n t _ heard e = tt
 
   go_on_from : (t : Id) (s : Standing) → ready (claims b.memory.rows) ≡ Some t → stands b t ≡ s → From (go_on_cell now.earliest t s)
-  go_on_from t (HasRow held (WaitsRead k)) next e = record { waits = is_in t held (WaitsRead k) e; next = next }
-  go_on_from t (HasRow held (WaitsPrepare c rs ws)) next e = record { waits = is_in t held (WaitsPrepare c rs ws) e; next = next }
-  go_on_from t (HasRow held (WaitsCommit l ps rs ws)) next e = record { waits = is_in t held (WaitsCommit l ps rs ws) e; next = next }
+  go_on_from t (HasRow held phase) next e = record { waits = is_in t held phase e; next = next }
   go_on_from t _ next e = tt
 
   resume_from : (o : Option Id) → ready (claims b.memory.rows) ≡ o → From (resume_cell b now.earliest o)

@@ -22,11 +22,11 @@ use Rattle.protocol.specs.Outputs.{promise, decision}
 use Rattle.protocol.specs.Refusals.{is_own}
 use Rattle.protocol.specs.Rows.{Memory, Row, Phase, Idle, WaitsRead, WaitsPrepare, WaitsCommit, Collecting, IsPrepared, IsDecided, Voted}
 use Rattle.protocol.specs.Rows.{with_vote, without_row, without_rows}
-use Rattle.protocol.specs.Plan.{Before, Change, Keeps, Ends, Drops, Puts, Plan, Planned, carried, after_change, is_crowded, opens, roomed}
+use Rattle.protocol.specs.Plan.{Before, Change, Keeps, Ends, Drops, Puts, Plan, Planned, carried, after_change, roomed}
 use Rattle.protocol.specs.Cells.{Cell, ToRefuse, ToRest, ToReply, Provided, ToRead, ToPrepare, ToCommit, ToEnd, ToAbort, ToAbortFor, ToCount, ToClose}
-use Rattle.protocol.specs.Cells.{ToAnswer, ToPromise, ToGrant, ToSettle, ToServe, ToForget, commit_stamp, other_parts, plan_abort, plan_advance, plan_cell}
-use Rattle.protocol.specs.Cells.{plan_commit_fresh, plan_commit_granted, plan_commit_now, plan_count, plan_decide, plan_forget, plan_prepare_fresh}
-use Rattle.protocol.specs.Cells.{plan_prepare_now, plan_promise, plan_read_now, plan_read_row, plan_settle, to_read}
+use Rattle.protocol.specs.Cells.{ToGoOn, ToSettle, ToServe, ToForget, commit_stamp, other_parts, plan_abort, plan_advance, plan_asks, plan_cell}
+use Rattle.protocol.specs.Cells.{plan_commit_fresh, plan_commit_granted, plan_count, plan_decide, plan_forget, plan_granted, plan_prepare_fresh}
+use Rattle.protocol.specs.Cells.{plan_promise, plan_read_row}
 use Rattle.protocol.specs.Step.{is_for, cell, plan_input}
 use Rattle.protocol.proofs.CellsFrom.{IsHeard, IsIn, IsFrom, cell_is_from}
 use Rattle.protocol.proofs.InWay.{row_at}
@@ -93,27 +93,13 @@ module _ (P : List Bytes → List Write → Bool) (named : Phase → Bool) (note
   told_provided true x h = h refl
   told_provided false x h = refused Stranger refl
 
-  told_plans : (test : Bool) (p q : Plan) → Told (Ok p) → Told (Ok q) → Told (Ok (cond test p q))
-  told_plans true p q h k = h
-  told_plans false p q h k = k
-
   told_roomed : (crowded : Bool) (plan : Planned) → Told plan → Told (roomed crowded plan)
   unfolding Told
   told_roomed true (Ok p) h = refl
   told_roomed true (Err fault) h = h
   told_roomed false plan h = h
 
-  -- ---- read
-
-  walk_read_now : (b : Before) (t : Id) (k : Bytes) → Told (plan_read_now b t k)
-  unfolding plan_read_now
-  walk_read_now b t k = told_roomed (is_crowded b t) _ (told_plans (opens b t (to_read k)) _ _ (told _ fits.idle refl) (told _ (fits.reading k) refl))
-
-  walk_read_row : (b : Before) (t : Id) (k : Bytes) (held : List Lock) (waits : Bool) → Told (plan_read_row b t k held waits)
-  unfolding plan_read_row
-  walk_read_row b t k held waits = told_cond _ _ _ (told _ refl refl) (told_cond waits _ _ (told _ refl refl) (walk_read_now b t k))
-
-  -- ---- prepare
+  -- ---- requests
 
   walk_promise : (b : Before) (ended : List Id) (earliest : ℕ) (t : Id) (c : ℕ) (rs : List Bytes) (ws : List Write) → P rs ws ≡ true
       → Told (plan_promise b ended earliest t c rs ws)
@@ -121,20 +107,6 @@ module _ (P : List Bytes → List Write → Bool) (named : Phase → Bool) (note
   walk_promise b ended earliest t c rs ws own =
       let p : ℕ = max (b.memory.last + 1) earliest in
       told_cond _ _ _ (told _ (fits.prepared c p) (fits.promised t c p rs ws ∙ own)) (refused TimeSpent refl)
-
-  walk_prepare_now : (b : Before) (earliest : ℕ) (m : Prepare) → P m.reads.keys m.writes ≡ true
-      → Told (plan_prepare_now b earliest m)
-  unfolding plan_prepare_now
-  walk_prepare_now b earliest m own =
-      told_roomed _ _ (told_cond _ _ _ (walk_promise b _ earliest m.txn m.coordinator m.reads.keys m.writes own)
-      (told _ (fits.preparing m.coordinator m.reads.keys m.writes ∙ own) refl))
-
-  walk_prepare_fresh : (b : Before) (earliest : ℕ) (m : Prepare) (held : List Lock) → P m.reads.keys m.writes ≡ true
-      → Told (plan_prepare_fresh b earliest m held)
-  unfolding plan_prepare_fresh
-  walk_prepare_fresh b earliest m held own = told_cond _ _ _ (walk_prepare_now b earliest m own) (told _ refl refl)
-
-  -- ---- commit
 
   walk_abort : (b : Before) (t : Id) (ps : List ℕ) → Told (Ok (plan_abort b t ps))
   unfolding plan_abort
@@ -147,27 +119,43 @@ module _ (P : List Bytes → List Write → Bool) (named : Phase → Bool) (note
       let s : ℕ = commit_stamp b.memory.last latest votes in
       told_cond _ _ _ (told _ (fits.decided s ps) (fits.decides t s ps rs ws ∙ own)) (refused TimeSpent refl)
 
-  walk_granted : (b : Before) (ended : List Id) (t : Id) (latest : ℕ) (ps : List ℕ) (rs : List Bytes) (ws : List Write) (ns : List ℕ) →
+  walk_commit_granted : (b : Before) (ended : List Id) (t : Id) (latest : ℕ) (ps : List ℕ) (rs : List Bytes) (ws : List Write) (ns : List ℕ) →
       P rs ws ≡ true
       → Told (plan_commit_granted b ended t latest ps rs ws ns)
   unfolding plan_commit_granted
-  walk_granted b ended t latest ps rs ws [] own = walk_decide b ended t latest ps rs ws _ [] own
-  walk_granted b ended t latest ps rs ws (n ∷ ns) own = told _ (fits.collecting latest ps rs ws [] ∙ own) refl
+  walk_commit_granted b ended t latest ps rs ws [] own = walk_decide b ended t latest ps rs ws _ [] own
+  walk_commit_granted b ended t latest ps rs ws (n ∷ ns) own = told _ (fits.collecting latest ps rs ws [] ∙ own) refl
 
-  walk_commit_now : (b : Before) (latest : ℕ) (m : Commit) → P m.reads.keys m.writes ≡ true
-      → Told (plan_commit_now b latest m)
-  unfolding plan_commit_now
-  walk_commit_now b latest m own =
-      told_roomed _ _ (told_cond _ _ _ (walk_granted b _ m.txn latest m.parts m.reads.keys m.writes (other_parts b.shard m.parts) own)
-      (told _ (fits.committing latest m.parts m.reads.keys m.writes ∙ own) refl))
+  walk_granted : (b : Before) (ended : List Id) (earliest : ℕ) (t : Id) (wait : Phase) → named wait ≡ true → Told (plan_granted b ended earliest t wait)
+  unfolding plan_granted
+  walk_granted b ended earliest t (WaitsRead k) own = told _ fits.idle refl
+  walk_granted b ended earliest t (WaitsPrepare c rs ws) own = walk_promise b ended earliest t c rs ws (sym (fits.preparing c rs ws) ∙ own)
+  walk_granted b ended earliest t (WaitsCommit l ps rs ws) own =
+      walk_commit_granted b ended t l ps rs ws (other_parts b.shard ps) (sym (fits.committing l ps rs ws) ∙ own)
+  walk_granted b ended earliest t _ own = told _ refl refl
+
+  walk_asks : (b : Before) (earliest : ℕ) (t : Id) (wait : Phase) → named wait ≡ true → Told (plan_asks b earliest t wait)
+  unfolding plan_asks
+  walk_asks b earliest t wait own = told_roomed _ _ (told_cond _ _ _ (walk_granted b _ earliest t wait own) (told _ own refl))
+
+  walk_read_row : (b : Before) (t : Id) (k : Bytes) (held : List Lock) (waits : Bool) → Told (plan_read_row b t k held waits)
+  unfolding plan_read_row
+  walk_read_row b t k held waits = told_cond _ _ _ (told _ refl refl) (told_cond waits _ _ (told _ refl refl) (walk_asks b 0 t (WaitsRead k) (fits.reading k)))
+
+  walk_prepare_fresh : (b : Before) (earliest : ℕ) (m : Prepare) (held : List Lock) → P m.reads.keys m.writes ≡ true
+      → Told (plan_prepare_fresh b earliest m held)
+  unfolding plan_prepare_fresh
+  walk_prepare_fresh b earliest m held own =
+      told_cond _ _ _ (walk_asks b earliest m.txn _ (fits.preparing m.coordinator m.reads.keys m.writes ∙ own)) (told _ refl refl)
 
   walk_commit_fresh : (b : Before) (latest : ℕ) (m : Commit) (held : List Lock) → P m.reads.keys m.writes ≡ true
       → Told (plan_commit_fresh b latest m held)
   unfolding plan_commit_fresh
   walk_commit_fresh b latest m held own =
-      told_cond _ _ _ (told_cond _ _ _ (walk_commit_now b latest m own) (refused TimeSpent refl)) (walk_abort b m.txn m.parts)
+      told_cond _ _ _ (told_cond _ _ _ (walk_asks b 0 m.txn _ (fits.committing latest m.parts m.reads.keys m.writes ∙ own)) (refused TimeSpent refl))
+      (walk_abort b m.txn m.parts)
 
-  -- ---- votes, settling, served time
+  -- ---- votes, served time
 
   walk_count : (b : Before) (n : ℕ) (t : Id) (vote : Option ℕ) (latest : ℕ) (ps : List ℕ) (rs : List Bytes) (ws : List Write) (votes : List Voted)
       → P rs ws ≡ true → Told (plan_count b n t vote latest ps rs ws votes)
@@ -175,10 +163,6 @@ module _ (P : List Bytes → List Write → Bool) (named : Phase → Bool) (note
   walk_count b n t None latest ps rs ws votes own = walk_abort b t ps
   walk_count b n t (Some p) latest ps rs ws votes own =
       told_cond _ _ _ (walk_decide b [] t latest ps rs ws [] _ own) (told _ (fits.collecting latest ps rs ws (with_vote n p votes) ∙ own) refl)
-
-  walk_settle : (b : Before) (earliest : ℕ) (t : Id) (s : ℕ) (ps : List ℕ) → Told (plan_settle b earliest t s ps)
-  unfolding plan_settle
-  walk_settle b earliest t s ps = told_cond _ _ _ (told _ refl (fits.outcomes t (Some s))) (refused Early refl)
 
   walk_advance : (b : Before) (latest stride at : ℕ) → Told (plan_advance b latest stride at)
   unfolding plan_advance
@@ -220,11 +204,8 @@ module _ (P : List Bytes → List Write → Bool) (named : Phase → Bool) (note
     walk (ToCount n t vote l ps rs ws votes) from =
         walk_count b n t vote l ps rs ws votes (sym (fits.collecting l ps rs ws votes) ∙ in_row t _ from.1)
     walk (ToClose t outcome) from = told _ refl (fits.outcomes t outcome)
-    walk (ToAnswer t k) from = told _ fits.idle refl
-    walk (ToPromise earliest t c rs ws) from = walk_promise b [] earliest t c rs ws (sym (fits.preparing c rs ws) ∙ in_row t _ from.waits)
-    walk (ToGrant t l ps rs ws) from =
-        walk_granted b [] t l ps rs ws (other_parts b.shard ps) (sym (fits.committing l ps rs ws) ∙ in_row t _ from.waits)
-    walk (ToSettle earliest t s ps) from = walk_settle b earliest t s ps
+    walk (ToGoOn earliest t wait) from = walk_granted b [] earliest t wait (in_row t wait from.waits)
+    walk (ToSettle earliest t s ps) from = told_cond _ _ _ (told _ refl (fits.outcomes t (Some s))) (refused Early refl)
     walk (ToServe latest stride at) from = walk_advance b latest stride at
     walk (ToForget at) from = walk_forget b at
 

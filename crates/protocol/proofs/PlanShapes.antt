@@ -1,13 +1,13 @@
 -- Each plan of a step has one of the shapes.
 use Rattle.std.specs.List.{list_all}
 use Rattle.std.proofs.Common.{refl, sym, subst, ap, ◌∙◌, ltb-false, leb-false}
-use Rattle.std.specs.Prelude.{ℕ, ◌≡◌, max, Bool, true, false, cond, ◌&&◌, nat_eq, nat_lt, nat_le, List, [], Option, Some, None, Ok, Err}
+use Rattle.std.specs.Prelude.{ℕ, ◌≡◌, max, Bool, true, false, not, cond, ◌&&◌, nat_eq, nat_lt, nat_le, List, [], Option, Some, None, Ok, Err}
 use Rattle.std.proofs.lemmas.Bool.{and_parts, and_from}
 use Rattle.units.specs.Lists.{head, when}
 use Rattle.units.specs.Ids.{Id}
 use Rattle.units.specs.ById.{IsById}
 use Rattle.units.specs.Keys.{Bytes}
-use Rattle.units.specs.Locks.{exclusive, holds, is_free}
+use Rattle.units.specs.Locks.{holds, is_free}
 use Rattle.units.specs.declared.fault.Fault.TheVariants.{Future, NotYet}
 use Rattle.units.specs.declared.setup.Setup.{Setup}
 use Rattle.units.specs.declared.writes.Write.{Write}
@@ -18,12 +18,10 @@ use Rattle.message.specs.declared.message.Commit.{Commit}
 use Rattle.message.specs.declared.message.Message.{Message}
 use Rattle.message.specs.declared.message.Prepare.{Prepare}
 use Rattle.message.specs.declared.message.Input.{Input}
-use Rattle.protocol.specs.Rows.{Memory, Phase, Idle, WaitsRead, WaitsPrepare, WaitsCommit, Collecting, IsPrepared, IsDecided, Voted}
-use Rattle.protocol.specs.Rows.{claims, held_in, needs_of, safe, with_vote}
-use Rattle.protocol.specs.Plan.{idles, Plan, Planned, Keeps, Before, start_of_step, stands, is_crowded}
+use Rattle.protocol.specs.Rows.{Memory, Phase, Collecting, IsPrepared, IsDecided, Voted, claims, held_in, needs_of, safe, with_vote}
+use Rattle.protocol.specs.Plan.{idles, serves, Plan, Planned, Before, start_of_step, is_crowded}
 use Rattle.protocol.specs.Cells.{Cell, ToRefuse, ToRest, ToReply, Provided, ToRead, ToPrepare, ToCommit, ToEnd, ToAbort, ToAbortFor, ToCount, ToClose}
-use Rattle.protocol.specs.Cells.{ToAnswer, ToPromise, ToGrant, ToSettle, ToServe, ToForget, other_parts, ceiling_for, to_read, plan_count, plan_settle}
-use Rattle.protocol.specs.Cells.{plan_advance, plan_forget, plan_cell}
+use Rattle.protocol.specs.Cells.{ToGoOn, ToSettle, ToServe, ToForget, ceiling_for, plan_count, plan_advance, plan_forget, plan_cell}
 use Rattle.protocol.specs.Sound.{fits, holds_writes}
 use Rattle.protocol.specs.Step.{is_for, cell, plan_input}
 use Rattle.protocol.proofs.CellsFrom.{IsIn, IsNext, IsFrom, cell_is_from}
@@ -32,8 +30,7 @@ use Rattle.protocol.proofs.InWay.{row_at, room_at, free_of_nothing, free_when_re
 use Rattle.protocol.proofs.Shapes.{Shaped, Answers, IsEnd, IsAbort, IsClose, IsSettle, IsLock, IsCleared, ShapeOf, Acts, IsAdvance, IsForget, ShapedBy}
 use Rattle.protocol.proofs.Shapes.{is_undecided, is_loose, reads_held, all_fit, granted_to}
 use Rattle.protocol.proofs.Choices.{Ascends, planned, refused, shaped_cond, shaped_err, shaped_idle, shaped_reply, fits_at, clear, held_at}
-use Rattle.protocol.proofs.RequestShapes.{shaped_read_row, shaped_promise, shaped_prepare_fresh, shaped_abort, shaped_decide, shaped_granted}
-use Rattle.protocol.proofs.RequestShapes.{shaped_commit_fresh}
+use Rattle.protocol.proofs.RequestShapes.{shaped_read_row, shaped_prepare_fresh, shaped_abort, shaped_decide, shaped_granted, shaped_commit_fresh}
 
 -- ---- what a row says
 
@@ -42,10 +39,6 @@ row_fits b t phase in_row = fits_at b t in_row.held phase in_row.row
 
 row_room : (b : Before) (t : Id) (phase : Phase) → IsIn b t phase → is_crowded b t ≡ false
 row_room b t phase in_row = room_at b t _ (row_at b t in_row.held phase in_row.row)
-
--- reads that the row holds are held
-row_reads : (b : Before) (t : Id) (phase : Phase) (in_row : IsIn b t phase) (rs : List Bytes) → list_all (holds in_row.held) rs ≡ true → reads_held b t rs
-row_reads b t phase in_row rs e = ap (λ ls. list_all (holds ls) rs) (held_at b t in_row.held phase in_row.row) ∙ e
 
 -- what the row waits for is free, where it is the one that is ready
 row_free : (b : Before) (t : Id) (phase : Phase) → Ascends b → IsNext b t phase → is_free (claims b.memory.rows) t (needs_of phase) ≡ true
@@ -60,12 +53,13 @@ unfolding plan_count
 shaped_count b n t None latest ps rs ws votes in_row = shaped_abort b t ps (ap is_undecided in_row.row)
 shaped_count b n t (Some p) latest ps rs ws votes in_row =
     let phase : Phase = Collecting latest ps rs ws votes in
+    let same : held_in b.memory.rows t ≡ in_row.held = held_at b t in_row.held phase in_row.row in
     let fitting : all_fit b → (when (nat_eq b.shard) (head ps) && (list_all (holds in_row.held) rs && holds_writes in_row.held ws)) ≡ true =
     row_fits b t phase in_row in
     let first : all_fit b → when (nat_eq b.shard) (head ps) ≡ true = λ f. (and_parts _ _ (fitting f)).0 in
-    let read : all_fit b → reads_held b t rs = λ f. row_reads b t phase in_row rs (and_parts _ _ (and_parts _ _ (fitting f)).1).0 in
+    let read : all_fit b → reads_held b t rs = λ f. ap (λ ls. list_all (holds ls) rs) same ∙ (and_parts _ _ (and_parts _ _ (fitting f)).1).0 in
     let alone : all_fit b → holds_writes (granted_to b t [] []) ws ≡ true =
-    λ f. ap (λ ls. holds_writes ls ws) (held_at b t in_row.held phase in_row.row) ∙ (and_parts _ _ (and_parts _ _ (fitting f)).1).1 in
+    λ f. ap (λ ls. holds_writes ls ws) same ∙ (and_parts _ _ (and_parts _ _ (fitting f)).1).1 in
     let room : is_crowded b t ≡ false = row_room b t phase in_row in
     let nobody : IsCleared b.memory.rows t [] [] = clear b t [] (free_of_nothing (claims b.memory.rows) t) in
     shaped_cond b _ _ _
@@ -80,17 +74,11 @@ shaped_count b n t (Some p) latest ps rs ws votes in_row =
       room = room;
     }) refl))
 
-shaped_settle : (b : Before) (earliest : ℕ) (t : Id) (s : ℕ) (ps : List ℕ) → IsIn b t (IsDecided s ps) → Shaped b (plan_settle b earliest t s ps)
-unfolding plan_settle
-shaped_settle b earliest t s ps in_row =
-    shaped_err b _ _ _ (planned b _ (IsSettle t s ps in_row.held _ (row_at b t in_row.held (IsDecided s ps) in_row.row) refl))
-
 shaped_advance : (b : Before) (latest stride at : ℕ) → ShapedBy b (Input.Advance at) (plan_advance b latest stride at)
 unfolding plan_advance ShapedBy
 shaped_advance b latest stride at = by_test (nat_lt latest at)
   where
-    by_test : (late : Bool) → ShapedBy b (Input.Advance at) (cond late (Err Future)
-        (Ok (record { wounded = []; change = Keeps; logged = ceiling_for b.facts.floor stride at; last = max b.memory.last at; outbox = [] })))
+    by_test : (late : Bool) → ShapedBy b (Input.Advance at) (cond late (Err Future) (Ok (serves (ceiling_for b.facts.floor stride at) (max b.memory.last at))))
     by_test true = tt
     by_test false = IsAdvance stride at refl refl
 
@@ -99,8 +87,7 @@ unfolding plan_forget ShapedBy
 shaped_forget b at = by_tests (nat_lt (safe b.memory) at) refl (nat_le at b.facts.horizon) refl
   where
     by_tests : (late : Bool) → nat_lt (safe b.memory) at ≡ late → (known : Bool) → nat_le at b.facts.horizon ≡ known →
-        ShapedBy b (Input.Forget at) (cond late (Err NotYet) (cond known (Ok (idles b))
-        (Ok (record { wounded = []; change = Keeps; logged = Some (Record.Horizon at); last = b.memory.last; outbox = [] }))))
+        ShapedBy b (Input.Forget at) (cond late (Err NotYet) (cond known (Ok (idles b)) (Ok (serves (Some (Record.Horizon at)) b.memory.last))))
     by_tests true k known h = tt
     by_tests false k true h = Acts (Answers [] refl)
     by_tests false k false h = IsForget at refl (ltb-false (safe b.memory) at k) (leb-false at b.facts.horizon h) refl
@@ -148,28 +135,13 @@ module _ (rows : ℕ) (setup : Setup) (facts : Facts) (memory : Memory) (now : I
       let promised = IsPrepared from.coordinator from.at in
       acts _ (planned b _ (IsClose t from.from from.coordinator from.at from.promised.held outcome []
       (row_at b t from.promised.held promised from.promised.row) from.allowed refl))
-  shaped (ToAnswer t k) from =
-      acts _ (planned b _ (IsLock t [] (to_read k) Idle _ (record {
-        cleared = clear b t (to_read k) (row_free b t (WaitsRead k) up from);
-        undecided = ap is_undecided from.waits.row;
-        firmer = ap is_loose from.waits.row;
-        opened = refl;
-        quiet = refl;
-        fit = λ _. refl;
-        room = row_room b t (WaitsRead k) from.waits;
-      }) refl))
-  shaped (ToPromise earliest t c rs ws) from =
-      let phase : Phase = WaitsPrepare c rs ws in
-      let fitting : all_fit b → (nat_lt c b.shard && list_all (holds from.waits.held) rs) ≡ true = row_fits b t phase from.waits in
-      acts _ (shaped_promise b [] earliest t c rs ws (clear b t (exclusive ws) (row_free b t phase up from)) (ap is_undecided from.waits.row)
-      (λ f. (and_parts _ _ (fitting f)).0) (λ f. row_reads b t phase from.waits rs (and_parts _ _ (fitting f)).1) (row_room b t phase from.waits))
-  shaped (ToGrant t l ps rs ws) from =
-      let phase : Phase = WaitsCommit l ps rs ws in
-      let fitting : all_fit b → (when (nat_eq b.shard) (head ps) && list_all (holds from.waits.held) rs) ≡ true = row_fits b t phase from.waits in
-      acts _ (shaped_granted b [] t l ps rs ws (other_parts b.shard ps) (clear b t (exclusive ws) (row_free b t phase up from))
-      (ap is_undecided from.waits.row) (λ f. (and_parts _ _ (fitting f)).0)
-      (λ f. row_reads b t phase from.waits rs (and_parts _ _ (fitting f)).1) (row_room b t phase from.waits))
-  shaped (ToSettle earliest t s ps) from = acts _ (shaped_settle b earliest t s ps from.0)
+  shaped (ToGoOn earliest t wait) from =
+      acts _ (shaped_granted b [] earliest t wait (clear b t (needs_of wait) (row_free b t wait up from))
+      (λ slack. ap is_loose from.waits.row ∙ ap not slack)
+      (λ f. ap (λ ls. fits b.shard (row_as t ls wait)) (held_at b t from.waits.held wait from.waits.row) ∙ row_fits b t wait from.waits f)
+      (row_room b t wait from.waits))
+  shaped (ToSettle earliest t s ps) from =
+      acts _ (shaped_err b _ _ _ (planned b _ (IsSettle t s ps from.0.held _ (row_at b t from.0.held (IsDecided s ps) from.0.row) refl)))
   shaped (ToServe latest stride at) from =
       subst (λ j. ShapedBy b j (plan_advance b latest stride at)) (sym from) (shaped_advance b latest stride at)
   shaped (ToForget at) from = subst (λ j. ShapedBy b j (plan_forget b at)) (sym from) (shaped_forget b at)

@@ -8,9 +8,9 @@ use Rattle.units.specs.Ids.{Id}
 use Rattle.units.specs.Keys.{Bytes}
 use Rattle.units.specs.Locks.{holds, exclusive}
 use Rattle.units.specs.Versions.{latest}
-use Rattle.protocol.specs.Rows.{Idle, WaitsRead, WaitsPrepare, WaitsCommit, Collecting, IsPrepared, IsDecided, Voted, safe, with_vote}
+use Rattle.protocol.specs.Rows.{Phase, Idle, WaitsRead, WaitsPrepare, WaitsCommit, Collecting, IsPrepared, IsDecided, Voted, needs_of, safe, with_vote}
 use Rattle.protocol.specs.Outputs.{promise, decision, vote_to, answer_to, done_to, outcome_to}
-use Rattle.protocol.specs.Plan.{Keeps, Plan, Planned, Before, in_way, opens, is_crowded, replies, idles, ends, drops, puts, roomed, time_limit, timed}
+use Rattle.protocol.specs.Plan.{Plan, Planned, Before, in_way, opens, is_crowded, replies, idles, serves, ends, drops, puts, roomed, time_limit, timed}
 use Rattle.units.specs.declared.fault.Fault.TheVariants.{Future, NotYet, Early, Stranger}
 use Rattle.units.specs.declared.lock.Lock.{Lock}
 use Rattle.units.specs.declared.lock.Mode.TheVariants.{Shared}
@@ -44,14 +44,11 @@ pub data Cell : Type 0 where
   ToAbort : (txn : Id) → (parts : List ℕ) → Cell
   ToAbortFor : (from : ℕ) → (txn : Id) → Cell
   -- a vote counts for a row that collects votes
-  ToCount : (from : ℕ) → (txn : Id) → (vote : Option ℕ) → (latest : ℕ) → (parts : List ℕ) → (reads : List Bytes) → (writes : List Write)
-      → (votes : List Voted) → Cell
+  ToCount : (from : ℕ) → (txn : Id) → (vote : Option ℕ) → (latest : ℕ) → (parts : List ℕ) → (reads : List Bytes) → List Write → List Voted → Cell
   -- a promise is closed by an outcome
   ToClose : (txn : Id) → (outcome : Option ℕ) → Cell
-  -- what a row waited with is granted: a read, a prepare, or a commit
-  ToAnswer : (txn : Id) → (key : Bytes) → Cell
-  ToPromise : (earliest : ℕ) → (txn : Id) → (coordinator : ℕ) → (reads : List Bytes) → (writes : List Write) → Cell
-  ToGrant : (txn : Id) → (latest : ℕ) → (parts : List ℕ) → (reads : List Bytes) → (writes : List Write) → Cell
+  -- what a row waits with is granted: a read, a prepare, or a commit
+  ToGoOn : (earliest : ℕ) → (txn : Id) → (wait : Phase) → Cell
   -- a decision is settled
   ToSettle : (earliest : ℕ) → (txn : Id) → (at : ℕ) → (parts : List ℕ) → Cell
   -- served time is advanced; a horizon is set
@@ -67,19 +64,6 @@ to_read k = record { key = k; mode = Shared } ∷ []
 -- the answer with the latest value and the epoch
 abbrev pub answers : Before → Id → Bytes → Envelope
 answers b t k = answer_to b.shard t k b.facts.epoch (Holds (latest b.facts.installs k))
-
--- a shared lock and the answer, or a wait
-unfoldable pub plan_read_now : Before → Id → Bytes → Planned
-plan_read_now b t k =
-    roomed (is_crowded b t) (Ok
-    (cond (opens b t (to_read k))
-    (puts b (in_way b t (to_read k)) t (to_read k) Idle None b.memory.last (answers b t k ∷ []))
-    (puts b (in_way b t (to_read k)) t [] (WaitsRead k) None b.memory.last [])))
-
--- a key that is held is answered at once; a row that waits stays as it is
-unfoldable pub plan_read_row : Before → Id → Bytes → List Lock → Bool → Planned
-plan_read_row b t k held waits =
-    cond (holds held k) (Ok (replies b (answers b t k ∷ []))) (cond waits (Ok (idles b)) (plan_read_now b t k))
 
 -- ---- prepare
 
@@ -97,21 +81,7 @@ unfoldable pub plan_promise : Before → List Id → ℕ → Id → ℕ → List
 plan_promise b ended earliest t c rs ws =
     let p : ℕ = max (b.memory.last + 1) earliest in
     timed p (Ok
-    (puts b ended t (exclusive ws) (IsPrepared c p) (Some (promise t c p rs ws)) (max b.memory.last p)
-    (vote_to b.shard c t (Some p) ∷ [])))
-
--- exclusive locks of what is written, and the promise; or a wait
-unfoldable pub plan_prepare_now : Before → ℕ → Prepare → Planned
-plan_prepare_now b earliest m =
-    roomed (is_crowded b m.txn)
-    (cond (opens b m.txn (exclusive m.writes))
-    (plan_promise b (in_way b m.txn (exclusive m.writes)) earliest m.txn m.coordinator m.reads.keys m.writes)
-    (Ok (puts b (in_way b m.txn (exclusive m.writes)) m.txn [] (WaitsPrepare m.coordinator m.reads.keys m.writes) None b.memory.last [])))
-
--- where the reads do not stand any more, the transaction is ended here
-unfoldable pub plan_prepare_fresh : Before → ℕ → Prepare → List Lock → Planned
-plan_prepare_fresh b earliest m held =
-    cond (still_stand b m.reads.epoch m.reads.keys held) (plan_prepare_now b earliest m) (Ok (ends b m.txn (refuses b m.txn m.coordinator ∷ [])))
+    (puts b ended t (exclusive ws) (IsPrepared c p) (Some (promise t c p rs ws)) (max b.memory.last p) (vote_to b.shard c t (Some p) ∷ [])))
 
 -- ---- commit
 
@@ -140,22 +110,40 @@ plan_decide b ended t latest ps rs ws needs votes =
 -- with no other part the transaction is decided; else it collects votes
 unfoldable pub plan_commit_granted : Before → List Id → Id → ℕ → List ℕ → List Bytes → List Write → List ℕ → Planned
 plan_commit_granted b ended t latest ps rs ws [] = plan_decide b ended t latest ps rs ws (exclusive ws) []
-plan_commit_granted b ended t latest ps rs ws (n ∷ ns) =
-    Ok (puts b ended t (exclusive ws) (Collecting latest ps rs ws []) None b.memory.last [])
+plan_commit_granted b ended t latest ps rs ws (n ∷ ns) = Ok (puts b ended t (exclusive ws) (Collecting latest ps rs ws []) None b.memory.last [])
 
--- exclusive locks of what is written, and so on; or a wait
-unfoldable pub plan_commit_now : Before → ℕ → Commit → Planned
-plan_commit_now b latest m =
-    roomed (is_crowded b m.txn)
-    (cond (opens b m.txn (exclusive m.writes))
-    (plan_commit_granted b (in_way b m.txn (exclusive m.writes)) m.txn latest m.parts m.reads.keys m.writes (other_parts b.shard m.parts))
-    (Ok (puts b (in_way b m.txn (exclusive m.writes)) m.txn [] (WaitsCommit latest m.parts m.reads.keys m.writes) None b.memory.last [])))
+-- ---- fresh, granted, waits
 
--- where the reads do not stand any more, it is aborted
+-- what a transaction waits with is granted, once some are ended: a read is answered, a prepare promised, a commit goes on
+unfoldable pub plan_granted : Before → List Id → ℕ → Id → Phase → Planned
+plan_granted b ended earliest t (WaitsRead k) = Ok (puts b ended t (to_read k) Idle None b.memory.last (answers b t k ∷ []))
+plan_granted b ended earliest t (WaitsPrepare c rs ws) = plan_promise b ended earliest t c rs ws
+plan_granted b ended earliest t (WaitsCommit l ps rs ws) = plan_commit_granted b ended t l ps rs ws (other_parts b.shard ps)
+plan_granted b ended earliest t _ = Ok (idles b)
+
+-- the locks that it needs are granted once who is in its way and may be ended is ended; or it waits
+unfoldable pub plan_asks : Before → ℕ → Id → Phase → Planned
+plan_asks b earliest t wait =
+    roomed (is_crowded b t)
+    (cond (opens b t (needs_of wait)) (plan_granted b (in_way b t (needs_of wait)) earliest t wait)
+    (Ok (puts b (in_way b t (needs_of wait)) t [] wait None b.memory.last [])))
+
+-- a key that is held is answered at once; a row that waits stays as it is. A read needs no reading of the clock
+unfoldable pub plan_read_row : Before → Id → Bytes → List Lock → Bool → Planned
+plan_read_row b t k held waits =
+    cond (holds held k) (Ok (replies b (answers b t k ∷ []))) (cond waits (Ok (idles b)) (plan_asks b 0 t (WaitsRead k)))
+
+-- where the reads do not stand any more, the transaction is ended here
+unfoldable pub plan_prepare_fresh : Before → ℕ → Prepare → List Lock → Planned
+plan_prepare_fresh b earliest m held =
+    cond (still_stand b m.reads.epoch m.reads.keys held) (plan_asks b earliest m.txn (WaitsPrepare m.coordinator m.reads.keys m.writes))
+    (Ok (ends b m.txn (refuses b m.txn m.coordinator ∷ [])))
+
+-- where the reads do not stand any more, it is aborted. A commit keeps the reading at its arrival
 unfoldable pub plan_commit_fresh : Before → ℕ → Commit → List Lock → Planned
 plan_commit_fresh b latest m held =
     cond (still_stand b m.reads.epoch m.reads.keys held)
-    (timed (latest + 1) (plan_commit_now b latest m))
+    (timed (latest + 1) (plan_asks b 0 m.txn (WaitsCommit latest m.parts m.reads.keys m.writes)))
     (Ok (plan_abort b m.txn m.parts))
 
 -- ---- vote
@@ -184,12 +172,6 @@ abbrev pub raised : ℕ → Option ℕ → ℕ
 raised last None = last
 raised last (Some s) = max last s
 
--- ---- ask
-
--- a coordinator that does not know the transaction decides to abort it before it answers
-abbrev pub plan_abort_for : Before → ℕ → Id → Plan
-plan_abort_for b n t = drops t (Record.Abort t) b.memory.last (outcome_to b.shard t None n ∷ [])
-
 -- ---- served time, horizon
 
 -- served time above the floor is first logged as a ceiling, some stride ahead
@@ -199,26 +181,18 @@ ceiling_for floor stride at = cond (nat_lt floor at) (Some (Record.Ceiling (min 
 -- advancing the served time; nothing is served beyond the reading
 unfoldable pub plan_advance : Before → ℕ → ℕ → ℕ → Planned
 plan_advance b latest stride at =
-    cond (nat_lt latest at) (Err Future)
-    (Ok (record { wounded = []; change = Keeps; logged = ceiling_for b.facts.floor stride at; last = max b.memory.last at; outbox = [] }))
+    cond (nat_lt latest at) (Err Future) (Ok (serves (ceiling_for b.facts.floor stride at) (max b.memory.last at)))
 
 -- a horizon: nothing above what is served is forgotten, and what is forgotten stays so
 unfoldable pub plan_forget : Before → ℕ → Planned
 plan_forget b at =
     cond (nat_lt (safe b.memory) at) (Err NotYet)
-    (cond (nat_le at b.facts.horizon) (Ok (idles b))
-    (Ok (record { wounded = []; change = Keeps; logged = Some (Record.Horizon at); last = b.memory.last; outbox = [] })))
+    (cond (nat_le at b.facts.horizon) (Ok (idles b)) (Ok (serves (Some (Record.Horizon at)) b.memory.last)))
 
 -- ---- the plan of a cell
 
--- settling: only once the timestamp has surely passed
-unfoldable pub plan_settle : Before → ℕ → Id → ℕ → List ℕ → Planned
-plan_settle b earliest t s ps =
-    cond (nat_lt s earliest)
-    (Ok (drops t (Record.Outcome t (Some s)) b.memory.last (done_to t (Some s) ∷ tells b t (Some s) (other_parts b.shard ps))))
-    (Err Early)
-
--- each cell's plan
+-- each cell's plan. A coordinator that does not know the transaction decides to abort it before it answers; a decision is settled only once
+-- its timestamp has surely passed
 abbrev pub plan_cell : Before → Cell → Planned
 plan_cell b ToRefuse = Err Stranger
 plan_cell b ToRest = Ok (idles b)
@@ -229,12 +203,12 @@ plan_cell b (ToPrepare earliest m held) = plan_prepare_fresh b earliest m held
 plan_cell b (ToCommit latest m held) = plan_commit_fresh b latest m held
 plan_cell b (ToEnd t cs) = Ok (ends b t (map (refuses b t) cs))
 plan_cell b (ToAbort t ps) = Ok (plan_abort b t ps)
-plan_cell b (ToAbortFor n t) = Ok (plan_abort_for b n t)
+plan_cell b (ToAbortFor n t) = Ok (drops t (Record.Abort t) b.memory.last (outcome_to b.shard t None n ∷ []))
 plan_cell b (ToCount n t vote l ps rs ws votes) = plan_count b n t vote l ps rs ws votes
 plan_cell b (ToClose t outcome) = Ok (drops t (Record.Outcome t outcome) (raised b.memory.last outcome) [])
-plan_cell b (ToAnswer t k) = Ok (puts b [] t (to_read k) Idle None b.memory.last (answers b t k ∷ []))
-plan_cell b (ToPromise earliest t c rs ws) = plan_promise b [] earliest t c rs ws
-plan_cell b (ToGrant t l ps rs ws) = plan_commit_granted b [] t l ps rs ws (other_parts b.shard ps)
-plan_cell b (ToSettle earliest t s ps) = plan_settle b earliest t s ps
+plan_cell b (ToGoOn earliest t wait) = plan_granted b [] earliest t wait
+plan_cell b (ToSettle earliest t s ps) =
+    cond (nat_lt s earliest) (Ok (drops t (Record.Outcome t (Some s)) b.memory.last (done_to t (Some s) ∷ tells b t (Some s) (other_parts b.shard ps))))
+    (Err Early)
 plan_cell b (ToServe latest stride at) = plan_advance b latest stride at
 plan_cell b (ToForget at) = plan_forget b at

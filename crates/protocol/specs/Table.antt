@@ -12,7 +12,7 @@ use Rattle.protocol.specs.Rows.{HasRow, WasAborted, WasSettled, WasClosed}
 use Rattle.protocol.specs.Outputs.{vote_to, answer_to, done_to, outcome_to, ask_to}
 use Rattle.protocol.specs.Plan.{Before, stands}
 use Rattle.protocol.specs.Cells.{Cell, ToRefuse, ToRest, ToReply, Provided, ToRead, ToPrepare, ToCommit, ToEnd, ToAbort, ToAbortFor, ToCount, ToClose}
-use Rattle.protocol.specs.Cells.{ToAnswer, ToPromise, ToGrant, ToSettle, refuses, other_parts, is_outcome_for}
+use Rattle.protocol.specs.Cells.{ToGoOn, ToSettle, refuses, other_parts, is_outcome_for}
 
 -- a read: it is refused once the transaction has ended, and passed over while it closes
 abbrev pub read_cell : Before → Id → Bytes → Standing → Cell
@@ -56,17 +56,13 @@ tell_cell b n t outcome None = ToRest
 
 -- a vote: a shard that takes no part is a stranger
 abbrev pub vote_cell : Before → ℕ → Id → Option ℕ → Standing → Cell
-vote_cell b n t vote (HasRow held (Collecting l ps rs ws votes)) =
-    Provided (has (other_parts b.shard ps) n) (ToCount n t vote l ps rs ws votes)
+vote_cell b n t vote (HasRow held (Collecting l ps rs ws votes)) = Provided (has (other_parts b.shard ps) n) (ToCount n t vote l ps rs ws votes)
 vote_cell b n t vote WasAborted = tell_cell b n t None vote
 vote_cell b n t vote (WasSettled s ps) = Provided (has (other_parts b.shard ps) n) (tell_cell b n t (Some s) vote)
-vote_cell b n t vote IsUnknown = ToRest
-vote_cell b n t vote WasEnded = ToRest
-vote_cell b n t vote (HasRow held (IsDecided s ps)) = ToRest
-vote_cell b n t vote (HasRow held Idle) = ToRest
-vote_cell b n t vote (HasRow held (WaitsRead k)) = ToRest
-vote_cell b n t vote (HasRow held (WaitsCommit l ps rs ws)) = ToRest
-vote_cell b n t vote _ = ToRefuse
+vote_cell b n t vote (HasRow held (WaitsPrepare c rs ws)) = ToRefuse
+vote_cell b n t vote (HasRow held (IsPrepared c p)) = ToRefuse
+vote_cell b n t vote (WasClosed o) = ToRefuse
+vote_cell b n t vote _ = ToRest
 
 -- a transaction that made no promise here may be aborted, and never committed; a prepare that it waits with is refused
 abbrev pub unpromised_cell : Id → Option ℕ → List ℕ → Cell
@@ -109,9 +105,7 @@ ask_cell b n t _ = ToRefuse
 
 -- a wait that is granted goes on: a prepare takes this reading, a commit the one at its arrival
 abbrev pub go_on_cell : ℕ → Id → Standing → Cell
-go_on_cell earliest t (HasRow held (WaitsRead k)) = ToAnswer t k
-go_on_cell earliest t (HasRow held (WaitsPrepare c rs ws)) = ToPromise earliest t c rs ws
-go_on_cell earliest t (HasRow held (WaitsCommit l ps rs ws)) = ToGrant t l ps rs ws
+go_on_cell earliest t (HasRow held phase) = ToGoOn earliest t phase
 go_on_cell earliest t _ = ToRest
 
 -- the wait of the id that is ready, if there is one
