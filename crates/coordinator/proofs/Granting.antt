@@ -11,9 +11,9 @@ use Rattle.units.specs.declared.fault.Fault.TheVariants.{RowsFull, TimeSpent}
 use Rattle.units.specs.declared.lock.Lock.{Lock}
 use Rattle.units.specs.declared.writes.Write.{Write}
 use Rattle.message.specs.declared.message.Commit.{Commit}
-use Rattle.protocol.specs.Rows.{Voted}
+use Rattle.protocol.specs.Rows.{Voted, WaitsCommit}
 use Rattle.protocol.specs.Plan.{time_limit, Before, Planned, opens, in_way, is_crowded, roomed, timed}
-use Rattle.protocol.specs.Cells.{commit_stamp, other_parts, still_stand, plan_abort, plan_decide, plan_commit_fresh, plan_commit_now}
+use Rattle.protocol.specs.Cells.{commit_stamp, other_parts, still_stand, plan_abort, plan_asks, plan_granted, plan_decide, plan_commit_fresh}
 use Rattle.protocol.specs.Cells.{plan_commit_granted}
 use Rattle.memory.specs.wait.CommitRequest.{CommitRequest}
 use Rattle.coordinator.specs.Granted.{decides, collects, granted_by, request_of, waits_commit, IsDecidedAt, IsTooLate}
@@ -99,25 +99,29 @@ granted_late b ended t r (none, late) =
 
 -- ---- the reads
 
+-- a commit that asks for its locks
+abbrev commit_now : Before → ℕ → Commit → Planned
+commit_now b latest m = plan_asks b 0 m.txn (WaitsCommit latest m.parts m.reads.keys m.writes)
+
 fresh_stands : (b : Before) (latest : ℕ) (m : Commit) (held : List Lock) → still_stand b m.reads.epoch m.reads.keys held ≡ true
-    → plan_commit_fresh b latest m held ≡ timed (latest + 1) (plan_commit_now b latest m)
+    → plan_commit_fresh b latest m held ≡ timed (latest + 1) (commit_now b latest m)
 unfolding plan_commit_fresh
 fresh_stands b latest m held e =
-    ap (λ a. cond a (timed (latest + 1) (plan_commit_now b latest m)) (Ok (plan_abort b m.txn m.parts))) e
+    ap (λ a. cond a (timed (latest + 1) (commit_now b latest m)) (Ok (plan_abort b m.txn m.parts))) e
 
 pub fresh_late : (b : Before) (latest : ℕ) (m : Commit) (held : List Lock) → still_stand b m.reads.epoch m.reads.keys held ≡ true
     → 2 ^ 62 ≤ latest + 1 → plan_commit_fresh b latest m held ≡ Err TimeSpent
-fresh_late b latest m held e late = fresh_stands b latest m held e ∙ timed_late (latest + 1) (plan_commit_now b latest m) late
+fresh_late b latest m held e late = fresh_stands b latest m held e ∙ timed_late (latest + 1) (commit_now b latest m) late
 
 pub fresh_early : (b : Before) (latest : ℕ) (m : Commit) (held : List Lock) → still_stand b m.reads.epoch m.reads.keys held ≡ true
-    → latest + 1 < 2 ^ 62 → plan_commit_fresh b latest m held ≡ plan_commit_now b latest m
-fresh_early b latest m held e less = fresh_stands b latest m held e ∙ timed_early (latest + 1) (plan_commit_now b latest m) less
+    → latest + 1 < 2 ^ 62 → plan_commit_fresh b latest m held ≡ commit_now b latest m
+fresh_early b latest m held e less = fresh_stands b latest m held e ∙ timed_early (latest + 1) (commit_now b latest m) less
 
 pub fresh_gone : (b : Before) (latest : ℕ) (m : Commit) (held : List Lock) → still_stand b m.reads.epoch m.reads.keys held ≡ false
     → plan_commit_fresh b latest m held ≡ Ok (plan_abort b m.txn m.parts)
 unfolding plan_commit_fresh
 fresh_gone b latest m held e =
-    ap (λ a. cond a (timed (latest + 1) (plan_commit_now b latest m)) (Ok (plan_abort b m.txn m.parts))) e
+    ap (λ a. cond a (timed (latest + 1) (commit_now b latest m)) (Ok (plan_abort b m.txn m.parts))) e
 
 -- ---- where the locks are granted
 
@@ -125,8 +129,8 @@ abbrev granted_now : Before → ℕ → Commit → Planned
 granted_now b latest m = plan_commit_granted b (in_way b m.txn (exclusive m.writes)) m.txn latest m.parts m.reads.keys m.writes (other_parts b.shard m.parts)
 
 opened : (b : Before) (latest : ℕ) (m : Commit) → opens b m.txn (exclusive m.writes) ≡ true
-    → plan_commit_now b latest m ≡ roomed (is_crowded b m.txn) (granted_now b latest m)
-unfolding plan_commit_now
+    → commit_now b latest m ≡ roomed (is_crowded b m.txn) (granted_now b latest m)
+unfolding plan_asks plan_granted
 opened b latest m e =
     ap (λ a. roomed (is_crowded b m.txn) (cond a (granted_now b latest m) (Ok (waits_commit b m.txn (request_of latest m))))) e
 
@@ -135,41 +139,41 @@ roomed_late true planned e = ap (roomed true) e
 roomed_late false planned e = e
 
 pub now_late : (b : Before) (latest : ℕ) (m : Commit) → opens b m.txn (exclusive m.writes) ≡ true → IsTooLate b latest m.parts
-    → plan_commit_now b latest m ≡ Err TimeSpent
+    → commit_now b latest m ≡ Err TimeSpent
 now_late b latest m free late =
     opened b latest m free
     ∙ roomed_late (is_crowded b m.txn) (granted_now b latest m) (granted_late b (in_way b m.txn (exclusive m.writes)) m.txn (request_of latest m) late)
 
 in_time : (b : Before) (latest : ℕ) (m : Commit) (at : Option ℕ) (crowded : Bool) → opens b m.txn (exclusive m.writes) ≡ true
     → IsDecidedAt b latest m.parts at → is_crowded b m.txn ≡ crowded
-    → plan_commit_now b latest m ≡ roomed crowded (Ok (granted_by b (in_way b m.txn (exclusive m.writes)) m.txn at (request_of latest m)))
+    → commit_now b latest m ≡ roomed crowded (Ok (granted_by b (in_way b m.txn (exclusive m.writes)) m.txn at (request_of latest m)))
 in_time b latest m at crowded free timely room =
     opened b latest m free
     ∙ ap (λ a. roomed a (granted_now b latest m)) room
     ∙ ap (roomed crowded) (granted_in_time b (in_way b m.txn (exclusive m.writes)) m.txn at (request_of latest m) timely)
 
 pub now_crowded : (b : Before) (latest : ℕ) (m : Commit) (at : Option ℕ) → opens b m.txn (exclusive m.writes) ≡ true
-    → IsDecidedAt b latest m.parts at → is_crowded b m.txn ≡ true → plan_commit_now b latest m ≡ Err RowsFull
+    → IsDecidedAt b latest m.parts at → is_crowded b m.txn ≡ true → commit_now b latest m ≡ Err RowsFull
 now_crowded b latest m at free timely full = in_time b latest m at true free timely full
 
 pub now_granted : (b : Before) (latest : ℕ) (m : Commit) (at : Option ℕ) → opens b m.txn (exclusive m.writes) ≡ true
     → IsDecidedAt b latest m.parts at → is_crowded b m.txn ≡ false
-    → plan_commit_now b latest m ≡ Ok (granted_by b (in_way b m.txn (exclusive m.writes)) m.txn at (request_of latest m))
+    → commit_now b latest m ≡ Ok (granted_by b (in_way b m.txn (exclusive m.writes)) m.txn at (request_of latest m))
 now_granted b latest m at free timely roomy = in_time b latest m at false free timely roomy
 
 -- ---- where they are not
 
 shut : (b : Before) (latest : ℕ) (m : Commit) (crowded : Bool) → opens b m.txn (exclusive m.writes) ≡ false → is_crowded b m.txn ≡ crowded
-    → plan_commit_now b latest m ≡ roomed crowded (Ok (waits_commit b m.txn (request_of latest m)))
-unfolding plan_commit_now
+    → commit_now b latest m ≡ roomed crowded (Ok (waits_commit b m.txn (request_of latest m)))
+unfolding plan_asks plan_granted
 shut b latest m crowded e room =
     ap (λ a. roomed (is_crowded b m.txn) (cond a (granted_now b latest m) (Ok (waits_commit b m.txn (request_of latest m))))) e
     ∙ ap (λ a. roomed a (Ok (waits_commit b m.txn (request_of latest m)))) room
 
 pub wait_crowded : (b : Before) (latest : ℕ) (m : Commit) → opens b m.txn (exclusive m.writes) ≡ false → is_crowded b m.txn ≡ true
-    → plan_commit_now b latest m ≡ Err RowsFull
+    → commit_now b latest m ≡ Err RowsFull
 wait_crowded b latest m e full = shut b latest m true e full
 
 pub wait_roomy : (b : Before) (latest : ℕ) (m : Commit) → opens b m.txn (exclusive m.writes) ≡ false → is_crowded b m.txn ≡ false
-    → plan_commit_now b latest m ≡ Ok (waits_commit b m.txn (request_of latest m))
+    → commit_now b latest m ≡ Ok (waits_commit b m.txn (request_of latest m))
 wait_roomy b latest m e roomy = shut b latest m false e roomy

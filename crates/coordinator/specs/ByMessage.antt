@@ -1,7 +1,9 @@
 -- What a coordinator plans for each message, by how its transaction stands.
-use Rattle.std.specs.Prelude.{ℕ, List, [], ◌∷◌, None, Some, Option, Result}
+use Rattle.std.specs.Prelude.{ℕ, cond, List, [], ◌∷◌, None, Some, Option, Result, Err}
+use Rattle.units.specs.Lists.{has}
 use Rattle.units.specs.Ids.{Id}
 use Rattle.units.specs.declared.fault.Fault.{Fault}
+use Rattle.units.specs.declared.fault.Fault.TheVariants.{Stranger}
 use Rattle.units.specs.declared.lock.Lock.{Lock}
 use Rattle.record.specs.declared.record.Record.{Record}
 use Rattle.message.specs.declared.message.Ask.{Ask}
@@ -10,11 +12,11 @@ use Rattle.message.specs.declared.message.Vote.{Vote}
 use Rattle.memory.specs.States.{CollectingState}
 use Rattle.memory.specs.votes.Voted.{Voted as CastVote}
 use Rattle.memory.specs.wait.CommitRequest.{CommitRequest}
-use Rattle.protocol.specs.Rows.{Standing, find_row, with_vote}
-use Rattle.protocol.specs.Outputs.{done_to}
+use Rattle.protocol.specs.Rows.{Standing, WaitsCommit, find_row, with_vote}
+use Rattle.protocol.specs.Outputs.{done_to, outcome_to}
 use Rattle.protocol.specs.Plan.{Before, Planned, drops, puts}
-use Rattle.protocol.specs.Cells.{commit_stamp, of_part, other_parts, plan_ask, plan_commit, plan_commit_granted, plan_commit_now, plan_count}
-use Rattle.protocol.specs.Cells.{plan_settle, plan_vote, tells}
+use Rattle.protocol.specs.Cells.{commit_stamp, other_parts, plan_asks, plan_cell, plan_commit_granted, plan_count, tells}
+use Rattle.protocol.specs.Table.{ask_cell, commit_cell, settle_cell, tell_cell, vote_cell}
 use Rattle.memory.specs.Kept.{Kept, start_of, IsPlanned}
 use Rattle.memory.specs.Plans.{counted}
 use Rattle.memory.specs.Standings.{MakesPlan}
@@ -22,17 +24,21 @@ use Rattle.memory.specs.declared.plan.Step.{Step}
 use Rattle.coordinator.specs.Granted.{collects, decides, granted_by}
 
 abbrev pub PlansCommit : Kept → ℕ → Commit → Standing → Result Step Fault → Type 0
-PlansCommit k latest m standing result = IsPlanned k (plan_commit (start_of k) latest m standing) result
+PlansCommit k latest m standing result = IsPlanned k (plan_cell (start_of k) (commit_cell latest m standing)) result
 
 -- the reads still stand
 abbrev pub PlansCommitNow : Kept → ℕ → Commit → Result Step Fault → Type 0
-PlansCommitNow k latest m result = IsPlanned k (plan_commit_now (start_of k) latest m) result
+PlansCommitNow k latest m result = IsPlanned k (plan_asks (start_of k) 0 m.txn (WaitsCommit latest m.parts m.reads.keys m.writes)) result
 
 abbrev pub PlansAsk : Kept → Ask → Standing → Result Step Fault → Type 0
-PlansAsk k m standing result = IsPlanned k (plan_ask (start_of k) m.from m.txn standing) result
+PlansAsk k m standing result = IsPlanned k (plan_cell (start_of k) (ask_cell (start_of k) m.from m.txn standing)) result
+
+-- a transaction that is not known is aborted, and the shard that asked is told
+abbrev pub MakesAbortFor : Kept → Ask → Result Step Fault → Type 0
+MakesAbortFor k m result = MakesPlan k (drops m.txn (Record.Abort m.txn) k.memory.last (outcome_to k.setup.shard m.txn None m.from ∷ [])) result
 
 abbrev pub PlansSettle : Kept → ℕ → Id → Standing → Result Step Fault → Type 0
-PlansSettle k earliest t standing result = IsPlanned k (plan_settle (start_of k) earliest t standing) result
+PlansSettle k earliest t standing result = IsPlanned k (plan_cell (start_of k) (settle_cell earliest t standing)) result
 
 -- a decided transaction is settled: its session and the other parts are told
 abbrev pub MakesSettled : Kept → Id → ℕ → List ℕ → Result Step Fault → Type 0
@@ -42,7 +48,11 @@ MakesSettled k t at ps result =
     result
 
 abbrev pub PlansVote : Kept → Vote → Standing → Result Step Fault → Type 0
-PlansVote k m standing result = IsPlanned k (plan_vote (start_of k) m.from m.txn m.vote standing) result
+PlansVote k m standing result = IsPlanned k (plan_cell (start_of k) (vote_cell (start_of k) m.from m.txn m.vote standing)) result
+
+-- who voted yes is told the outcome
+abbrev pub PlansTell : Kept → Vote → Option ℕ → Result Step Fault → Type 0
+PlansTell k m outcome result = IsPlanned k (plan_cell (start_of k) (tell_cell (start_of k) m.from m.txn outcome m.vote)) result
 
 -- a vote for a transaction that collects votes
 abbrev pub vote_counted : Before → ℕ → Id → Option ℕ → CollectingState → Planned
@@ -50,7 +60,7 @@ vote_counted b n t vote s = plan_count b n t vote s.request.latest s.request.par
 
 -- such a vote, which counts where it is of a part
 abbrev pub PlansPartVote : Kept → Vote → CollectingState → Result Step Fault → Type 0
-PlansPartVote k m s result = IsPlanned k (of_part (start_of k) m.from s.request.parts (vote_counted (start_of k) m.from m.txn m.vote s)) result
+PlansPartVote k m s result = IsPlanned k (cond (has (other_parts k.setup.shard s.request.parts) m.from) (vote_counted (start_of k) m.from m.txn m.vote s) (Err Stranger)) result
 
 -- the timestamp of a decision, once one more vote is counted
 abbrev pub stamp_with_vote : Kept → CollectingState → CastVote → ℕ

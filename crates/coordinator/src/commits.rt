@@ -23,7 +23,6 @@ use units::{Fault, Ids, Lock, Parts, Stamp, TxnId};
 /// Plans what follows from a commit. If the reads still stand and the locks for the writes are granted, it is decided at once, or it
 /// collects votes if other shards take part. If the reads do not stand it is aborted; if a lock is not granted it waits.
 /// `RowsFull` if there is no room for the row, `TimeSpent` if no timestamp is left, and `Stranger` if another shard decides it.
-#[tactic(auto, unfolding(protocol::specs::Cells::plan_commit))]
 pub fn on_commit(
     state: &State,
     alloc: Global,

@@ -1,14 +1,12 @@
 //! How a coordinator ends a transaction: a client gives it up, a participant asks for its outcome, or it is settled.
 ghost use Rattle.std.specs.Prelude.{◌≡◌, true, IfOk, IfErr};
 ghost use Rattle.protocol.specs.Outputs.{outcome_to};
-ghost use Rattle.protocol.specs.Cells.{plan_abort_for};
 ghost use Rattle.memory.specs.CodeRows.{may_close, phase_of};
 ghost use Rattle.memory.specs.RowTable.{has_phase};
 ghost use Rattle.memory.specs.row.Row.{Row};
 ghost use Rattle.memory.specs.Carry.{IsFit, may_drop};
-ghost use Rattle.memory.specs.Kept.{start_of};
-ghost use Rattle.memory.specs.Standings.{standing_in, HasRowIn, MakesPlan, MakesReply, PlansGiveUp};
-ghost use Rattle.coordinator.specs.ByMessage.{PlansAsk, PlansSettle, MakesSettled};
+ghost use Rattle.memory.specs.Standings.{standing_in, HasRowIn, MakesReply, PlansGiveUp};
+ghost use Rattle.coordinator.specs.ByMessage.{PlansAsk, PlansSettle, MakesAbortFor, MakesSettled};
 
 use crate::parts::is_of_part;
 use memory::{RowCollecting, Standing, State, Step, done_to, outcome_to};
@@ -35,7 +33,6 @@ pub fn give_up(
 
 /// Plans the answer to a participant that asks how a transaction ended. One that is unknown, ended or only reads is aborted first;
 /// for one that still commits there is no answer yet. `Stranger` if this shard does not decide it, or the asker took no part in it.
-#[tactic(auto, unfolding(protocol::specs::Cells::plan_ask))]
 pub fn on_ask(state: &State, alloc: Global, ask: &Ask) -> Result<Step, Fault>
     ensures planned { PlansAsk state.now ask.now (standing_in state.now ask.now.txn) result }
     ensures fit { IfOk result (IsFit state.now) }
@@ -85,8 +82,7 @@ fn answer(state: &State, alloc: Global, ask: &Ask, outcome: Option<Stamp>) -> Re
 // Aborts the transaction, and tells the shard that asked.
 fn abort_for(state: &State, alloc: Global, ask: &Ask) -> Result<Step, Fault>
     requires { may_drop state.now.memory.rows ask.now.txn ≡ true }
-    ensures plan { MakesPlan state.now
-        (plan_abort_for (start_of state.now) ask.now.from ask.now.txn) result }
+    ensures plan { MakesAbortFor state.now ask.now result }
     ensures fit { IfOk result (IsFit state.now) }
     ensures memory { IfErr result (λ fault. fault ≡ Fault.Memory) }
 {
@@ -100,7 +96,6 @@ fn abort_for(state: &State, alloc: Global, ask: &Ask) -> Result<Step, Fault>
 
 /// Plans the end of a decided transaction, after commit wait: it logs the outcome, and tells the session and the other parts.
 /// `Early` while its timestamp may not have passed: try again later. `Stranger` if it is not decided here, or settled already.
-#[tactic(auto, unfolding(protocol::specs::Cells::plan_settle))]
 pub fn settle(state: &State, alloc: Global, now: &Reading, txn: TxnId) -> Result<Step, Fault>
     ensures planned { PlansSettle state.now now.now.earliest txn (standing_in state.now txn)
         result }

@@ -4,15 +4,15 @@ ghost use Rattle.std.specs.Prelude.{◌≡◌, ◌+◌, ◌<◌, ◌≤◌, ◌^
 ghost use Rattle.units.specs.Lists.{greatest};
 ghost use Rattle.units.specs.Masks.{shards_from};
 ghost use Rattle.protocol.specs.Rows.{with_vote};
-ghost use Rattle.protocol.specs.Cells.{all_voted, other_parts, plan_tell};
+ghost use Rattle.protocol.specs.Cells.{all_voted, other_parts};
 ghost use Rattle.memory.specs.CodeRows.{is_collecting, phase_of};
 ghost use Rattle.memory.specs.RowTable.{has_phase};
 ghost use Rattle.memory.specs.row.Row.{Row};
 ghost use Rattle.memory.specs.Carry.{IsFit, may_drop};
 ghost use Rattle.memory.specs.Kept.{start_of, IsPlanned};
 ghost use Rattle.coordinator.specs.Granted.{more_votes};
-ghost use Rattle.memory.specs.Standings.{standing_in, HasRowIn, MakesPlan};
-ghost use Rattle.coordinator.specs.ByMessage.{MakesVoteKept, stamp_with_vote, PlansVote, vote_counted, PlansPartVote, MakesDecision};
+ghost use Rattle.memory.specs.Standings.{standing_in, HasRowIn};
+ghost use Rattle.coordinator.specs.ByMessage.{MakesVoteKept, stamp_with_vote, PlansVote, PlansTell, vote_counted, PlansPartVote, MakesDecision};
 
 use crate::commits::{commit_time, decision_of};
 use crate::parts::is_of_part;
@@ -25,7 +25,6 @@ use units::{Fault, Ids, ShardNo, Stamp, TxnId};
 
 /// Plans what follows from a vote. A yes is counted, and the last one decides; a no aborts. A yes for a transaction that has ended
 /// is answered with its outcome. `TimeSpent` if no timestamp is left, `Stranger` if the voter takes no part or another shard decides.
-#[tactic(auto, unfolding(protocol::specs::Cells::plan_vote))]
 pub fn on_vote(state: &State, alloc: Global, vote: &Vote) -> Result<Step, Fault>
     ensures planned { PlansVote state.now vote.now (standing_in state.now vote.now.txn) result }
     ensures fit { IfOk result (IsFit state.now) }
@@ -52,12 +51,9 @@ pub fn on_vote(state: &State, alloc: Global, vote: &Vote) -> Result<Step, Fault>
 }
 
 // Tells the outcome to a shard that voted yes.
-#[tactic(auto, unfolding(protocol::specs::Cells::plan_tell))]
 fn tell(state: &State, alloc: Global, vote: &Vote, outcome: Option<Stamp>) -> Result<Step, Fault>
-    ensures plan { MakesPlan state.now
-        (plan_tell (start_of state.now) vote.now.from vote.now.txn outcome vote.now.vote) result }
+    ensures planned { PlansTell state.now vote.now outcome result }
     ensures fit { IfOk result (IsFit state.now) }
-    ensures memory { IfErr result (λ fault. fault ≡ Fault.Memory) }
 {
     match vote.vote {
         Some(_) => {

@@ -9,7 +9,7 @@ use Rattle.message.specs.declared.message.Envelope.{Envelope}
 use Rattle.protocol.specs.Rows.{Row, Phase, WaitsPrepare, Standing, HasRow}
 use Rattle.protocol.specs.Rows.{WasAborted, WasSettled, find_row}
 use Rattle.protocol.specs.Outputs.{refused_vote}
-use Rattle.protocol.specs.Plan.{Change, Puts, Plan, Planned, Before, votes_of, replies, ends, drops, puts, roomed}
+use Rattle.protocol.specs.Plan.{Change, Puts, Plan, Planned, Before, votes_of, replies, serves, ends, drops, puts, roomed}
 use Rattle.law.specs.Among.{IsAmong}
 use Rattle.law.specs.Evidence.{Scene, RecordEvidence, PhaseEvidence, Told, AllTold, HasOutcome}
 use Rattle.law.proofs.Members.{all_append}
@@ -68,6 +68,11 @@ module _ (sc : Scene) (log : List Record) (b : Before) where
   unfolding PlannedEvidence
   ending t out told = record { logged = tt; change = tt; told = told }
 
+  -- served time, or a horizon
+  pub serving : (r : Option Record) (last : ℕ) → LoggedEvidence sc log b.shard r → PlannedEvidence sc log b.shard (Ok (serves r last))
+  unfolding PlannedEvidence
+  serving r last logged = record { logged = logged; change = tt; told = tt }
+
   pub dropping : (t : Id) (r : Record) (last : ℕ) (out : List Envelope) → RecordEvidence sc log b.shard r → AllTold (log ++ r ∷ []) sc.now b.shard out →
       PlannedEvidence sc log b.shard (Ok (drops t r last out))
   unfolding PlannedEvidence
@@ -118,11 +123,3 @@ module _ (sc : Scene) (log : List Record) (b : Before) where
   rooming true (Err f) h = tt
   rooming false (Ok p) h = h
   rooming false (Err f) h = h
-
-  pub choosing_plan : (c : Bool) (x y : Plan) → PlannedEvidence sc log b.shard (Ok x) → PlannedEvidence sc log b.shard (Ok y) →
-      PlannedEvidence sc log b.shard (Ok (cond c x y))
-  choosing_plan true x y h k = h
-  choosing_plan false x y h k = k
-
--- for `search`: what closes a cell of the table that has no arithmetic of its own
-pub ruleset cells = (replying, ending, dropping, putting, standing_by_record, refusing, choosing, rooming)

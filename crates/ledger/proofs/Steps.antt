@@ -4,7 +4,7 @@ use Rattle.std.specs.Prelude.{Ok, Err}
 use Rattle.units.specs.Lists.{follow}
 use Rattle.units.specs.Ids.{Id}
 use Rattle.units.specs.Keys.{Bytes}
-use Rattle.units.specs.Locks.{holds, ready}
+use Rattle.units.specs.Locks.{holds}
 use Rattle.units.specs.Versions.{latest}
 use Rattle.units.specs.declared.fault.Fault.TheVariants.{Stranger}
 use Rattle.units.specs.declared.lock.Lock.{Lock}
@@ -15,16 +15,12 @@ use Rattle.truetime.specs.Interval.{Interval}
 use Rattle.message.specs.declared.message.Answer.TheVariants.{Holds}
 use Rattle.message.specs.declared.message.Envelope.{Envelope}
 use Rattle.message.specs.declared.message.Input.{Input}
-use Rattle.message.specs.declared.message.Message.{Message}
-use Rattle.protocol.specs.Rows.{Memory, Row, Phase, Idle, WaitsRead, WaitsPrepare, WaitsCommit, Standing}
-use Rattle.protocol.specs.Rows.{IsUnknown, HasRow, claims, find_row, standing}
+use Rattle.protocol.specs.Rows.{Memory, Phase, Idle, WaitsRead, needs_of, standing}
 use Rattle.protocol.specs.Outputs.{answer_to}
-use Rattle.protocol.specs.Step.{is_for, stepped, step_within, plan_message, plan_input}
-use Rattle.protocol.specs.Plan.{Before, start_of_step, in_way, opens, is_crowded, roomed, puts, replies, idles, stands}
-use Rattle.protocol.specs.Cells.{answers, to_read, plan_read_now, plan_read_row, plan_read, plan_prepare_now, plan_prepare_fresh, plan_prepare}
-use Rattle.protocol.specs.Cells.{plan_promise, plan_abort, plan_decide, plan_commit_granted, plan_commit_now, plan_commit_fresh, plan_commit}
-use Rattle.protocol.specs.Cells.{plan_count, plan_tell, plan_vote, plan_outcome, plan_give_up, plan_ask, plan_go_on, plan_resume_row, plan_resume_id}
-use Rattle.protocol.specs.Cells.{plan_resume, plan_settle, plan_advance, plan_nudge, plan_forget}
+use Rattle.protocol.specs.Step.{stepped, step_within, cell, plan_input}
+use Rattle.protocol.specs.Plan.{Before, Plan, start_of_step, in_way, opens, is_crowded, roomed, puts, replies, idles}
+use Rattle.protocol.specs.Cells.{Cell, Provided, ToRead, ToGoOn, answers, to_read, plan_read_row, plan_prepare_fresh, plan_promise, plan_abort, plan_decide}
+use Rattle.protocol.specs.Cells.{plan_commit_granted, plan_commit_fresh, plan_count, plan_advance, plan_forget, plan_granted, plan_asks, plan_cell}
 use Rattle.versions.proofs.Newest.{latest_is}
 use Rattle.versions.specs.Places.{SameVersions}
 use Rattle.ledger.specs.Laws.{AlikeSteps}
@@ -40,53 +36,36 @@ module _ (rows shard epoch floor : ℕ) (es : List TxnStatus) (is js : List Inst
   same-answer : (t : Id) (k : Bytes) → answers one t k ≡ answers other t k
   same-answer t k = ap (λ v. answer_to shard t k epoch (Holds v)) (same k)
 
-  same-read_now : (t : Id) (k : Bytes) → plan_read_now one t k ≡ plan_read_now other t k
-  unfolding plan_read_now
-  same-read_now t k =
-      ap (λ (e : Envelope). roomed (is_crowded one t) (Ok
-      (cond (opens one t (to_read k))
-      (puts one (in_way one t (to_read k)) t (to_read k) Idle None memory.last (e ∷ []))
-      (puts one (in_way one t (to_read k)) t [] (WaitsRead k) None memory.last []))))
-      (same-answer t k)
+  same-granted : (ended : List Id) (earliest : ℕ) (t : Id) (wait : Phase) → plan_granted one ended earliest t wait ≡ plan_granted other ended earliest t wait
+  unfolding plan_granted plan_promise plan_commit_granted plan_decide
+  same-granted ended earliest t (WaitsRead k) = λ i. Ok (puts one ended t (to_read k) Idle None memory.last (same-answer t k i ∷ []))
+  same-granted ended earliest t _ = refl
 
-  same-read_row : (t : Id) (k : Bytes) (held : List Lock) (waits : Bool) → plan_read_row one t k held waits ≡ plan_read_row other t k held waits
-  unfolding plan_read_row
-  same-read_row t k held waits =
-      λ i. cond (holds held k) (Ok (replies one (same-answer t k i ∷ []))) (cond waits (Ok (idles one)) (same-read_now t k i))
+  same-asks : (earliest : ℕ) (t : Id) (wait : Phase) → plan_asks one earliest t wait ≡ plan_asks other earliest t wait
+  unfolding plan_asks
+  same-asks earliest t wait =
+      let needs : List Lock = needs_of wait in
+      let waits : Plan = puts one (in_way one t needs) t [] wait None memory.last [] in
+      λ i. roomed (is_crowded one t) (cond (opens one t needs) (same-granted (in_way one t needs) earliest t wait i) (Ok waits))
 
-  same-read : (t : Id) (k : Bytes) (s : Standing) → plan_read one t k s ≡ plan_read other t k s
-  unfolding plan_read
-  same-read t k IsUnknown = same-read_now t k
-  same-read t k (HasRow held Idle) = same-read_row t k held false
-  same-read t k (HasRow held (WaitsRead j)) = same-read_row t k held true
-  same-read t k (HasRow held (WaitsPrepare c rs ws)) = same-read_row t k held true
-  same-read t k (HasRow held (WaitsCommit l ps rs ws)) = same-read_row t k held true
-  same-read t k _ = refl
+  same-plan : (c : Cell) → plan_cell one c ≡ plan_cell other c
+  unfolding plan_read_row plan_prepare_fresh plan_promise plan_commit_fresh plan_commit_granted plan_decide plan_abort plan_asks plan_granted plan_count
+      plan_advance plan_forget
+  same-plan (Provided test c) = λ i. cond test (same-plan c i) (Err Stranger)
+  same-plan (ToRead t k held waits) =
+      λ i. cond (holds held k) (Ok (replies one (same-answer t k i ∷ []))) (cond waits (Ok (idles one)) (same-asks 0 t (WaitsRead k) i))
+  same-plan (ToGoOn earliest t wait) = same-granted [] earliest t wait
+  same-plan _ = refl
 
-  same-go_on : (earliest : ℕ) (t : Id) (p : Phase) → plan_go_on one earliest t p ≡ plan_go_on other earliest t p
-  unfolding plan_go_on plan_promise plan_commit_granted plan_decide
-  same-go_on earliest t (WaitsRead k) = λ i. Ok (puts one [] t (to_read k) Idle None memory.last (same-answer t k i ∷ []))
-  same-go_on earliest t _ = refl
-
-  same-resume_row : (earliest : ℕ) (r : Option Row) → plan_resume_row one earliest r ≡ plan_resume_row other earliest r
-  same-resume_row earliest None = refl
-  same-resume_row earliest (Some r) = same-go_on earliest r.txn r.phase
-
-  same-resume_id : (earliest : ℕ) (t : Option Id) → plan_resume_id one earliest t ≡ plan_resume_id other earliest t
-  same-resume_id earliest None = refl
-  same-resume_id earliest (Some t) = same-resume_row earliest (find_row memory.rows t)
-
-  same-message : (now : Interval) (m : Message) → plan_message one now m ≡ plan_message other now m
-  unfolding plan_message standing plan_prepare plan_prepare_fresh plan_prepare_now plan_promise plan_commit plan_commit_fresh plan_commit_now
-      plan_commit_granted plan_decide plan_abort plan_vote plan_count plan_tell plan_outcome plan_give_up plan_ask
-  same-message now (Message.Read r) = same-read r.txn r.key (stands one r.txn)
-  same-message now _ = refl
+  -- the cells are the same: they are told from the rows and the statuses
+  same-cell : (setup : Setup) (now : Interval) (i : Input) → cell setup one now i ≡ cell setup other now i
+  unfolding standing
+  same-cell setup now (Input.Deliver m) = refl
+  same-cell setup now _ = refl
 
   same-input : (setup : Setup) (now : Interval) (i : Input) → plan_input setup one now i ≡ plan_input setup other now i
-  unfolding plan_input plan_resume plan_settle plan_advance plan_nudge plan_forget standing
-  same-input setup now (Input.Deliver m) = λ i. cond (is_for setup m) (same-message now m i) (Err Stranger)
-  same-input setup now Input.Resume = same-resume_id now.earliest (ready (claims memory.rows))
-  same-input setup now _ = refl
+  unfolding plan_input
+  same-input setup now i = same-plan (cell setup one now i) ∙ ap (plan_cell other) (same-cell setup now i)
 
 same-latest : (h : ℕ) (a b : List Install) → SameVersions h a b → (k : Bytes) → latest a k ≡ latest b k
 same-latest h a b same k = latest_is k a ∙ ap (λ found. follow found (λ i. i.value)) (same.now k) ∙ sym (latest_is k b)

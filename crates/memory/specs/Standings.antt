@@ -8,7 +8,8 @@ use Rattle.units.specs.declared.writes.Write.{Write}
 use Rattle.message.specs.declared.message.Envelope.{Envelope}
 use Rattle.protocol.specs.Rows.{Phase, Row, Standing, HasRow, IsUnknown, WasEnded, WasAborted, WasSettled, WasClosed, find_row, held_in}
 use Rattle.protocol.specs.Rows.{Idle, WaitsRead, WaitsPrepare, WaitsCommit, IsPrepared, IsDecided}
-use Rattle.protocol.specs.Cells.{plan_give_up}
+use Rattle.protocol.specs.Cells.{plan_cell}
+use Rattle.protocol.specs.Table.{give_up_cell}
 use Rattle.protocol.specs.Plan as protocol
 use Rattle.rows.specs.CodeRows.{is_collecting, may_close}
 use Rattle.rows.specs.RowTable.{has_phase}
@@ -72,4 +73,4 @@ MakesReply k envelope result = MakesPlan k (protocol.replies (start_of k) (envel
 
 -- what a giving up comes to, which both planners answer in part: the coordinator where votes are collected, the participant elsewhere
 abbrev pub PlansGiveUp : Kept → Id → Standing → Result Step Fault → Type 0
-PlansGiveUp k t standing result = IsPlanned k (Ok (plan_give_up (start_of k) t standing)) result
+PlansGiveUp k t standing result = IsPlanned k (plan_cell (start_of k) (give_up_cell t standing)) result

@@ -7,28 +7,29 @@ use Rattle.message.specs.declared.message.Outcome.{Outcome}
 use Rattle.message.specs.declared.message.Prepare.{Prepare}
 use Rattle.message.specs.declared.message.Read.{Read}
 use Rattle.memory.specs.wait.PrepareRequest.{PrepareRequest}
-use Rattle.protocol.specs.Rows.{Standing}
-use Rattle.protocol.specs.Cells.{plan_nudge, plan_outcome, plan_prepare, plan_prepare_now, plan_promise, plan_read}
+use Rattle.protocol.specs.Rows.{Standing, WaitsPrepare}
+use Rattle.protocol.specs.Cells.{plan_asks, plan_cell, plan_promise}
+use Rattle.protocol.specs.Table.{nudge_cell, outcome_cell, prepare_cell, read_cell}
 use Rattle.memory.specs.Kept.{Kept, start_of, IsPlanned}
 use Rattle.memory.specs.Standings.{MakesPlan}
 use Rattle.memory.specs.declared.plan.Step.{Step}
 use Rattle.participant.specs.Asks.{granted_read, promised_by}
 
 abbrev pub PlansRead : Kept → Read → Standing → Result Step Fault → Type 0
-PlansRead k m standing result = IsPlanned k (plan_read (start_of k) m.txn m.key standing) result
+PlansRead k m standing result = IsPlanned k (plan_cell (start_of k) (read_cell (start_of k) m.txn m.key standing)) result
 
 abbrev pub PlansPrepare : Kept → ℕ → Prepare → Standing → Result Step Fault → Type 0
-PlansPrepare k earliest m standing result = IsPlanned k (plan_prepare (start_of k) earliest m standing) result
+PlansPrepare k earliest m standing result = IsPlanned k (plan_cell (start_of k) (prepare_cell (start_of k) earliest m standing)) result
 
 -- the reads still stand
 abbrev pub PlansPrepareNow : Kept → ℕ → Prepare → Result Step Fault → Type 0
-PlansPrepareNow k earliest m result = IsPlanned k (plan_prepare_now (start_of k) earliest m) result
+PlansPrepareNow k earliest m result = IsPlanned k (plan_asks (start_of k) earliest m.txn (WaitsPrepare m.coordinator m.reads.keys m.writes)) result
 
 abbrev pub PlansOutcome : Kept → Outcome → Standing → Result Step Fault → Type 0
-PlansOutcome k m standing result = IsPlanned k (plan_outcome (start_of k) m.from m.txn m.outcome standing) result
+PlansOutcome k m standing result = IsPlanned k (plan_cell (start_of k) (outcome_cell m.from m.txn m.outcome standing)) result
 
 abbrev pub PlansNudge : Kept → Id → Standing → Result Step Fault → Type 0
-PlansNudge k t standing result = IsPlanned k (plan_nudge (start_of k) t standing) result
+PlansNudge k t standing result = IsPlanned k (plan_cell (start_of k) (nudge_cell (start_of k) t standing)) result
 
 -- a request whose locks are granted
 abbrev pub PlansPromise : Kept → ℕ → Id → PrepareRequest → Result Step Fault → Type 0

@@ -13,7 +13,6 @@ use units::Fault;
 
 /// Plans what follows when a client gives up a transaction that collects no votes here. One that reads, waits or is unknown is
 /// ended, and a prepare with which it waits gets a no vote. Any other goes on. `coordinator::give_up` is for one that collects votes.
-#[tactic(auto, unfolding(protocol::specs::Cells::plan_give_up))]
 pub fn on_give_up(state: &State, alloc: Global, given: &GiveUp) -> Result<Step, Fault>
     requires { has_phase is_collecting state.now.memory.rows given.now.txn ≡ false }
     ensures planned { PlansGiveUp state.now given.now.txn (standing_in state.now given.now.txn)

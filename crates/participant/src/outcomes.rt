@@ -18,7 +18,6 @@ use units::{Fault, TxnId};
 
 /// Plans what follows from an outcome: it closes the promise. A transaction without a promise here is ended by an abort. `Stranger`
 /// if it is not from the promise's coordinator, lies below the promise, commits what was not promised, or this shard decides.
-#[tactic(auto, unfolding(protocol::specs::Cells::plan_outcome))]
 pub fn on_outcome(state: &State, alloc: Global, told: &Outcome) -> Result<Step, Fault>
     ensures planned { PlansOutcome state.now told.now (standing_in state.now told.now.txn) result }
     ensures fit { IfOk result (IsFit state.now) }
@@ -81,7 +80,6 @@ fn close(state: &State, alloc: Global, told: &Outcome) -> Step
 }
 
 /// Plans the question to the coordinator of a prepared transaction: how did it end? `Stranger` if it is not prepared here.
-#[tactic(auto, unfolding(protocol::specs::Cells::plan_nudge))]
 pub fn on_nudge(state: &State, alloc: Global, txn: TxnId) -> Result<Step, Fault>
     ensures planned { PlansNudge state.now txn (standing_in state.now txn) result }
     ensures fit { IfOk result (IsFit state.now) }

@@ -20,7 +20,6 @@ use units::{Fault, ShardNo, Stamp, TxnId};
 /// Plans what follows from a prepare. If the reads still stand and the locks for the writes are granted, it logs a promise and votes
 /// yes. The timestamp is above all that was served. If the reads do not stand it votes no, and if a lock is not granted it waits.
 /// `RowsFull` if there is no room for the row, `TimeSpent` if no timestamp is left, and `Stranger` if this shard decides it.
-#[tactic(auto, unfolding(protocol::specs::Cells::plan_prepare))]
 pub fn on_prepare(
     state: &State,
     alloc: Global,

@@ -3,7 +3,7 @@ ghost use Rattle.std.specs.Prelude.{◌≡◌, ℕ, true, IfOk, IfErr, [], ◌�
 ghost use Rattle.message.specs.declared.message.Answer.TheVariants.{Refused};
 ghost use Rattle.protocol.specs.Rows.{WaitsRead, held_in};
 ghost use Rattle.protocol.specs.Outputs.{answer_to};
-ghost use Rattle.protocol.specs.Cells.{plan_read_row, plan_read_now, plan_go_on, answers, to_read};
+ghost use Rattle.protocol.specs.Cells.{plan_read_row, plan_asks, plan_granted, answers, to_read};
 ghost use Rattle.memory.specs.Carry.{Asks, IsFit, may_end};
 ghost use Rattle.memory.specs.Kept.{start_of, IsPlanned};
 ghost use Rattle.memory.specs.Standings.{standing_in, MakesReply};
@@ -16,7 +16,7 @@ use units::{Fault, Ids, Key, Lock, Mode, TxnId};
 
 /// Plans what follows from a read. It is answered once the transaction holds a shared lock of the key, at once or after a wait. A
 /// transaction that has ended here is refused. `RowsFull` if there is no room for its row.
-#[tactic(auto, unfolding(protocol::specs::Cells::plan_read))]
+#[tactic(auto, unfolding(protocol::specs::Cells::plan_read_row))]
 pub fn on_read(state: &State, alloc: Global, read: &Read) -> Result<Step, Fault>
     ensures planned { PlansRead state.now read.now (standing_in state.now read.now.txn) result }
     ensures fit { IfOk result (IsFit state.now) }
@@ -68,7 +68,8 @@ fn answer_held(state: &State, alloc: Global, txn: TxnId, key: &Key) -> Result<St
 // Takes a shared lock and answers, or waits for the lock, if there is room for the row.
 fn read_now(state: &State, alloc: Global, txn: TxnId, key: &Key) -> Result<Step, Fault>
     requires { may_end state.now.memory.rows txn ≡ true }
-    ensures planned { IsPlanned state.now (plan_read_now (start_of state.now) txn key.now) result }
+    ensures planned { IsPlanned state.now (plan_asks (start_of state.now) 0 txn (WaitsRead key.now))
+        result }
     ensures fit { IfOk result (IsFit state.now) }
 {
     if state.is_crowded(txn) {
@@ -95,8 +96,8 @@ fn read_now(state: &State, alloc: Global, txn: TxnId, key: &Key) -> Result<Step,
 pub fn resume_read(state: &State, alloc: Global, txn: TxnId, key: &Key) -> Result<Step, Fault>
     requires { Asks state.now.memory.rows txn [] (to_read key.now) true }
     ensures planned { (earliest : ℕ)
-        → IsPlanned state.now (plan_go_on (start_of state.now) earliest txn (WaitsRead key.now))
-        result }
+        → IsPlanned state.now
+        (plan_granted (start_of state.now) [] earliest txn (WaitsRead key.now)) result }
     ensures fit { IfOk result (IsFit state.now) }
 {
     let Ok(needs) = shared(alloc, key) else {

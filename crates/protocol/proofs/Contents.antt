@@ -1,11 +1,10 @@
--- One walk of the cells. Reads and writes that a plan puts into a row or a record are those of the message or of a row that stands, so what is
+-- Reads and writes that a plan puts into a row or a record are those of the message or of a row that stands, so what is
 -- told of them is told of these too; and a step refuses for reasons of its own.
 use Rattle.std.proofs.Common.{refl, sym, subst, ◌∙◌}
 use Rattle.std.specs.Prelude.{ℕ, ◌+◌, ◌≡◌, Bool, true, false, not, cond, max, nat_lt, List, [], ◌∷◌, Option, Some, None, Ok, Err}
 use Rattle.std.specs.List.{AllByRecursion, list_all}
 use Rattle.units.specs.Ids.{Id, same_id}
 use Rattle.units.specs.Keys.{Bytes}
-use Rattle.units.specs.Locks.{ready}
 use Rattle.units.specs.declared.fault.Fault.{Fault}
 use Rattle.units.specs.declared.fault.Fault.TheVariants.{TimeSpent, Future, NotYet, Early, Stranger}
 use Rattle.units.specs.declared.lock.Lock.{Lock}
@@ -16,21 +15,20 @@ use Rattle.units.proofs.ListLaws.{all_of_each, each_of_all, all-keep}
 use Rattle.truetime.specs.Interval.{Interval}
 use Rattle.record.specs.declared.record.Record.{Record}
 use Rattle.message.specs.declared.message.Commit.{Commit}
-use Rattle.message.specs.declared.message.Envelope.{Envelope}
 use Rattle.message.specs.declared.message.Input.{Input}
 use Rattle.message.specs.declared.message.Message.{Message}
 use Rattle.message.specs.declared.message.Prepare.{Prepare}
 use Rattle.protocol.specs.Outputs.{promise, decision}
 use Rattle.protocol.specs.Refusals.{is_own}
-use Rattle.protocol.specs.Rows.{Memory, Row, Phase, Idle, WaitsRead, WaitsPrepare, WaitsCommit, Collecting, IsPrepared, IsDecided, Voted, Standing}
-use Rattle.protocol.specs.Rows.{IsUnknown, WasEnded, HasRow, WasAborted, WasSettled, WasClosed, claims, find_row, with_vote, without_row, without_rows}
-use Rattle.protocol.specs.Plan.{Before, Change, Keeps, Ends, Drops, Puts, Plan, Planned, carried, after_change, is_crowded, opens, roomed, stands}
-use Rattle.protocol.specs.Cells.{commit_stamp, other_parts, plan_abort, plan_advance, plan_ask, plan_commit, plan_commit_fresh, plan_forget}
-use Rattle.protocol.specs.Cells.{plan_commit_granted}
-use Rattle.protocol.specs.Cells.{plan_commit_now, plan_count, plan_decide, plan_give_up, plan_go_on, plan_nudge, plan_outcome, plan_prepare}
-use Rattle.protocol.specs.Cells.{plan_prepare_fresh, plan_prepare_now, plan_promise, plan_read, plan_read_now, plan_read_row, plan_resume}
-use Rattle.protocol.specs.Cells.{plan_resume_id, plan_resume_row, plan_settle, plan_tell, plan_unpromised, plan_vote, to_read}
-use Rattle.protocol.specs.Step.{is_for, plan_input, plan_message}
+use Rattle.protocol.specs.Rows.{Memory, Row, Phase, Idle, WaitsRead, WaitsPrepare, WaitsCommit, Collecting, IsPrepared, IsDecided, Voted}
+use Rattle.protocol.specs.Rows.{with_vote, without_row, without_rows}
+use Rattle.protocol.specs.Plan.{Before, Change, Keeps, Ends, Drops, Puts, Plan, Planned, carried, after_change, roomed}
+use Rattle.protocol.specs.Cells.{Cell, ToRefuse, ToRest, ToReply, Provided, ToRead, ToPrepare, ToCommit, ToEnd, ToAbort, ToAbortFor, ToCount, ToClose}
+use Rattle.protocol.specs.Cells.{ToGoOn, ToSettle, ToServe, ToForget, commit_stamp, other_parts, plan_abort, plan_advance, plan_asks, plan_cell}
+use Rattle.protocol.specs.Cells.{plan_commit_fresh, plan_commit_granted, plan_count, plan_decide, plan_forget, plan_granted, plan_prepare_fresh}
+use Rattle.protocol.specs.Cells.{plan_promise, plan_read_row}
+use Rattle.protocol.specs.Step.{is_for, cell, plan_input}
+use Rattle.protocol.proofs.CellsFrom.{IsHeard, IsIn, IsFrom, cell_is_from}
 use Rattle.protocol.proofs.InWay.{row_at}
 use Rattle.protocol.proofs.RowChanges.{row_as}
 use Rattle.protocol.proofs.RowTable.{with_row-is}
@@ -91,9 +89,9 @@ module _ (P : List Bytes → List Write → Bool) (named : Phase → Bool) (note
   told_cond true x y h k = h
   told_cond false x y h k = k
 
-  told_plans : (test : Bool) (p q : Plan) → Told (Ok p) → Told (Ok q) → Told (Ok (cond test p q))
-  told_plans true p q h k = h
-  told_plans false p q h k = k
+  told_provided : (test : Bool) (x : Planned) → (test ≡ true → Told x) → Told (cond test x (Err Stranger))
+  told_provided true x h = h refl
+  told_provided false x h = refused Stranger refl
 
   told_roomed : (crowded : Bool) (plan : Planned) → Told plan → Told (roomed crowded plan)
   unfolding Told
@@ -101,26 +99,7 @@ module _ (P : List Bytes → List Write → Bool) (named : Phase → Bool) (note
   told_roomed true (Err fault) h = h
   told_roomed false plan h = h
 
-  -- ---- read
-
-  walk_read_now : (b : Before) (t : Id) (k : Bytes) → Told (plan_read_now b t k)
-  unfolding plan_read_now
-  walk_read_now b t k = told_roomed (is_crowded b t) _ (told_plans (opens b t (to_read k)) _ _ (told _ fits.idle refl) (told _ (fits.reading k) refl))
-
-  walk_read_row : (b : Before) (t : Id) (k : Bytes) (held : List Lock) (waits : Bool) → Told (plan_read_row b t k held waits)
-  unfolding plan_read_row
-  walk_read_row b t k held waits = told_cond _ _ _ (told _ refl refl) (told_cond waits _ _ (told _ refl refl) (walk_read_now b t k))
-
-  walk_read : (b : Before) (t : Id) (k : Bytes) (s : Standing) → Told (plan_read b t k s)
-  unfolding plan_read
-  walk_read b t k IsUnknown = walk_read_now b t k
-  walk_read b t k (HasRow held Idle) = walk_read_row b t k held false
-  walk_read b t k (HasRow held (WaitsRead j)) = walk_read_row b t k held true
-  walk_read b t k (HasRow held (WaitsPrepare c rs ws)) = walk_read_row b t k held true
-  walk_read b t k (HasRow held (WaitsCommit l ps rs ws)) = walk_read_row b t k held true
-  walk_read b t k _ = told _ refl refl
-
-  -- ---- prepare
+  -- ---- requests
 
   walk_promise : (b : Before) (ended : List Id) (earliest : ℕ) (t : Id) (c : ℕ) (rs : List Bytes) (ws : List Write) → P rs ws ≡ true
       → Told (plan_promise b ended earliest t c rs ws)
@@ -128,33 +107,6 @@ module _ (P : List Bytes → List Write → Bool) (named : Phase → Bool) (note
   walk_promise b ended earliest t c rs ws own =
       let p : ℕ = max (b.memory.last + 1) earliest in
       told_cond _ _ _ (told _ (fits.prepared c p) (fits.promised t c p rs ws ∙ own)) (refused TimeSpent refl)
-
-  walk_prepare_now : (b : Before) (earliest : ℕ) (m : Prepare) → P m.reads.keys m.writes ≡ true
-      → Told (plan_prepare_now b earliest m)
-  unfolding plan_prepare_now
-  walk_prepare_now b earliest m own =
-      told_roomed _ _ (told_cond _ _ _ (walk_promise b _ earliest m.txn m.coordinator m.reads.keys m.writes own)
-      (told _ (fits.preparing m.coordinator m.reads.keys m.writes ∙ own) refl))
-
-  walk_prepare_fresh : (b : Before) (earliest : ℕ) (m : Prepare) (held : List Lock) → P m.reads.keys m.writes ≡ true
-      → Told (plan_prepare_fresh b earliest m held)
-  unfolding plan_prepare_fresh
-  walk_prepare_fresh b earliest m held own = told_cond _ _ _ (walk_prepare_now b earliest m own) (told _ refl refl)
-
-  walk_prepare : (b : Before) (earliest : ℕ) (m : Prepare) (s : Standing) → P m.reads.keys m.writes ≡ true
-      → Told (plan_prepare b earliest m s)
-  unfolding plan_prepare
-  walk_prepare b earliest m IsUnknown own = walk_prepare_fresh b earliest m [] own
-  walk_prepare b earliest m (HasRow held Idle) own = walk_prepare_fresh b earliest m held own
-  walk_prepare b earliest m (HasRow held (WaitsRead k)) own = walk_prepare_fresh b earliest m held own
-  walk_prepare b earliest m (HasRow held (WaitsPrepare f qs vs)) own = told _ refl refl
-  walk_prepare b earliest m WasEnded own = told _ refl refl
-  walk_prepare b earliest m (HasRow held (IsPrepared f p)) own = told _ refl refl
-  walk_prepare b earliest m (WasClosed None) own = told _ refl refl
-  walk_prepare b earliest m (WasClosed (Some s)) own = told _ refl refl
-  walk_prepare b earliest m _ own = refused Stranger refl
-
-  -- ---- commit
 
   walk_abort : (b : Before) (t : Id) (ps : List ℕ) → Told (Ok (plan_abort b t ps))
   unfolding plan_abort
@@ -167,41 +119,43 @@ module _ (P : List Bytes → List Write → Bool) (named : Phase → Bool) (note
       let s : ℕ = commit_stamp b.memory.last latest votes in
       told_cond _ _ _ (told _ (fits.decided s ps) (fits.decides t s ps rs ws ∙ own)) (refused TimeSpent refl)
 
-  walk_granted : (b : Before) (ended : List Id) (t : Id) (latest : ℕ) (ps : List ℕ) (rs : List Bytes) (ws : List Write) (ns : List ℕ) →
+  walk_commit_granted : (b : Before) (ended : List Id) (t : Id) (latest : ℕ) (ps : List ℕ) (rs : List Bytes) (ws : List Write) (ns : List ℕ) →
       P rs ws ≡ true
       → Told (plan_commit_granted b ended t latest ps rs ws ns)
   unfolding plan_commit_granted
-  walk_granted b ended t latest ps rs ws [] own = walk_decide b ended t latest ps rs ws _ [] own
-  walk_granted b ended t latest ps rs ws (n ∷ ns) own = told _ (fits.collecting latest ps rs ws [] ∙ own) refl
+  walk_commit_granted b ended t latest ps rs ws [] own = walk_decide b ended t latest ps rs ws _ [] own
+  walk_commit_granted b ended t latest ps rs ws (n ∷ ns) own = told _ (fits.collecting latest ps rs ws [] ∙ own) refl
 
-  walk_commit_now : (b : Before) (latest : ℕ) (m : Commit) → P m.reads.keys m.writes ≡ true
-      → Told (plan_commit_now b latest m)
-  unfolding plan_commit_now
-  walk_commit_now b latest m own =
-      told_roomed _ _ (told_cond _ _ _ (walk_granted b _ m.txn latest m.parts m.reads.keys m.writes (other_parts b.shard m.parts) own)
-      (told _ (fits.committing latest m.parts m.reads.keys m.writes ∙ own) refl))
+  walk_granted : (b : Before) (ended : List Id) (earliest : ℕ) (t : Id) (wait : Phase) → named wait ≡ true → Told (plan_granted b ended earliest t wait)
+  unfolding plan_granted
+  walk_granted b ended earliest t (WaitsRead k) own = told _ fits.idle refl
+  walk_granted b ended earliest t (WaitsPrepare c rs ws) own = walk_promise b ended earliest t c rs ws (sym (fits.preparing c rs ws) ∙ own)
+  walk_granted b ended earliest t (WaitsCommit l ps rs ws) own =
+      walk_commit_granted b ended t l ps rs ws (other_parts b.shard ps) (sym (fits.committing l ps rs ws) ∙ own)
+  walk_granted b ended earliest t _ own = told _ refl refl
+
+  walk_asks : (b : Before) (earliest : ℕ) (t : Id) (wait : Phase) → named wait ≡ true → Told (plan_asks b earliest t wait)
+  unfolding plan_asks
+  walk_asks b earliest t wait own = told_roomed _ _ (told_cond _ _ _ (walk_granted b _ earliest t wait own) (told _ own refl))
+
+  walk_read_row : (b : Before) (t : Id) (k : Bytes) (held : List Lock) (waits : Bool) → Told (plan_read_row b t k held waits)
+  unfolding plan_read_row
+  walk_read_row b t k held waits = told_cond _ _ _ (told _ refl refl) (told_cond waits _ _ (told _ refl refl) (walk_asks b 0 t (WaitsRead k) (fits.reading k)))
+
+  walk_prepare_fresh : (b : Before) (earliest : ℕ) (m : Prepare) (held : List Lock) → P m.reads.keys m.writes ≡ true
+      → Told (plan_prepare_fresh b earliest m held)
+  unfolding plan_prepare_fresh
+  walk_prepare_fresh b earliest m held own =
+      told_cond _ _ _ (walk_asks b earliest m.txn _ (fits.preparing m.coordinator m.reads.keys m.writes ∙ own)) (told _ refl refl)
 
   walk_commit_fresh : (b : Before) (latest : ℕ) (m : Commit) (held : List Lock) → P m.reads.keys m.writes ≡ true
       → Told (plan_commit_fresh b latest m held)
   unfolding plan_commit_fresh
   walk_commit_fresh b latest m held own =
-      told_cond _ _ _ (told_cond _ _ _ (walk_commit_now b latest m own) (refused TimeSpent refl)) (walk_abort b m.txn m.parts)
+      told_cond _ _ _ (told_cond _ _ _ (walk_asks b 0 m.txn _ (fits.committing latest m.parts m.reads.keys m.writes ∙ own)) (refused TimeSpent refl))
+      (walk_abort b m.txn m.parts)
 
-  walk_commit : (b : Before) (latest : ℕ) (m : Commit) (s : Standing) → P m.reads.keys m.writes ≡ true
-      → Told (plan_commit b latest m s)
-  unfolding plan_commit
-  walk_commit b latest m IsUnknown own = walk_commit_fresh b latest m [] own
-  walk_commit b latest m (HasRow held Idle) own = walk_commit_fresh b latest m held own
-  walk_commit b latest m (HasRow held (WaitsRead k)) own = walk_commit_fresh b latest m held own
-  walk_commit b latest m (HasRow held (WaitsCommit l qs ss vs)) own = told _ refl refl
-  walk_commit b latest m (HasRow held (Collecting l qs ss vs us)) own = told _ refl refl
-  walk_commit b latest m (HasRow held (IsDecided s qs)) own = told _ refl refl
-  walk_commit b latest m WasEnded own = walk_abort b m.txn m.parts
-  walk_commit b latest m WasAborted own = told _ refl refl
-  walk_commit b latest m (WasSettled s qs) own = told _ refl refl
-  walk_commit b latest m _ own = refused Stranger refl
-
-  -- ---- vote, outcome, give up, ask
+  -- ---- votes, served time
 
   walk_count : (b : Before) (n : ℕ) (t : Id) (vote : Option ℕ) (latest : ℕ) (ps : List ℕ) (rs : List Bytes) (ws : List Write) (votes : List Voted)
       → P rs ws ≡ true → Told (plan_count b n t vote latest ps rs ws votes)
@@ -209,102 +163,6 @@ module _ (P : List Bytes → List Write → Bool) (named : Phase → Bool) (note
   walk_count b n t None latest ps rs ws votes own = walk_abort b t ps
   walk_count b n t (Some p) latest ps rs ws votes own =
       told_cond _ _ _ (walk_decide b [] t latest ps rs ws [] _ own) (told _ (fits.collecting latest ps rs ws (with_vote n p votes) ∙ own) refl)
-
-  walk_tell : (b : Before) (n : ℕ) (t : Id) (outcome vote : Option ℕ) → Told (Ok (plan_tell b n t outcome vote))
-  unfolding plan_tell
-  walk_tell b n t outcome (Some p) = told _ refl refl
-  walk_tell b n t outcome None = told _ refl refl
-
-  -- the row of a standing is told
-  walk_at : (b : Before) (t : Id) (held : List Lock) (phase : Phase) → all_told b.memory.rows ≡ true → stands b t ≡ HasRow held phase →
-      named phase ≡ true
-  walk_at b t held phase own e =
-      found_all (λ r. named r.phase ≡ true) (λ (r : Row). r.txn) b.memory.rows t (row_as t held phase)
-      (all_of_each (λ (r : Row). named r.phase) b.memory.rows own) (row_at b t held phase e)
-
-  walk_vote : (b : Before) (n : ℕ) (t : Id) (vote : Option ℕ) (s : Standing) → all_told b.memory.rows ≡ true → stands b t ≡ s →
-      Told (plan_vote b n t vote s)
-  unfolding plan_vote
-  walk_vote b n t vote (HasRow held (Collecting l ps rs ws votes)) own e =
-      told_cond _ _ _ (walk_count b n t vote l ps rs ws votes
-      (sym (fits.collecting l ps rs ws votes) ∙ walk_at b t held (Collecting l ps rs ws votes) own e)) (refused Stranger refl)
-  walk_vote b n t vote WasAborted own e = walk_tell b n t None vote
-  walk_vote b n t vote (WasSettled s ps) own e = told_cond _ _ _ (walk_tell b n t (Some s) vote) (refused Stranger refl)
-  walk_vote b n t vote IsUnknown own e = told _ refl refl
-  walk_vote b n t vote WasEnded own e = told _ refl refl
-  walk_vote b n t vote (HasRow held (IsDecided s ps)) own e = told _ refl refl
-  walk_vote b n t vote (HasRow held Idle) own e = told _ refl refl
-  walk_vote b n t vote (HasRow held (WaitsRead k)) own e = told _ refl refl
-  walk_vote b n t vote (HasRow held (WaitsCommit l ps rs ws)) own e = told _ refl refl
-  walk_vote b n t vote _ own e = refused Stranger refl
-
-  walk_unpromised : (b : Before) (t : Id) (outcome : Option ℕ) (out : List Envelope) → Told (plan_unpromised b t outcome out)
-  walk_unpromised b t None out = told _ refl refl
-  walk_unpromised b t (Some s) out = refused Stranger refl
-
-  walk_outcome : (b : Before) (n : ℕ) (t : Id) (outcome : Option ℕ) (s : Standing) → Told (plan_outcome b n t outcome s)
-  unfolding plan_outcome
-  walk_outcome b n t outcome (HasRow held (IsPrepared c p)) = told_cond _ _ _ (told _ refl (fits.outcomes t outcome)) (refused Stranger refl)
-  walk_outcome b n t outcome IsUnknown = walk_unpromised b t outcome _
-  walk_outcome b n t outcome (HasRow held Idle) = walk_unpromised b t outcome _
-  walk_outcome b n t outcome (HasRow held (WaitsRead k)) = walk_unpromised b t outcome _
-  walk_outcome b n t outcome (HasRow held (WaitsPrepare c rs ws)) = walk_unpromised b t outcome _
-  walk_outcome b n t outcome WasEnded = told _ refl refl
-  walk_outcome b n t outcome (WasClosed o) = told _ refl refl
-  walk_outcome b n t outcome _ = refused Stranger refl
-
-  walk_give_up : (b : Before) (t : Id) (s : Standing) → Told (Ok (plan_give_up b t s))
-  unfolding plan_give_up
-  walk_give_up b t IsUnknown = told _ refl refl
-  walk_give_up b t (HasRow held Idle) = told _ refl refl
-  walk_give_up b t (HasRow held (WaitsRead k)) = told _ refl refl
-  walk_give_up b t (HasRow held (WaitsPrepare c rs ws)) = told _ refl refl
-  walk_give_up b t (HasRow held (WaitsCommit l ps rs ws)) = told _ refl refl
-  walk_give_up b t (HasRow held (Collecting l ps rs ws votes)) = walk_abort b t ps
-  walk_give_up b t _ = told _ refl refl
-
-  walk_ask : (b : Before) (n : ℕ) (t : Id) (s : Standing) → Told (plan_ask b n t s)
-  unfolding plan_ask
-  walk_ask b n t IsUnknown = told _ refl (fits.aborted t)
-  walk_ask b n t WasEnded = told _ refl (fits.aborted t)
-  walk_ask b n t (HasRow held Idle) = told _ refl (fits.aborted t)
-  walk_ask b n t (HasRow held (WaitsRead k)) = told _ refl (fits.aborted t)
-  walk_ask b n t WasAborted = told _ refl refl
-  walk_ask b n t (WasSettled s ps) = told_cond _ _ _ (told _ refl refl) (refused Stranger refl)
-  walk_ask b n t (HasRow held (WaitsCommit l ps rs ws)) = told _ refl refl
-  walk_ask b n t (HasRow held (Collecting l ps rs ws votes)) = told _ refl refl
-  walk_ask b n t (HasRow held (IsDecided s ps)) = told _ refl refl
-  walk_ask b n t _ = refused Stranger refl
-
-  -- ---- the chores of a shard
-
-  walk_go_on : (b : Before) (earliest : ℕ) (t : Id) (phase : Phase) → named phase ≡ true → Told (plan_go_on b earliest t phase)
-  unfolding plan_go_on
-  walk_go_on b earliest t (WaitsRead k) own = told _ fits.idle refl
-  walk_go_on b earliest t (WaitsPrepare c rs ws) own = walk_promise b [] earliest t c rs ws (sym (fits.preparing c rs ws) ∙ own)
-  walk_go_on b earliest t (WaitsCommit l ps rs ws) own = walk_granted b [] t l ps rs ws (other_parts b.shard ps) (sym (fits.committing l ps rs ws) ∙ own)
-  walk_go_on b earliest t _ own = told _ refl refl
-
-  walk_resume_row : (b : Before) (earliest : ℕ) (t : Id) (o : Option Row) → all_told b.memory.rows ≡ true → find_row b.memory.rows t ≡ o
-      → Told (plan_resume_row b earliest o)
-  walk_resume_row b earliest t None own e = told _ refl refl
-  walk_resume_row b earliest t (Some r) own e =
-      walk_go_on b earliest r.txn r.phase
-      (found_all (λ q. named q.phase ≡ true) (λ (q : Row). q.txn) b.memory.rows t r
-      (all_of_each (λ (q : Row). named q.phase) b.memory.rows own) e)
-
-  walk_resume_id : (b : Before) (earliest : ℕ) (o : Option Id) → all_told b.memory.rows ≡ true → Told (plan_resume_id b earliest o)
-  walk_resume_id b earliest None own = told _ refl refl
-  walk_resume_id b earliest (Some t) own = walk_resume_row b earliest t (find_row b.memory.rows t) own refl
-
-  walk_resume : (b : Before) (earliest : ℕ) → all_told b.memory.rows ≡ true → Told (plan_resume b earliest)
-  unfolding plan_resume
-  walk_resume b earliest own = walk_resume_id b earliest (ready (claims b.memory.rows)) own
-
-  walk_settle : (b : Before) (earliest : ℕ) (t : Id) (s : Standing) → Told (plan_settle b earliest t s)
-  unfolding plan_settle
-  walk_settle b earliest t (HasRow held (IsDecided s ps)) = told_cond _ _ _ (told _ refl (fits.outcomes t (Some s))) (refused Early refl)
-  walk_settle b earliest t _ = refused Stranger refl
 
   walk_advance : (b : Before) (latest stride at : ℕ) → Told (plan_advance b latest stride at)
   unfolding plan_advance
@@ -314,42 +172,48 @@ module _ (P : List Bytes → List Write → Bool) (named : Phase → Bool) (note
       by_test true n = fits.ceilings n
       by_test false n = refl
 
-  walk_nudge : (b : Before) (t : Id) (s : Standing) → Told (plan_nudge b t s)
-  unfolding plan_nudge
-  walk_nudge b t (HasRow held (IsPrepared c p)) = told _ refl refl
-  walk_nudge b t _ = refused Stranger refl
-
   walk_forget : (b : Before) (at : ℕ) → Told (plan_forget b at)
   unfolding plan_forget
   walk_forget b at = told_cond _ _ _ (refused NotYet refl) (told_cond _ _ _ (told _ refl refl) (told _ refl (fits.horizons at)))
 
-  -- ---- all inputs
+  -- ---- all cells
 
-  walk_message : (b : Before) (now : Interval) (m : Message) → all_told b.memory.rows ≡ true → Brings P m → Told (plan_message b now m)
-  unfolding plan_message
-  walk_message b now (Message.Read r) rows own = walk_read b r.txn r.key _
-  walk_message b now (Message.Prepare p) rows own = walk_prepare b now.earliest p _ own
-  walk_message b now (Message.Commit c) rows own = walk_commit b now.latest c _ own
-  walk_message b now (Message.GiveUp g) rows own = walk_give_up b g.txn _
-  walk_message b now (Message.Vote v) rows own = walk_vote b v.from v.txn v.vote _ rows refl
-  walk_message b now (Message.Outcome o) rows own = walk_outcome b o.from o.txn o.outcome _
-  walk_message b now (Message.Ask a) rows own = walk_ask b a.from a.txn _
-  walk_message b now _ rows own = refused Stranger refl
+  module _ (setup : Setup) (b : Before) (now : Interval) (i : Input) (rows : all_told b.memory.rows ≡ true)
+      (brought : (m : Message) → i ≡ Input.Deliver m → is_for setup m ≡ true → Brings P m) where
+    -- the phase of a row that stands is told
+    in_row : (t : Id) (phase : Phase) → IsIn b t phase → named phase ≡ true
+    in_row t phase row =
+        found_all (λ r. named r.phase ≡ true) (λ (r : Row). r.txn) b.memory.rows t (row_as t row.held phase)
+        (all_of_each (λ (r : Row). named r.phase) b.memory.rows rows) (row_at b t row.held phase row.row)
+
+    -- and what a message brings that is for this shard
+    heard : (m : Message) → IsHeard setup i m → Brings P m
+    heard m h = brought m h.input h.own
+
+    walk : (c : Cell) → IsFrom setup b now i c → Told (plan_cell b c)
+    walk ToRefuse from = refused Stranger refl
+    walk ToRest from = told _ refl refl
+    walk (ToReply e) from = told _ refl refl
+    walk (Provided test c) from = told_provided test _ (λ e. walk c (from e))
+    walk (ToRead t k held waits) from = walk_read_row b t k held waits
+    walk (ToPrepare earliest m held) from = walk_prepare_fresh b earliest m held (heard (Message.Prepare m) from.0)
+    walk (ToCommit latest m held) from = walk_commit_fresh b latest m held (heard (Message.Commit m) from.0)
+    walk (ToEnd t cs) from = told _ refl refl
+    walk (ToAbort t ps) from = walk_abort b t ps
+    walk (ToAbortFor n t) from = told _ refl (fits.aborted t)
+    walk (ToCount n t vote l ps rs ws votes) from =
+        walk_count b n t vote l ps rs ws votes (sym (fits.collecting l ps rs ws votes) ∙ in_row t _ from.1)
+    walk (ToClose t outcome) from = told _ refl (fits.outcomes t outcome)
+    walk (ToGoOn earliest t wait) from = walk_granted b [] earliest t wait (in_row t wait from.waits)
+    walk (ToSettle earliest t s ps) from = told_cond _ _ _ (told _ refl (fits.outcomes t (Some s))) (refused Early refl)
+    walk (ToServe latest stride at) from = walk_advance b latest stride at
+    walk (ToForget at) from = walk_forget b at
 
   -- each input, where a message that is for this shard brings what is told
   pub walked : (setup : Setup) (b : Before) (now : Interval) (i : Input) → all_told b.memory.rows ≡ true
       → ((m : Message) → i ≡ Input.Deliver m → is_for setup m ≡ true → Brings P m) → Told (plan_input setup b now i)
   unfolding plan_input
-  walked setup b now (Input.Deliver m) rows brought = by_test (is_for setup m) refl
-    where
-      by_test : (test : Bool) → is_for setup m ≡ test → Told (cond test (plan_message b now m) (Err Stranger))
-      by_test true e = walk_message b now m rows (brought m refl e)
-      by_test false e = refused Stranger refl
-  walked setup b now Input.Resume rows brought = walk_resume b now.earliest rows
-  walked setup b now (Input.Settle t) rows brought = walk_settle b now.earliest t _
-  walked setup b now (Input.Advance at) rows brought = walk_advance b now.latest setup.stride at
-  walked setup b now (Input.Forget at) rows brought = walk_forget b at
-  walked setup b now (Input.Nudge t) rows brought = walk_nudge b t _
+  walked setup b now i rows brought = walk setup b now i rows brought (cell setup b now i) (cell_is_from setup b now i)
 
   -- ---- the rows after a plan
 

@@ -1,9 +1,9 @@
 pub mod AboveVersions
 pub mod Agreement
-pub mod AnswerShapes
 mod BookSample
 pub mod Choices
 mod Contents
+pub mod CellsFrom
 pub mod ClaimsBeside
 pub mod FitsBeside
 pub mod Follows

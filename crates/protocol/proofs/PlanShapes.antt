@@ -1,118 +1,84 @@
 -- Each plan of a step has one of the shapes.
 use Rattle.std.specs.List.{list_all}
 use Rattle.std.proofs.Common.{refl, sym, subst, ap, ◌∙◌, ltb-false, leb-false}
-use Rattle.std.specs.Prelude.{ℕ, ◌≡◌, max, Bool, true, false, cond, ◌&&◌, nat_eq, nat_lt, nat_le, List, [], Option, Some, None, Ok, Err}
-use Rattle.std.proofs.lemmas.Bool.{and_parts}
+use Rattle.std.specs.Prelude.{ℕ, ◌≡◌, max, Bool, true, false, not, cond, ◌&&◌, nat_eq, nat_lt, nat_le, List, [], Option, Some, None, Ok, Err}
+use Rattle.std.proofs.lemmas.Bool.{and_parts, and_from}
 use Rattle.units.specs.Lists.{head, when}
 use Rattle.units.specs.Ids.{Id}
 use Rattle.units.specs.ById.{IsById}
-use Rattle.units.specs.Locks.{exclusive, holds, ready, is_free}
+use Rattle.units.specs.Keys.{Bytes}
+use Rattle.units.specs.Locks.{holds, is_free}
 use Rattle.units.specs.declared.fault.Fault.TheVariants.{Future, NotYet}
-use Rattle.units.specs.declared.lock.Lock.{Lock}
 use Rattle.units.specs.declared.setup.Setup.{Setup}
+use Rattle.units.specs.declared.writes.Write.{Write}
 use Rattle.record.specs.declared.record.Record.{Record}
-use Rattle.units.proofs.IdLaws.{same_id-is}
-use Rattle.units.proofs.ByIdLaws.{found_is}
 use Rattle.truetime.specs.Interval.{Interval}
 use Rattle.record.specs.Facts.{Facts}
+use Rattle.message.specs.declared.message.Commit.{Commit}
 use Rattle.message.specs.declared.message.Message.{Message}
+use Rattle.message.specs.declared.message.Prepare.{Prepare}
 use Rattle.message.specs.declared.message.Input.{Input}
-use Rattle.protocol.specs.Rows.{Memory, Row, Phase, Idle, WaitsRead, WaitsPrepare, WaitsCommit, IsPrepared, IsDecided, Standing, HasRow}
-use Rattle.protocol.specs.Rows.{claims, find_row, needs_of, safe}
-use Rattle.protocol.specs.Plan.{idles, Plan, Planned, Keeps, Before, start_of_step, stands}
-use Rattle.protocol.specs.Cells.{other_parts, ceiling_for, to_read, plan_go_on, plan_resume_row, plan_resume_id, plan_resume, plan_settle}
-use Rattle.protocol.specs.Cells.{plan_advance, plan_nudge, plan_forget}
-use Rattle.protocol.specs.Step.{is_for, plan_message, plan_input}
-use Rattle.protocol.proofs.InWay.{row_at, stands_at, room_at, free_when_ready}
-use Rattle.protocol.proofs.Shapes.{Shaped, Answers, IsSettle, IsLock, ShapeOf, Acts, IsAdvance, IsForget, ShapedBy, is_undecided, is_loose, reads_held, all_fit}
+use Rattle.protocol.specs.Rows.{Memory, Phase, Collecting, IsPrepared, IsDecided, Voted, claims, held_in, needs_of, safe, with_vote}
+use Rattle.protocol.specs.Plan.{idles, serves, Plan, Planned, Before, start_of_step, is_crowded}
+use Rattle.protocol.specs.Cells.{Cell, ToRefuse, ToRest, ToReply, Provided, ToRead, ToPrepare, ToCommit, ToEnd, ToAbort, ToAbortFor, ToCount, ToClose}
+use Rattle.protocol.specs.Cells.{ToGoOn, ToSettle, ToServe, ToForget, ceiling_for, plan_count, plan_advance, plan_forget, plan_cell}
+use Rattle.protocol.specs.Sound.{fits, holds_writes}
+use Rattle.protocol.specs.Step.{is_for, cell, plan_input}
+use Rattle.protocol.proofs.CellsFrom.{IsIn, IsNext, IsFrom, cell_is_from}
+use Rattle.protocol.proofs.RowChanges.{row_as}
+use Rattle.protocol.proofs.InWay.{row_at, room_at, free_of_nothing, free_when_ready}
+use Rattle.protocol.proofs.Shapes.{Shaped, Answers, IsEnd, IsAbort, IsClose, IsSettle, IsLock, IsCleared, ShapeOf, Acts, IsAdvance, IsForget, ShapedBy}
+use Rattle.protocol.proofs.Shapes.{is_undecided, is_loose, reads_held, all_fit, granted_to}
 use Rattle.protocol.proofs.Choices.{Ascends, planned, refused, shaped_cond, shaped_err, shaped_idle, shaped_reply, fits_at, clear, held_at}
-use Rattle.protocol.proofs.RequestShapes.{shaped_read, shaped_promise, shaped_prepare, shaped_granted, shaped_commit}
-use Rattle.protocol.proofs.AnswerShapes.{shaped_vote, shaped_outcome, shaped_give_up, shaped_ask}
+use Rattle.protocol.proofs.RequestShapes.{shaped_read_row, shaped_prepare_fresh, shaped_abort, shaped_decide, shaped_granted, shaped_commit_fresh}
 
--- ---- the chores of a shard
+-- ---- what a row says
 
-shaped_go_on : (b : Before) (earliest : ℕ) (t : Id) (held : List Lock) (phase : Phase) → stands b t ≡ HasRow held phase
-    → is_free (claims b.memory.rows) t (needs_of phase) ≡ true → Shaped b (plan_go_on b earliest t phase)
-unfolding plan_go_on
-shaped_go_on b earliest t held (WaitsRead k) e free =
-    planned b _ (IsLock t [] (to_read k) Idle _ (record {
-      cleared = clear b t (to_read k) free;
-      undecided = ap is_undecided e;
-      firmer = ap is_loose e;
+row_fits : (b : Before) (t : Id) (phase : Phase) (in_row : IsIn b t phase) → all_fit b → fits b.shard (row_as t in_row.held phase) ≡ true
+row_fits b t phase in_row = fits_at b t in_row.held phase in_row.row
+
+row_room : (b : Before) (t : Id) (phase : Phase) → IsIn b t phase → is_crowded b t ≡ false
+row_room b t phase in_row = room_at b t _ (row_at b t in_row.held phase in_row.row)
+
+-- what the row waits for is free, where it is the one that is ready
+row_free : (b : Before) (t : Id) (phase : Phase) → Ascends b → IsNext b t phase → is_free (claims b.memory.rows) t (needs_of phase) ≡ true
+row_free b t phase up ready = free_when_ready b.memory.rows t (row_as t ready.waits.held phase) up ready.next
+    (row_at b t ready.waits.held phase ready.waits.row)
+
+-- ---- cells of rows
+
+shaped_count : (b : Before) (n : ℕ) (t : Id) (vote : Option ℕ) (latest : ℕ) (ps : List ℕ) (rs : List Bytes) (ws : List Write) (votes : List Voted)
+    → IsIn b t (Collecting latest ps rs ws votes) → Shaped b (plan_count b n t vote latest ps rs ws votes)
+unfolding plan_count
+shaped_count b n t None latest ps rs ws votes in_row = shaped_abort b t ps (ap is_undecided in_row.row)
+shaped_count b n t (Some p) latest ps rs ws votes in_row =
+    let phase : Phase = Collecting latest ps rs ws votes in
+    let same : held_in b.memory.rows t ≡ in_row.held = held_at b t in_row.held phase in_row.row in
+    let fitting : all_fit b → (when (nat_eq b.shard) (head ps) && (list_all (holds in_row.held) rs && holds_writes in_row.held ws)) ≡ true =
+    row_fits b t phase in_row in
+    let first : all_fit b → when (nat_eq b.shard) (head ps) ≡ true = λ f. (and_parts _ _ (fitting f)).0 in
+    let read : all_fit b → reads_held b t rs = λ f. ap (λ ls. list_all (holds ls) rs) same ∙ (and_parts _ _ (and_parts _ _ (fitting f)).1).0 in
+    let alone : all_fit b → holds_writes (granted_to b t [] []) ws ≡ true =
+    λ f. ap (λ ls. holds_writes ls ws) same ∙ (and_parts _ _ (and_parts _ _ (fitting f)).1).1 in
+    let room : is_crowded b t ≡ false = row_room b t phase in_row in
+    let nobody : IsCleared b.memory.rows t [] [] = clear b t [] (free_of_nothing (claims b.memory.rows) t) in
+    shaped_cond b _ _ _
+    (λ _. shaped_decide b [] t latest ps rs ws [] (with_vote n p votes) nobody (ap is_undecided in_row.row) first read alone room)
+    (λ _. planned b _ (IsLock t [] [] (Collecting latest ps rs ws (with_vote n p votes)) [] (record {
+      cleared = nobody;
+      undecided = ap is_undecided in_row.row;
+      firmer = refl;
       opened = refl;
       quiet = refl;
-      fit = λ _. refl;
-      room = room_at b t _ (row_at b t held (WaitsRead k) e);
-    }) refl)
-shaped_go_on b earliest t held (WaitsPrepare c rs ws) e free =
-    let fitting : all_fit b → (nat_lt c b.shard && list_all (holds held) rs) ≡ true = fits_at b t held (WaitsPrepare c rs ws) e in
-    let read : all_fit b → reads_held b t rs = λ f. ap (λ ls. list_all (holds ls) rs) (held_at b t held (WaitsPrepare c rs ws) e)
-    ∙ (and_parts _ _ (fitting f)).1 in
-    shaped_promise b [] earliest t c rs ws (clear b t (exclusive ws) free) (ap is_undecided e) (λ f. (and_parts _ _ (fitting f)).0) read
-    (room_at b t _ (row_at b t held (WaitsPrepare c rs ws) e))
-shaped_go_on b earliest t held (WaitsCommit l ps rs ws) e free =
-    let fitting : all_fit b → (when (nat_eq b.shard) (head ps) && list_all (holds held) rs) ≡ true = fits_at b t held (WaitsCommit l ps rs ws) e in
-    let read : all_fit b → reads_held b t rs = λ f. ap (λ ls. list_all (holds ls) rs) (held_at b t held (WaitsCommit l ps rs ws) e)
-    ∙ (and_parts _ _ (fitting f)).1 in
-    shaped_granted b [] t l ps rs ws (other_parts b.shard ps) (clear b t (exclusive ws) free) (ap is_undecided e) (λ f. (and_parts _ _ (fitting f)).0) read
-    (room_at b t _ (row_at b t held (WaitsCommit l ps rs ws) e))
-shaped_go_on b earliest t held _ e free = shaped_idle b
-
-shaped_resume_row : (b : Before) (earliest : ℕ) (t : Id) (o : Option Row) → Ascends b → ready (claims b.memory.rows) ≡ Some t → find_row b.memory.rows t ≡ o
-    → Shaped b (plan_resume_row b earliest o)
-shaped_resume_row b earliest t None up is_ready found = shaped_idle b
-shaped_resume_row b earliest t (Some r) up is_ready found =
-    let own : r.txn ≡ t = same_id-is r.txn t (found_is (λ (q : Row). q.txn) b.memory.rows t r found) in
-    subst (λ u. Shaped b (plan_go_on b earliest u r.phase)) (sym own)
-    (shaped_go_on b earliest t r.held r.phase (stands_at b t r found) (free_when_ready b.memory.rows t r up is_ready found))
-
-shaped_resume_id : (b : Before) (earliest : ℕ) (o : Option Id) → Ascends b → ready (claims b.memory.rows) ≡ o → Shaped b (plan_resume_id b earliest o)
-shaped_resume_id b earliest None up is_ready = shaped_idle b
-shaped_resume_id b earliest (Some t) up is_ready = shaped_resume_row b earliest t (find_row b.memory.rows t) up is_ready refl
-
-shaped_resume : (b : Before) (earliest : ℕ) → Ascends b → Shaped b (plan_resume b earliest)
-unfolding plan_resume
-shaped_resume b earliest up = shaped_resume_id b earliest (ready (claims b.memory.rows)) up refl
-
-shaped_settle : (b : Before) (earliest : ℕ) (t : Id) (s : Standing) → stands b t ≡ s → Shaped b (plan_settle b earliest t s)
-unfolding plan_settle
-shaped_settle b earliest t (HasRow held (IsDecided s ps)) e =
-    shaped_err b _ _ _ (planned b _ (IsSettle t s ps held _ (row_at b t held (IsDecided s ps) e) refl))
-shaped_settle b earliest t _ e = refused b _
-
-shaped_nudge : (b : Before) (t : Id) (s : Standing) → stands b t ≡ s → Shaped b (plan_nudge b t s)
-unfolding plan_nudge
-shaped_nudge b t (HasRow held (IsPrepared c p)) e = shaped_reply b _
-shaped_nudge b t _ e = refused b _
-
--- ---- all inputs
-
-shaped_message : (rows : ℕ) (setup : Setup) (facts : Facts) (memory : Memory) (now : Interval) (m : Message) → IsById (λ r. r.txn) memory.rows →
-    is_for setup m ≡ true
-    → Shaped (start_of_step rows setup facts memory) (plan_message (start_of_step rows setup facts memory) now m)
-unfolding plan_message is_for
-shaped_message rows setup facts memory now (Message.Read r) up e = shaped_read (start_of_step rows setup facts memory) r.txn r.key _ up refl
-shaped_message rows setup facts memory now (Message.Prepare p) up e =
-    shaped_prepare (start_of_step rows setup facts memory) now.earliest p _ up ((and_parts _ _ e).1) refl
-shaped_message rows setup facts memory now (Message.Commit c) up e =
-    shaped_commit (start_of_step rows setup facts memory) now.latest c _ up ((and_parts _ _ e).1) refl
-shaped_message rows setup facts memory now (Message.GiveUp g) up e = shaped_give_up (start_of_step rows setup facts memory) g.txn _ refl
-shaped_message rows setup facts memory now (Message.Vote v) up e = shaped_vote (start_of_step rows setup facts memory) v.from v.txn v.vote _ refl
-shaped_message rows setup facts memory now (Message.Outcome o) up e = shaped_outcome (start_of_step rows setup facts memory) o.from o.txn o.outcome _ refl
-shaped_message rows setup facts memory now (Message.Ask a) up e = shaped_ask (start_of_step rows setup facts memory) a.from a.txn _ refl
-shaped_message rows setup facts memory now _ up e = refused (start_of_step rows setup facts memory) _
-
-acts : (b : Before) (i : Input) (plan : Planned) → Shaped b plan → ShapedBy b i plan
-unfolding Shaped ShapedBy
-acts b i (Ok p) h = Acts h
-acts b i (Err fault) h = tt
+      fit = λ f. and_from _ _ (first f) (and_from _ _ (read f) (alone f));
+      room = room;
+    }) refl))
 
 shaped_advance : (b : Before) (latest stride at : ℕ) → ShapedBy b (Input.Advance at) (plan_advance b latest stride at)
 unfolding plan_advance ShapedBy
 shaped_advance b latest stride at = by_test (nat_lt latest at)
   where
-    by_test : (late : Bool) → ShapedBy b (Input.Advance at) (cond late (Err Future)
-        (Ok (record { wounded = []; change = Keeps; logged = ceiling_for b.facts.floor stride at; last = max b.memory.last at; outbox = [] })))
+    by_test : (late : Bool) → ShapedBy b (Input.Advance at) (cond late (Err Future) (Ok (serves (ceiling_for b.facts.floor stride at) (max b.memory.last at))))
     by_test true = tt
     by_test false = IsAdvance stride at refl refl
 
@@ -121,27 +87,69 @@ unfolding plan_forget ShapedBy
 shaped_forget b at = by_tests (nat_lt (safe b.memory) at) refl (nat_le at b.facts.horizon) refl
   where
     by_tests : (late : Bool) → nat_lt (safe b.memory) at ≡ late → (known : Bool) → nat_le at b.facts.horizon ≡ known →
-        ShapedBy b (Input.Forget at) (cond late (Err NotYet) (cond known (Ok (idles b))
-        (Ok (record { wounded = []; change = Keeps; logged = Some (Record.Horizon at); last = b.memory.last; outbox = [] }))))
+        ShapedBy b (Input.Forget at) (cond late (Err NotYet) (cond known (Ok (idles b)) (Ok (serves (Some (Record.Horizon at)) b.memory.last))))
     by_tests true k known h = tt
     by_tests false k true h = Acts (Answers [] refl)
     by_tests false k false h = IsForget at refl (ltb-false (safe b.memory) at k) (leb-false at b.facts.horizon h) refl
 
-shaped_input : (rows : ℕ) (setup : Setup) (facts : Facts) (memory : Memory) (now : Interval) (i : Input) → IsById (λ r. r.txn) memory.rows
-    → ShapedBy (start_of_step rows setup facts memory) i (plan_input setup (start_of_step rows setup facts memory) now i)
-unfolding plan_input
-shaped_input rows setup facts memory now (Input.Deliver m) up =
-    let b : Before = start_of_step rows setup facts memory in
-    acts b (Input.Deliver m) _ (shaped_cond b (is_for setup m) _ _ (λ e. shaped_message rows setup facts memory now m up e) (λ _. refused b _))
-shaped_input rows setup facts memory now Input.Resume up = acts _ Input.Resume _ (shaped_resume (start_of_step rows setup facts memory) now.earliest up)
-shaped_input rows setup facts memory now (Input.Settle t) up = acts _ (Input.Settle t) _ (shaped_settle
-    (start_of_step rows setup facts memory) now.earliest t _ refl)
-shaped_input rows setup facts memory now (Input.Advance at) up = shaped_advance (start_of_step rows setup facts memory) now.latest setup.stride at
-shaped_input rows setup facts memory now (Input.Forget at) up = shaped_forget (start_of_step rows setup facts memory) at
-shaped_input rows setup facts memory now (Input.Nudge t) up = acts _ (Input.Nudge t) _ (shaped_nudge (start_of_step rows setup facts memory) t _ refl)
+-- ---- all cells
+
+-- the coordinator of a prepare that is for this shard is below it
+lower : (setup : Setup) (m : Prepare) → is_for setup (Message.Prepare m) ≡ true → nat_lt m.coordinator setup.shard ≡ true
+unfolding is_for
+lower setup m own = (and_parts _ _ own).1
+
+-- the first part of a commit that is for this shard is it
+first_part : (setup : Setup) (m : Commit) → is_for setup (Message.Commit m) ≡ true → when (nat_eq setup.shard) (head m.parts) ≡ true
+unfolding is_for
+first_part setup m own = (and_parts _ _ own).1
+
+module _ (rows : ℕ) (setup : Setup) (facts : Facts) (memory : Memory) (now : Interval) (i : Input) (up : IsById (λ r. r.txn) memory.rows) where
+  abbrev b : Before
+  b = start_of_step rows setup facts memory
+
+  acts : (plan : Planned) → Shaped b plan → ShapedBy b i plan
+  unfolding Shaped ShapedBy
+  acts (Ok p) h = Acts h
+  acts (Err fault) h = tt
+
+  by_test : (test : Bool) (x y : Planned) → (test ≡ true → ShapedBy b i x) → ShapedBy b i y → ShapedBy b i (cond test x y)
+  by_test true x y h k = h refl
+  by_test false x y h k = k
+
+  shaped : (c : Cell) → IsFrom setup b now i c → ShapedBy b i (plan_cell b c)
+  shaped ToRefuse from = acts _ (refused b _)
+  shaped ToRest from = acts _ (shaped_idle b)
+  shaped (ToReply e) from = acts _ (shaped_reply b _)
+  shaped (Provided test c) from = by_test test _ _ (λ e. shaped c (from e)) (acts _ (refused b _))
+  shaped (ToRead t k held waits) from = acts _ (shaped_read_row b t k held waits up from.loose)
+  shaped (ToPrepare earliest m held) from =
+      acts _ (shaped_prepare_fresh b earliest m held up from.1.loose (lower setup m from.0.own) from.1.holds)
+  shaped (ToCommit latest m held) from =
+      acts _ (shaped_commit_fresh b latest m held up from.1.0.loose (first_part setup m from.0.own) from.1.0.holds)
+  shaped (ToEnd t cs) from = acts _ (planned b _ (IsEnd t _ from refl))
+  shaped (ToAbort t ps) from = acts _ (shaped_abort b t ps from.0)
+  shaped (ToAbortFor n t) from = acts _ (planned b _ (IsAbort t _ from.0 refl))
+  shaped (ToCount n t vote l ps rs ws votes) from = acts _ (shaped_count b n t vote l ps rs ws votes from.1)
+  shaped (ToClose t outcome) from =
+      let promised = IsPrepared from.coordinator from.at in
+      acts _ (planned b _ (IsClose t from.from from.coordinator from.at from.promised.held outcome []
+      (row_at b t from.promised.held promised from.promised.row) from.allowed refl))
+  shaped (ToGoOn earliest t wait) from =
+      acts _ (shaped_granted b [] earliest t wait (clear b t (needs_of wait) (row_free b t wait up from))
+      (λ slack. ap is_loose from.waits.row ∙ ap not slack)
+      (λ f. ap (λ ls. fits b.shard (row_as t ls wait)) (held_at b t from.waits.held wait from.waits.row) ∙ row_fits b t wait from.waits f)
+      (row_room b t wait from.waits))
+  shaped (ToSettle earliest t s ps) from =
+      acts _ (shaped_err b _ _ _ (planned b _ (IsSettle t s ps from.0.held _ (row_at b t from.0.held (IsDecided s ps) from.0.row) refl)))
+  shaped (ToServe latest stride at) from =
+      subst (λ j. ShapedBy b j (plan_advance b latest stride at)) (sym from) (shaped_advance b latest stride at)
+  shaped (ToForget at) from = subst (λ j. ShapedBy b j (plan_forget b at)) (sym from) (shaped_forget b at)
 
 -- each plan of a step has a shape
 pub shape_of : (rows : ℕ) (setup : Setup) (facts : Facts) (memory : Memory) (now : Interval) (i : Input) (p : Plan) → IsById (λ r. r.txn) memory.rows
     → plan_input setup (start_of_step rows setup facts memory) now i ≡ Ok p → ShapeOf (start_of_step rows setup facts memory) i p
-unfolding ShapedBy
-shape_of rows setup facts memory now i p up e = subst (ShapedBy (start_of_step rows setup facts memory) i) e (shaped_input rows setup facts memory now i up)
+unfolding ShapedBy plan_input
+shape_of rows setup facts memory now i p up e =
+    let b : Before = start_of_step rows setup facts memory in
+    subst (ShapedBy b i) e (shaped rows setup facts memory now i up (cell setup b now i) (cell_is_from setup b now i))

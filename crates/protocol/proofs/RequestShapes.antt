@@ -1,7 +1,8 @@
 -- The plans of reads, prepares and commits have a shape.
-use Rattle.std.proofs.Common.{refl, arith, sym, ap}
-use Rattle.std.specs.Prelude.{ℕ, ◌+◌, ◌≡◌, ◌<◌, max, Bool, true, false, nat_lt, nat_eq, List, [], ◌∷◌, Some, None, Ok}
-use Rattle.std.proofs.lemmas.Bool.{false≢true, and_from}
+use Rattle.std.proofs.Common.{refl, arith}
+use Rattle.std.specs.Prelude.{ℕ, ◌+◌, ◌≡◌, ◌<◌, max, Bool, true, false, nat_lt, nat_eq, List, [], ◌∷◌, Ok}
+use Rattle.std.specs.List.{AllByRecursion}
+use Rattle.std.proofs.lemmas.Bool.{and_from, and_parts}
 use Rattle.units.specs.Lists.{head, when}
 use Rattle.units.specs.Ids.{Id}
 use Rattle.units.specs.Keys.{Bytes}
@@ -10,70 +11,24 @@ use Rattle.units.specs.declared.lock.Lock.{Lock}
 use Rattle.units.specs.declared.writes.Write.{Write}
 use Rattle.message.specs.declared.message.Prepare.{Prepare}
 use Rattle.message.specs.declared.message.Commit.{Commit}
-use Rattle.protocol.specs.Rows.{Idle, WaitsRead, WaitsPrepare, WaitsCommit, Collecting, IsPrepared, IsDecided, Voted, Standing, IsUnknown, WasEnded}
-use Rattle.protocol.specs.Rows.{HasRow, WasAborted, WasSettled, WasClosed, held_in}
+use Rattle.protocol.specs.Rows.{Phase, Idle, WaitsRead, WaitsPrepare, WaitsCommit, Collecting, IsPrepared, IsDecided, Voted, held_in, is_firm, needs_of}
 use Rattle.protocol.specs.Plan.{Before, stands, is_crowded, in_way, opens}
-use Rattle.protocol.specs.Cells.{commit_stamp, other_parts, still_stand, answers, to_read, plan_read_now, plan_read_row, plan_read, plan_promise}
-use Rattle.protocol.specs.Cells.{plan_prepare_now, plan_prepare_fresh, plan_prepare, plan_abort, plan_decide, plan_commit_granted, plan_commit_now}
-use Rattle.protocol.specs.Cells.{plan_commit_fresh, plan_commit}
-use Rattle.protocol.specs.Sound.{holds_writes}
+use Rattle.protocol.specs.Cells.{commit_stamp, other_parts, still_stand, answers, to_read, plan_read_row, plan_promise, plan_granted, plan_asks}
+use Rattle.protocol.specs.Cells.{plan_prepare_fresh, plan_abort, plan_decide, plan_commit_granted, plan_commit_fresh}
+use Rattle.protocol.specs.Sound.{fits, holds_writes}
 use Rattle.protocol.proofs.InWay.{in_way_gone, holds_exclusive}
-use Rattle.protocol.proofs.Shapes.{Shaped, IsEnd, IsAbort, IsLock, IsWait, IsPromise, IsDecision, IsCleared, is_undecided, is_loose, all_fit}
+use Rattle.protocol.proofs.RowChanges.{row_as}
+use Rattle.protocol.proofs.Shapes.{Shaped, IsEnd, IsAbort, IsLock, IsWait, IsPromise, IsDecision, IsCleared, IsLooseOther, is_undecided, is_loose, all_fit}
 use Rattle.protocol.proofs.Shapes.{granted_to, reads_held}
-use Rattle.protocol.proofs.Choices.{Ascends, planned, refused, shaped_cond, shape_cond, shaped_err, shaped_roomed, shaped_idle, shaped_reply}
-use Rattle.protocol.proofs.Choices.{undecided, cleared, clear, held_at, held_unknown, reads_still, reads_granted}
-
--- ---- read
-
-shaped_read_now : (b : Before) (t : Id) (k : Bytes) → Ascends b → is_loose (stands b t) ≡ true → Shaped b (plan_read_now b t k)
-unfolding plan_read_now
-shaped_read_now b t k up loose = shaped_roomed b (is_crowded b t) _ (λ room.
-    planned b _ (shape_cond b (opens b t (to_read k)) _ _
-    (λ free. IsLock t (in_way b t (to_read k)) (to_read k) Idle _ (record {
-      cleared = cleared b t (to_read k) up free;
-      undecided = undecided b t loose;
-      firmer = loose;
-      opened = refl;
-      quiet = refl;
-      fit = λ _. refl;
-      room = room;
-    }) refl)
-    (λ _. IsWait t (to_read k) (WaitsRead k) [] (record {
-      loose = loose;
-      slack = refl;
-      wants = refl;
-      fit = refl;
-      gone = in_way_gone b t (to_read k) up;
-      room = room;
-    }) refl)))
-
-shaped_read_row : (b : Before) (t : Id) (k : Bytes) (held : List Lock) (waits : Bool) → Ascends b → (waits ≡ false → is_loose (stands b t) ≡ true)
-    → Shaped b (plan_read_row b t k held waits)
-unfolding plan_read_row
-shaped_read_row b t k held waits up loose =
-    shaped_cond b _ _ _ (λ _. shaped_reply b (answers b t k ∷ [])) (λ _. shaped_cond b waits _ _ (λ _. shaped_idle b) (λ e. shaped_read_now b t k up (loose e)))
-
-waits_already : (b : Before) (t : Id) → true ≡ false → is_loose (stands b t) ≡ true
-waits_already b t e = absurd (false≢true (sym e))
-
-pub shaped_read : (b : Before) (t : Id) (k : Bytes) (s : Standing) → Ascends b → stands b t ≡ s → Shaped b (plan_read b t k s)
-unfolding plan_read
-shaped_read b t k IsUnknown up e = shaped_read_now b t k up (ap is_loose e)
-shaped_read b t k (HasRow held Idle) up e = shaped_read_row b t k held false up (λ _. ap is_loose e)
-shaped_read b t k (HasRow held (WaitsRead j)) up e = shaped_read_row b t k held true up (waits_already b t)
-shaped_read b t k (HasRow held (WaitsPrepare c rs ws)) up e = shaped_read_row b t k held true up (waits_already b t)
-shaped_read b t k (HasRow held (WaitsCommit l ps rs ws)) up e = shaped_read_row b t k held true up (waits_already b t)
-shaped_read b t k (HasRow held (Collecting l ps rs ws votes)) up e = shaped_idle b
-shaped_read b t k (HasRow held (IsPrepared c p)) up e = shaped_idle b
-shaped_read b t k (HasRow held (IsDecided s ps)) up e = shaped_idle b
-shaped_read b t k _ up e = shaped_reply b _
+use Rattle.protocol.proofs.Choices.{Ascends, planned, shaped_cond, shaped_err, shaped_roomed, shaped_idle, shaped_reply}
+use Rattle.protocol.proofs.Choices.{undecided, cleared, reads_still, reads_granted}
 
 -- ---- prepare
 
 above_last : (last earliest : ℕ) → last < max (last + 1) earliest
 above_last last earliest = omega arith
 
-pub shaped_promise : (b : Before) (ended : List Id) (earliest : ℕ) (t : Id) (c : ℕ) (rs : List Bytes) (ws : List Write)
+shaped_promise : (b : Before) (ended : List Id) (earliest : ℕ) (t : Id) (c : ℕ) (rs : List Bytes) (ws : List Write)
     → IsCleared b.memory.rows t ended (exclusive ws) → is_undecided (stands b t) ≡ true → (all_fit b → nat_lt c b.shard ≡ true) →
     (all_fit b → reads_held b t rs) → is_crowded b t ≡ false
     → Shaped b (plan_promise b ended earliest t c rs ws)
@@ -88,45 +43,6 @@ shaped_promise b ended earliest t c rs ws clear fresh lower read room =
       read = λ f. reads_granted b t ended (exclusive ws) rs clear.gone (read f);
       room = room;
     }) refl))
-
-shaped_prepare_now : (b : Before) (earliest : ℕ) (m : Prepare) → Ascends b → is_loose (stands b m.txn) ≡ true
-    → nat_lt m.coordinator b.shard ≡ true → reads_held b m.txn m.reads.keys → Shaped b (plan_prepare_now b earliest m)
-unfolding plan_prepare_now
-shaped_prepare_now b earliest m up loose lower read = shaped_roomed b (is_crowded b m.txn) _ (λ room.
-    shaped_cond b (opens b m.txn (exclusive m.writes)) _ _
-    (λ free. shaped_promise b _ earliest m.txn m.coordinator m.reads.keys m.writes (cleared b m.txn (exclusive m.writes) up free)
-    (undecided b m.txn loose) (λ _. lower) (λ _. read) room)
-    (λ _. planned b _ (IsWait m.txn (exclusive m.writes) (WaitsPrepare m.coordinator m.reads.keys m.writes) [] (record {
-      loose = loose;
-      slack = refl;
-      wants = refl;
-      fit = and_from _ _ lower (reads_granted b m.txn (in_way b m.txn (exclusive m.writes)) [] m.reads.keys (in_way_gone b m.txn (exclusive m.writes) up) read);
-      gone = in_way_gone b m.txn (exclusive m.writes) up;
-      room = room;
-    }) refl)))
-
-shaped_prepare_fresh : (b : Before) (earliest : ℕ) (m : Prepare) (held : List Lock) → Ascends b
-    → is_loose (stands b m.txn) ≡ true → nat_lt m.coordinator b.shard ≡ true → held_in b.memory.rows m.txn ≡ held →
-    Shaped b (plan_prepare_fresh b earliest m held)
-unfolding plan_prepare_fresh
-shaped_prepare_fresh b earliest m held up loose lower same =
-    shaped_cond b (still_stand b m.reads.epoch m.reads.keys held) _ _ (λ k. shaped_prepare_now b earliest m up loose lower
-    (reads_still b m.txn m.reads.epoch m.reads.keys held same k)) (λ _. planned b _ (IsEnd m.txn _ (undecided b m.txn loose) refl))
-
-pub shaped_prepare : (b : Before) (earliest : ℕ) (m : Prepare) (s : Standing) → Ascends b → nat_lt m.coordinator b.shard ≡ true
-    → stands b m.txn ≡ s → Shaped b (plan_prepare b earliest m s)
-unfolding plan_prepare
-shaped_prepare b earliest m IsUnknown up lower e = shaped_prepare_fresh b earliest m [] up (ap is_loose e) lower (held_unknown b m.txn e)
-shaped_prepare b earliest m (HasRow held Idle) up lower e =
-    shaped_prepare_fresh b earliest m held up (ap is_loose e) lower (held_at b m.txn held Idle e)
-shaped_prepare b earliest m (HasRow held (WaitsRead k)) up lower e =
-    shaped_prepare_fresh b earliest m held up (ap is_loose e) lower (held_at b m.txn held (WaitsRead k) e)
-shaped_prepare b earliest m (HasRow held (WaitsPrepare f qs vs)) up lower e = shaped_idle b
-shaped_prepare b earliest m WasEnded up lower e = shaped_reply b _
-shaped_prepare b earliest m (HasRow held (IsPrepared f p)) up lower e = shaped_reply b _
-shaped_prepare b earliest m (WasClosed None) up lower e = shaped_reply b _
-shaped_prepare b earliest m (WasClosed (Some s)) up lower e = shaped_idle b
-shaped_prepare b earliest m _ up lower e = refused b _
 
 -- ---- commit
 
@@ -155,13 +71,13 @@ shaped_decide b ended t latest ps rs ws needs votes clear fresh first read alone
       room = room;
     }) refl))
 
-pub shaped_granted : (b : Before) (ended : List Id) (t : Id) (latest : ℕ) (ps : List ℕ) (rs : List Bytes) (ws : List Write) (ns : List ℕ)
+shaped_commit_granted : (b : Before) (ended : List Id) (t : Id) (latest : ℕ) (ps : List ℕ) (rs : List Bytes) (ws : List Write) (ns : List ℕ)
     → IsCleared b.memory.rows t ended (exclusive ws) → is_undecided (stands b t) ≡ true → (all_fit b → when (nat_eq b.shard) (head ps) ≡ true)
     → (all_fit b → reads_held b t rs) → is_crowded b t ≡ false → Shaped b (plan_commit_granted b ended t latest ps rs ws ns)
 unfolding plan_commit_granted
-shaped_granted b ended t latest ps rs ws [] clear fresh first read room =
+shaped_commit_granted b ended t latest ps rs ws [] clear fresh first read room =
     shaped_decide b ended t latest ps rs ws (exclusive ws) [] clear fresh first read (λ _. holds_exclusive ws _) room
-shaped_granted b ended t latest ps rs ws (n ∷ ns) clear fresh first read room =
+shaped_commit_granted b ended t latest ps rs ws (n ∷ ns) clear fresh first read room =
     planned b _ (IsLock t ended (exclusive ws) (Collecting latest ps rs ws []) [] (record {
       cleared = clear;
       undecided = fresh;
@@ -172,43 +88,80 @@ shaped_granted b ended t latest ps rs ws (n ∷ ns) clear fresh first read room 
       room = room;
     }) refl)
 
-shaped_commit_now : (b : Before) (latest : ℕ) (m : Commit) → Ascends b → is_loose (stands b m.txn) ≡ true
-    → when (nat_eq b.shard) (head m.parts) ≡ true → reads_held b m.txn m.reads.keys → Shaped b (plan_commit_now b latest m)
-unfolding plan_commit_now
-shaped_commit_now b latest m up loose first read = shaped_roomed b (is_crowded b m.txn) _ (λ room.
-    shaped_cond b (opens b m.txn (exclusive m.writes)) _ _
-    (λ free. shaped_granted b _ m.txn latest m.parts m.reads.keys m.writes (other_parts b.shard m.parts)
-    (cleared b m.txn (exclusive m.writes) up free) (undecided b m.txn loose) (λ _. first) (λ _. read) room)
-    (λ _. planned b _ (IsWait m.txn (exclusive m.writes) (WaitsCommit latest m.parts m.reads.keys m.writes) [] (record {
+-- ---- fresh, granted, waits
+
+-- what a transaction waits with fits the shard, and so once those in its way are gone
+still_fits : (b : Before) (t : Id) (ended : List Id) (wait : Phase) → AllByRecursion (IsLooseOther b.memory.rows t) ended → is_firm wait ≡ false
+    → fits b.shard (row_as t (held_in b.memory.rows t) wait) ≡ true → fits b.shard (row_as t (granted_to b t ended []) wait) ≡ true
+still_fits b t ended Idle gone slack fit = refl
+still_fits b t ended (WaitsRead k) gone slack fit = refl
+still_fits b t ended (WaitsPrepare c rs ws) gone slack fit =
+    and_from _ _ (and_parts _ _ fit).0 (reads_granted b t ended [] rs gone (and_parts _ _ fit).1)
+still_fits b t ended (WaitsCommit l ps rs ws) gone slack fit =
+    and_from _ _ (and_parts _ _ fit).0 (reads_granted b t ended [] rs gone (and_parts _ _ fit).1)
+still_fits b t ended (Collecting l ps rs ws votes) gone slack fit = cc
+still_fits b t ended (IsPrepared c p) gone slack fit = cc
+still_fits b t ended (IsDecided s ps) gone slack fit = cc
+
+pub shaped_granted : (b : Before) (ended : List Id) (earliest : ℕ) (t : Id) (wait : Phase) → IsCleared b.memory.rows t ended (needs_of wait)
+    → (is_firm wait ≡ false → is_loose (stands b t) ≡ true) → (all_fit b → fits b.shard (row_as t (held_in b.memory.rows t) wait) ≡ true)
+    → is_crowded b t ≡ false → Shaped b (plan_granted b ended earliest t wait)
+unfolding plan_granted
+shaped_granted b ended earliest t (WaitsRead k) clear loose fit room =
+    planned b _ (IsLock t ended (to_read k) Idle _ (record {
+      cleared = clear;
+      undecided = undecided b t (loose refl);
+      firmer = loose refl;
+      opened = refl;
+      quiet = refl;
+      fit = λ _. refl;
+      room = room;
+    }) refl)
+shaped_granted b ended earliest t (WaitsPrepare c rs ws) clear loose fit room =
+    shaped_promise b ended earliest t c rs ws clear (undecided b t (loose refl)) (λ f. (and_parts _ _ (fit f)).0) (λ f. (and_parts _ _ (fit f)).1) room
+shaped_granted b ended earliest t (WaitsCommit l ps rs ws) clear loose fit room =
+    shaped_commit_granted b ended t l ps rs ws (other_parts b.shard ps) clear (undecided b t (loose refl)) (λ f. (and_parts _ _ (fit f)).0)
+    (λ f. (and_parts _ _ (fit f)).1) room
+shaped_granted b ended earliest t _ clear loose fit room = shaped_idle b
+
+shaped_asks : (b : Before) (earliest : ℕ) (t : Id) (wait : Phase) → Ascends b → is_loose (stands b t) ≡ true → is_firm wait ≡ false
+    → fits b.shard (row_as t (held_in b.memory.rows t) wait) ≡ true → Shaped b (plan_asks b earliest t wait)
+unfolding plan_asks
+shaped_asks b earliest t wait up loose slack fit = shaped_roomed b (is_crowded b t) _ (λ room.
+    shaped_cond b (opens b t (needs_of wait)) _ _
+    (λ free. shaped_granted b (in_way b t (needs_of wait)) earliest t wait (cleared b t (needs_of wait) up free) (λ _. loose) (λ _. fit) room)
+    (λ _. planned b _ (IsWait t (needs_of wait) wait [] (record {
       loose = loose;
-      slack = refl;
+      slack = slack;
       wants = refl;
-      fit = and_from _ _ first (reads_granted b m.txn (in_way b m.txn (exclusive m.writes)) [] m.reads.keys (in_way_gone b m.txn (exclusive m.writes) up) read);
-      gone = in_way_gone b m.txn (exclusive m.writes) up;
+      fit = still_fits b t (in_way b t (needs_of wait)) wait (in_way_gone b t (needs_of wait) up) slack fit;
+      gone = in_way_gone b t (needs_of wait) up;
       room = room;
     }) refl)))
 
-shaped_commit_fresh : (b : Before) (latest : ℕ) (m : Commit) (held : List Lock) → Ascends b
+pub shaped_read_row : (b : Before) (t : Id) (k : Bytes) (held : List Lock) (waits : Bool) → Ascends b → is_loose (stands b t) ≡ true
+    → Shaped b (plan_read_row b t k held waits)
+unfolding plan_read_row
+shaped_read_row b t k held waits up loose =
+    shaped_cond b _ _ _ (λ _. shaped_reply b (answers b t k ∷ []))
+    (λ _. shaped_cond b waits _ _ (λ _. shaped_idle b) (λ _. shaped_asks b 0 t (WaitsRead k) up loose refl refl))
+
+pub shaped_prepare_fresh : (b : Before) (earliest : ℕ) (m : Prepare) (held : List Lock) → Ascends b
+    → is_loose (stands b m.txn) ≡ true → nat_lt m.coordinator b.shard ≡ true → held_in b.memory.rows m.txn ≡ held →
+    Shaped b (plan_prepare_fresh b earliest m held)
+unfolding plan_prepare_fresh
+shaped_prepare_fresh b earliest m held up loose lower same =
+    shaped_cond b (still_stand b m.reads.epoch m.reads.keys held) _ _
+    (λ k. shaped_asks b earliest m.txn (WaitsPrepare m.coordinator m.reads.keys m.writes) up loose refl
+    (and_from _ _ lower (reads_still b m.txn m.reads.epoch m.reads.keys held same k)))
+    (λ _. planned b _ (IsEnd m.txn _ (undecided b m.txn loose) refl))
+
+pub shaped_commit_fresh : (b : Before) (latest : ℕ) (m : Commit) (held : List Lock) → Ascends b
     → is_loose (stands b m.txn) ≡ true → when (nat_eq b.shard) (head m.parts) ≡ true → held_in b.memory.rows m.txn ≡ held →
     Shaped b (plan_commit_fresh b latest m held)
 unfolding plan_commit_fresh
 shaped_commit_fresh b latest m held up loose first same =
-    shaped_cond b (still_stand b m.reads.epoch m.reads.keys held) _ _ (λ k. shaped_err b _ _ _
-    (shaped_commit_now b latest m up loose first (reads_still b m.txn m.reads.epoch m.reads.keys held same k)))
+    shaped_cond b (still_stand b m.reads.epoch m.reads.keys held) _ _
+    (λ k. shaped_err b _ _ _ (shaped_asks b 0 m.txn (WaitsCommit latest m.parts m.reads.keys m.writes) up loose refl
+    (and_from _ _ first (reads_still b m.txn m.reads.epoch m.reads.keys held same k))))
     (λ _. shaped_abort b m.txn m.parts (undecided b m.txn loose))
-
-pub shaped_commit : (b : Before) (latest : ℕ) (m : Commit) (s : Standing) → Ascends b
-    → when (nat_eq b.shard) (head m.parts) ≡ true → stands b m.txn ≡ s → Shaped b (plan_commit b latest m s)
-unfolding plan_commit
-shaped_commit b latest m IsUnknown up first e = shaped_commit_fresh b latest m [] up (ap is_loose e) first (held_unknown b m.txn e)
-shaped_commit b latest m (HasRow held Idle) up first e =
-    shaped_commit_fresh b latest m held up (ap is_loose e) first (held_at b m.txn held Idle e)
-shaped_commit b latest m (HasRow held (WaitsRead k)) up first e =
-    shaped_commit_fresh b latest m held up (ap is_loose e) first (held_at b m.txn held (WaitsRead k) e)
-shaped_commit b latest m (HasRow held (WaitsCommit l qs ss vs)) up first e = shaped_idle b
-shaped_commit b latest m (HasRow held (Collecting l qs ss vs us)) up first e = shaped_idle b
-shaped_commit b latest m (HasRow held (IsDecided s qs)) up first e = shaped_idle b
-shaped_commit b latest m WasEnded up first e = shaped_abort b m.txn m.parts (ap is_undecided e)
-shaped_commit b latest m WasAborted up first e = shaped_reply b _
-shaped_commit b latest m (WasSettled s qs) up first e = shaped_reply b _
-shaped_commit b latest m _ up first e = refused b _

@@ -14,7 +14,7 @@ use Rattle.message.specs.declared.message.Input.{Input}
 use Rattle.protocol.specs.Rows.{Row, Phase, IsPrepared, IsDecided, Standing, IsUnknown, WasEnded, HasRow, claims, find_row, is_firm, needs_of}
 use Rattle.protocol.specs.Rows.{held_in, safe, without_rows}
 use Rattle.protocol.specs.Outputs.{promise, decision}
-use Rattle.protocol.specs.Plan.{Plan, Planned, Before, Keeps, stands, replies, ends, drops, puts, in_way, is_crowded}
+use Rattle.protocol.specs.Plan.{Plan, Planned, Before, stands, replies, serves, ends, drops, puts, in_way, is_crowded}
 use Rattle.protocol.specs.Cells.{is_outcome_for, raised, ceiling_for}
 use Rattle.protocol.specs.Sound.{is_open, fits, holds_writes}
 use Rattle.protocol.proofs.RowChanges.{row_as}
@@ -117,10 +117,10 @@ pub data Shape (b : Before) (p : Plan) : Type 0 where
 pub data ShapeOf (b : Before) (i : Input) (p : Plan) : Type 0 where
   Acts : Shape b p → ShapeOf b i p
   IsAdvance : (stride at : ℕ) → i ≡ Input.Advance at
-      → p ≡ record { wounded = []; change = Keeps; logged = ceiling_for b.facts.floor stride at; last = max b.memory.last at; outbox = [] }
+      → p ≡ serves (ceiling_for b.facts.floor stride at) (max b.memory.last at)
       → ShapeOf b i p
   IsForget : (at : ℕ) → i ≡ Input.Forget at → at ≤ safe b.memory → b.facts.horizon < at
-      → p ≡ record { wounded = []; change = Keeps; logged = Some (Record.Horizon at); last = b.memory.last; outbox = [] }
+      → p ≡ serves (Some (Record.Horizon at)) b.memory.last
       → ShapeOf b i p
 
 -- where a plan is not refused, it has a shape

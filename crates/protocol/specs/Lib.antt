@@ -11,3 +11,4 @@ pub mod Rows
 pub mod Sound
 pub mod Step
 pub mod Showable
+pub mod Table

@@ -61,11 +61,7 @@ ended_by _ ids = ids
 -- the memory after a plan
 unfoldable pub carried : Plan → Memory → Memory
 carried p m =
-    record {
-      last = p.last;
-      rows = after_change p.change (without_rows m.rows p.wounded);
-      ended = ended_by p.change (with_ids m.ended p.wounded);
-    }
+    record { last = p.last; rows = after_change p.change (without_rows m.rows p.wounded); ended = ended_by p.change (with_ids m.ended p.wounded) }
 
 -- ---- the state that a plan is made from
 
@@ -110,6 +106,10 @@ replies b out = record { wounded = []; change = Keeps; logged = None; last = b.m
 abbrev pub idles : Before → Plan
 idles b = replies b []
 
+-- a record of served time or of a horizon, or none, and the greatest timestamp
+abbrev pub serves : Option Record → ℕ → Plan
+serves logged last = record { wounded = []; change = Keeps; logged = logged; last = last; outbox = [] }
+
 -- the transaction is ended
 abbrev pub ends : Before → Id → List Envelope → Plan
 ends b t out = record { wounded = []; change = Ends t; logged = None; last = b.memory.last; outbox = out }
@@ -121,13 +121,7 @@ drops t r last out = record { wounded = []; change = Drops t; logged = Some r; l
 -- some are ended, and the row is put with some locks more
 abbrev pub puts : Before → List Id → Id → List Lock → Phase → Option Record → ℕ → List Envelope → Plan
 puts b ended t needs phase logged last out =
-    record {
-      wounded = ended;
-      change = Puts t needs phase;
-      logged = logged;
-      last = last;
-      outbox = votes_of b.shard b.memory.rows ended ++ out;
-    }
+    record { wounded = ended; change = Puts t needs phase; logged = logged; last = last; outbox = votes_of b.shard b.memory.rows ended ++ out }
 
 -- a row that there is no room for is refused, where nothing else is
 abbrev pub roomed : Bool → Planned → Planned

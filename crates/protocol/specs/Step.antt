@@ -6,12 +6,12 @@ use Rattle.units.specs.Lists.{head, when}
 use Rattle.units.specs.Keys.{shard_of}
 use Rattle.record.specs.Accepted.{keys_belong}
 use Rattle.record.specs.Facts.{Facts, learn}
-use Rattle.protocol.specs.Rows.{Memory}
+use Rattle.units.specs.Locks.{ready}
+use Rattle.protocol.specs.Rows.{Memory, claims}
 use Rattle.protocol.specs.Plan.{Planned, Before, start_of_step, stands, carried}
-use Rattle.protocol.specs.Cells.{plan_read, plan_prepare, plan_commit, plan_vote, plan_outcome, plan_give_up, plan_ask, plan_resume, plan_settle}
-use Rattle.protocol.specs.Cells.{plan_advance, plan_nudge, plan_forget}
+use Rattle.protocol.specs.Cells.{Cell, ToRefuse, Provided, ToServe, ToForget, plan_cell}
+use Rattle.protocol.specs.Table.{read_cell, prepare_cell, commit_cell, vote_cell, outcome_cell, give_up_cell, ask_cell, resume_cell, settle_cell, nudge_cell}
 use Rattle.units.specs.declared.fault.Fault.{Fault}
-use Rattle.units.specs.declared.fault.Fault.TheVariants.{Stranger}
 use Rattle.units.specs.declared.setup.Setup.{Setup}
 use Rattle.truetime.specs.Interval.{Interval}
 use Rattle.record.specs.declared.record.Record.{Record}
@@ -29,24 +29,28 @@ is_for setup (Message.Done e) = false
 is_for setup _ = true
 
 -- a message, by its kind
-unfoldable pub plan_message : Before → Interval → Message → Planned
-plan_message b now (Message.Read m) = plan_read b m.txn m.key (stands b m.txn)
-plan_message b now (Message.Prepare m) = plan_prepare b now.earliest m (stands b m.txn)
-plan_message b now (Message.Commit m) = plan_commit b now.latest m (stands b m.txn)
-plan_message b now (Message.GiveUp m) = Ok (plan_give_up b m.txn (stands b m.txn))
-plan_message b now (Message.Vote m) = plan_vote b m.from m.txn m.vote (stands b m.txn)
-plan_message b now (Message.Outcome m) = plan_outcome b m.from m.txn m.outcome (stands b m.txn)
-plan_message b now (Message.Ask m) = plan_ask b m.from m.txn (stands b m.txn)
-plan_message b now _ = Err Stranger
+abbrev pub message_cell : Before → Interval → Message → Cell
+message_cell b now (Message.Read m) = read_cell b m.txn m.key (stands b m.txn)
+message_cell b now (Message.Prepare m) = prepare_cell b now.earliest m (stands b m.txn)
+message_cell b now (Message.Commit m) = commit_cell now.latest m (stands b m.txn)
+message_cell b now (Message.GiveUp m) = give_up_cell m.txn (stands b m.txn)
+message_cell b now (Message.Vote m) = vote_cell b m.from m.txn m.vote (stands b m.txn)
+message_cell b now (Message.Outcome m) = outcome_cell m.from m.txn m.outcome (stands b m.txn)
+message_cell b now (Message.Ask m) = ask_cell b m.from m.txn (stands b m.txn)
+message_cell b now _ = ToRefuse
 
--- an input, by its kind
+-- an input, by its kind: the oldest wait that would be granted is what a resumption takes
+abbrev pub cell : Setup → Before → Interval → Input → Cell
+cell setup b now (Input.Deliver m) = Provided (is_for setup m) (message_cell b now m)
+cell setup b now Input.Resume = resume_cell b now.earliest (ready (claims b.memory.rows))
+cell setup b now (Input.Settle t) = settle_cell now.earliest t (stands b t)
+cell setup b now (Input.Advance at) = ToServe now.latest setup.stride at
+cell setup b now (Input.Nudge t) = nudge_cell b t (stands b t)
+cell setup b now (Input.Forget at) = ToForget at
+
+-- the plan of an input
 unfoldable pub plan_input : Setup → Before → Interval → Input → Planned
-plan_input setup b now (Input.Deliver m) = cond (is_for setup m) (plan_message b now m) (Err Stranger)
-plan_input setup b now Input.Resume = plan_resume b now.earliest
-plan_input setup b now (Input.Settle t) = plan_settle b now.earliest t (stands b t)
-plan_input setup b now (Input.Advance at) = plan_advance b now.latest setup.stride at
-plan_input setup b now (Input.Nudge t) = plan_nudge b t (stands b t)
-plan_input setup b now (Input.Forget at) = plan_forget b at
+plan_input setup b now i = plan_cell b (cell setup b now i)
 
 -- what a step answers: a refusal, or the record that it logs, the memory after it and the messages that it puts out
 pub data Stepped : Type 0 where

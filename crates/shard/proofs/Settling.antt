@@ -20,7 +20,8 @@ use Rattle.protocol.specs.Rows.{Row, IsPrepared, IsDecided, Standing}
 use Rattle.protocol.specs.Rows.{HasRow, find_row}
 use Rattle.protocol.specs.Outputs.{done_to}
 use Rattle.protocol.specs.Plan.{Before, Plan, stands}
-use Rattle.protocol.specs.Cells.{plan_settle}
+use Rattle.protocol.specs.Cells.{plan_cell}
+use Rattle.protocol.specs.Table.{settle_cell}
 use Rattle.protocol.specs.Step.{plan_input}
 use Rattle.protocol.specs.Sound.{IsSound, Agrees}
 use Rattle.protocol.proofs.InWay.{row_at}
@@ -47,8 +48,7 @@ by_test : (passed : Bool) (q p : Plan) (fault : Fault) → cond passed (Ok q) (E
 by_test true q p fault e = cc
 by_test false q p fault e = absurd (cc)
 
-settles : (b : Before) (earliest : ℕ) (t : Id) (p : Plan) (s : Standing) → stands b t ≡ s → plan_settle b earliest t s ≡ Ok p → Settles b t p
-unfolding plan_settle
+settles : (b : Before) (earliest : ℕ) (t : Id) (p : Plan) (s : Standing) → stands b t ≡ s → plan_cell b (settle_cell earliest t s) ≡ Ok p → Settles b t p
 settles b earliest t p (HasRow held (IsDecided at parts)) is e =
     let same = by_test (nat_lt at earliest) _ p _ e in
     record {

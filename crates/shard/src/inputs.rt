@@ -1,7 +1,10 @@
 //! The plan of each input.
-ghost use Rattle.std.specs.Prelude.{◌≡◌, [], true, Some, IfOk};
-ghost use Rattle.protocol.specs.Cells.{plan_advance, plan_forget, plan_resume, plan_resume_id};
-ghost use Rattle.protocol.specs.Step.{is_for, plan_input, plan_message};
+ghost use Rattle.std.specs.Prelude.{◌≡◌, [], true, IfOk};
+ghost use Rattle.units.specs.Locks.{ready};
+ghost use Rattle.protocol.specs.Rows.{claims};
+ghost use Rattle.protocol.specs.Cells.{plan_cell, plan_advance, plan_forget};
+ghost use Rattle.protocol.specs.Table.{go_on_cell, resume_cell};
+ghost use Rattle.protocol.specs.Step.{is_for, plan_input, message_cell};
 ghost use Rattle.memory.specs.RowTable.{needs_in};
 ghost use Rattle.memory.specs.Carry.{Asks, IsFit};
 ghost use Rattle.memory.specs.Kept.{start_of, IsPlanned};
@@ -48,7 +51,6 @@ pub(crate) fn plan_input(
 }
 
 // Plans the step of a message that is for this shard.
-#[tactic(auto, unfolding(protocol::specs::Step::plan_message))]
 fn plan_message(
     state: &State,
     alloc: Global,
@@ -56,7 +58,8 @@ fn plan_message(
     message: &Message,
 ) -> Result<Step, Fault>
     ensures planned { IsPlanned state.now
-        (plan_message (start_of state.now) now.now message.now) result }
+        (plan_cell (start_of state.now) (message_cell (start_of state.now) now.now message.now))
+        result }
     ensures fit { IfOk result (IsFit state.now) }
 {
     match message {
@@ -86,10 +89,10 @@ fn plan_given_up(state: &State, alloc: Global, given: &GiveUp) -> Result<Step, F
 }
 
 // Goes on with the oldest wait that would be granted now.
-#[tactic(auto, unfolding(protocol::specs::Cells::plan_resume))]
 fn plan_resume(state: &State, alloc: Global, now: &Reading) -> Result<Step, Fault>
     ensures planned { IsPlanned state.now
-        (plan_resume (start_of state.now) now.now.earliest) result }
+        (plan_cell (start_of state.now) (resume_cell (start_of state.now) now.now.earliest
+        (ready (claims state.now.memory.rows)))) result }
     ensures fit { IfOk result (IsFit state.now) }
 {
     match state.ready() {
@@ -99,11 +102,12 @@ fn plan_resume(state: &State, alloc: Global, now: &Reading) -> Result<Step, Faul
 }
 
 // Goes on with the request with which a transaction waits: a prepare takes this reading, a commit the one at its arrival.
-#[tactic(auto, unfolding(protocol::specs::Cells::plan_go_on))]
+#[tactic(auto, unfolding(protocol::specs::Cells::plan_granted))]
 fn resume_of(state: &State, alloc: Global, now: &Reading, txn: TxnId) -> Result<Step, Fault>
     requires { Asks state.now.memory.rows txn [] (needs_in state.now.memory.rows txn) true }
     ensures planned { IsPlanned state.now
-        (plan_resume_id (start_of state.now) now.now.earliest (Some txn)) result }
+        (plan_cell (start_of state.now) (go_on_cell now.now.earliest txn (standing_in state.now txn)))
+        result }
     ensures fit { IfOk result (IsFit state.now) }
 {
     match state.standing(txn) {

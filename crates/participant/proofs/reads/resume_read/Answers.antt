@@ -1,21 +1,19 @@
-use Rattle.std.proofs.Common.{◌∙◌, List, Err, refl, subst}
+use Rattle.std.proofs.Common.{◌∙◌, List, refl, subst}
 use Rattle.units.specs.Ids.{Id}
-use Rattle.units.specs.declared.fault.Fault.{Fault}
-use Rattle.memory.specs.Kept.{start_of}
-use Rattle.memory.proofs.States.{planned-by}
+use Rattle.protocol.specs.Cells.{plan_granted}
+use Rattle.memory.proofs.States.{planned-ok}
 use Rattle.participant.specs.ByMessage.{MakesGrantedRead}
-use Rattle.participant.proofs.Planned.{read_goes_on}
 use Rattle.participant.proofs.reads.resume_read.Goals as goal
 
 pub returns-in_default-clause-planned : goal.returns-in_default-clause-planned
-returns-in_default-clause-planned c = λ earliest.
-    let k = c.args.state.now in
-    planned-by k _ _ (Err Fault.Memory) (read_goes_on (start_of k) earliest c.args.txn c.args.key.now) tt refl
+unfolding plan_granted
+returns-in_default-clause-planned c = λ earliest. refl
 
 pub returns-clause-planned : goal.returns-clause-planned
+unfolding plan_granted
 returns-clause-planned c = λ earliest.
     let k = c.args.state.now in
-    planned-by k _ _ c.grant.result (read_goes_on (start_of k) earliest c.args.txn c.args.key.now)
+    planned-ok k _ c.grant.result
     (subst (λ (ended : List Id). MakesGrantedRead k ended c.args.txn c.args.key.now c.grant.result) (c.from_vec-nobody.ensures ∙ c.new.ensures.items)
     c.grant.ensures.plan)
     c.grant.ensures.memory
