@@ -22,6 +22,8 @@ pub enum Why {
     System(Cause),
     /// It lacks what the log of this shard says of it: it is of another moment or of another store, or it is a new one.
     Older(ShardNo),
+    /// The folder has no manifest, so it holds no store.
+    NoStore,
 }
 
 impl Refused {
@@ -56,6 +58,16 @@ impl Refused {
         ensures { result.fault ≡ Fault.Device }
     {
         Refused::from(Cause::Lost).of(file)
+    }
+
+    /// There is no manifest, and no store is to be made.
+    pub fn no_store() -> Refused
+        ensures { result.fault ≡ Fault.Device }
+    {
+        Refused {
+            why: Some(Why::NoStore),
+            ..Refused::from(Fault::Device).of(Name::Manifest)
+        }
     }
 
     /// The log of a shard lacks what that of another one says of it. Its records end at this offset.
@@ -126,6 +138,7 @@ impl fmt::Display for Why {
         match self {
             Why::System(cause) => write!(f, "{cause}"),
             Why::Older(shard) => write!(f, "is older than shard {shard} says"),
+            Why::NoStore => f.write_str("no store is there"),
         }
     }
 }
