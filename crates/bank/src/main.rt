@@ -95,6 +95,7 @@ fn serve<R: rt::Files<File = File> + RandomSource + Threads + Wait + time::Clock
 ) -> Result<Did, Unopened> {
     let splits = Splits::new(alloc, &[key_of(ACCOUNTS / 2)?])?;
     let mut options = Options::new(splits, TELLERS + 1);
+    options.make = true;
     if todo.renew.is_some() {
         options.keep = Some(KEEP);
         options.renew = todo.renew;

@@ -48,7 +48,7 @@ pub fn put_in_store<R: rt::Files<File = File> + RandomSource + Threads + Wait + 
     ended
 }
 
-// One client, who waits that long. Its commit waits for the epsilon of every store, and nothing is forgotten for it.
+// One client, who waits that long. Its commit waits for the epsilon of every store, and nothing is forgotten for it. A new folder gets a store.
 fn options_of(alloc: Global, splits: &Splits) -> Result<Options, Fault>
     ensures splits { IfOk result (λ options. options.splits ≡ splits.now) }
     ensures times { IfOk result
@@ -59,6 +59,7 @@ fn options_of(alloc: Global, splits: &Splits) -> Result<Options, Fault>
 {
     let mut options = Options::new(splits.copy(alloc)?, 1);
     options.patience = PATIENCE;
+    options.make = true;
     Ok(options)
 }
 

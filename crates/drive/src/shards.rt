@@ -10,7 +10,7 @@ ghost use Rattle.drive.specs.Told.{AreCounts, HasNoVerdict, IsTold, IsToldOf, Is
 
 use crate::engine::{self, clock_of, drive_wide};
 use disk::Disk;
-use host_files::{logs_in, logs_in_memory};
+use host_files::{Expected, logs_in, logs_in_memory};
 use letters::Gate;
 use progress::{NoWatch, Terminal, Watch};
 use settings::Settings;
@@ -106,7 +106,7 @@ fn drive_watched<
 {
     match &settings.dir {
         Some(folder) => {
-            match logs_in(rt, alloc, folder, &settings.splits) {
+            match logs_in(rt, alloc, folder, &settings.splits, Expected::Either) {
                 Ok(logs) => drive_over(rt, alloc, settings, logs, gate, watch),
                 Err(refused) => Err(NoVerdict::from(refused.fault)),
             }

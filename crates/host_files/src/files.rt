@@ -1,5 +1,5 @@
 //! The machine's files, as commands ask for them.
-use crate::folder::refusal_in;
+use crate::folder::{Expected, refusal_in};
 use crate::log_file::{LogFile, at_one_moment};
 use crate::names::read_front;
 use filedisk::Cause;
@@ -70,7 +70,7 @@ impl<R: rt::Files<File = File> + Eprint> Files for HostFiles<'_, R> {
     }
 
     fn why_unopened(&self, alloc: Global, folder: &str, splits: &Splits) -> Option<String> {
-        let refused = refusal_in(self.rt, alloc, folder, splits)?;
+        let refused = refusal_in(self.rt, alloc, folder, splits, Expected::Either)?;
         match (refused.file, refused.why) {
             (Some(file), Some(why)) => format!(in alloc; "{folder}/{file}: {why}").ok(),
             (Some(file), None) => format!(in alloc; "{folder}/{file}").ok(),

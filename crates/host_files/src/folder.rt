@@ -1,5 +1,5 @@
 //! The logs of the shards of a drive.
-ghost use Rattle.std.specs.Prelude.{◌≡◌, ◌+◌, ◌<◌, ◌≤◌, [], IfOk, IfErr, OnOk, Ok, All, length, IsTrue, false};
+ghost use Rattle.std.specs.Prelude.{◌≡◌, ◌+◌, ◌<◌, ◌≤◌, [], IfOk, IfErr, OnOk, Ok, All, length, IsFalse, IsOk, IsTrue, false};
 ghost use Rattle.disk.specs.File.{surface};
 ghost use Rattle.disk.specs.declared.plan.FailurePlan.TheVariants.{Never};
 ghost use Rattle.filedisk.specs.State.{file_is_changed};
@@ -16,7 +16,7 @@ use crate::names::{Kind, Name, StoreFolder};
 use crate::owners::first_fits;
 use crate::refused::Refused;
 use crate::shards::numbered;
-use filedisk::{FileDisk, cause_of};
+use filedisk::{Cause, FileDisk, cause_of};
 use gatelog::GateLog;
 use simdisk::SimDisk;
 use std::alloc::Global;
@@ -25,8 +25,35 @@ use std::random::RandomSource;
 use std::rt::Files;
 use units::{Fault, Reason, Splits};
 
+/// What is expected in a folder. Its manifest (`store.toml`) tells what it is.
+#[derive(Clone, Copy, PartialEq, Eq)]
+pub enum Expected {
+    /// A store, which is opened. If there is none, the folder is refused as `Device`.
+    Store,
+    /// No store, and one is made. If one is there, the folder is refused as `Device`.
+    NoStore,
+    /// A store, or none. One is made if there is none.
+    Either,
+}
+
+impl Expected {
+    // Refuses what is not expected, by whether there is a store.
+    fn check(self, is_there: bool) -> Result<(), Refused>
+        ensures store { IsOk result → self ≡ Expected.Store → IsTrue is_there }
+        ensures none { IsOk result → self ≡ Expected.NoStore → IsFalse is_there }
+        ensures either { self ≡ Expected.Either → IsOk result }
+        ensures refused { IfErr result IsSystemRefusal }
+    {
+        match (self, is_there) {
+            (Expected::Store, false) => Err(Refused::no_store()),
+            (Expected::NoStore, true) => Err(Refused::from(Cause::Exists).of(Name::Manifest)),
+            _ => Ok(()),
+        }
+    }
+}
+
 /// Opens and locks the logs of a store in a folder: `shard-0.log` and so on, one more than there are splits. The folder has to be there. It
-/// is locked until this returns.
+/// is locked until this returns. What is expected there is checked first.
 ///
 /// A folder with a manifest (`store.toml`) has one log a shard. These are refused, in this order:
 ///
@@ -52,6 +79,7 @@ pub fn logs_in<R: Files<File = File> + RandomSource>(
     alloc: Global,
     folder: &str,
     splits: &Splits,
+    expected: Expected,
 ) -> Result<Vec<FileDisk>, Refused>
     ensures all { IfOk result (λ logs. length logs.items ≡ length splits.now + 1) }
     // Each is what stands under its name: it was opened, and read alone.
@@ -60,7 +88,7 @@ pub fn logs_in<R: Files<File = File> + RandomSource>(
     ensures refused { IfErr result IsFolderRefusal }
 {
     let mut folder = StoreFolder::lock(rt, alloc, folder)?;
-    let logs = logs_of(&mut folder, rt, alloc, splits);
+    let logs = logs_of(&mut folder, rt, alloc, splits, expected);
     drop(folder);
     logs
 }
@@ -71,6 +99,7 @@ fn logs_of<R: Files<File = File> + RandomSource>(
     rt: &R,
     alloc: Global,
     splits: &Splits,
+    expected: Expected,
 ) -> Result<Vec<FileDisk>, Refused>
     ensures all { IfOk result (λ logs. length logs.items ≡ length splits.now + 1) }
     ensures unchanged { IfOk result
@@ -78,7 +107,7 @@ fn logs_of<R: Files<File = File> + RandomSource>(
     ensures synced { OnOk result (IsTrue (names_are_synced folder.new)) }
     ensures refused { IfErr result IsFolderRefusal }
 {
-    if !is_known(folder, alloc, splits)? {
+    if !is_known(folder, alloc, splits, expected)? {
         begin(folder, alloc, splits, drawn(rt)?)?;
     }
     name_all(folder, splits)?;
@@ -87,15 +116,21 @@ fn logs_of<R: Files<File = File> + RandomSource>(
     Ok(logs)
 }
 
-// Whether there is a manifest, which is then that of a store with these splits.
+// Whether there is a manifest, as expected. It is then that of a store with these splits.
 fn is_known<R: Files<File = File>>(
     folder: &StoreFolder<'_, R>,
     alloc: Global,
     splits: &Splits,
+    expected: Expected,
 ) -> Result<bool, Refused>
-    ensures { IfErr result IsFolderRefusal }
+    ensures store { IfOk result
+        (λ known. (expected ≡ Expected.Store → IsTrue known)
+        × (expected ≡ Expected.NoStore → IsFalse known)) }
+    ensures refused { IfErr result IsFolderRefusal }
 {
-    if let Kind::Nothing = folder.kind(Name::Manifest)? {
+    let is_there = !matches!(folder.kind(Name::Manifest)?, Kind::Nothing);
+    expected.check(is_there)?;
+    if !is_there {
         return Ok(false);
     }
     let text = folder.read(Name::Manifest, MOST_MANIFEST)?;
@@ -197,17 +232,18 @@ fn opened<R: Files<File = File>>(
     }
 }
 
-/// Tells why the logs of the store in a folder are refused now; `None` if they are not. Nothing is made or named. If the folder itself is
-/// refused, or it is locked already, the refusal names no file.
+/// Tells why the logs of the store in a folder are refused now, by what is expected there; `None` if they are not. Nothing is made or named.
+/// If the folder itself is refused, or it is locked already, the refusal names no file.
 pub fn refusal_in<R: Files<File = File>>(
     rt: &R,
     alloc: Global,
     folder: &str,
     splits: &Splits,
+    expected: Expected,
 ) -> Option<Refused> {
     match StoreFolder::lock(rt, alloc, folder) {
         Ok(folder) => {
-            let looked = look(&folder, alloc, splits);
+            let looked = look(&folder, alloc, splits, expected);
             drop(folder);
             looked.err()
         }
@@ -220,10 +256,11 @@ fn look<R: Files<File = File>>(
     folder: &StoreFolder<'_, R>,
     alloc: Global,
     splits: &Splits,
+    expected: Expected,
 ) -> Result<(), Refused>
     ensures { IfErr result IsFolderRefusal }
 {
-    if !is_known(folder, alloc, splits)? {
+    if !is_known(folder, alloc, splits, expected)? {
         return may_begin(folder, alloc, splits);
     }
     missing_logs(folder, splits)?;

@@ -14,7 +14,7 @@ mod shards;
 mod walking;
 
 pub use files::HostFiles;
-pub use folder::{logs_in, logs_in_memory, refusal_in};
+pub use folder::{Expected, logs_in, logs_in_memory, refusal_in};
 pub use log_file::{LogFile, at_one_moment};
 pub use manifest::manifest_text;
 pub use names::Name;

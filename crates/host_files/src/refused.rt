@@ -26,6 +26,8 @@ pub enum Why {
     /// It lacks what the log of this shard says of it. It is of another moment or another store, or it is new: put back all logs of one
     /// backup.
     Older(ShardNo),
+    /// The folder has no manifest, so it holds no store.
+    NoStore,
 }
 
 impl Refused {
@@ -60,6 +62,16 @@ impl Refused {
         ensures { result.fault ≡ Fault.Device }
     {
         Refused::from(Cause::Lost).of(file)
+    }
+
+    /// Refuses a folder without a manifest in which a store is expected.
+    pub fn no_store() -> Refused
+        ensures { result.fault ≡ Fault.Device }
+    {
+        Refused {
+            why: Some(Why::NoStore),
+            ..Refused::from(Fault::Device).of(Name::Manifest)
+        }
     }
 
     /// Refuses the log of a shard, whose records end at this offset: it lacks what the log of another one says of it.
@@ -130,6 +142,7 @@ impl fmt::Display for Why {
         match self {
             Why::System(cause) => write!(f, "{cause}"),
             Why::Older(shard) => write!(f, "is older than shard {shard} says"),
+            Why::NoStore => f.write_str("no store is there"),
         }
     }
 }

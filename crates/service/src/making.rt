@@ -37,7 +37,7 @@ pub fn make<
         patience: 1,
         idle: 1_000,
     };
-    match opened(rt, alloc, dir, splits, &choices) {
+    match opened(rt, alloc, dir, splits, &choices, true) {
         Ok(store) => {
             drop(store);
             Ok(())

@@ -18,16 +18,17 @@ const TRIES: u32 = 50;
 
 const REST: u64 = 20;
 
-/// Opens the store in a folder. Where another process has it open, it waits up to a second for that one to close it.
+/// Opens the store in a folder, or makes one where it is new. Where another process has it open, it waits up to a second for that one to close it.
 pub fn opened<'r, R: Files<File = File> + RandomSource + Threads + Wait + time::Clock + Sync>(
     rt: &'r R,
     alloc: Global,
     dir: &str,
     splits: &Splits,
     choices: &Choices,
+    is_new: bool,
 ) -> Result<Store<'r, R, FileDisk>, Unopened> {
     for _try in 0..TRIES {
-        match open_once(rt, alloc, dir, splits, choices) {
+        match open_once(rt, alloc, dir, splits, choices, is_new) {
             Ok(store) => return Ok(store),
             Err(unopened) => {
                 if unopened.fault != Fault::Device {
@@ -37,7 +38,7 @@ pub fn opened<'r, R: Files<File = File> + RandomSource + Threads + Wait + time::
         }
         thread::sleep(rt, Duration::from_millis(REST));
     }
-    open_once(rt, alloc, dir, splits, choices)
+    open_once(rt, alloc, dir, splits, choices, is_new)
 }
 
 fn open_once<'r, R: Files<File = File> + RandomSource + Threads + Wait + time::Clock + Sync>(
@@ -46,9 +47,16 @@ fn open_once<'r, R: Files<File = File> + RandomSource + Threads + Wait + time::C
     dir: &str,
     splits: &Splits,
     choices: &Choices,
+    is_new: bool,
 ) -> Result<Store<'r, R, FileDisk>, Unopened> {
     match options_of(alloc, splits, choices) {
-        Ok(options) => Store::open_folder(rt, alloc, dir, options),
+        Ok(options) => {
+            if is_new {
+                Store::make_folder(rt, alloc, dir, options)
+            } else {
+                Store::open_folder(rt, alloc, dir, options)
+            }
+        }
         Err(fault) => Err(Unopened::from(fault)),
     }
 }

@@ -109,7 +109,7 @@ fn serve_folder<
 ) -> Result<bool, Fault> {
     let files = HostFiles::new(rt, false);
     let splits = splits_of(alloc, &files, dir)?;
-    let store = match opened(rt, alloc, dir, &splits, &choices) {
+    let store = match opened(rt, alloc, dir, &splits, &choices, false) {
         Ok(store) => store,
         Err(unopened) => return Err(unopened.fault),
     };

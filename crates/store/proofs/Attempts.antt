@@ -1,6 +1,7 @@
 -- What a transaction does while its code runs, and what attempts come to.
 use Rattle.std.proofs.Common.{◌≡◌, ◌⊎◌, inl, inr, ℕ, Bool, true, false, true≢false, cond, not, ◌&&◌, nat_le, List, [], ◌∷◌, ◌++◌, length, Result, Err}
 use Rattle.std.proofs.Common.{refl, ap, sym, ◌∙◌, subst, length-append, arith, ◌+◌, ◌<◌, ◌≤◌}
+use Rattle.std.specs.Prelude.{Option, IsSome}
 use Rattle.std.specs.List.{FoldsTo, list_all}
 use Rattle.std.specs.Fn.{Mut, CalledAtMut}
 use Rattle.std.specs.Borrow.{MutBor}
@@ -173,6 +174,19 @@ one_longer made a k is = length-append made (a ∷ []) ∙ ap (λ (n : ℕ). n +
 
 pub one_more : (made : List Attempt) (a : Attempt) (k n : ℕ) → length made ≡ k → k < n → length (made ++ a ∷ []) ≤ n
 one_more made a k n is below = let longer = one_longer made a k is in omega (arith, longer, below)
+
+pub one_at_least : (made : List Attempt) (a : Attempt) (k : ℕ) → length made ≡ k → 0 < length (made ++ a ∷ [])
+one_at_least made a k is = let longer = one_longer made a k is in omega (arith, longer)
+
+-- with no deadline they are not cut short
+pub never_cut : {A B : Type 0} → A ⊎ ((false ≡ true) × B) → A
+never_cut (inl came) = came
+never_cut (inr cut) = absurd (true≢false (sym cut.0))
+
+-- with a deadline they may be
+pub may_be_cut : {X A B : Type 0} (d : Option X) → A ⊎ (IsSome d × B) → A ⊎ B
+may_be_cut d (inl came) = inl came
+may_be_cut d (inr cut) = inr cut.1
 
 pub aborted_on : (made : List Attempt) (a : Attempt) → AreAborted made → runs_again a.ran a.ended ≡ true → AreAborted (made ++ a ∷ [])
 aborted_on made a were is = all_both (λ (b : Attempt). runs_again b.ran b.ended) made (a ∷ []) were (and_true (runs_again a.ran a.ended) is)

@@ -11,6 +11,7 @@ use Rattle.units.specs.declared.writes.Write.{Write}
 use Rattle.message.specs.Ends.{End}
 use Rattle.message.specs.declared.message.Envelope.{Envelope}
 use Rattle.tickets.specs.Draws.{Drawing}
+use Rattle.truetime.specs.Interval.{Interval}
 use Rattle.board.specs.Views.{Viewing}
 use Rattle.session.specs.Sessions.{Client, Goes, begun, buffers}
 use Rattle.session.specs.Shown.{Session}
@@ -107,7 +108,8 @@ runs_again ran ended = false
 -- ---- a client
 
 -- what contracts see of a client: the run of its ids, the splits of its store, what it has drawn from which source, what was put out and
--- heard of each of its attempts, its viewers by shard, and of its clock the epsilon and the timestamp from which it goes on
+-- heard of each of its attempts, its viewers by shard, and of its clock the epsilon, the timestamp from which it goes on, and all readings, the
+-- newest first
 pub record Worker : Type 0 where
   pub run : ℕ
   pub splits : List Bytes
@@ -116,6 +118,7 @@ pub record Worker : Type 0 where
   pub viewers : List Viewing
   pub epsilon : ℕ
   pub from : ℕ
+  pub readings : List Interval
 
 -- a client of a run over these splits that has made no attempt, and whose clock has this epsilon and goes on from this timestamp
 abbrev pub IsFresh : ℕ → List Bytes → ℕ → ℕ → Worker → Type 0
@@ -171,3 +174,11 @@ ComesTo tries w made result =
     (AreAborted made × (length made ≡ tries) × (result ≡ Ok ended.Aborted))
     ⊎ ((AreAborted made × (length made < tries) × ((fault : Fault) × (result ≡ Err fault) × CannotBegin w fault))
     ⊎ (IsOver made result × (length made ≤ tries)))
+
+-- some attempts were all aborted, one at least and no more than might be made, and that is answered
+abbrev pub IsCutShort : ℕ → List Attempt → Result Ended Fault → Type 0
+IsCutShort tries made result = AreAborted made × (0 < length made) × (length made ≤ tries) × (result ≡ Ok ended.Aborted)
+
+-- what some attempts come to before a deadline: the same, or they end sooner, and then each was aborted
+abbrev pub ComesWithin : ℕ → Worker → List Attempt → Result Ended Fault → Type 0
+ComesWithin tries w made result = ComesTo tries w made result ⊎ IsCutShort tries made result

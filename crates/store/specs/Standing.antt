@@ -1,5 +1,6 @@
--- What contracts see of an open store.
+-- What contracts see of an open store, and of the clocks of its clients.
 use Rattle.std.specs.Prelude.{ℕ, List}
+use Rattle.truetime.specs.Interval.{Interval}
 use Rattle.units.specs.Keys.{Bytes}
 
 -- the run of its ids, its splits, how many shards it has and for how many clients, and of its clock the epsilon and the timestamp from which it
@@ -11,3 +12,9 @@ pub record Standing : Type 0 where
   pub clients : ℕ
   pub epsilon : ℕ
   pub last : ℕ
+
+-- the clock of a client: its epsilon, the timestamp from which it goes on, and all that it has told, the newest first
+pub record Ticking : Type 0 where
+  pub epsilon : ℕ
+  pub from : ℕ
+  pub readings : List Interval

@@ -1,6 +1,7 @@
 -- What a view tells of a key, why it tells nothing, and of which time it is.
-use Rattle.std.specs.Prelude.{◌≡◌, ◌⊎◌, ◌+◌, ◌≤◌, ◌<◌, ℕ, true, false, nat_lt, List, take, slice_get, slice_set, Option, Some, None, IsTrue, IsSome}
+use Rattle.std.specs.Prelude.{◌≡◌, ◌⊎◌, ◌+◌, ◌-◌, ◌≤◌, ◌<◌, ℕ, true, false, nat_lt, List, ◌∷◌, take, slice_get, slice_set, Option, Some, None, IsTrue, IsSome}
 use mathlib.Core.List.{IsPrefix}
+use Rattle.truetime.specs.Interval.{Interval}
 use Rattle.units.specs.Keys.{Bytes}
 use Rattle.units.specs.Looks.{IsRefusedLook}
 use Rattle.units.specs.declared.fault.Fault.{Fault}
@@ -67,7 +68,11 @@ abbrev pub LookedAt : List Viewing → List Viewing → ℕ → (Viewing → Vie
 LookedAt old new shard P =
     (viewer : Viewing) × (slice_get old shard ≡ Some viewer) × ((after : Viewing) × (new ≡ slice_set old shard after) × P viewer after)
 
--- The timestamp of a view that the client opens: no earlier than the one from which its clock goes on, and an epsilon behind a microsecond of the
--- machine.
-abbrev pub IsPresent : Worker → ℕ → Type 0
-IsPresent w at = (w.from ≤ at) × ((micros : ℕ) × (micros + w.epsilon ≤ at))
+-- The timestamp of a view that the client opens, by all that its clock has told since: the latest of one reading more than before the call. It
+-- is no earlier than the timestamp from which the clock goes on, and the reading is a microsecond of the machine, and an epsilon on either side,
+-- or it ends later.
+abbrev pub IsPresent : Worker → List Interval → ℕ → Type 0
+IsPresent w told at =
+    (w.from ≤ at)
+    × ((now : Interval) × (told ≡ now ∷ w.readings) × (now.latest ≡ at)
+    × ((micros : ℕ) × (now.earliest ≡ micros - w.epsilon) × (micros + w.epsilon ≤ at)))

@@ -1,28 +1,28 @@
 //! A client: it runs transactions, one at a time, and opens views.
-ghost use Rattle.std.specs.Prelude.{◌≡◌, ℕ, List, [], ◌∷◌, ◌++◌, IfSome, MatchResult};
+ghost use Rattle.std.specs.Prelude.{◌≡◌, ◌⊎◌, ℕ, List, [], ◌∷◌, ◌++◌, IfSome, IsSome, IsTrue, MatchResult};
 ghost use Rattle.message.specs.Ends.{End};
 ghost use Rattle.message.specs.declared.message.Envelope.{Envelope};
-ghost use Rattle.store.specs.Attempts.{Attempt, CannotBegin, ComesTo, Ends, HasTried, IsAtWork, beginning, drew, kept, runs_again};
+ghost use Rattle.store.specs.Attempts.{Attempt, CannotBegin, ComesTo, ComesWithin, Ends, HasTried, IsAtWork, IsCutShort, beginning, drew, kept, runs_again};
 ghost use Rattle.store.specs.Views.{IsPresent};
 
 use crate::shared::Shared;
-use crate::steady::StoreClock;
-use crate::view::MOST_BYTES;
+use crate::steady::ClientClock;
+use crate::view::{MOST_BYTES, TRIES};
 use crate::{Ended, Halt, Transaction, View};
-use board::{Snapshot, Viewer};
+use board::Viewer;
 use client::{Wire, Wires};
 use crossbeam_channel::Receiver;
 use letters::Reply;
 use std::marker::Model;
 use std::sync::Wait;
-use std::time::Duration;
+use std::time::{Duration, Instant};
 use std::{thread, time};
 use tickets::Drawer;
-use truetime::Clock;
-use units::{Fault, ShardNo};
+use units::{Fault, ShardNo, Stamp};
 
 /// A client of a store. It is one thread's at a time. Contracts see the run of its ids, the splits of its store, what it has drawn, and its
-/// viewers. They see what was put out and heard of each of its attempts, and of its clock the epsilon and the timestamp from which it goes on.
+/// viewers. They see what was put out and heard of each of its attempts. Of its clock they see the epsilon, the timestamp from which it goes on,
+/// and each reading that it gave.
 #[derive(Drop)]
 pub struct Client<'s, R> {
     pub(crate) rt: &'s R,
@@ -34,7 +34,7 @@ pub struct Client<'s, R> {
     pub(crate) viewers: Vec<Viewer>,
     // Where its views read a value, one after the other.
     pub(crate) room: Box<[u8; MOST_BYTES]>,
-    pub(crate) clock: StoreClock<'s, R>,
+    pub(crate) clock: ClientClock<'s, R>,
     pub(crate) patience: u32,
 }
 
@@ -50,8 +50,9 @@ impl<'s, R> Model for Client<'s, R> {
       drawing = c.drawer;
       traffics = c.past;
       viewers = c.viewers.items;
-      epsilon = c.clock.machine.epsilon;
+      epsilon = c.clock.epsilon;
       from = c.clock.from;
+      readings = c.clock.readings;
     } };
 
     ghost invariant = { λ c. c.drawer.source ≡ c.shared.now.ids };
@@ -75,12 +76,45 @@ impl<'s, R: Wait + time::Clock> Client<'s, R> {
     pub fn transact<F: FnMut(&mut Transaction<'s, R>) -> Result<(), Halt>>(
         &mut self,
         tries: u32,
-        mut code: F,
+        code: F,
     ) -> Result<Ended, Fault>
         requires { F.IsAlwaysCallable code }
         ensures { (made : List Attempt)
             × ((last : F) × HasTried F.FnMut self.old code made self.new last)
             × ComesTo tries self.new made result }
+    {
+        self.attempts(tries, None, code)
+    }
+
+    /// `transact`, but no attempt is begun once so much time has passed: then it is `Aborted`, as after the last of `tries`. The first attempt
+    /// is made in any case. None is cut off: one that closes is waited for, and is never told as aborted for want of time.
+    pub fn transact_within<F: FnMut(&mut Transaction<'s, R>) -> Result<(), Halt>>(
+        &mut self,
+        tries: u32,
+        within: Duration,
+        code: F,
+    ) -> Result<Ended, Fault>
+        requires { F.IsAlwaysCallable code }
+        ensures { (made : List Attempt)
+            × ((last : F) × HasTried F.FnMut self.old code made self.new last)
+            × ComesWithin tries self.new made result }
+    {
+        let deadline = Deadline::after(self.rt, within);
+        self.attempts(tries, deadline, code)
+    }
+
+    // The attempts of a transaction, until a deadline has passed, if there is one.
+    fn attempts<F: FnMut(&mut Transaction<'s, R>) -> Result<(), Halt>>(
+        &mut self,
+        tries: u32,
+        deadline: Option<Deadline>,
+        mut code: F,
+    ) -> Result<Ended, Fault>
+        requires { F.IsAlwaysCallable code }
+        ensures { (made : List Attempt)
+            × ((last : F) × HasTried F.FnMut self.old code made self.new last)
+            × (ComesTo tries self.new made result
+            ⊎ (IsSome deadline × IsCutShort tries made result)) }
     {
         let mut patience = self.patience.saturating_add((self.number % APART) as u32);
         for _try in 0..tries {
@@ -94,6 +128,9 @@ impl<'s, R: Wait + time::Clock> Client<'s, R> {
             let ended = self.finish(transaction, ran);
             if !runs_again(&ran, &ended) {
                 return ended;
+            }
+            if is_over(self.rt, &deadline) {
+                return Ok(Ended::Aborted);
             }
             patience = self.next_patience(patience);
             thread::sleep(self.rt, Duration::from_millis(REST_MILLIS));
@@ -154,10 +191,11 @@ impl<'s, R: Wait + time::Clock> Client<'s, R> {
         ended
     }
 
-    /// A view of the whole store at the present: its timestamp is the latest of a reading of the client's clock. There is none if that
-    /// gives no reading.
+    /// A view of the whole store at the present: its timestamp is the latest of a reading of the client's clock that is taken now. There is
+    /// none if that gives no reading.
     pub fn view(&mut self) -> Option<View<'_, 's, R>>
-        ensures present { IfSome result (λ view. IsPresent self.old view.at) }
+        ensures present { IfSome result
+            (λ view. IsPresent self.old view.readings.now.entries view.at) }
         ensures splits { IfSome result (λ view. view.shared.now.splits ≡ self.old.splits) }
         ensures viewers { IfSome result (λ view. view.viewers.now.items ≡ self.old.viewers) }
     {
@@ -167,14 +205,64 @@ impl<'s, R: Wait + time::Clock> Client<'s, R> {
             shared: self.shared,
             viewers: &mut self.viewers,
             room: &mut *self.room,
-            snapshot: Snapshot::start(&now),
             at: now.latest(),
+            tries: TRIES,
+            readings: self.clock.readings(),
         })
     }
 
-    /// Whether the shard has stopped, since its device failed: it takes no more, and views of it go on.
+    /// Opens a view of the whole store at a timestamp, such as that of a commit or of an earlier view. Its `get` does not wait:
+    ///
+    /// - `TooOld`: the key's shard has forgotten that time (`Options::keep`), for good;
+    /// - `NotYet`: the shard does not serve it yet, and is asked to. A time that has passed by the clock is served a few milliseconds later;
+    /// - `Stopped`: the shard has stopped, and never serves it before the store is opened again.
+    pub fn view_at(&mut self, at: Stamp) -> View<'_, 's, R>
+        ensures at { result.at ≡ at }
+        ensures splits { result.shared.now.splits ≡ self.old.splits }
+        ensures viewers { result.viewers.now.items ≡ self.old.viewers }
+    {
+        View {
+            rt: self.rt,
+            shared: self.shared,
+            viewers: &mut self.viewers,
+            room: &mut *self.room,
+            at,
+            tries: 1,
+            readings: self.clock.readings(),
+        }
+    }
+
+    /// Tells whether the shard has stopped, since its device failed. It takes no more, and views up to the time that it served go on.
     pub fn has_stopped(&self, shard: ShardNo) -> bool {
         self.shared.network.has_stopped(shard)
+    }
+}
+
+// When no further attempt is begun: so long after that.
+#[derive(Clone, Copy)]
+struct Deadline {
+    start: Instant,
+    within: Duration,
+}
+
+impl Deadline {
+    // So long after now. There is none if the machine's clock gives none.
+    fn after<R: time::Clock>(rt: &R, within: Duration) -> Option<Deadline> {
+        let start = Instant::now(rt).ok()?;
+        Some(Deadline { start, within })
+    }
+}
+
+// Whether a deadline has passed.
+fn is_over<R: time::Clock>(rt: &R, deadline: &Option<Deadline>) -> bool
+    ensures { IsTrue result → IsSome deadline.now }
+{
+    let Some(deadline) = deadline else {
+        return false;
+    };
+    match deadline.start.elapsed(rt) {
+        Ok(took) => took >= deadline.within,
+        Err(_) => false,
     }
 }
 

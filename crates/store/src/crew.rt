@@ -4,7 +4,7 @@ ghost use Rattle.store.specs.Attempts.{IsFresh};
 
 use crate::clients::Client;
 use crate::shared::Shared;
-use crate::steady::StoreClock;
+use crate::steady::{ClientClock, StoreClock};
 use crate::view::MOST_BYTES;
 use board::Viewers;
 use client::Wires;
@@ -51,7 +51,7 @@ impl Crew {
             past: Wires::none(),
             viewers,
             room,
-            clock,
+            clock: ClientClock::new(clock),
             patience,
         })
     }

@@ -15,7 +15,7 @@ mod view;
 pub use client::{Ended, Halt};
 pub use clients::Client;
 pub use filedisk::Cause;
-pub use host_files::{Name, Refused, Why, refusal_in};
+pub use host_files::{Expected, Name, Refused, Why, refusal_in};
 pub use node::{Unopened, UnopenedIn};
 pub use options::Options;
 pub use store::Store;

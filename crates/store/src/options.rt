@@ -1,5 +1,5 @@
 //! How a store is parted and served.
-ghost use Rattle.std.specs.Prelude.{◌≡◌, ◌⊎◌, ◌<◌, ◌≤◌, Err, IfErr, IfOk, None};
+ghost use Rattle.std.specs.Prelude.{◌≡◌, ◌⊎◌, ◌<◌, ◌≤◌, Err, IfErr, IfOk, None, false};
 
 use units::{Fault, Reason, Splits, Stride};
 
@@ -30,6 +30,9 @@ pub struct Options {
     /// to be more than twice as long as it was after the last turnover of this opening. Or `None`, never. The file does not shrink, and takes
     /// 1,024 turnovers: of a few bytes they are soon spent, and then its log grows on.
     pub renew: Option<u64>,
+    /// Whether `Store::open_folder` makes a store in a folder that holds none. Else that is refused, so a service that names a wrong folder
+    /// hears so.
+    pub make: bool,
 }
 
 // A tenth of a second: some ten ceilings a second of a shard that is looked at.
@@ -37,13 +40,14 @@ const STRIDE: u64 = 100_000;
 
 impl Options {
     /// So many clients over these shards: a stride of 100,000 microseconds, an epsilon of 1,000, a patience of 100 milliseconds, and 30 seconds
-    /// for a shard that says nothing. Nothing is forgotten, and no log is turned over.
+    /// for a shard that says nothing. Nothing is forgotten, no log is turned over, and a folder without a store gets none.
     pub fn new(splits: Splits, clients: u64) -> Options
         ensures splits { result.splits ≡ splits }
         ensures clients { result.clients ≡ clients }
         ensures times { (result.stride ≡ 100000) × (result.epsilon ≡ 1000) × (result.patience ≡ 5)
             × (result.give_up ≡ 30000) }
         ensures all { (result.keep ≡ None) × (result.renew ≡ None) }
+        ensures make { result.make ≡ false }
     {
         let stride = match Stride::new(STRIDE) {
             Some(stride) => stride,
@@ -58,6 +62,7 @@ impl Options {
             give_up: 30_000,
             keep: None,
             renew: None,
+            make: false,
         }
     }
 

@@ -9,7 +9,7 @@ use crate::clients::Client;
 use crate::serving::serve_kept;
 use disk::Disk;
 use filedisk::FileDisk;
-use host_files::logs_in;
+use host_files::{Expected, Refused, logs_in};
 use node::{Node, Opened, Unopened, open_shards};
 use std::alloc::Global;
 use std::fs::File;
@@ -143,10 +143,41 @@ impl<'r, R: Threads + Wait + time::Clock + Sync, D: Disk + Drop + Send> Store<'r
 }
 
 impl<'r, R: Files<File = File> + RandomSource + Threads + Wait + Sync> Store<'r, R, FileDisk> {
-    /// Opens the store in a folder, which has to be there; a folder without a store gets one. Other options than those of the folder's
-    /// manifest are refused as `settings`, and a log that is missing as `Device`. Then the first shard that is refused is told, whose log
-    /// is the file `shard-N.log`. A log that lacks what the log of another shard says of it is `Damaged`: it is of another moment or of
-    /// another store, or new. No log takes a record before all were read. `refusal_in` says more of why a folder is refused.
+    /// Makes a store in a folder, which has to be there and to hold none, and opens it. If one is there it is refused as `Device`, and left as
+    /// it is; a store that was cut off while it was made is made whole. Else it is refused as `open_folder` says.
+    pub fn make_folder(
+        rt: &'r R,
+        alloc: Global,
+        folder: &str,
+        options: Options,
+    ) -> Result<Store<'r, R, FileDisk>, Unopened>
+        ensures splits { IfOk result (λ store. store.splits ≡ options.splits) }
+        ensures shards { IfOk result (λ store. store.shards ≡ length options.splits + 1) }
+        ensures clients { IfOk result (λ store. store.clients ≡ options.clients) }
+        ensures epsilon { IfOk result (λ store. store.epsilon ≡ options.epsilon) }
+        ensures limits { (1000000 < options.epsilon)
+            ⊎ ((options.clients ≡ 0) ⊎ (64 < options.clients))
+            → IfOk result (λ _. ⊥) }
+        ensures refused { IfErr result (λ unopened. IsFolderFault unopened.fault
+            ⊎ IsUnmade unopened.fault) }
+        ensures whole { IfErr result
+            (λ unopened. IfNone unopened.shard (IsFolderFault unopened.fault)) }
+    {
+        match logs_in(rt, alloc, folder, &options.splits, Expected::NoStore) {
+            Ok(logs) => Store::open(rt, alloc, logs, options),
+            Err(refused) => {
+                drop(options);
+                Err(unopened_by(refused))
+            }
+        }
+    }
+
+    /// Opens the store in a folder. If none is there it is refused as `Device`, and nothing is made; but with `Options::make` one is made. Other
+    /// options than those of the folder's manifest are refused as `settings`, and a log that is missing as `Device`. Then the first shard that
+    /// is refused is told, whose log is the file `shard-N.log`. A log that lacks what the log of another shard says of it is `Damaged`: it is
+    /// of another moment or of another store, or new. No log takes a record before all were read.
+    ///
+    /// `Device` may heal: another program may have the folder open, or the device may fail. `refusal_in` says more of why it is refused.
     pub fn open_folder(
         rt: &'r R,
         alloc: Global,
@@ -165,16 +196,28 @@ impl<'r, R: Files<File = File> + RandomSource + Threads + Wait + Sync> Store<'r,
         ensures whole { IfErr result
             (λ unopened. IfNone unopened.shard (IsFolderFault unopened.fault)) }
     {
-        match logs_in(rt, alloc, folder, &options.splits) {
+        let expected = if options.make {
+            Expected::Either
+        } else {
+            Expected::Store
+        };
+        match logs_in(rt, alloc, folder, &options.splits, expected) {
             Ok(logs) => Store::open(rt, alloc, logs, options),
             Err(refused) => {
                 drop(options);
-                Err(Unopened {
-                    shard: refused.shard(),
-                    fault: refused.fault,
-                })
+                Err(unopened_by(refused))
             }
         }
+    }
+}
+
+// Why a store is not opened whose files are refused.
+fn unopened_by(refused: Refused) -> Unopened
+    ensures { result.fault ≡ refused.fault }
+{
+    Unopened {
+        shard: refused.shard(),
+        fault: refused.fault,
     }
 }
 

@@ -1,29 +1,40 @@
 //! A view of the whole store at one timestamp.
-ghost use Rattle.std.specs.Prelude.{◌≡◌, ◌⊎◌, ◌≤◌, None, length, slice_get, IfErr, IfOk, IsSome};
+ghost use Rattle.std.specs.Prelude.{◌≡◌, ◌⊎◌, ◌<◌, ◌≤◌, None, length, slice_get, IfErr, IfOk, IsSome};
 ghost use Rattle.units.specs.Keys.{shard_of};
 ghost use Rattle.store.specs.Views.{IsShown, IsUnseenBy, LookedAt, seen_in};
 
 use crate::shared::Shared;
-use board::{Snapshot, Viewer};
+use board::Viewer;
+use counts::Past;
 use std::alloc::Global;
 use std::sync::Wait;
 use std::time;
 use std::time::Duration;
+use truetime::Reading;
 use units::{Fault, Key, Seen, Stamp, Value};
 
 /// So many bytes a value has at most.
 pub(crate) const MOST_BYTES: usize = 4_096;
 
-/// What stands at a timestamp: all that was acknowledged before the view was opened, and nothing in part. It takes no locks.
+// How often a view of the present looks again, where nobody has told that the timestamp is served, and for how many milliseconds it waits
+// in between.
+pub(crate) const TRIES: u32 = 3_000;
+
+const PAUSE: u64 = 1;
+
+/// What stands at a timestamp, and nothing in part. One that `Client::view` opens has all that was acknowledged before. It takes no locks.
 #[derive(Drop)]
 pub struct View<'c, 's, R> {
     pub(crate) rt: &'s R,
     pub(crate) shared: &'s Shared,
     pub(crate) viewers: &'c mut Vec<Viewer>,
     pub(crate) room: &'c mut [u8; MOST_BYTES],
-    pub(crate) snapshot: Snapshot,
     pub(crate) at: Stamp,
-    ghost one: { snapshot ≡ at },
+    // How often a shard is looked at before a `get` is refused as not served yet.
+    pub(crate) tries: u32,
+    // What the client's clock has told.
+    pub(crate) readings: &'c Past<Reading>,
+    pub ghost some: { 0 < tries },
 }
 
 impl<R: Wait + time::Clock> View<'_, '_, R> {
@@ -34,8 +45,10 @@ impl<R: Wait + time::Clock> View<'_, '_, R> {
         self.at
     }
 
-    /// The value of a key. It waits until the key's shard serves the timestamp, some seconds at most, and is then refused as `NotYet`: the
-    /// same call may be answered later. The value is right for good: nothing that is committed later stands at or below the timestamp there.
+    /// The value of a key. It is right for good: nothing that is committed later stands at or below the timestamp there.
+    ///
+    /// A view of the present waits until the key's shard serves the timestamp, some seconds at most; one that `Client::view_at` opened does not
+    /// wait. Then it is refused as `NotYet`, and the same call may be answered a few milliseconds later.
     ///
     /// If the shard has stopped and does not serve the timestamp, it is refused as `Stopped` at once, until the store is opened again. If the
     /// shard has forgotten what its keys were then, it is refused as `TooOld`: then another view has to be opened.
@@ -59,8 +72,8 @@ impl<R: Wait + time::Clock> View<'_, '_, R> {
                     self.rt,
                     self.shared,
                     viewer,
-                    self.snapshot,
                     self.at,
+                    self.tries,
                     key,
                     self.room,
                 )
@@ -70,30 +83,26 @@ impl<R: Wait + time::Clock> View<'_, '_, R> {
     }
 }
 
-// How often a view looks again, where nobody has told that the timestamp is served, and for how many milliseconds it waits in between.
-const TRIES: u32 = 3_000;
-
-const PAUSE: u64 = 1;
-
-// What a viewer tells of a key at a timestamp, once its shard serves that. A shard that has stopped shows nothing new from then on: so it is
-// asked whether it has before the look.
+// What a viewer tells of a key at a timestamp, once its shard serves that: it looks so often, and asks the shard to serve it. A shard that has
+// stopped shows nothing new from then on: so it is asked whether it has before the look.
 fn shown<R: Wait + time::Clock>(
     rt: &R,
     shared: &Shared,
     viewer: &mut Viewer,
-    snapshot: Snapshot,
     at: Stamp,
+    tries: u32,
     key: &Key,
     room: &mut [u8; MOST_BYTES],
 ) -> Result<Option<Value>, Fault>
-    ensures shown { IfOk result (IsShown viewer.old viewer.new key.now snapshot) }
-    ensures refused { IfErr result (IsUnseenBy viewer.old viewer.new key.now snapshot) }
+    requires { 0 < tries }
+    ensures shown { IfOk result (IsShown viewer.old viewer.new key.now at) }
+    ensures refused { IfErr result (IsUnseenBy viewer.old viewer.new key.now at) }
 {
     let shard = shared.splits.shard_of(key);
-    let longest = Duration::from_millis(PAUSE);
-    for _try in 0..TRIES {
+    let longest = Duration::from_millis(if tries > 1 { PAUSE } else { 0 });
+    for _try in 0..tries {
         let has_stopped = shared.network.has_stopped(shard);
-        match snapshot.look(viewer, key, room) {
+        match viewer.look(key, at, room) {
             Ok(seen) => return value_seen(shared.alloc, seen, room),
             Err(Fault::NotYet) => {
                 if has_stopped {

@@ -6,6 +6,8 @@ mod clients;
 #[cfg(test)]
 mod commit_waits;
 #[cfg(test)]
+mod deadlines;
+#[cfg(test)]
 mod disks;
 #[cfg(test)]
 mod drives;
@@ -21,6 +23,10 @@ mod kept;
 mod lost_logs;
 #[cfg(test)]
 mod machine_clocks;
+#[cfg(test)]
+mod made_folders;
+#[cfg(test)]
+mod past_views;
 #[cfg(test)]
 mod renewing;
 #[cfg(test)]

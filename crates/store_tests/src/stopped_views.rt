@@ -29,11 +29,7 @@ fn write_till_stopped<R: Wait + time::Clock>(alloc: Global, client: &mut Client<
 }
 
 // What views tell behind a commit to both shards, and once shard 1 has stopped.
-fn told<R: Wait + time::Clock>(
-    rt: &R,
-    alloc: Global,
-    clients: Vec<Client<'_, R>>,
-) -> Option<Told> {
+fn told<R: Wait + time::Clock>(rt: &R, alloc: Global, clients: Vec<Client<'_, R>>) -> Option<Told> {
     let mut clients = clients;
     let mut client = clients.pop()?;
     let mut writer = clients.pop()?;

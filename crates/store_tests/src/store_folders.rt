@@ -1,8 +1,8 @@
 //! Folders of a store of two shards, which part at `m`: what is taken, what is refused, and what is left under which name.
-use crate::folder_scenes::{MADE, Named, Scene, beside, emptied, logs, strange, strangers, stores};
+use crate::folder_scenes::{MADE, Named, Scene, beside, emptied, logs, stores, strange, strangers};
 use crate::verdict::end;
 use drive::drive_shards;
-use host_files::logs_in;
+use host_files::{Expected, logs_in};
 use made::{Folder, WrongRows, with_slots};
 use settings::Settings;
 use std::alloc::Global;
@@ -179,7 +179,13 @@ fn asked(
     let faulty = Faulty::new(rt, fails);
     let path = path_of(rt, test, folder, ".");
     let splits = splits(test, rt.alloc());
-    let logs = logs_in(&faulty, rt.alloc(), path.as_str(), &splits);
+    let logs = logs_in(
+        &faulty,
+        rt.alloc(),
+        path.as_str(),
+        &splits,
+        Expected::Either,
+    );
     drop(path);
     drop(splits);
     let fault = match logs {

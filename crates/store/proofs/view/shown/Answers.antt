@@ -10,27 +10,27 @@ pub returns-in-Ok-clause-shown : goal.returns-in-Ok-clause-shown
 returns-in-Ok-clause-shown g c =
     let old = c.args.viewer.now in
     let key = c.args.key.now in
-    let waits = waits_of old c.loop-try.viewer key c.args.snapshot c.loop-try.invariant in
-    if_shown old c.loop-try.viewer c.look.new.viewer key c.args.snapshot c.loop-try.room c.look.new.buffer c.in-Ok.seen
-    c.value_seen.result (later_of old c.loop-try.viewer key c.args.snapshot waits) c.look.ensures.same
+    let waits = waits_of old c.loop-try.viewer key c.args.at c.loop-try.invariant in
+    if_shown old c.loop-try.viewer c.look.new.self key c.args.at c.loop-try.room c.look.new.buffer c.in-Ok.seen
+    c.value_seen.result (later_of old c.loop-try.viewer key c.args.at waits) c.look.ensures.same
     (c.in-Ok.ensures.answer (not_refused c.in-Ok.seen Stopped)) c.value_seen.ensures.value
 
 pub returns-in-Ok-clause-refused : goal.returns-in-Ok-clause-refused
 returns-in-Ok-clause-refused g c =
     let old = c.args.viewer.now in
     let key = c.args.key.now in
-    let waits = waits_of old c.loop-try.viewer key c.args.snapshot c.loop-try.invariant in
-    too_much old c.loop-try.viewer c.look.new.viewer key c.args.snapshot c.loop-try.room c.look.new.buffer c.in-Ok.seen
-    c.value_seen.result (later_of old c.loop-try.viewer key c.args.snapshot waits) c.look.ensures.same
+    let waits = waits_of old c.loop-try.viewer key c.args.at c.loop-try.invariant in
+    too_much old c.loop-try.viewer c.look.new.self key c.args.at c.loop-try.room c.look.new.buffer c.in-Ok.seen
+    c.value_seen.result (later_of old c.loop-try.viewer key c.args.at waits) c.look.ensures.same
     (c.in-Ok.ensures.answer (not_refused c.in-Ok.seen Stopped)) (c.value_seen.ensures.refused (search rules))
 
 pub loop-try-preserved : goal.loop-try-preserved
 loop-try-preserved g c =
     let old = c.args.viewer.now in
     let key = c.args.key.now in
-    let waits = waits_of old c.loop-try.viewer key c.args.snapshot c.loop-try.invariant in
-    inr (unserved old c.look.new.viewer key c.args.snapshot (
-    unseen old c.loop-try.viewer c.look.new.viewer key c.args.snapshot c.loop-try.room c.look.new.buffer c.look.result NotYet
+    let waits = waits_of old c.loop-try.viewer key c.args.at c.loop-try.invariant in
+    inr (unserved old c.look.new.self key c.args.at (
+    unseen old c.loop-try.viewer c.look.new.self key c.args.at c.loop-try.room c.look.new.buffer c.look.result NotYet
     waits c.look.ensures.same c.look.ensures.stopped c.look.ensures.answer
     (c.in-Err-NotYet.is ∙ ap Err c.in-Err-NotYet.field-0-is)))
 
@@ -38,14 +38,14 @@ pub returns-then-has_stopped : goal.returns-then-has_stopped
 returns-then-has_stopped g c =
     let old = c.args.viewer.now in
     let key = c.args.key.now in
-    let waits = waits_of old c.loop-try.viewer key c.args.snapshot c.loop-try.invariant in
+    let waits = waits_of old c.loop-try.viewer key c.args.at c.loop-try.invariant in
     record {
       shown = tt;
       refused =
           inr (
             refl,
-            inl (unserved old c.look.new.viewer key c.args.snapshot (
-                unseen old c.loop-try.viewer c.look.new.viewer key c.args.snapshot c.loop-try.room c.look.new.buffer c.look.result NotYet
+            inl (unserved old c.look.new.self key c.args.at (
+                unseen old c.loop-try.viewer c.look.new.self key c.args.at c.loop-try.room c.look.new.buffer c.look.result NotYet
                 waits c.look.ensures.same c.look.ensures.stopped c.look.ensures.answer
                 (c.in-Err-NotYet.is ∙ ap Err c.in-Err-NotYet.field-0-is))),
           );
@@ -55,10 +55,10 @@ pub returns-in-Err : goal.returns-in-Err
 returns-in-Err g c =
     let old = c.args.viewer.now in
     let key = c.args.key.now in
-    let waits = waits_of old c.loop-try.viewer key c.args.snapshot c.loop-try.invariant in
+    let waits = waits_of old c.loop-try.viewer key c.args.at c.loop-try.invariant in
     record {
       shown = tt;
       refused =
-          unseen old c.loop-try.viewer c.look.new.viewer key c.args.snapshot c.loop-try.room c.look.new.buffer c.look.result
+          unseen old c.loop-try.viewer c.look.new.self key c.args.at c.loop-try.room c.look.new.buffer c.look.result
           c.in-Err.fault waits c.look.ensures.same c.look.ensures.stopped c.look.ensures.answer c.in-Err.is;
     }

@@ -15,8 +15,9 @@ returns g c =
       drawing = inside.drawer;
       traffics = inside.past;
       viewers = inside.viewers.items;
-      epsilon = inside.clock.machine.epsilon;
+      epsilon = inside.clock.epsilon;
       from = inside.clock.from;
+      readings = inside.clock.readings;
     } in
     begins before c.args.self.now c.begin.new.drawer c.in_ok-tx.tx c.by_progress-wire.result c.begin.new.self c.self.view_is
     (ap (λ (t : Traffic). t.sent) same ∙ c.new-wire.ensures.0) (ap (λ (t : Traffic). t.heard) same ∙ c.new-wire.ensures.1)

@@ -1,53 +1,5 @@
-use Rattle.std.proofs.Common.{◌<◌, [], ◌∷◌, ◌++◌, inr, refl, sym, ◌∙◌, rules}
-use denote.Param.Always.{mut_next}
-use Rattle.store.specs.Attempts.{runs_again}
-use Rattle.store.proofs.Attempts.{aborted_on, attempted, one_longer, one_more, tried_on}
+use Rattle.store.proofs.Attempts.{never_cut}
 use Rattle.store.proofs.clients.Client.transact.Goals as goal
 
-pub returns-then-not-runs_again : goal.returns-then-not-runs_again
-returns-then-not-runs_again g c =
-    let tried = c.loop-try.invariant.tried in
-    let one =
-    attempted g.F.FnMut c.loop-try.self c.begin.new.self c.finish-ended.new.self c.in-Ok.transaction c.code-ran.new.arg2 c.loop-try.code c.code-ran.new.self
-    c.code-ran.result c.kept-ran.result c.id-own.result c.id.result c.eq.result c.finish-ended.result c.in-Ok.ensures
-    (record { shown = _; shows = refl; left = _; called = c.code-ran.ensures; leaves = refl }) c.id-own.ensures c.id.ensures c.eq.ensures c.kept-ran.ensures
-    c.finish-ended.ensures.work c.finish-ended.ensures.ended in
-    let room : c.loop-try._try < c.args.tries = search rules in (
-      tried.0 ++ one.attempt ∷ [],
-      (
-        c.code-ran.new.self,
-        tried_on g.F.FnMut c.args.self.now c.loop-try.self c.finish-ended.new.self c.args.code c.loop-try.code c.code-ran.new.self tried.0 one.attempt tried.1
-            one.whole one.is one.runs,
-      ),
-      inr (inr (
-        record {
-          before = tried.0;
-          last = one.attempt;
-          whole = refl;
-          aborted = tried.3;
-          over = (λ i. runs_again (one.ran_is i) (one.ended_is i)) ∙ (sym c.runs_again.ensures ∙ c.if-not-runs_again.true);
-          told = sym one.ended_is;
-        },
-        one_more tried.0 one.attempt c.loop-try._try c.args.tries tried.2 room,
-      )),
-    )
-
-pub loop-try-preserved : goal.loop-try-preserved
-loop-try-preserved g c =
-    let tried = c.loop-try.invariant.tried in
-    let one =
-    attempted g.F.FnMut c.loop-try.self c.begin.new.self c.finish-ended.new.self c.in-Ok.transaction c.code-ran.new.arg2 c.loop-try.code c.code-ran.new.self
-    c.code-ran.result c.kept-ran.result c.id-own.result c.id.result c.eq.result c.finish-ended.result c.in-Ok.ensures
-    (record { shown = _; shows = refl; left = _; called = c.code-ran.ensures; leaves = refl }) c.id-own.ensures c.id.ensures c.eq.ensures c.kept-ran.ensures
-    c.finish-ended.ensures.work c.finish-ended.ensures.ended in
-    record {
-      callable = mut_next g.F.FnMut c.loop-try.code _ _ c.code-ran.new.self c.code-ran.new.self c.code-ran.ensures refl c.loop-try.invariant.callable;
-      tried = (
-        tried.0 ++ one.attempt ∷ [],
-        tried_on g.F.FnMut c.args.self.now c.loop-try.self c.finish-ended.new.self c.args.code c.loop-try.code c.code-ran.new.self tried.0 one.attempt tried.1
-            one.whole one.is one.runs,
-        one_longer tried.0 one.attempt c.loop-try._try tried.2,
-        aborted_on tried.0 one.attempt tried.3
-            ((λ i. runs_again (one.ran_is i) (one.ended_is i)) ∙ (sym c.runs_again.ensures ∙ c.if-not-runs_again.false)),
-      );
-    }
+pub returns : goal.returns
+returns g c = let came = c.attempts.ensures in (came.0, came.1, never_cut came.2)

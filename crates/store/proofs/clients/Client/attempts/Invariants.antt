@@ -1,7 +1,7 @@
 use Rattle.std.proofs.Common.{◌≡◌, List, length}
 use denote.Param.Always.{always_mut}
 use Rattle.store.specs.Attempts.{AreAborted, Attempt, HasTried}
-use Rattle.store.proofs.clients.Client.transact.Given as goal
+use Rattle.store.proofs.clients.Client.attempts.Given as goal
 
 abbrev pub invariant-loop-try : goal.invariant-loop-try
 invariant-loop-try g l = record {
