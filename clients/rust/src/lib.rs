@@ -7,9 +7,9 @@ use std::os::unix::process::CommandExt;
 use std::path::Path;
 use std::process::{Child, ChildStdin, ChildStdout, Command, ExitStatus, Stdio};
 use std::sync::mpsc::{channel, Receiver, Sender};
-use std::sync::{Condvar, Mutex, MutexGuard, PoisonError};
+use std::sync::{Arc, Condvar, Mutex, MutexGuard, PoisonError};
 use std::time::Duration;
-use std::{env, fmt, thread};
+use std::{env, fmt, mem, thread};
 
 /// Why a call did not do what was asked.
 #[derive(Debug, Clone, PartialEq, Eq)]
@@ -73,9 +73,8 @@ impl Store {
             drop(input);
             return Err(io::Error::other(format!("the store was not opened: {}; standard error has the reason", child.wait()?)));
         }
-        let (senders, mut free): (Vec<_>, Vec<_>) = (0..clients).map(Client::new).unzip();
-        free.reverse();
-        thread::spawn(move || hear(output, &senders));
+        let (ears, free): (Vec<_>, Vec<_>) = (0..clients).map(client).unzip();
+        thread::spawn(move || hear(output, ears));
         Ok(Store { child: Mutex::new(child), input: Mutex::new(Some(input)), free: Mutex::new(free), freed: Condvar::new() })
     }
 
@@ -88,10 +87,9 @@ impl Store {
     {
         let mut lease = self.lease();
         for attempt in 0..tries {
-            let id = lease.begin("begin", "abort")?;
-            let ran = code(&mut Transaction { lease: &mut lease, id: &id });
-            let ended = match ran {
-                Ok(value) => lease.commit("commit", &[], Some(id), value),
+            (lease.is_due, lease.id, lease.over) = (true, None, None);
+            let ended = match code(&mut Transaction { lease: &mut lease }) {
+                Ok(value) => lease.commit("commit", &[], value),
                 Err(_) if lease.over == Some(Failed::Aborted) => Err(Failed::Aborted),
                 Err(failed) => return Err(failed),
             };
@@ -107,8 +105,8 @@ impl Store {
     /// A view of the present: all that it answers stood at its timestamp.
     pub fn view(&self) -> Result<View<'_>, Failed> {
         let mut lease = self.lease();
-        let at = lease.begin("view", "end")?.parse().map_err(|_| Failed::Closed)?;
-        Ok(View { lease, at })
+        let answer = lease.ask(&[("view", &[])], Failed::Closed)?;
+        Ok(View { lease, at: text(parted(&answer).1).parse().map_err(|_| Failed::Closed)? })
     }
 
     /// The value of a key at the present.
@@ -118,7 +116,7 @@ impl Store {
 
     /// Commits one write. If it is aborted the program tries again, for two seconds.
     pub fn put(&self, key: &[u8], value: &[u8]) -> Result<Committed<()>, Failed> {
-        self.lease().commit("put", &[key, value], None, ())
+        self.lease().commit("put", &[key, value], ())
     }
 
     /// Kills the program. What was answered stays.
@@ -128,15 +126,13 @@ impl Store {
 
     /// Ends the program, which first answers what was asked, and gives up what is open. So does dropping the store.
     pub fn close(&self) -> io::Result<ExitStatus> {
-        if let Some(mut input) = locked(&self.input).take() {
-            let _ = input.write_all(b"quit\n");
-        }
+        let _ = locked(&self.input).take().map(|mut input| input.write_all(b"quit\n"));
         locked(&self.child).wait()
     }
 
     fn lease(&self) -> Lease<'_> {
         let free = self.freed.wait_while(locked(&self.free), |free| free.is_empty());
-        Lease { store: self, client: free.unwrap_or_else(PoisonError::into_inner).pop(), over: None }
+        Lease { store: self, client: free.unwrap_or_else(PoisonError::into_inner).pop(), is_due: false, id: None, over: None }
     }
 }
 
@@ -150,29 +146,34 @@ fn locked<T>(mutex: &Mutex<T>) -> MutexGuard<'_, T> {
     mutex.lock().unwrap_or_else(PoisonError::into_inner)
 }
 
-// Sends each answer to the client that waits for it, until there are no more. A line that was cut off is none.
-fn hear(mut output: BufReader<ChildStdout>, senders: &[Sender<Vec<u8>>]) {
-    let mut line = Vec::new();
-    while output.read_until(b'\n', &mut line).unwrap_or(0) > 0 && line.pop() == Some(b'\n') {
-        let (number, answer) = parted(&line);
-        let Some(sender) = text(number).parse().ok().and_then(|number: usize| senders.get(number)) else { return };
-        let _ = sender.send(answer.to_vec());
-        line.clear();
-    }
-}
-
 // One client of the program. Each of its lines gets one answer, in order. It is one call's at a time.
 struct Client {
     number: usize,
-    answers: Receiver<Vec<u8>>,
+    answers: Receiver<Vec<Vec<u8>>>,
+    // For how many answers it waits, which come together.
+    wanted: Arc<Mutex<usize>>,
     // The line that ends what may be open.
     end: Option<&'static str>,
 }
 
-impl Client {
-    fn new(number: usize) -> (Sender<Vec<u8>>, Client) {
-        let (sender, answers) = channel();
-        (sender, Client { number, answers, end: None })
+// Where the answers to a client go, for how many it waits, and those that have come.
+type Ear = (Sender<Vec<Vec<u8>>>, Arc<Mutex<usize>>, Vec<Vec<u8>>);
+fn client(number: usize) -> (Ear, Client) {
+    let ((sender, answers), wanted) = (channel(), Arc::new(Mutex::new(1)));
+    ((sender, wanted.clone(), Vec::new()), Client { number, answers, wanted, end: None })
+}
+
+// Hands each answer to the client that waits for it, until there are no more. A line that was cut off is none.
+fn hear(mut output: BufReader<ChildStdout>, mut ears: Vec<Ear>) {
+    let mut line = Vec::new();
+    while output.read_until(b'\n', &mut line).unwrap_or(0) > 0 && line.pop() == Some(b'\n') {
+        let (number, answer) = parted(&line);
+        let Some((sender, wanted, heard)) = text(number).parse().ok().and_then(|number: usize| ears.get_mut(number)) else { return };
+        heard.push(answer.to_vec());
+        if heard.len() == *locked(wanted) {
+            let _ = sender.send(mem::take(heard));
+        }
+        line.clear();
     }
 }
 
@@ -180,52 +181,63 @@ impl Client {
 struct Lease<'s> {
     store: &'s Store,
     client: Option<Client>,
+    // Whether a transaction is to begin with the next line, and the id of the one that has begun.
+    is_due: bool,
+    id: Option<String>,
     // Why the transaction or view is over. Then no line of it is sent: the program would serve it by itself.
     over: Option<Failed>,
 }
 
 impl Lease<'_> {
-    // Asks for a line, and waits for its answer. It failed as `lost` says if no answer comes.
-    fn ask(&mut self, verb: &str, data: &[&[u8]], lost: Failed) -> Result<Vec<u8>, Failed> {
-        if let Some(over) = &self.over {
-            return Err(over.clone());
+    // Asks for lines, behind the `begin` that is due: for the last answer, or what the first failed with, or `lost` if they do not come.
+    fn ask(&mut self, lines: &[(&str, &[&[u8]])], lost: Failed) -> Result<Vec<u8>, Failed> {
+        if mem::take(&mut self.is_due) {
+            self.ask(&[("begin", &[])], Failed::Closed)?;
         }
+        self.over.clone().map_or(Ok(()), Err)?;
         let client = self.client.as_mut().ok_or(Failed::Closed)?;
-        send(&self.store.input, client.number, verb, data)?;
-        let answer = client.answers.recv().map_err(|_| lost)?;
-        let told = told(&answer);
-        if matches!(parted(&answer).0, b"committed" | b"unknown" | b"aborted" | b"ended" | b"ended:") {
-            client.end = None;
-            self.over = told.clone().err();
+        *locked(&client.wanted) = lines.len();
+        send(&self.store.input, client.number, lines)?;
+        let mut last = Ok(Vec::new());
+        for ((verb, _), answer) in lines.iter().zip(client.answers.recv().map_err(|_| lost)?) {
+            let (first, rest) = parted(&answer);
+            let failed = match first {
+                b"aborted" => Some(Failed::Aborted),
+                b"unknown" => Some(Failed::Unknown(Some(text(rest)))),
+                b"fault:" => Some(Failed::Refused { words: text(rest), ended: false }),
+                b"ended:" => Some(Failed::Refused { words: text(parted(rest).1), ended: true }),
+                _ => None,
+            };
+            match first {
+                b"begun" => (client.end, self.id) = (Some("abort"), Some(text(rest))),
+                b"at" => client.end = Some("end"),
+                b"committed" | b"unknown" | b"aborted" | b"ended" | b"ended:" => (client.end, self.over) = (None, failed.clone()),
+                _ if *verb == "begin" => self.over = failed.clone(),
+                _ => {}
+            }
+            last = last.and(failed.map_or(Ok(answer), Err));
         }
-        told.map(|()| answer)
+        last
     }
 
-    // Begins a transaction or a view, and gives its id or timestamp.
-    fn begin(&mut self, verb: &str, end: &'static str) -> Result<String, Failed> {
-        self.over = None;
-        self.client.as_mut().ok_or(Failed::Closed)?.end = Some(end);
-        self.ask(verb, &[], Failed::Closed).map(|answer| text(parted(&answer).1))
-    }
-
+    // A transaction that is due begins by the same write. If it does not, nobody is told what was read without it.
     fn get_all(&mut self, keys: &[&[u8]]) -> Result<Vec<Option<Vec<u8>>>, Failed> {
-        let answer = self.ask("get", keys, Failed::Closed)?;
+        let is_open = !mem::take(&mut self.is_due);
+        let answer = self.ask(&[("begin", &[][..]), ("get", keys)][usize::from(is_open)..], Failed::Closed)?;
         Ok(answer.split(|byte| *byte == b' ').map(|word| word.strip_prefix(b"=").map(unspelled)).collect())
     }
 
-    // Asks for a line that commits.
-    fn commit<T>(&mut self, verb: &str, data: &[&[u8]], id: Option<String>, value: T) -> Result<Committed<T>, Failed> {
-        let answer = self.ask(verb, data, Failed::Unknown(id.clone()))?;
+    fn commit<T>(&mut self, verb: &str, data: &[&[u8]], value: T) -> Result<Committed<T>, Failed> {
+        let unknown = Failed::Unknown(self.id.take());
+        let answer = self.ask(&[(verb, data)], unknown.clone())?;
         let (at, told) = parted(parted(&answer).1);
-        Ok(Committed { at: text(at).parse().map_err(|_| Failed::Unknown(id))?, id: text(told), value })
+        Ok(Committed { at: text(at).parse().map_err(|_| unknown)?, id: text(told), value })
     }
 }
 
 impl Drop for Lease<'_> {
     fn drop(&mut self) {
-        if let Some(end) = self.client.as_ref().and_then(|client| client.end) {
-            let _ = self.ask(end, &[], Failed::Closed);
-        }
+        let _ = self.client.as_ref().and_then(|client| client.end).map(|end| self.ask(&[(end, &[])], Failed::Closed));
         locked(&self.store.free).extend(self.client.take());
         self.store.freed.notify_one();
     }
@@ -234,11 +246,17 @@ impl Drop for Lease<'_> {
 /// A transaction that is open. It sees what it has put.
 pub struct Transaction<'t, 's> {
     lease: &'t mut Lease<'s>,
-    /// Its id.
-    pub id: &'t str,
 }
 
 impl Transaction<'_, '_> {
+    /// Its id.
+    pub fn id(&mut self) -> Result<String, Failed> {
+        if mem::take(&mut self.lease.is_due) {
+            self.lease.ask(&[("begin", &[])], Failed::Closed)?;
+        }
+        self.lease.id.clone().ok_or(Failed::Closed)
+    }
+
     /// The value of a key.
     pub fn get(&mut self, key: &[u8]) -> Result<Option<Vec<u8>>, Failed> {
         Ok(self.get_all(&[key])?.pop().flatten())
@@ -251,12 +269,12 @@ impl Transaction<'_, '_> {
 
     /// Puts a value.
     pub fn put(&mut self, key: &[u8], value: &[u8]) -> Result<(), Failed> {
-        self.lease.ask("put", &[key, value], Failed::Closed).map(drop)
+        self.lease.ask(&[("put", &[key, value])], Failed::Closed).map(drop)
     }
 
     /// Takes the value of a key away.
     pub fn erase(&mut self, key: &[u8]) -> Result<(), Failed> {
-        self.lease.ask("erase", &[key], Failed::Closed).map(drop)
+        self.lease.ask(&[("erase", &[key])], Failed::Closed).map(drop)
     }
 }
 
@@ -306,27 +324,19 @@ pub fn unspelled(mut word: &[u8]) -> Vec<u8> {
     bytes
 }
 
-// Sends a line to the program. No answer comes of one that was not written whole, and no other follows it.
-fn send(input: &Mutex<Option<ChildStdin>>, number: usize, verb: &str, data: &[&[u8]]) -> Result<(), Failed> {
-    let words = data.iter().map(|bytes| [b" ".to_vec(), spelled(bytes)].concat());
-    let line = [format!("{number} {verb}").into_bytes(), words.collect::<Vec<_>>().concat(), b"\n".to_vec()].concat();
+// Sends lines to the program, each a verb and its data. No answer comes of one that was not written whole, and no other follows it.
+fn send(input: &Mutex<Option<ChildStdin>>, number: usize, lines: &[(&str, &[&[u8]])]) -> Result<(), Failed> {
+    let mut text = Vec::new();
+    for (verb, data) in lines {
+        text.extend(format!("{number} {verb}").as_bytes());
+        data.iter().for_each(|bytes| text.extend([b" ", &spelled(bytes)[..]].concat()));
+        text.push(b'\n');
+    }
     let mut input = locked(input);
-    if input.as_mut().ok_or(Failed::Closed)?.write_all(&line).is_err() {
+    if input.as_mut().ok_or(Failed::Closed)?.write_all(&text).is_err() {
         *input = None;
     }
     Ok(())
-}
-
-// What an answer tells that something failed.
-fn told(answer: &[u8]) -> Result<(), Failed> {
-    let (first, rest) = parted(answer);
-    match first {
-        b"aborted" => Err(Failed::Aborted),
-        b"unknown" => Err(Failed::Unknown(Some(text(rest)))),
-        b"fault:" => Err(Failed::Refused { words: text(rest), ended: false }),
-        b"ended:" => Err(Failed::Refused { words: text(parted(rest).1), ended: true }),
-        _ => Ok(()),
-    }
 }
 
 // The first word of a line, and what stands behind it.

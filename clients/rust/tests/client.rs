@@ -54,7 +54,7 @@ fn an_aborted_transaction_is_run_again() {
     let mut ids = Vec::new();
     store
         .transact(50, |tx| {
-            ids.push(tx.id.to_string());
+            ids.push(tx.id()?);
             add_one(tx)
         })
         .unwrap();
@@ -146,6 +146,24 @@ fn code_that_goes_on_after_a_refusal_that_ended_it_puts_nothing() {
 }
 
 #[test]
+fn a_transaction_that_does_not_begin_puts_nothing() {
+    for reads in [true, false] {
+        let logs = logs();
+        let store = logs.told(2, &["begin fault: 1 Memory"]);
+        let refused = Failed::Refused { words: "1 Memory".into(), ended: false };
+        let ended = store.transact(50, |tx| {
+            assert!(!reads || tx.get(b"a") == Err(refused.clone()));
+            assert_eq!(tx.put(b"b", b"1"), Err(refused.clone()));
+            assert_eq!(tx.erase(b"b"), Err(refused.clone()));
+            Ok::<_, Failed>(())
+        });
+        assert_eq!(ended, Err(refused));
+        assert_eq!(store.get(b"b").unwrap(), None);
+        assert!(store.transact(50, add_one).is_ok());
+    }
+}
+
+#[test]
 fn a_refusal_that_leaves_it_open() {
     let logs = logs();
     let store = logs.told(1, &["get fault: 1 Memory", "commit fault: 1 Memory"]);
@@ -181,6 +199,7 @@ fn an_idle_transaction_is_run_again() {
     store
         .transact(50, |tx| {
             runs += 1;
+            tx.get(b"a")?;
             thread::sleep(Duration::from_millis(if runs == 1 { 300 } else { 0 }));
             add_one(tx)
         })
@@ -246,7 +265,7 @@ fn a_kill_while_a_commit_is_asked_for() {
         let store = logs.told(2, &[answer]);
         let mut ids = Vec::new();
         let ended = store.transact(50, |tx| {
-            ids.push(tx.id.to_string());
+            ids.push(tx.id()?);
             tx.put(b"a", b"1")
         });
         assert_eq!(ended, Err(Failed::Unknown(ids.pop())));

@@ -1,3 +1,4 @@
+mod Clients
 pub mod Following
 pub mod Lines
 pub mod ReadBack

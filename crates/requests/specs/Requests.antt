@@ -1,12 +1,13 @@
 -- What lines ask for.
 use Rattle.std.specs.Prelude.{◌&&◌, ◌==◌, ◌||◌, ℕ, List, [], ◌∷◌, Option, Some, None, Result, Ok, Err, codes, length, nat_le, nat_lt, if◌then◌else◌}
-use Rattle.std.specs.List.{slice_split}
+use Rattle.std.specs.List.{after_first, before_first, slice_split}
+use Rattle.std.specs.Result.{result_ok}
 use Rattle.std.specs.Str.{bytes_eq}
 use Rattle.units.specs.Keys.{Bytes}
 use Rattle.units.specs.declared.fault.Fault.{Fault}
 use Rattle.units.specs.declared.fault.Fault.TheVariants.{BadRequest}
 use Rattle.units.specs.declared.fault.Reason.TheVariants as reason
-use Rattle.texts.specs.Numbers.{and_then}
+use Rattle.texts.specs.Numbers.{and_then, number_of}
 use Rattle.requests.specs.Spelling.{unspelled}
 use Rattle.requests.specs.declared.asked.Request.{Request}
 use Rattle.requests.specs.declared.asked.Request.TheVariants.{Begin, Get, Put, Erase, Commit, Abort, View, End, Help, Quit}
@@ -108,3 +109,15 @@ asked_as Quit = quit
 -- the words of a line, which one blank (32) parts
 abbrev pub words_of : List ℕ → List Word
 words_of line = slice_split (λ c. c == 32) line
+
+-- the number that a word spells, if it is one
+abbrev pub number_in : Word → Option ℕ
+number_in word = result_ok (number_of word)
+
+-- whose line it is, and what it asks: the number of its first word, and what stands behind the blank; or client 0's, and all of it
+abbrev pub addressed : Option ℕ → List ℕ → ℕ × List ℕ
+addressed (Some n) line = (n, after_first (λ c. c == 32) line)
+addressed None line = (0, line)
+
+abbrev pub of_client : List ℕ → ℕ × List ℕ
+of_client line = addressed (number_in (before_first (λ c. c == 32) line)) line

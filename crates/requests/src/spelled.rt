@@ -1,5 +1,4 @@
-//! Bytes as words spell them: printable ASCII but blank and backslash stands for itself, and each other byte is two hexadecimal digits
-//! behind `\x`.
+//! Bytes as words spell them: printable ASCII but blank and backslash stands for itself. Each other byte is `\x` and two hexadecimal digits.
 ghost use Rattle.std.specs.Prelude.{◌≡◌, ◌⊎◌, ◌<◌, ◌++◌, None, Some, IfErr, IfSome, MatchResult, OnOk, string_bytes};
 ghost use Rattle.std.specs.Char.{digit_char};
 ghost use Rattle.requests.specs.Spelling.{IsPlace, SpelledIsRead, byte_word, digit_of, is_plain, pass, spelled, unspelled};
@@ -7,7 +6,7 @@ ghost use Rattle.requests.specs.Spelling.{IsPlace, SpelledIsRead, byte_word, dig
 use std::alloc::Global;
 use units::{Fault, Reason};
 
-/// Where a reader of a word is: between bytes, behind a backslash, behind `\x`, or behind the number of its first digit.
+/// How far a reader of a word is: between bytes, after a backslash, after `\x`, or after the number of its first digit.
 #[derive(Clone, Copy)]
 pub enum Place {
     Between,
@@ -16,7 +15,7 @@ pub enum Place {
     Half(u8),
 }
 
-/// The place behind a byte more of a word, and the byte that it ends, where it ends one.
+/// How far a reader is after a byte more of a word, and the byte that it ends, if it ends one.
 #[derive(Clone, Copy)]
 pub struct Passed {
     pub place: Place,
@@ -90,7 +89,7 @@ fn digit_of(byte: u8) -> Option<u8>
     }
 }
 
-/// Puts the word that spells some bytes behind a text.
+/// Adds the word that spells some bytes to a text.
 pub fn push_spelled(text: &mut String, bytes: &[u8]) -> Result<(), Fault>
     ensures spelled { OnOk result
         (string_bytes text.new ≡ string_bytes text.old ++ spelled bytes.now) }

@@ -11,7 +11,7 @@ use std::thread::Threads;
 use std::{rt, time};
 use units::{Fault, Splits, Stride};
 
-/// Makes an empty store in a folder, which is made where it is not there. A folder with a store is refused, as `Device`.
+/// Makes an empty store in a folder, which is made if it is not there. A folder with a store is refused, as `Device`.
 pub fn make<
     R: rt::Files<File = File> + Eprint + RandomSource + Threads + Wait + time::Clock + Sync,
 >(rt: &R, alloc: Global, dir: &str, splits: &Splits) -> Result<(), Fault> {

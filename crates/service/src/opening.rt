@@ -18,7 +18,7 @@ const TRIES: u32 = 50;
 
 const REST: u64 = 20;
 
-/// Opens the store in a folder, or makes one where it is new. Where another process has it open, it waits up to a second for that one to close it.
+/// Opens the store in a folder. If another process has it open, it waits up to a second for that one to close it.
 pub fn opened<'r, R: Files<File = File> + RandomSource + Threads + Wait + time::Clock + Sync>(
     rt: &'r R,
     alloc: Global,

@@ -40,7 +40,7 @@ fn asks_help(words: &[&str]) -> bool {
 }
 
 /// Carries out a command line of `make` or `serve`. `make` prints nothing. `serve` answers the lines of `input` on `output`; on a
-/// terminal it prompts for them. Gives the status: 0, or 2 at a fault, whose line is printed on `errors`, and where nobody reads the answers.
+/// terminal it prompts for them. Gives the status: 0, or 2 at a fault, whose line is printed on `errors`, or if nobody reads the answers.
 pub fn service<
     R: rt::Files<File = File> + Eprint + RandomSource + Threads + Wait + time::Clock + Sync,
     I: Read + Drop,

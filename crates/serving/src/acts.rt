@@ -83,7 +83,7 @@ fn erase<R: Wait + time::Clock>(tx: &mut Transaction<'_, R>, key: &Key) -> End
     }
 }
 
-/// What the last line of a transaction is answered: how that ended. Where none began, why.
+/// What the last line of a transaction is answered: how that ended, or if none began, why.
 pub fn answer_of_end(id: Option<TxnId>, ended: Result<Ended, Fault>) -> Answer
     ensures { result ≡ answer_of_end id ended }
 {

@@ -1,6 +1,6 @@
-//! Where answers are told.
+//! The desk at which answers are told.
 use crate::answers::Answers;
-use crate::prompt::push_prompted;
+use crate::prompt::{Open, push_prompted};
 use requests::{Answer, answer_line};
 use std::alloc::Global;
 use std::io::Write;
@@ -41,11 +41,22 @@ impl<W: Write + Drop> Desk<W> {
         self.answers.give_up(rt);
     }
 
-    /// Tells the answer of the client with this number.
+    /// Tells the answer of the client with this number, which then has nothing open.
     pub fn tell<R: Wait>(&self, rt: &R, client: u64, answer: &Answer) -> Result<(), Fault> {
+        self.tell_beside(rt, client, answer, Open::Nothing)
+    }
+
+    /// Tells the answer of the client with this number, which then has this open.
+    pub fn tell_beside<R: Wait>(
+        &self,
+        rt: &R,
+        client: u64,
+        answer: &Answer,
+        open: Open,
+    ) -> Result<(), Fault> {
         let mut line = answer_line(self.alloc, client, answer)?;
         if self.is_terminal {
-            push_prompted(&mut line, answer)?;
+            push_prompted(&mut line, answer, open)?;
         }
         self.answers.tell(rt, line.as_bytes())
     }

@@ -3,7 +3,31 @@ ghost use Rattle.std.specs.Prelude.{◌<◌, ◌^◌};
 
 use requests::Answer;
 use std::fmt::Write;
-use units::Fault;
+use units::{Fault, TxnId};
+
+/// What a client has open.
+#[derive(Clone, Copy)]
+pub enum Open {
+    Nothing,
+    Transaction(TxnId),
+    View,
+}
+
+impl Open {
+    /// What is open after an answer.
+    pub fn after(self, answer: &Answer) -> Open {
+        match answer {
+            Answer::Begun(id) => Open::Transaction(*id),
+            Answer::At(_) => Open::View,
+            Answer::Done
+            | Answer::Values(_)
+            | Answer::Help
+            | Answer::Refused(_)
+            | Answer::Misplaced => self,
+            _ => Open::Nothing,
+        }
+    }
+}
 
 /// What may be asked, for a reader.
 const HELP: &str = "\
@@ -37,18 +61,18 @@ that is no printable ASCII by its two hexadecimal digits, as \\x0a.
 'put KEY ' with a blank at its end writes the empty value.
 ";
 
-/// Adds, on a terminal, what stands after an answer: a date after a timestamp, the help, and the prompt of what is open then.
-pub fn push_prompted(line: &mut String, answer: &Answer) -> Result<(), Fault> {
+/// Adds, on a terminal, what follows an answer: a date after a timestamp, the help, and the prompt of what is open then.
+pub fn push_prompted(line: &mut String, answer: &Answer, open: Open) -> Result<(), Fault> {
     match answer {
         Answer::Help => line.push_str(HELP)?,
         Answer::Committed(at, _) | Answer::At(at) => push_date(line, at.micros())?,
+        Answer::Closed => return Ok(()),
         _ => {}
     }
-    match answer {
-        Answer::Begun(id) => write!(line, "{id}> ")?,
-        Answer::At(_) => line.push_str("view> ")?,
-        Answer::Closed => {}
-        _ => line.push_str("store> ")?,
+    match open {
+        Open::Nothing => line.push_str("store> ")?,
+        Open::Transaction(id) => write!(line, "{id}> ")?,
+        Open::View => line.push_str("view> ")?,
     }
     Ok(())
 }

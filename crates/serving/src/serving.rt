@@ -4,6 +4,7 @@ ghost use Rattle.std.specs.Thread.{IsSync, IsSend};
 use crate::conversation::attend;
 use crate::desk::Desk;
 use crate::lines::{Line, next_line};
+use crate::prompt::Open;
 use crate::talk::Talk;
 use crossbeam_channel::{Sender, bounded};
 use growing::Growing;
@@ -16,8 +17,9 @@ use std::time::Duration;
 use std::{thread, time};
 use store::{Client, Fault, Halt, Reason, Transaction};
 
-/// So many lines of a client wait at most; then no more is read until one is answered.
-const ROOM: usize = 64;
+// 64 lines of a client wait at most, then no more is read until one is answered: the one that its thread is at, so many after it, and the
+// one for which there is no room.
+const ROOM: usize = 62;
 
 // How much is read at once.
 const BURST: usize = 1 << 16;
@@ -106,6 +108,7 @@ fn start<'s, 'e, 'c: 'e, R: Threads + Wait + time::Clock + Sync, W: Write + Drop
             inbox,
             desk,
             idle: Duration::from_millis(idle_millis),
+            open: Open::Nothing,
             said,
         };
         let mut client = client;

@@ -1,6 +1,7 @@
-//! The lines of one client, and where its answers go.
+//! The lines of one client, and the desk that tells its answers.
 use crate::asks::{Asks, Exchange, Heard};
 use crate::desk::Desk;
+use crate::prompt::Open;
 use crossbeam_channel::{Receiver, RecvTimeoutError};
 use growing::Growing;
 use requests::{Request, request, words_of};
@@ -21,6 +22,8 @@ pub struct Talk<'a, R, W: Write + Drop> {
     pub desk: &'a Desk<W>,
     /// For how long no line of an open transaction may come.
     pub idle: Duration,
+    /// What is open, for the prompt.
+    pub open: Open,
     /// What was said so far, in proofs alone.
     pub said: Growing<Exchange>,
 }
@@ -44,7 +47,9 @@ impl<R: Wait + time::Clock, W: Write + Drop> Asks for Talk<'_, R, W> {
     }
 
     fn answer(&mut self, exchange: Exchange) -> Result<(), Fault> {
-        self.desk.tell(self.rt, self.number, &exchange.answer)?;
+        self.open = self.open.after(&exchange.answer);
+        self.desk
+            .tell_beside(self.rt, self.number, &exchange.answer, self.open)?;
         self.said.add(&exchange);
         drop(exchange);
         Ok(())

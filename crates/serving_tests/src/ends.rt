@@ -1,6 +1,8 @@
 //! Transactions that are idle, lines that are long, and how lines end.
-use crate::streams::{answers, are_answers};
-use serving::Served;
+use crate::streams::{Paper, Parts, answers, are_answers, served};
+use host_files::logs_in_memory;
+use serving::{Desk, Served};
+use std::time::{Duration, Instant};
 
 const NEVER: u64 = 60_000;
 
@@ -74,4 +76,42 @@ fn clients_are_below_their_number(rt: HostRuntime) {
     assert!(rt; served == Served::All);
     assert!(rt; are_answers(&told, b'4', &[b"fault: 7 BadRequest(command)"]));
     assert!(rt; are_answers(&told, b'9', &[b"fault: 7 BadRequest(command)"]));
+}
+
+// Once the device of shard 0 has failed, a transaction that reads there is told so at once, though a client would wait for an answer for 30
+// seconds. The other shard goes on.
+#[test]
+fn stopped_shards_are_told(rt: HostRuntime) {
+    let alloc = rt.alloc();
+    let mut disks = logs_in_memory(alloc, 2).ok().expect(&rt, "logs");
+    if let Some(disk) = disks.get_mut(0) {
+        disk.fail_next(20);
+    }
+    let parts: [(u64, &[u8]); 2] = [
+        (0, b"put a 1\nput a 2\nput a 3\nput a 4\nput a 5\nput a 6\n"),
+        (1_000, b"1 begin\n1 get a\n1 get z\n1 put z 1\n"),
+    ];
+    let paper = Paper {
+        bytes: Vec::new(alloc),
+        is_gone: false,
+    };
+    let desk = Desk::new(alloc, paper, false);
+    let input = Parts {
+        rt: &rt,
+        parts: &parts,
+        at: 0,
+    };
+    let start = Instant::now(&rt).ok().expect(&rt, "a clock");
+    let ended = served(&rt, alloc, disks, NEVER, input, &desk);
+    let took = start.elapsed(&rt).ok().expect(&rt, "a clock");
+    let Paper { bytes, .. } = desk.close();
+    assert!(rt; ended == Served::All);
+    assert!(rt; took < Duration::from_secs(15));
+    let wanted: [&[u8]; 4] = [
+        b"begun *",
+        b"ended: fault: 3 Stopped",
+        b"none",
+        b"committed *",
+    ];
+    assert!(rt; are_answers(&bytes, b'1', &wanted));
 }

@@ -8,4 +8,6 @@ mod lines;
 #[cfg(test)]
 mod streams;
 #[cfg(test)]
+mod waiting;
+#[cfg(test)]
 mod words;

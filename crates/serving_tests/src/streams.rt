@@ -1,6 +1,7 @@
 //! Streams of lines that come after a while, and a store over disks in memory that answers them.
 use host_files::logs_in_memory;
 use serving::{Desk, Served, serve};
+use simdisk::SimDisk;
 use std::alloc::Global;
 use std::io::{self, Read, Write};
 use std::process::Abort;
@@ -67,24 +68,47 @@ pub fn answers<R: Threads + Wait + time::Clock + Sync + Abort>(
     idle_millis: u64,
     is_gone: bool,
 ) -> (Served, Vec<u8>) {
-    let split = Key::new(b"m").ok().expect(rt, "a key");
-    let splits = Splits::new(alloc, &[split]).ok().expect(rt, "splits");
     let disks = logs_in_memory(alloc, 2).ok().expect(rt, "logs");
-    let store = Store::open(rt, alloc, disks, Options::new(splits, 4));
-    let store = store.ok().expect(rt, "a store");
     let paper = Paper {
         bytes: Vec::new(alloc),
         is_gone,
     };
     let desk = Desk::new(alloc, paper, false);
-    let input = Parts { rt, parts, at: 0 };
+    let served = served(
+        rt,
+        alloc,
+        disks,
+        idle_millis,
+        Parts { rt, parts, at: 0 },
+        &desk,
+    );
+    let Paper { bytes, .. } = desk.close();
+    (served, bytes)
+}
+
+/// How the lines of a stream end that such a store over these disks answers.
+pub fn served<
+    R: Threads + Wait + time::Clock + Sync + Abort,
+    I: Read + Drop,
+    W: Write + Drop + Send,
+>(
+    rt: &R,
+    alloc: Global,
+    disks: Vec<SimDisk>,
+    idle_millis: u64,
+    input: I,
+    desk: &Desk<W>,
+) -> Served {
+    let split = Key::new(b"m").ok().expect(rt, "a key");
+    let splits = Splits::new(alloc, &[split]).ok().expect(rt, "splits");
+    let store = Store::open(rt, alloc, disks, Options::new(splits, 4));
+    let store = store.ok().expect(rt, "a store");
     let served = store.serve(|clients: Vec<Client<'_, R>>| {
-        serve(rt, alloc, clients, idle_millis, input, &desk)
+        serve(rt, alloc, clients, idle_millis, input, desk)
     });
     let (served, disks) = served.ok().expect(rt, "a store that served");
     drop(disks);
-    let Paper { bytes, .. } = desk.close();
-    (served.ok().expect(rt, "lines that were answered"), bytes)
+    served.ok().expect(rt, "lines that were answered")
 }
 
 /// Tells whether the answers of a client, in their order, are these. One that ends with `*` stands for each that begins so.
