@@ -94,13 +94,12 @@ module _ (sc : Scene) (log : List Record) (n : ℕ) where
 -- a plan with evidence is a step with evidence
 stepped_evidence : (sc : Scene) (log : List Record) (n : ℕ) (m : Memory) → RowsEvidence sc log n m.rows → (p : Planned) → PlannedEvidence sc log n p →
     SteppedEvidence sc n log (stepped m p)
-unfolding PlannedEvidence
 stepped_evidence sc log n m rows (Err f) e = tt
 stepped_evidence sc log n m rows (Ok p) e = record {
-  rests = e.logged;
-  rows = rows_carried sc (with_record log p.logged) n p m e.change (rows_stay sc sc (grows_same sc) log (with_record log p.logged)
+  rests = e.each.logged;
+  rows = rows_carried sc (with_record log p.logged) n p m e.each.change (rows_stay sc sc (grows_same sc) log (with_record log p.logged)
       (within_record log p.logged) n m.rows rows);
-  told = e.told;
+  told = e.each.told;
 }
 
 -- ---- what is given to a shard

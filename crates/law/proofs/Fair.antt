@@ -14,7 +14,6 @@ use Rattle.protocol.specs.Cells.{plan_advance, plan_forget, plan_cell, to_read, 
 use Rattle.units.specs.Keys.{Bytes}
 use Rattle.units.specs.Locks.{exclusive, holds}
 use Rattle.units.specs.Versions.{latest}
-use Rattle.units.specs.declared.fault.Fault.{Fault}
 use Rattle.units.specs.declared.fault.Fault.TheVariants.{TimeSpent, NotYet, Stranger, Early, Future}
 use Rattle.units.specs.declared.lock.Lock.{Lock}
 use Rattle.units.specs.declared.setup.Setup.{Setup}
@@ -35,6 +34,7 @@ use Rattle.protocol.specs.Rows.{WasEnded, HasRow, WasAborted, WasSettled, WasClo
 use Rattle.protocol.specs.Step.{cell, plan_input}
 use Rattle.protocol.specs.Sound.{is_open}
 use Rattle.protocol.specs.Plan.{time_limit, Plan, Planned, Before, Change, Keeps, Puts, replies, serves, ends, drops, puts, roomed, votes_of, stands}
+use Rattle.protocol.proofs.Each.{Each, planned, refused, tested, either, within_room}
 use Rattle.protocol.proofs.CellsFrom.{IsHeard, IsLooseAt, IsIn, IsSaid, IsFrom, cell_is_from}
 use Rattle.protocol.proofs.Choices.{held_at, held_unknown, undecided_of_loose}
 use Rattle.protocol.proofs.Shapes.{is_loose}
@@ -132,54 +132,29 @@ module _ (t : Id) (k : Bytes) (e : ℕ) (b : Before) where
     pub logged : LoggedFair p.logged
     pub told : AllFair b p p.outbox
 
-  unfoldable pub Fair : Planned → Type 0
-  Fair (Err f) = Unit {0}
-  Fair (Ok p) = PlanFair p
+  abbrev pub Fair : Planned → Type 0
+  Fair = Each PlanFair (λ fault. Unit {0})
 
   replying : (out : List Envelope) → AllMute out → Fair (Ok (replies b out))
-  unfolding Fair
-  replying out h = record { change = tt; logged = tt; told = mute_fair b (replies b out) out h }
+  replying out h = planned _ (record { change = tt; logged = tt; told = mute_fair b (replies b out) out h })
 
   serving : (r : Option Record) (last : ℕ) → LoggedFair r → Fair (Ok (serves r last))
-  unfolding Fair
-  serving r last l = record { change = tt; logged = l; told = tt }
+  serving r last l = planned _ (record { change = tt; logged = l; told = tt })
 
   ending : (u : Id) (out : List Envelope) → AllMute out → Fair (Ok (ends b u out))
-  unfolding Fair
-  ending u out h = record { change = tt; logged = tt; told = mute_fair b (ends b u out) out h }
+  ending u out h = planned _ (record { change = tt; logged = tt; told = mute_fair b (ends b u out) out h })
 
   dropping : (u : Id) (r : Record) (last : ℕ) (out : List Envelope) → LoggedFair (Some r) → AllMute out → Fair (Ok (drops u r last out))
-  unfolding Fair
-  dropping u r last out l h = record { change = tt; logged = l; told = mute_fair b (drops u r last out) out h }
+  dropping u r last out l h = planned _ (record { change = tt; logged = l; told = mute_fair b (drops u r last out) out h })
 
   putting : (ended : List Id) (u : Id) (needs : List Lock) (phase : Phase) (r : Option Record) (last : ℕ) (out : List Envelope) → Alive u →
       Asked u (reads_of phase) → LoggedFair r → AllMute out → Fair (Ok (puts b ended u needs phase r last out))
-  unfolding Fair
-  putting ended u needs phase r last out alive asked l h = record {
+  putting ended u needs phase r last out alive asked l h = planned _ (record {
     change = (alive, asked);
     logged = l;
     told = mute_fair b (puts b ended u needs phase r last out) (votes_of b.shard b.memory.rows ended ++ out)
         (all_append Mute (votes_of b.shard b.memory.rows ended) out (votes_mute b.shard b.memory.rows ended) h);
-  }
-
-  refusing : (f : Fault) → Fair (Err f)
-  unfolding Fair
-  refusing f = tt
-
-  choosing : (c : Bool) (x y : Planned) → Fair x → Fair y → Fair (cond c x y)
-  choosing true x y h j = h
-  choosing false x y h j = j
-
-  tested : (c : Bool) (x y : Planned) → (c ≡ true → Fair x) → Fair y → Fair (cond c x y)
-  tested true x y h j = h refl
-  tested false x y h j = j
-
-  rooming : (c : Bool) (x : Planned) → Fair x → Fair (roomed c x)
-  unfolding Fair
-  rooming true (Ok p) h = tt
-  rooming true (Err f) h = tt
-  rooming false (Ok p) h = h
-  rooming false (Err f) h = h
+  })
 
   none_asked : (u : Id) → Asked u []
   none_asked u same none = absurd none
@@ -194,8 +169,7 @@ module _ (t : Id) (k : Bytes) (e : ℕ) (b : Before) where
   -- ---- a lock and the answer
 
   locking : (ended : List Id) (u : Id) (j : Bytes) → Alive u → Fair (Ok (puts b ended u (to_read j) Idle None b.memory.last (answers b u j ∷ [])))
-  unfolding Fair
-  locking ended u j alive = record {
+  locking ended u j alive = planned _ (record {
     change = (alive, none_asked u);
     logged = tt;
     told = all_append (λ (z : Envelope). MessageFair b (puts b ended u (to_read j) Idle None b.memory.last (answers b u j ∷ [])) z.message)
@@ -203,12 +177,11 @@ module _ (t : Id) (k : Bytes) (e : ℕ) (b : Before) where
         (mute_fair b (puts b ended u (to_read j) Idle None b.memory.last (answers b u j ∷ [])) (votes_of b.shard b.memory.rows ended)
         (votes_mute b.shard b.memory.rows ended))
         (record { from = refl; epoch = refl; value = refl; held = OfLock refl refl }, tt);
-  }
+  })
 
   -- a key that a transaction that may be ended holds is held by its row
   held_answer : (u : Id) (j : Bytes) (held : List Lock) → IsLooseAt b u held → holds held j ≡ true → Fair (Ok (replies b (answers b u j ∷ [])))
-  unfolding Fair
-  held_answer u j held at there = by_standing (stands b u) refl at.loose
+  held_answer u j held at there = planned _ (by_standing (stands b u) refl at.loose)
     where
       by_standing : (s : Standing) → stands b u ≡ s → is_loose s ≡ true → PlanFair (replies b (answers b u j ∷ []))
       by_standing IsUnknown is loose =
@@ -239,18 +212,18 @@ module _ (t : Id) (k : Bytes) (e : ℕ) (b : Before) where
   unfolding plan_promise
   promising ended earliest u c rs ws alive asked =
       let p : ℕ = max (b.memory.last + 1) earliest in
-      choosing (nat_le p time_limit) (Ok (puts b ended u (exclusive ws) (IsPrepared c p) (Some (promise u c p rs ws)) (max b.memory.last p)
+      either (nat_le p time_limit) (Ok (puts b ended u (exclusive ws) (IsPrepared c p) (Some (promise u c p rs ws)) (max b.memory.last p)
       (vote_to b.shard c u (Some p) ∷ []))) (Err TimeSpent)
       (putting ended u (exclusive ws) (IsPrepared c p) (Some (promise u c p rs ws)) (max b.memory.last p) (vote_to b.shard c u (Some p) ∷ []) alive
-      (none_asked u) asked (tt, tt)) (refusing TimeSpent)
+      (none_asked u) asked (tt, tt)) (refused TimeSpent tt)
 
   deciding : (ended : List Id) (u : Id) (l : ℕ) (ps : List ℕ) (rs : List Bytes) (ws : List Write) (needs : List Lock) (votes : List Voted) →
       Alive u → Asked u rs → Fair (plan_decide b ended u l ps rs ws needs votes)
   unfolding plan_decide
   deciding ended u l ps rs ws needs votes alive asked =
       let s : ℕ = commit_stamp b.memory.last l votes in
-      choosing (nat_le s time_limit) (Ok (puts b ended u needs (IsDecided s ps) (Some (decision u s ps rs ws)) (max b.memory.last s) [])) (Err TimeSpent)
-      (putting ended u needs (IsDecided s ps) (Some (decision u s ps rs ws)) (max b.memory.last s) [] alive (none_asked u) asked tt) (refusing TimeSpent)
+      either (nat_le s time_limit) (Ok (puts b ended u needs (IsDecided s ps) (Some (decision u s ps rs ws)) (max b.memory.last s) [])) (Err TimeSpent)
+      (putting ended u needs (IsDecided s ps) (Some (decision u s ps rs ws)) (max b.memory.last s) [] alive (none_asked u) asked tt) (refused TimeSpent tt)
 
   commit_granting : (ended : List Id) (u : Id) (l : ℕ) (ps : List ℕ) (rs : List Bytes) (ws : List Write) (ns : List ℕ) → Alive u → Asked u rs →
       Fair (plan_commit_granted b ended u l ps rs ws ns)
@@ -275,7 +248,7 @@ module _ (t : Id) (k : Bytes) (e : ℕ) (b : Before) where
   asking : (earliest : ℕ) (u : Id) (wait : Phase) → Alive u → Asked u (reads_of wait) → Fair (plan_asks b earliest u wait)
   unfolding plan_asks
   asking earliest u wait alive asked =
-      rooming _ _ (choosing _ _ _ (granting _ earliest u wait alive asked) (putting _ u [] wait None b.memory.last [] alive asked tt tt))
+      within_room _ _ tt (either _ _ _ (granting _ earliest u wait alive asked) (putting _ u [] wait None b.memory.last [] alive asked tt tt))
 
   -- the reads that still stand are of this epoch
   still_asked : (u : Id) (epoch : ℕ) (rs : List Bytes) (held : List Lock) → (u ≡ t → IsAmong rs k → epoch ≡ e) →
@@ -288,14 +261,14 @@ module _ (t : Id) (k : Bytes) (e : ℕ) (b : Before) where
   unfolding plan_count
   counting n u None l ps rs ws votes alive asked = aborting u ps
   counting n u (Some p) l ps rs ws votes alive asked =
-      choosing _ _ _ (deciding [] u l ps rs ws [] (with_vote n p votes) alive asked) (putting [] u []
+      either _ _ _ (deciding [] u l ps rs ws [] (with_vote n p votes) alive asked) (putting [] u []
       (Collecting l ps rs ws (with_vote n p votes)) None b.memory.last [] alive asked tt tt)
 
   -- ---- served time
 
   advancing : (latest_end stride up : ℕ) → Fair (plan_advance b latest_end stride up)
   unfolding plan_advance
-  advancing latest_end stride up = choosing _ _ _ (refusing Future) (serving _ _ (ceiling (nat_lt b.facts.floor up) (min (up + stride) time_limit)))
+  advancing latest_end stride up = either _ _ _ (refused Future tt) (serving _ _ (ceiling (nat_lt b.facts.floor up) (min (up + stride) time_limit)))
     where
       ceiling : (high : Bool) (n : ℕ) → LoggedFair (cond high (Some (Record.Ceiling n)) None)
       ceiling true n = tt
@@ -303,7 +276,7 @@ module _ (t : Id) (k : Bytes) (e : ℕ) (b : Before) where
 
   forgetting : (up : ℕ) → Fair (plan_forget b up)
   unfolding plan_forget
-  forgetting up = choosing _ _ _ (refusing NotYet) (choosing _ _ _ (replying [] tt) (serving _ _ tt))
+  forgetting up = either _ _ _ (refused NotYet tt) (either _ _ _ (replying [] tt) (serving _ _ tt))
 
   -- ---- all cells
 
@@ -325,13 +298,13 @@ module _ (t : Id) (k : Bytes) (e : ℕ) (b : Before) where
 
     fair : (c : Cell) → IsFrom setup b now i c → Fair (plan_cell b c)
     unfolding plan_read_row plan_prepare_fresh plan_commit_fresh
-    fair ToRefuse from = refusing Stranger
+    fair ToRefuse from = refused Stranger tt
     fair ToRest from = replying [] tt
     fair (ToReply m) from = replying (m ∷ []) (said_mute m.to m.message from, tt)
-    fair (Provided test c) from = tested test _ _ (λ h. fair c (from h)) (refusing Stranger)
+    fair (Provided test c) from = tested test _ _ (λ h. fair c (from h)) (refused Stranger tt)
     fair (ToRead u j held waits) from =
         tested (holds held j) _ _ (λ there. held_answer u j held from there)
-        (choosing waits _ _ (replying [] tt) (asking 0 u (WaitsRead j) (alive_loose u from.loose) (none_asked u)))
+        (either waits _ _ (replying [] tt) (asking 0 u (WaitsRead j) (alive_loose u from.loose) (none_asked u)))
     fair (ToPrepare earliest m held) from =
         tested (still_stand b m.reads.epoch m.reads.keys held) _ _
         (λ still. asking earliest m.txn (WaitsPrepare m.coordinator m.reads.keys m.writes) (alive_loose m.txn from.1.loose)
@@ -339,8 +312,8 @@ module _ (t : Id) (k : Bytes) (e : ℕ) (b : Before) where
         (ending m.txn (refuses b m.txn m.coordinator ∷ []) (tt, tt))
     fair (ToCommit l m held) from =
         tested (still_stand b m.reads.epoch m.reads.keys held) _ _
-        (λ still. choosing _ _ _ (asking 0 m.txn (WaitsCommit l m.parts m.reads.keys m.writes) (alive_loose m.txn from.1.0.loose)
-        (still_asked m.txn m.reads.epoch m.reads.keys held (heard (Message.Commit m) from.0) still)) (refusing TimeSpent))
+        (λ still. either _ _ _ (asking 0 m.txn (WaitsCommit l m.parts m.reads.keys m.writes) (alive_loose m.txn from.1.0.loose)
+        (still_asked m.txn m.reads.epoch m.reads.keys held (heard (Message.Commit m) from.0) still)) (refused TimeSpent tt))
         (aborting m.txn m.parts)
     fair (ToEnd u cs) from = ending u _ (refuses_mute u cs)
     fair (ToAbort u ps) from = aborting u ps
@@ -349,8 +322,8 @@ module _ (t : Id) (k : Bytes) (e : ℕ) (b : Before) where
     fair (ToClose u outcome) from = dropping u (Record.Outcome u outcome) _ [] tt tt
     fair (ToGoOn earliest u wait) from = granting [] earliest u wait (alive_in u wait from.waits) (asked_in u wait from.waits)
     fair (ToSettle earliest u s ps) from =
-        choosing _ _ _ (dropping u (Record.Outcome u (Some s)) b.memory.last (done_to u (Some s) ∷ tells b u (Some s) (other_parts b.shard ps)) tt
-        (tt, tells_mute b u (Some s) (other_parts b.shard ps))) (refusing Early)
+        either _ _ _ (dropping u (Record.Outcome u (Some s)) b.memory.last (done_to u (Some s) ∷ tells b u (Some s) (other_parts b.shard ps)) tt
+        (tt, tells_mute b u (Some s) (other_parts b.shard ps))) (refused Early tt)
     fair (ToServe latest_end stride up) from = advancing latest_end stride up
     fair (ToForget up) from = forgetting up
 

@@ -21,11 +21,12 @@ use Rattle.protocol.specs.Plan.{Plan, start_of_step, carried, stands}
 use Rattle.protocol.specs.Rows.{Memory, Row, Phase, HasRow, find_row, rebuilt, standing_row}
 use Rattle.protocol.specs.Step.{plan_input, facts_after, IsInLimit}
 use Rattle.protocol.proofs.InWay.{row_at}
+use Rattle.protocol.proofs.Each.{told_plan}
 use Rattle.law.specs.Among.{IsAmong}
 use Rattle.world.specs.World.{World}
 use Rattle.law.proofs.Picked.{some_same}
 use Rattle.law.proofs.Recorded.{among_first, among_gather}
-use Rattle.law.proofs.Fair.{Fair, IsFairInput, PlanFair, fairly, reads_of}
+use Rattle.law.proofs.Fair.{IsFairInput, PlanFair, fairly, reads_of}
 use Rattle.world.proofs.Sounds.{SoundWorld}
 use Rattle.law.proofs.HeldRead.{Held, held_keeps, held_logs}
 use Rattle.law.proofs.ReadBefore.{Claims}
@@ -65,9 +66,8 @@ module _ (n : ℕ) (t : Id) (k : Bytes) (e : ℕ) (x : Option Bytes) where
 
   fair_plan : (setup : Setup) (f : Facts) (m : Memory) (now : Interval) (i : Input) (p : Plan) → IsFairInput t k e i → Held t k e x f m →
       plan_input setup (start_of_step most_rows setup f m) now i ≡ Ok p → PlanFair t k e (start_of_step most_rows setup f m) p
-  unfolding Fair
   fair_plan setup f m now i p fair h is =
-      subst (λ z. Fair t k e (start_of_step most_rows setup f m) z) is (fairly t k e (start_of_step most_rows setup f m) rows setup now i fair)
+      told_plan (fairly t k e (start_of_step most_rows setup f m) rows setup now i fair) is
     where
       rows : (u : Id) (held : List Lock) (phase : Phase) → stands (start_of_step most_rows setup f m) u ≡ HasRow held phase → u ≡ t →
           IsAmong (reads_of phase) k → f.epoch ≡ e

@@ -1,15 +1,15 @@
 -- The few kinds of plan, each with what it rests on.
-use Rattle.std.proofs.Common.{◌≡◌, ℕ, Bool, true, false, cond, List, [], ◌∷◌, ◌++◌, Option, Some, None, refl}
+use Rattle.std.proofs.Common.{◌≡◌, ℕ, List, [], ◌∷◌, ◌++◌, Option, Some, None}
 use Rattle.std.specs.Prelude.{Ok, Err}
 use Rattle.units.specs.Ids.{Id}
-use Rattle.units.specs.declared.fault.Fault.{Fault}
 use Rattle.units.specs.declared.lock.Lock.{Lock}
 use Rattle.record.specs.declared.record.Record.{Record}
 use Rattle.message.specs.declared.message.Envelope.{Envelope}
 use Rattle.protocol.specs.Rows.{Row, Phase, WaitsPrepare, Standing, HasRow}
 use Rattle.protocol.specs.Rows.{WasAborted, WasSettled, find_row}
 use Rattle.protocol.specs.Outputs.{refused_vote}
-use Rattle.protocol.specs.Plan.{Change, Puts, Plan, Planned, Before, votes_of, replies, serves, ends, drops, puts, roomed}
+use Rattle.protocol.specs.Plan.{Change, Puts, Plan, Planned, Before, votes_of, replies, serves, ends, drops, puts}
+use Rattle.protocol.proofs.Each.{Each, planned}
 use Rattle.law.specs.Among.{IsAmong}
 use Rattle.law.specs.Evidence.{Scene, RecordEvidence, PhaseEvidence, Told, AllTold, HasOutcome}
 use Rattle.law.proofs.Members.{all_append}
@@ -32,9 +32,8 @@ pub record PlanEvidence (sc : Scene) (log : List Record) (n : ℕ) (p : Plan) : 
   pub told : AllTold (with_record log p.logged) sc.now n p.outbox
 
 -- a refusal rests on nothing
-unfoldable pub PlannedEvidence : Scene → List Record → ℕ → Planned → Type 0
-PlannedEvidence sc log n (Err fault) = Unit {0}
-PlannedEvidence sc log n (Ok p) = PlanEvidence sc log n p
+abbrev pub PlannedEvidence : Scene → List Record → ℕ → Planned → Type 0
+PlannedEvidence sc log n = Each (PlanEvidence sc log n) (λ fault. Unit {0})
 
 -- what a standing rests on
 abbrev pub StandingEvidence : Scene → List Record → ℕ → Id → Standing → Type 0
@@ -61,65 +60,37 @@ votes_told log now n rows (t ∷ ts) =
 module _ (sc : Scene) (log : List Record) (b : Before) where
   -- messages alone
   pub replying : (out : List Envelope) → AllTold log sc.now b.shard out → PlannedEvidence sc log b.shard (Ok (replies b out))
-  unfolding PlannedEvidence
-  replying out told = record { logged = tt; change = tt; told = told }
+  replying out told = planned _ (record { logged = tt; change = tt; told = told })
 
   pub ending : (t : Id) (out : List Envelope) → AllTold log sc.now b.shard out → PlannedEvidence sc log b.shard (Ok (ends b t out))
-  unfolding PlannedEvidence
-  ending t out told = record { logged = tt; change = tt; told = told }
+  ending t out told = planned _ (record { logged = tt; change = tt; told = told })
 
   -- served time, or a horizon
   pub serving : (r : Option Record) (last : ℕ) → LoggedEvidence sc log b.shard r → PlannedEvidence sc log b.shard (Ok (serves r last))
-  unfolding PlannedEvidence
-  serving r last logged = record { logged = logged; change = tt; told = tt }
+  serving r last logged = planned _ (record { logged = logged; change = tt; told = tt })
 
   pub dropping : (t : Id) (r : Record) (last : ℕ) (out : List Envelope) → RecordEvidence sc log b.shard r → AllTold (log ++ r ∷ []) sc.now b.shard out →
       PlannedEvidence sc log b.shard (Ok (drops t r last out))
-  unfolding PlannedEvidence
-  dropping t r last out logged told = record { logged = logged; change = tt; told = told }
+  dropping t r last out logged told = planned _ (record { logged = logged; change = tt; told = told })
 
   -- a row without a record
   pub putting : (ended : List Id) (t : Id) (needs : List Lock) (phase : Phase) (last : ℕ) (out : List Envelope) →
       PhaseEvidence sc log b.shard t phase → AllTold log sc.now b.shard out →
       PlannedEvidence sc log b.shard (Ok (puts b ended t needs phase None last out))
-  unfolding PlannedEvidence
-  putting ended t needs phase last out evidence told = record {
+  putting ended t needs phase last out evidence told = planned _ (record {
     logged = tt;
     change = evidence;
     told = all_append (λ (e : Envelope). Told log sc.now b.shard e.to e.message) (votes_of b.shard b.memory.rows ended) out
         (votes_told log sc.now b.shard b.memory.rows ended) told;
-  }
+  })
 
   -- a row with its record
   pub standing_by_record : (ended : List Id) (t : Id) (needs : List Lock) (phase : Phase) (r : Record) (last : ℕ) (out : List Envelope) →
       RecordEvidence sc log b.shard r → PhaseEvidence sc (log ++ r ∷ []) b.shard t phase → AllTold (log ++ r ∷ []) sc.now b.shard out →
       PlannedEvidence sc log b.shard (Ok (puts b ended t needs phase (Some r) last out))
-  unfolding PlannedEvidence
-  standing_by_record ended t needs phase r last out logged evidence told = record {
+  standing_by_record ended t needs phase r last out logged evidence told = planned _ (record {
     logged = logged;
     change = evidence;
     told = all_append (λ (e : Envelope). Told (log ++ r ∷ []) sc.now b.shard e.to e.message) (votes_of b.shard b.memory.rows ended) out
         (votes_told (log ++ r ∷ []) sc.now b.shard b.memory.rows ended) told;
-  }
-
-  pub refusing : (fault : Fault) → PlannedEvidence sc log b.shard (Err fault)
-  unfolding PlannedEvidence
-  refusing fault = tt
-
-  -- either branch, where the test does not matter
-  pub choosing : (c : Bool) (x y : Planned) → PlannedEvidence sc log b.shard x → PlannedEvidence sc log b.shard y → PlannedEvidence sc log b.shard (cond c x y)
-  choosing true x y h k = h
-  choosing false x y h k = k
-
-  -- by a test that matters
-  pub tested : (c : Bool) (x y : Planned) → (c ≡ true → PlannedEvidence sc log b.shard x) → PlannedEvidence sc log b.shard y →
-      PlannedEvidence sc log b.shard (cond c x y)
-  tested true x y h k = h refl
-  tested false x y h k = k
-
-  pub rooming : (c : Bool) (x : Planned) → PlannedEvidence sc log b.shard x → PlannedEvidence sc log b.shard (roomed c x)
-  unfolding PlannedEvidence
-  rooming true (Ok p) h = tt
-  rooming true (Err f) h = tt
-  rooming false (Ok p) h = h
-  rooming false (Err f) h = h
+  })

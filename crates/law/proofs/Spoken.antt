@@ -21,6 +21,7 @@ use Rattle.world.proofs.EveryRun.{WellShard, shard_with}
 use Rattle.world.proofs.Rooms.{done_wanted}
 use Rattle.protocol.specs.Rows.{Memory, Row, find_row, rebuilt}
 use Rattle.protocol.specs.Step.{step_within, Stepped, Refuses, Does, plan_input, stepped, facts_after}
+use Rattle.protocol.proofs.Each.{told_plan}
 use Rattle.law.specs.Among.{IsAmong}
 use Rattle.world.specs.World.{ShardNow, State, View, Area, Unsure, Runs, IsStopped, IsDown, read_log, shown_records, step_of_opening, input_of, step_with}
 use Rattle.world.specs.World.{effect, wanted, finished, gate_of, has_place, new_area, read_area, step_of_turnover}
@@ -28,7 +29,7 @@ use Rattle.world.specs.declared.event.Doing.{Doing}
 use Rattle.law.proofs.Members.{all_at}
 use Rattle.protocol.specs.Sound.{is_open}
 use Rattle.law.proofs.Answering.{told_is_held, told_row}
-use Rattle.law.proofs.Fair.{AnswerFair, Fair, IsFairInput, MessageFair, PlanFair, fairly}
+use Rattle.law.proofs.Fair.{AnswerFair, IsFairInput, MessageFair, PlanFair, fairly}
 use Rattle.law.proofs.HeldRead.{Held}
 
 -- ---- what a step tells
@@ -52,11 +53,9 @@ away_fair k e _ = tt
 told_fairly : (setup : Setup) (f : Facts) (m : Memory) (now : Interval) (i : Input) (p : Plan) (to : Address) (a : ReadAnswer) (x : Option Bytes) →
     plan_input setup (start_of_step most_rows setup f m) now i ≡ Ok p →
     IsAmong p.outbox (record { to = to; message = Message.ReadAnswer a }) → a.answer ≡ Holds x → AnswerFair (start_of_step most_rows setup f m) p a x
-unfolding Fair
 told_fairly setup f m now i p to a x is there holds =
     let fair : PlanFair (away i) [] f.epoch (start_of_step most_rows setup f m) p =
-    subst (λ z. Fair (away i) [] f.epoch (start_of_step most_rows setup f m) z) is (fairly (away i) [] f.epoch (start_of_step most_rows setup f m)
-    (λ u held phase st same in_it. refl) setup now i (away_fair [] f.epoch i)) in
+    told_plan (fairly (away i) [] f.epoch (start_of_step most_rows setup f m) (λ u held phase st same in_it. refl) setup now i (away_fair [] f.epoch i)) is in
     subst (λ z. elim z as (λ q. Type 0) [ Holds y ↦ AnswerFair (start_of_step most_rows setup f m) p a y | Refused ↦ Unit {0} ]) holds
     (all_at (λ (e : Envelope). MessageFair (start_of_step most_rows setup f m) p e.message) p.outbox
     (record { to = to; message = Message.ReadAnswer a }) fair.told there)

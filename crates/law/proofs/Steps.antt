@@ -24,12 +24,13 @@ use Rattle.protocol.specs.Cells.{Cell, ToRefuse, ToRest, ToReply, Provided, ToRe
 use Rattle.protocol.specs.Cells.{ToGoOn, ToSettle, ToServe, ToForget, plan_read_row, plan_prepare_fresh, plan_commit_fresh, plan_cell, answers, refuses, raised}
 use Rattle.protocol.specs.Step.{cell, plan_input}
 use Rattle.protocol.proofs.CellsFrom.{IsHeard, IsIn, HasEnded, IsSaid, MayAbort, AtCommit, AtRow, IsFrom, cell_is_from}
+use Rattle.protocol.proofs.Each.{refused, tested, either}
 use Rattle.law.specs.Among.{IsAmong}
 use Rattle.law.specs.Requests.{CommitWanted, input_asks}
 use Rattle.law.specs.Evidence.{Scene, Sent, CommitAsked, BeganBy, HasOutcome, Remembers, WasAsked, WasQuestioned, PhaseEvidence, RowsEvidence, StatusEvidence}
 use Rattle.law.specs.Evidence.{Told, VoteEvidence}
 use Rattle.law.proofs.Members.{among_last}
-use Rattle.law.proofs.Moves.{PlannedEvidence, StandingEvidence, replying, ending, dropping, refusing, choosing, tested}
+use Rattle.law.proofs.Moves.{PlannedEvidence, StandingEvidence, replying, ending, dropping}
 use Rattle.law.proofs.Table.{granting, asking, aborting, was_asked, counting, closing_told, refusals_told, settling, advancing, forgetting}
 
 -- what a shard knows when it steps
@@ -137,23 +138,23 @@ module _ (sc : Scene) (log : List Record) (b : Before) (now : Interval) (knows :
 
     evidence : (c : Cell) → IsFrom setup b now i c → PlannedEvidence sc log b.shard (plan_cell b c)
     unfolding plan_read_row plan_prepare_fresh plan_commit_fresh
-    evidence ToRefuse from = refusing sc log b Stranger
+    evidence ToRefuse from = refused Stranger tt
     evidence ToRest from = replying sc log b [] tt
     evidence (ToReply e) from = replying sc log b (e ∷ []) (said e.to e.message from, tt)
-    evidence (Provided test c) from = tested sc log b test _ _ (λ e. evidence c (from e)) (refusing sc log b Stranger)
+    evidence (Provided test c) from = tested test _ _ (λ e. evidence c (from e)) (refused Stranger tt)
     evidence (ToRead t k held waits) from =
-        choosing sc log b _ _ _ (replying sc log b (answers b t k ∷ []) (tt, tt))
-        (choosing sc log b _ _ _ (replying sc log b [] tt) (asking sc log b 0 t (WaitsRead k) tt))
+        either _ _ _ (replying sc log b (answers b t k ∷ []) (tt, tt))
+        (either _ _ _ (replying sc log b [] tt) (asking sc log b 0 t (WaitsRead k) tt))
     evidence (ToPrepare earliest m held) from =
-        choosing sc log b _ _ _
+        either _ _ _
         (asking sc log b earliest m.txn (WaitsPrepare m.coordinator m.reads.keys m.writes)
         (record { epoch = m.reads.epoch; sent = (word (Message.Prepare m) from.0).0 }))
         (ending sc log b m.txn (refuses b m.txn m.coordinator ∷ []) (tt, tt))
     evidence (ToCommit latest m held) from =
-        choosing sc log b _ _ _
-        (choosing sc log b _ _ _
+        either _ _ _
+        (either _ _ _
         (asking sc log b 0 m.txn (WaitsCommit latest m.parts m.reads.keys m.writes) (remembered latest m from.0 from.1.1))
-        (refusing sc log b TimeSpent))
+        (refused TimeSpent tt))
         (aborting sc log b m.txn m.parts (was_asked sc log b m.txn m.parts m.reads.keys m.writes (asked m from.0)))
     evidence (ToEnd t cs) from = ending sc log b t _ (refusals_told sc log b t cs)
     evidence (ToAbort t ps) from = aborting sc log b t ps (why t from.1)

@@ -18,11 +18,12 @@ use Rattle.protocol.specs.Outputs.{promise, decision, done_to}
 use Rattle.protocol.specs.Plan.{time_limit, Before}
 use Rattle.protocol.specs.Cells.{ToSettle, commit_stamp, other_parts, all_voted, is_outcome_for, plan_promise, plan_commit_granted, plan_decide, plan_abort}
 use Rattle.protocol.specs.Cells.{plan_granted, plan_asks, plan_count, plan_advance, plan_forget, plan_cell, tells, answers, to_read, refuses}
+use Rattle.protocol.proofs.Each.{refused, tested, either, within_room}
 use Rattle.law.specs.Among.{IsAmong}
 use Rattle.law.specs.Evidence.{Scene, Sent, PrepareAsked, CommitAsked, VotedYes, VoteBelow, HasPromise, HasDecision, HasOutcome, WasTold}
 use Rattle.law.specs.Evidence.{WasAsked, WasQuestioned, RecordEvidence, Remembers, PhaseEvidence, AllTold}
 use Rattle.law.proofs.Members.{among_left, among_last, all_append, all_at, some_passes}
-use Rattle.law.proofs.Moves.{LoggedEvidence, PlannedEvidence, replying, serving, dropping, putting, standing_by_record, refusing, choosing, tested, rooming}
+use Rattle.law.proofs.Moves.{LoggedEvidence, PlannedEvidence, replying, serving, dropping, putting, standing_by_record}
 
 -- ---- votes
 
@@ -78,7 +79,7 @@ module _ (sc : Scene) (log : List Record) (b : Before) where
   unfolding plan_decide
   deciding ended t latest ps rs ws needs votes remembers evidence all =
       let s = commit_stamp b.memory.last latest votes in
-      choosing sc log b _ _ _
+      either _ _ _
       (standing_by_record sc log b ended t needs (IsDecided s ps) (decision t s ps rs ws) (max b.memory.last s) []
       (record {
         asked = remembers.asked;
@@ -89,7 +90,7 @@ module _ (sc : Scene) (log : List Record) (b : Before) where
         rests = inr (record { latest = latest; asked = remembers.counts; above = over b.memory.last latest votes });
       })
       (decided t s ps rs ws) tt)
-      (refusing sc log b TimeSpent)
+      (refused TimeSpent tt)
 
   -- ---- promises
 
@@ -98,10 +99,10 @@ module _ (sc : Scene) (log : List Record) (b : Before) where
   unfolding plan_promise
   promising ended earliest t c rs ws asked =
       let p = max (b.memory.last + 1) earliest in
-      choosing sc log b _ _ _
+      either _ _ _
       (standing_by_record sc log b ended t (exclusive ws) (IsPrepared c p) (promise t c p rs ws) _ _ asked (promised t c p rs ws)
       ((refl, record { coordinator = c; promised = promised t c p rs ws }), tt))
-      (refusing sc log b TimeSpent)
+      (refused TimeSpent tt)
 
   -- ---- aborts
 
@@ -143,7 +144,7 @@ module _ (sc : Scene) (log : List Record) (b : Before) where
   pub asking : (earliest : ℕ) (t : Id) (wait : Phase) → PhaseEvidence sc log b.shard t wait → PlannedEvidence sc log b.shard (plan_asks b earliest t wait)
   unfolding plan_asks
   asking earliest t wait e =
-      rooming sc log b _ _ (choosing sc log b _ _ _ (granting _ earliest t wait e) (putting sc log b _ t [] wait b.memory.last [] e tt))
+      within_room _ _ tt (either _ _ _ (granting _ earliest t wait e) (putting sc log b _ t [] wait b.memory.last [] e tt))
 
   -- ---- vote
 
@@ -163,7 +164,7 @@ module _ (sc : Scene) (log : List Record) (b : Before) where
   counting n t None latest ps rs ws votes sent remembers evidence = aborting t ps (was_asked t ps rs ws remembers.asked)
   counting n t (Some p) latest ps rs ws votes sent remembers evidence =
       let more = one_more t n p votes sent evidence in
-      tested sc log b (all_voted (other_parts b.shard ps) (with_vote n p votes)) _ _
+      tested (all_voted (other_parts b.shard ps) (with_vote n p votes)) _ _
       (λ all. deciding [] t latest ps rs ws [] (with_vote n p votes) remembers more all)
       (putting sc log b [] t [] (Collecting latest ps rs ws (with_vote n p votes)) b.memory.last [] (remembers, more) tt)
 
@@ -207,7 +208,7 @@ module _ (sc : Scene) (log : List Record) (b : Before) where
   pub settling : (earliest : ℕ) (t : Id) (s : ℕ) (ps : List ℕ) → earliest ≤ sc.now → HasDecision log t s →
       PlannedEvidence sc log b.shard (plan_cell b (ToSettle earliest t s ps))
   settling earliest t s ps honest e =
-      tested sc log b (nat_lt s earliest) _ _
+      tested (nat_lt s earliest) _ _
       (λ past.
       let below : s < earliest = ltb-true s earliest past in
       let passed : s < sc.now = omega (arith, below, honest) in
@@ -225,12 +226,12 @@ module _ (sc : Scene) (log : List Record) (b : Before) where
       } in
       dropping sc log b t (Record.Outcome t (Some s)) b.memory.last (done_to t (Some s) ∷ tells b t (Some s) (other_parts b.shard ps)) (passed, inl e)
       (stands, outcome_told more t s (other_parts b.shard ps) stands))
-      (refusing sc log b Early)
+      (refused Early tt)
 
   pub advancing : (latest stride at : ℕ) → PlannedEvidence sc log b.shard (plan_advance b latest stride at)
   unfolding plan_advance
   advancing latest stride at =
-      choosing sc log b _ _ _ (refusing sc log b Future) (serving sc log b _ _ (ceiling (nat_lt b.facts.floor at) (min (at + stride) time_limit)))
+      either _ _ _ (refused Future tt) (serving sc log b _ _ (ceiling (nat_lt b.facts.floor at) (min (at + stride) time_limit)))
     where
       ceiling : (high : Bool) (n : ℕ) → LoggedEvidence sc log b.shard (cond high (Some (Record.Ceiling n)) None)
       ceiling true n = tt
@@ -239,4 +240,4 @@ module _ (sc : Scene) (log : List Record) (b : Before) where
   pub forgetting : (at : ℕ) → PlannedEvidence sc log b.shard (plan_forget b at)
   unfolding plan_forget
   forgetting at =
-      choosing sc log b _ _ _ (refusing sc log b NotYet) (choosing sc log b _ _ _ (replying sc log b [] tt) (serving sc log b _ _ tt))
+      either _ _ _ (refused NotYet tt) (either _ _ _ (replying sc log b [] tt) (serving sc log b _ _ tt))

@@ -19,7 +19,8 @@ use Rattle.protocol.specs.Showable.{IsShowable, WritesAscend, writes_in, record_
 use Rattle.protocol.specs.Rows.{Memory, Row, Phase}
 use Rattle.protocol.specs.Plan.{Plan, start_of_step, carried}
 use Rattle.protocol.specs.Step.{plan_input, facts_after}
-use Rattle.protocol.proofs.Contents.{Brings, Fits, Told, change_told, logged_told, rows-carried, walked}
+use Rattle.protocol.proofs.Each.{told_plan}
+use Rattle.protocol.proofs.Contents.{Brings, Fits, change_told, logged_told, rows-carried, walked}
 
 -- the writes ascend
 abbrev pub in_order : List Bytes → List Write → Bool
@@ -101,10 +102,9 @@ module _ (setup : Setup) (rows : ℕ) (facts : Facts) (memory : Memory) (now : I
     (e : plan_input setup (start_of_step rows setup facts memory) now i ≡ Ok p) where
   ordered : (change_told in_order ascends_in record_ascends ascending_fits p.change ≡ true)
       × (logged_told in_order ascends_in record_ascends ascending_fits p.logged ≡ true)
-  unfolding Told
-  ordered = subst (Told in_order ascends_in record_ascends ascending_fits) e
-      (walked in_order ascends_in record_ascends ascending_fits setup (start_of_step rows setup facts memory) now i orderly.rows
-      (λ m same h. brought m (subst WritesAscend same input)))
+  ordered =
+      told_plan (walked in_order ascends_in record_ascends ascending_fits setup (start_of_step rows setup facts memory) now i orderly.rows
+      (λ m same h. brought m (subst WritesAscend same input))) e
 
   pub rows_kept : all_ascend (carried p memory).rows ≡ true
   rows_kept = rows-carried in_order ascends_in record_ascends ascending_fits p memory ordered.0 orderly.rows

@@ -8,7 +8,6 @@ use Rattle.units.specs.Ids.{Id, same_id}
 use Rattle.units.specs.ById.{IsById}
 use Rattle.units.specs.Keys.{Bytes}
 use Rattle.units.specs.Locks.{holds, is_free, with_lock, with_locks}
-use Rattle.units.specs.declared.fault.Fault.{Fault}
 use Rattle.units.specs.declared.lock.Lock.{Lock}
 use Rattle.units.proofs.ByIdLaws.{found_all}
 use Rattle.units.proofs.ListLaws.{all_of_each, all_gives}
@@ -17,13 +16,14 @@ use Rattle.message.specs.declared.message.Envelope.{Envelope}
 use Rattle.protocol.specs.Rows.{Row, Phase, IsPrepared, IsDecided, Standing, IsUnknown}
 use Rattle.protocol.specs.Rows.{HasRow, WasAborted, WasSettled, WasClosed, claims, find_row, standing, standing_by, held_by, held_in}
 use Rattle.protocol.specs.Rows.{without_rows}
-use Rattle.protocol.specs.Plan.{Plan, Planned, Before, stands, replies, idles, roomed, in_way, opens}
+use Rattle.protocol.specs.Plan.{Planned, Before, stands, replies, roomed, in_way, opens}
 use Rattle.protocol.specs.Cells.{still_stand}
 use Rattle.protocol.specs.Sound.{fits}
+use Rattle.protocol.proofs.Each.{planned, refused}
 use Rattle.protocol.proofs.RowChanges.{row_as, find-without_rows_other}
 use Rattle.protocol.proofs.AboveVersions.{each_gives}
 use Rattle.protocol.proofs.InWay.{row_at, in_way_gone}
-use Rattle.protocol.proofs.Shapes.{Shape, Shaped, Answers, IsCleared, is_undecided, is_loose, all_fit, IsLooseOther, reads_held, granted_to}
+use Rattle.protocol.proofs.Shapes.{Shaped, Answers, IsCleared, is_undecided, is_loose, all_fit, IsLooseOther, reads_held, granted_to}
 
 -- the rows of a state ascend by id
 abbrev pub Ascends : Before → Type 0
@@ -31,38 +31,13 @@ Ascends b = IsById (λ r. r.txn) b.memory.rows
 
 -- ---- choices
 
-pub planned : (b : Before) (p : Plan) → Shape b p → Shaped b (Ok p)
-unfolding Shaped
-planned b p h = h
-
-pub refused : (b : Before) (fault : Fault) → Shaped b (Err fault)
-unfolding Shaped
-refused b fault = tt
-
-pub shaped_cond : (b : Before) (test : Bool) (x y : Planned) → (test ≡ true → Shaped b x) → (test ≡ false → Shaped b y) → Shaped b (cond test x y)
-shaped_cond b true x y h k = h refl
-shaped_cond b false x y h k = k refl
-
-pub shape_cond : (b : Before) (test : Bool) (p q : Plan) → (test ≡ true → Shape b p) → (test ≡ false → Shape b q) → Shape b (cond test p q)
-shape_cond b true p q h k = h refl
-shape_cond b false p q h k = k refl
-
-pub shaped_err : (b : Before) (test : Bool) (x : Planned) (fault : Fault) → Shaped b x → Shaped b (cond test x (Err fault))
-shaped_err b test x fault h = shaped_cond b test x (Err fault) (λ _. h) (λ _. refused b fault)
-
 pub shaped_roomed : (b : Before) (crowded : Bool) (plan : Planned) → (crowded ≡ false → Shaped b plan) → Shaped b (roomed crowded plan)
-unfolding Shaped
-shaped_roomed b true (Ok p) h = tt
-shaped_roomed b true (Err fault) h = tt
+shaped_roomed b true (Ok p) h = refused _ tt
+shaped_roomed b true (Err fault) h = refused _ tt
 shaped_roomed b false plan h = h refl
 
-pub shaped_idle : (b : Before) → Shaped b (Ok (idles b))
-unfolding Shaped
-shaped_idle b = Answers [] refl
-
 pub shaped_reply : (b : Before) (out : List Envelope) → Shaped b (Ok (replies b out))
-unfolding Shaped
-shaped_reply b out = Answers out refl
+shaped_reply b out = planned _ (Answers out refl)
 
 -- ---- what the standing says
 

@@ -29,6 +29,7 @@ use Rattle.protocol.specs.Cells.{plan_commit_fresh, plan_commit_granted, plan_co
 use Rattle.protocol.specs.Cells.{plan_promise, plan_read_row}
 use Rattle.protocol.specs.Step.{is_for, cell, plan_input}
 use Rattle.protocol.proofs.CellsFrom.{IsHeard, IsIn, IsFrom, cell_is_from}
+use Rattle.protocol.proofs.Each.{Each, planned, refused, tested, either, within_room}
 use Rattle.protocol.proofs.InWay.{row_at}
 use Rattle.protocol.proofs.RowChanges.{row_as}
 use Rattle.protocol.proofs.RowTable.{with_row-is}
@@ -73,31 +74,11 @@ module _ (P : List Bytes → List Write → Bool) (named : Phase → Bool) (note
   all_told rows = list_all (λ r. named r.phase) rows
 
   -- so of a plan; and a refusal is for a reason of the step's own
-  unfoldable pub Told : Planned → Type 0
-  Told (Err fault) = is_own fault ≡ true
-  Told (Ok p) = (change_told p.change ≡ true) × (logged_told p.logged ≡ true)
+  abbrev pub Told : Planned → Type 0
+  Told = Each (λ p. (change_told p.change ≡ true) × (logged_told p.logged ≡ true)) (λ fault. is_own fault ≡ true)
 
   told : (p : Plan) → change_told p.change ≡ true → logged_told p.logged ≡ true → Told (Ok p)
-  unfolding Told
-  told p c l = (c, l)
-
-  refused : (fault : Fault) → is_own fault ≡ true → Told (Err fault)
-  unfolding Told
-  refused fault own = own
-
-  told_cond : (test : Bool) (x y : Planned) → Told x → Told y → Told (cond test x y)
-  told_cond true x y h k = h
-  told_cond false x y h k = k
-
-  told_provided : (test : Bool) (x : Planned) → (test ≡ true → Told x) → Told (cond test x (Err Stranger))
-  told_provided true x h = h refl
-  told_provided false x h = refused Stranger refl
-
-  told_roomed : (crowded : Bool) (plan : Planned) → Told plan → Told (roomed crowded plan)
-  unfolding Told
-  told_roomed true (Ok p) h = refl
-  told_roomed true (Err fault) h = h
-  told_roomed false plan h = h
+  told p c l = planned p (c, l)
 
   -- ---- requests
 
@@ -106,7 +87,7 @@ module _ (P : List Bytes → List Write → Bool) (named : Phase → Bool) (note
   unfolding plan_promise
   walk_promise b ended earliest t c rs ws own =
       let p : ℕ = max (b.memory.last + 1) earliest in
-      told_cond _ _ _ (told _ (fits.prepared c p) (fits.promised t c p rs ws ∙ own)) (refused TimeSpent refl)
+      either _ _ _ (told _ (fits.prepared c p) (fits.promised t c p rs ws ∙ own)) (refused TimeSpent refl)
 
   walk_abort : (b : Before) (t : Id) (ps : List ℕ) → Told (Ok (plan_abort b t ps))
   unfolding plan_abort
@@ -117,7 +98,7 @@ module _ (P : List Bytes → List Write → Bool) (named : Phase → Bool) (note
   unfolding plan_decide
   walk_decide b ended t latest ps rs ws needs votes own =
       let s : ℕ = commit_stamp b.memory.last latest votes in
-      told_cond _ _ _ (told _ (fits.decided s ps) (fits.decides t s ps rs ws ∙ own)) (refused TimeSpent refl)
+      either _ _ _ (told _ (fits.decided s ps) (fits.decides t s ps rs ws ∙ own)) (refused TimeSpent refl)
 
   walk_commit_granted : (b : Before) (ended : List Id) (t : Id) (latest : ℕ) (ps : List ℕ) (rs : List Bytes) (ws : List Write) (ns : List ℕ) →
       P rs ws ≡ true
@@ -136,23 +117,23 @@ module _ (P : List Bytes → List Write → Bool) (named : Phase → Bool) (note
 
   walk_asks : (b : Before) (earliest : ℕ) (t : Id) (wait : Phase) → named wait ≡ true → Told (plan_asks b earliest t wait)
   unfolding plan_asks
-  walk_asks b earliest t wait own = told_roomed _ _ (told_cond _ _ _ (walk_granted b _ earliest t wait own) (told _ own refl))
+  walk_asks b earliest t wait own = within_room _ _ refl (either _ _ _ (walk_granted b _ earliest t wait own) (told _ own refl))
 
   walk_read_row : (b : Before) (t : Id) (k : Bytes) (held : List Lock) (waits : Bool) → Told (plan_read_row b t k held waits)
   unfolding plan_read_row
-  walk_read_row b t k held waits = told_cond _ _ _ (told _ refl refl) (told_cond waits _ _ (told _ refl refl) (walk_asks b 0 t (WaitsRead k) (fits.reading k)))
+  walk_read_row b t k held waits = either _ _ _ (told _ refl refl) (either waits _ _ (told _ refl refl) (walk_asks b 0 t (WaitsRead k) (fits.reading k)))
 
   walk_prepare_fresh : (b : Before) (earliest : ℕ) (m : Prepare) (held : List Lock) → P m.reads.keys m.writes ≡ true
       → Told (plan_prepare_fresh b earliest m held)
   unfolding plan_prepare_fresh
   walk_prepare_fresh b earliest m held own =
-      told_cond _ _ _ (walk_asks b earliest m.txn _ (fits.preparing m.coordinator m.reads.keys m.writes ∙ own)) (told _ refl refl)
+      either _ _ _ (walk_asks b earliest m.txn _ (fits.preparing m.coordinator m.reads.keys m.writes ∙ own)) (told _ refl refl)
 
   walk_commit_fresh : (b : Before) (latest : ℕ) (m : Commit) (held : List Lock) → P m.reads.keys m.writes ≡ true
       → Told (plan_commit_fresh b latest m held)
   unfolding plan_commit_fresh
   walk_commit_fresh b latest m held own =
-      told_cond _ _ _ (told_cond _ _ _ (walk_asks b 0 m.txn _ (fits.committing latest m.parts m.reads.keys m.writes ∙ own)) (refused TimeSpent refl))
+      either _ _ _ (either _ _ _ (walk_asks b 0 m.txn _ (fits.committing latest m.parts m.reads.keys m.writes ∙ own)) (refused TimeSpent refl))
       (walk_abort b m.txn m.parts)
 
   -- ---- votes, served time
@@ -162,11 +143,11 @@ module _ (P : List Bytes → List Write → Bool) (named : Phase → Bool) (note
   unfolding plan_count
   walk_count b n t None latest ps rs ws votes own = walk_abort b t ps
   walk_count b n t (Some p) latest ps rs ws votes own =
-      told_cond _ _ _ (walk_decide b [] t latest ps rs ws [] _ own) (told _ (fits.collecting latest ps rs ws (with_vote n p votes) ∙ own) refl)
+      either _ _ _ (walk_decide b [] t latest ps rs ws [] _ own) (told _ (fits.collecting latest ps rs ws (with_vote n p votes) ∙ own) refl)
 
   walk_advance : (b : Before) (latest stride at : ℕ) → Told (plan_advance b latest stride at)
   unfolding plan_advance
-  walk_advance b latest stride at = told_cond _ _ _ (refused Future refl) (told _ refl (by_test (nat_lt b.facts.floor at) _))
+  walk_advance b latest stride at = either _ _ _ (refused Future refl) (told _ refl (by_test (nat_lt b.facts.floor at) _))
     where
       by_test : (high : Bool) (n : ℕ) → logged_told (cond high (Some (Record.Ceiling n)) None) ≡ true
       by_test true n = fits.ceilings n
@@ -174,7 +155,7 @@ module _ (P : List Bytes → List Write → Bool) (named : Phase → Bool) (note
 
   walk_forget : (b : Before) (at : ℕ) → Told (plan_forget b at)
   unfolding plan_forget
-  walk_forget b at = told_cond _ _ _ (refused NotYet refl) (told_cond _ _ _ (told _ refl refl) (told _ refl (fits.horizons at)))
+  walk_forget b at = either _ _ _ (refused NotYet refl) (either _ _ _ (told _ refl refl) (told _ refl (fits.horizons at)))
 
   -- ---- all cells
 
@@ -194,7 +175,7 @@ module _ (P : List Bytes → List Write → Bool) (named : Phase → Bool) (note
     walk ToRefuse from = refused Stranger refl
     walk ToRest from = told _ refl refl
     walk (ToReply e) from = told _ refl refl
-    walk (Provided test c) from = told_provided test _ (λ e. walk c (from e))
+    walk (Provided test c) from = tested test _ _ (λ e. walk c (from e)) (refused Stranger refl)
     walk (ToRead t k held waits) from = walk_read_row b t k held waits
     walk (ToPrepare earliest m held) from = walk_prepare_fresh b earliest m held (heard (Message.Prepare m) from.0)
     walk (ToCommit latest m held) from = walk_commit_fresh b latest m held (heard (Message.Commit m) from.0)
@@ -205,7 +186,7 @@ module _ (P : List Bytes → List Write → Bool) (named : Phase → Bool) (note
         walk_count b n t vote l ps rs ws votes (sym (fits.collecting l ps rs ws votes) ∙ in_row t _ from.1)
     walk (ToClose t outcome) from = told _ refl (fits.outcomes t outcome)
     walk (ToGoOn earliest t wait) from = walk_granted b [] earliest t wait (in_row t wait from.waits)
-    walk (ToSettle earliest t s ps) from = told_cond _ _ _ (told _ refl (fits.outcomes t (Some s))) (refused Early refl)
+    walk (ToSettle earliest t s ps) from = either _ _ _ (told _ refl (fits.outcomes t (Some s))) (refused Early refl)
     walk (ToServe latest stride at) from = walk_advance b latest stride at
     walk (ToForget at) from = walk_forget b at
 

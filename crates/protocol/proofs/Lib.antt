@@ -5,6 +5,7 @@ pub mod Choices
 mod Contents
 pub mod CellsFrom
 pub mod ClaimsBeside
+pub mod Each
 pub mod FitsBeside
 pub mod Follows
 pub mod InWay

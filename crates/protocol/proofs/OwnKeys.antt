@@ -14,6 +14,7 @@ use Rattle.protocol.specs.OwnKeys.{LoggedBelongs, StepKeepsOwn, all_own, names_o
 use Rattle.protocol.specs.Rows.{rebuilt, standing_row}
 use Rattle.protocol.specs.Plan.{start_of_step, Before}
 use Rattle.protocol.specs.Step.{is_for, plan_input}
+use Rattle.protocol.proofs.Each.{told_plan}
 use Rattle.protocol.proofs.Contents.{Brings, Fits, Told, logged_told, rows-carried, walked}
 
 module _ (setup : Setup) where
@@ -63,16 +64,12 @@ module _ (setup : Setup) where
   own-rebuilt f = own-left f.entries
 
 pub step_keeps_own : StepKeepsOwn
-unfolding Told
 step_keeps_own rows setup facts memory now i p own e =
     rows-carried (keys_belong setup) (names_own setup) (belongs setup) (own_fits setup) p memory
-    (subst (Told (keys_belong setup) (names_own setup) (belongs setup) (own_fits setup)) e
-    (own_input setup (start_of_step rows setup facts memory) now i own)).0
+    (told_plan (own_input setup (start_of_step rows setup facts memory) now i own) e).0
     own
 
 pub logged_belongs : LoggedBelongs
-unfolding Told
 logged_belongs rows setup facts memory now i p r own e logged =
     sym (ap (logged_told (keys_belong setup) (names_own setup) (belongs setup) (own_fits setup)) logged)
-    ∙ (subst (Told (keys_belong setup) (names_own setup) (belongs setup) (own_fits setup)) e
-    (own_input setup (start_of_step rows setup facts memory) now i own)).1
+    ∙ (told_plan (own_input setup (start_of_step rows setup facts memory) now i own) e).1

@@ -8,7 +8,7 @@ use Rattle.units.specs.Ids.{Id}
 use Rattle.units.specs.ById.{IsById}
 use Rattle.units.specs.Keys.{Bytes}
 use Rattle.units.specs.Locks.{holds, is_free}
-use Rattle.units.specs.declared.fault.Fault.TheVariants.{Future, NotYet}
+use Rattle.units.specs.declared.fault.Fault.TheVariants.{NotYet}
 use Rattle.units.specs.declared.setup.Setup.{Setup}
 use Rattle.units.specs.declared.writes.Write.{Write}
 use Rattle.record.specs.declared.record.Record.{Record}
@@ -25,11 +25,12 @@ use Rattle.protocol.specs.Cells.{ToGoOn, ToSettle, ToServe, ToForget, ceiling_fo
 use Rattle.protocol.specs.Sound.{fits, holds_writes}
 use Rattle.protocol.specs.Step.{is_for, cell, plan_input}
 use Rattle.protocol.proofs.CellsFrom.{IsIn, IsNext, IsFrom, cell_is_from}
+use Rattle.protocol.proofs.Each.{planned, refused, told_plan, tested, either}
 use Rattle.protocol.proofs.RowChanges.{row_as}
 use Rattle.protocol.proofs.InWay.{row_at, room_at, free_of_nothing, free_when_ready}
 use Rattle.protocol.proofs.Shapes.{Shaped, Answers, IsEnd, IsAbort, IsClose, IsSettle, IsLock, IsCleared, ShapeOf, Acts, IsAdvance, IsForget, ShapedBy}
 use Rattle.protocol.proofs.Shapes.{is_undecided, is_loose, reads_held, all_fit, granted_to}
-use Rattle.protocol.proofs.Choices.{Ascends, planned, refused, shaped_cond, shaped_err, shaped_idle, shaped_reply, fits_at, clear, held_at}
+use Rattle.protocol.proofs.Choices.{Ascends, shaped_reply, fits_at, clear, held_at}
 use Rattle.protocol.proofs.RequestShapes.{shaped_read_row, shaped_prepare_fresh, shaped_abort, shaped_decide, shaped_granted, shaped_commit_fresh}
 
 -- ---- what a row says
@@ -62,9 +63,9 @@ shaped_count b n t (Some p) latest ps rs ws votes in_row =
     λ f. ap (λ ls. holds_writes ls ws) same ∙ (and_parts _ _ (and_parts _ _ (fitting f)).1).1 in
     let room : is_crowded b t ≡ false = row_room b t phase in_row in
     let nobody : IsCleared b.memory.rows t [] [] = clear b t [] (free_of_nothing (claims b.memory.rows) t) in
-    shaped_cond b _ _ _
-    (λ _. shaped_decide b [] t latest ps rs ws [] (with_vote n p votes) nobody (ap is_undecided in_row.row) first read alone room)
-    (λ _. planned b _ (IsLock t [] [] (Collecting latest ps rs ws (with_vote n p votes)) [] (record {
+    either _ _ _
+    (shaped_decide b [] t latest ps rs ws [] (with_vote n p votes) nobody (ap is_undecided in_row.row) first read alone room)
+    (planned _ (IsLock t [] [] (Collecting latest ps rs ws (with_vote n p votes)) [] (record {
       cleared = nobody;
       undecided = ap is_undecided in_row.row;
       firmer = refl;
@@ -75,22 +76,18 @@ shaped_count b n t (Some p) latest ps rs ws votes in_row =
     }) refl))
 
 shaped_advance : (b : Before) (latest stride at : ℕ) → ShapedBy b (Input.Advance at) (plan_advance b latest stride at)
-unfolding plan_advance ShapedBy
-shaped_advance b latest stride at = by_test (nat_lt latest at)
-  where
-    by_test : (late : Bool) → ShapedBy b (Input.Advance at) (cond late (Err Future) (Ok (serves (ceiling_for b.facts.floor stride at) (max b.memory.last at))))
-    by_test true = tt
-    by_test false = IsAdvance stride at refl refl
+unfolding plan_advance
+shaped_advance b latest stride at = either _ _ _ (refused _ tt) (planned _ (IsAdvance stride at refl refl))
 
 shaped_forget : (b : Before) (at : ℕ) → ShapedBy b (Input.Forget at) (plan_forget b at)
-unfolding plan_forget ShapedBy
+unfolding plan_forget
 shaped_forget b at = by_tests (nat_lt (safe b.memory) at) refl (nat_le at b.facts.horizon) refl
   where
     by_tests : (late : Bool) → nat_lt (safe b.memory) at ≡ late → (known : Bool) → nat_le at b.facts.horizon ≡ known →
         ShapedBy b (Input.Forget at) (cond late (Err NotYet) (cond known (Ok (idles b)) (Ok (serves (Some (Record.Horizon at)) b.memory.last))))
-    by_tests true k known h = tt
-    by_tests false k true h = Acts (Answers [] refl)
-    by_tests false k false h = IsForget at refl (ltb-false (safe b.memory) at k) (leb-false at b.facts.horizon h) refl
+    by_tests true k known h = refused _ tt
+    by_tests false k true h = planned _ (Acts (Answers [] refl))
+    by_tests false k false h = planned _ (IsForget at refl (ltb-false (safe b.memory) at k) (leb-false at b.facts.horizon h) refl)
 
 -- ---- all cells
 
@@ -109,31 +106,26 @@ module _ (rows : ℕ) (setup : Setup) (facts : Facts) (memory : Memory) (now : I
   b = start_of_step rows setup facts memory
 
   acts : (plan : Planned) → Shaped b plan → ShapedBy b i plan
-  unfolding Shaped ShapedBy
-  acts (Ok p) h = Acts h
-  acts (Err fault) h = tt
-
-  by_test : (test : Bool) (x y : Planned) → (test ≡ true → ShapedBy b i x) → ShapedBy b i y → ShapedBy b i (cond test x y)
-  by_test true x y h k = h refl
-  by_test false x y h k = k
+  acts (Ok p) h = planned _ (Acts h.each)
+  acts (Err fault) h = refused _ tt
 
   shaped : (c : Cell) → IsFrom setup b now i c → ShapedBy b i (plan_cell b c)
-  shaped ToRefuse from = acts _ (refused b _)
-  shaped ToRest from = acts _ (shaped_idle b)
+  shaped ToRefuse from = refused _ tt
+  shaped ToRest from = acts _ (shaped_reply b [])
   shaped (ToReply e) from = acts _ (shaped_reply b _)
-  shaped (Provided test c) from = by_test test _ _ (λ e. shaped c (from e)) (acts _ (refused b _))
+  shaped (Provided test c) from = tested test _ _ (λ e. shaped c (from e)) (refused _ tt)
   shaped (ToRead t k held waits) from = acts _ (shaped_read_row b t k held waits up from.loose)
   shaped (ToPrepare earliest m held) from =
       acts _ (shaped_prepare_fresh b earliest m held up from.1.loose (lower setup m from.0.own) from.1.holds)
   shaped (ToCommit latest m held) from =
       acts _ (shaped_commit_fresh b latest m held up from.1.0.loose (first_part setup m from.0.own) from.1.0.holds)
-  shaped (ToEnd t cs) from = acts _ (planned b _ (IsEnd t _ from refl))
+  shaped (ToEnd t cs) from = acts _ (planned _ (IsEnd t _ from refl))
   shaped (ToAbort t ps) from = acts _ (shaped_abort b t ps from.0)
-  shaped (ToAbortFor n t) from = acts _ (planned b _ (IsAbort t _ from.0 refl))
+  shaped (ToAbortFor n t) from = acts _ (planned _ (IsAbort t _ from.0 refl))
   shaped (ToCount n t vote l ps rs ws votes) from = acts _ (shaped_count b n t vote l ps rs ws votes from.1)
   shaped (ToClose t outcome) from =
       let promised = IsPrepared from.coordinator from.at in
-      acts _ (planned b _ (IsClose t from.from from.coordinator from.at from.promised.held outcome []
+      acts _ (planned _ (IsClose t from.from from.coordinator from.at from.promised.held outcome []
       (row_at b t from.promised.held promised from.promised.row) from.allowed refl))
   shaped (ToGoOn earliest t wait) from =
       acts _ (shaped_granted b [] earliest t wait (clear b t (needs_of wait) (row_free b t wait up from))
@@ -141,7 +133,7 @@ module _ (rows : ℕ) (setup : Setup) (facts : Facts) (memory : Memory) (now : I
       (λ f. ap (λ ls. fits b.shard (row_as t ls wait)) (held_at b t from.waits.held wait from.waits.row) ∙ row_fits b t wait from.waits f)
       (row_room b t wait from.waits))
   shaped (ToSettle earliest t s ps) from =
-      acts _ (shaped_err b _ _ _ (planned b _ (IsSettle t s ps from.0.held _ (row_at b t from.0.held (IsDecided s ps) from.0.row) refl)))
+      acts _ (either _ _ _ (planned _ (IsSettle t s ps from.0.held _ (row_at b t from.0.held (IsDecided s ps) from.0.row) refl)) (refused _ tt))
   shaped (ToServe latest stride at) from =
       subst (λ j. ShapedBy b j (plan_advance b latest stride at)) (sym from) (shaped_advance b latest stride at)
   shaped (ToForget at) from = subst (λ j. ShapedBy b j (plan_forget b at)) (sym from) (shaped_forget b at)
@@ -149,7 +141,7 @@ module _ (rows : ℕ) (setup : Setup) (facts : Facts) (memory : Memory) (now : I
 -- each plan of a step has a shape
 pub shape_of : (rows : ℕ) (setup : Setup) (facts : Facts) (memory : Memory) (now : Interval) (i : Input) (p : Plan) → IsById (λ r. r.txn) memory.rows
     → plan_input setup (start_of_step rows setup facts memory) now i ≡ Ok p → ShapeOf (start_of_step rows setup facts memory) i p
-unfolding ShapedBy plan_input
+unfolding plan_input
 shape_of rows setup facts memory now i p up e =
     let b : Before = start_of_step rows setup facts memory in
-    subst (ShapedBy b i) e (shaped rows setup facts memory now i up (cell setup b now i) (cell_is_from setup b now i))
+    told_plan (shaped rows setup facts memory now i up (cell setup b now i) (cell_is_from setup b now i)) e

@@ -49,9 +49,8 @@ brought (Message.Commit c) = refl
 brought _ = tt
 
 by_walk : (plan : Planned) → Told any_reads any_phase any_record any_fits plan → Owns plan
-unfolding Told
 by_walk (Ok p) h = tt
-by_walk (Err fault) h = h
+by_walk (Err fault) h = h.each
 
 pub own_refusals : OwnRefusals
 own_refusals setup b now i = by_walk (plan_input setup b now i)

@@ -17,6 +17,7 @@ use Rattle.protocol.specs.Outputs.{promise, decision}
 use Rattle.protocol.specs.Plan.{Plan, Planned, Before, stands, replies, serves, ends, drops, puts, in_way, is_crowded}
 use Rattle.protocol.specs.Cells.{is_outcome_for, raised, ceiling_for}
 use Rattle.protocol.specs.Sound.{is_open, fits, holds_writes}
+use Rattle.protocol.proofs.Each.{Each}
 use Rattle.protocol.proofs.RowChanges.{row_as}
 
 -- no promise, decision or abort is recorded: the transaction is not known, was ended, or has a row without a record
@@ -124,10 +125,8 @@ pub data ShapeOf (b : Before) (i : Input) (p : Plan) : Type 0 where
       → ShapeOf b i p
 
 -- where a plan is not refused, it has a shape
-unfoldable pub Shaped : Before → Planned → Type 0
-Shaped b (Err fault) = Unit {0}
-Shaped b (Ok p) = Shape b p
+abbrev pub Shaped : Before → Planned → Type 0
+Shaped b = Each (Shape b) (λ fault. Unit {0})
 
-unfoldable pub ShapedBy : Before → Input → Planned → Type 0
-ShapedBy b i (Err fault) = Unit {0}
-ShapedBy b i (Ok p) = ShapeOf b i p
+abbrev pub ShapedBy : Before → Input → Planned → Type 0
+ShapedBy b i = Each (ShapeOf b i) (λ fault. Unit {0})
