@@ -3,7 +3,7 @@ use crate::checks::is_printed;
 use crate::drawn;
 use crate::ids::{admits, ask};
 use crate::text_logs::{keys_of, record_of};
-use gatelog::{GateLog, Logged};
+use gatelog::{GateLog, Noted};
 use made::{WrongRows, id, key, shard, stamp};
 use record::Record;
 use rows::{CommitRequest, Gathering, Row, Rows};
@@ -116,19 +116,19 @@ static STORIES: [Story; 6] = [
 
 type Log = GateLog<SimDisk>;
 
-// The record, once it stands in the log.
-fn logged(log: &mut Log, alloc: Global, record: Record) -> Option<Logged> {
+// The record, by which a row may go on, once it stands in the log.
+fn logged(log: &mut Log, alloc: Global, record: Record) -> Option<Noted> {
     let Ok(staged) = log.stage(alloc, record) else {
         return None;
     };
     match log.append(staged) {
-        Ok(logged) => Some(logged),
+        Ok(logged) => Some(logged.note()),
         Err(_) => None,
     }
 }
 
 // 1.1 goes on by a record of its own, if it is in a state for it, and hands the record back.
-fn spend(rows: &mut Rows, logged: Logged) -> Record {
+fn spend(rows: &mut Rows, logged: Noted) -> Record {
     let own = id(1);
     match (logged.item(), rows.find(own)) {
         (Record::Prepare(record), Some(Row::Reading(state)))

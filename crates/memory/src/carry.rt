@@ -18,7 +18,7 @@ use crate::state::State;
 use ledger::{Ended, Ledger};
 use message::Outbox;
 use record::Record;
-use rows::{Logged, Row, Rows};
+use rows::{Noted, Row, Rows};
 use safetime::SafeTime;
 use std::alloc::Global;
 use units::{Fault, Lock, Stamp, TxnId};
@@ -83,7 +83,7 @@ impl State {
 
     /// Carries out a plan for which all was made ready, with the word that the record beside it is logged, where there is one. It
     /// takes no memory.
-    pub fn carry(&mut self, plan: Plan, logged: Option<Logged>) -> Outbox
+    pub fn carry(&mut self, plan: Plan, logged: Option<Noted>) -> Outbox
         requires ready { IsCarriable self.old (record { plan = plan; logged = logged }) }
         ensures setup { self.new.setup ≡ self.old.setup }
         ensures facts { self.new.facts ≡ facts_after self.old.facts logged }
@@ -118,7 +118,7 @@ impl State {
 
     /// Learns a record of a renewed log's head: a version, or a transaction that ended. No row changes. It is refused for want of
     /// memory alone, and all is as it was then.
-    pub fn keep(&mut self, logged: Logged) -> Result<(), Fault>
+    pub fn keep(&mut self, logged: Noted) -> Result<(), Fault>
         requires follows { IsTrue
             (follows_head self.old.setup.shard self.old.stage self.old.facts logged) }
         ensures setup { self.new.setup ≡ self.old.setup }
@@ -209,7 +209,7 @@ fn make_change(
     change: Change,
     wounded: &[TxnId],
     needs: &[Lock],
-    logged: Option<Logged>,
+    logged: Option<Noted>,
 ) -> Option<Record>
     requires holding { IsHolding times.old.holds rows.old.rows }
     requires fits { FitsRows rows.old.rows wounded.now needs.now logged change }
@@ -271,7 +271,7 @@ fn end(rows: &mut Rows, txn: TxnId)
 }
 
 // The row of a transaction goes by the record that was logged.
-fn drop_row(rows: &mut Rows, times: &mut SafeTime, txn: TxnId, logged: Logged) -> Record
+fn drop_row(rows: &mut Rows, times: &mut SafeTime, txn: TxnId, logged: Noted) -> Record
     requires holding { IsHolding times.old.holds rows.old.rows }
     requires may { MayDrop rows.old.rows txn (Some logged) }
     ensures holding { IsHolding times.new.holds rows.new.rows }
@@ -304,7 +304,7 @@ fn held_at(rows: &Rows, txn: TxnId) -> Option<Stamp>
 }
 
 // A row stands by the record that was logged: a promise or a decision. It holds the served time below its timestamp.
-fn stand(rows: &mut Rows, times: &mut SafeTime, txn: TxnId, logged: Logged) -> Record
+fn stand(rows: &mut Rows, times: &mut SafeTime, txn: TxnId, logged: Noted) -> Record
     requires holding { IsHolding times.old.holds rows.old.rows }
     requires stands { CanStand rows.old.rows txn logged }
     ensures holding { IsHolding times.new.holds rows.new.rows }
@@ -394,7 +394,7 @@ fn learn(ledger: &mut Ledger, item: Option<Record>)
 }
 
 // The word that a record was logged, which is there.
-fn there(logged: Option<Logged>) -> Logged
+fn there(logged: Option<Noted>) -> Noted
     requires { IsSome logged }
     ensures { logged ≡ Some result }
 {
@@ -405,7 +405,7 @@ fn there(logged: Option<Logged>) -> Logged
 }
 
 // Spends the word that a record was logged, where there is one.
-fn spend(logged: Option<Logged>) -> Option<Record>
+fn spend(logged: Option<Noted>) -> Option<Record>
     ensures { result ≡ logged }
 {
     match logged {

@@ -8,7 +8,7 @@ ghost use Rattle.rows.specs.RowTable.{has_phase, put_row, phase_by, phase_in, wi
 use crate::row::Row;
 use crate::rows::Rows;
 use crate::votes::Gathering;
-use gatelog::Logged;
+use gatelog::Noted;
 use record::Record;
 use units::{ShardNo, Stamp, TxnId};
 
@@ -39,7 +39,7 @@ impl Rows {
     }
 
     /// A logged promise is spent: the transaction is prepared, and holds what it held. It takes no memory.
-    pub fn prepare(&mut self, txn: TxnId, logged: Logged) -> Record
+    pub fn prepare(&mut self, txn: TxnId, logged: Noted) -> Record
         requires idle { has_phase is_idle self.old.rows txn ≡ true }
         requires mine { is_prepare_of txn logged ≡ true }
         ensures rows { self.new.rows ≡ put_row self.old.rows txn (held_in self.old.rows txn)
@@ -53,7 +53,7 @@ impl Rows {
     }
 
     /// A logged decision is spent: the transaction is decided, and holds what it held. It takes no memory.
-    pub fn decide(&mut self, txn: TxnId, logged: Logged) -> Record
+    pub fn decide(&mut self, txn: TxnId, logged: Noted) -> Record
         requires may { has_phase may_decide self.old.rows txn ≡ true }
         requires mine { is_commit_of txn logged ≡ true }
         ensures rows { self.new.rows ≡ put_row self.old.rows txn (held_in self.old.rows txn)
@@ -76,7 +76,7 @@ impl Rows {
     }
 
     /// A logged abort is spent, and the transaction ends. It takes no memory.
-    pub fn abort(&mut self, txn: TxnId, logged: Logged) -> Record
+    pub fn abort(&mut self, txn: TxnId, logged: Noted) -> Record
         requires may { has_phase may_abort self.old.rows txn ≡ true }
         requires mine { is_abort_of txn logged ≡ true }
         ensures rows { self.new.rows ≡ without_row self.old.rows txn }
@@ -88,7 +88,7 @@ impl Rows {
     }
 
     /// A logged outcome is spent, and the transaction that was prepared or decided is done. It takes no memory.
-    pub fn close(&mut self, txn: TxnId, logged: Logged) -> Record
+    pub fn close(&mut self, txn: TxnId, logged: Noted) -> Record
         requires may { has_phase may_close self.old.rows txn ≡ true }
         requires mine { is_outcome_of txn logged ≡ true }
         ensures rows { self.new.rows ≡ without_row self.old.rows txn }
