@@ -26,6 +26,8 @@ mod forgetting;
 #[cfg(test)]
 mod given;
 #[cfg(test)]
+mod grouped;
+#[cfg(test)]
 mod inboxes;
 #[cfg(test)]
 mod logs;

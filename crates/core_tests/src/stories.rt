@@ -2,6 +2,7 @@
 use crate::answers::{Told, is_told};
 use crate::cores::{Setting, bytes_on, formatted, opened, plain};
 use crate::given::{Given, input_of, reading};
+use crate::grouped::take_group;
 use made::{WrongRows, stamp, with_slots};
 use node::Core;
 use simdisk::{Choice, SimDisk};
@@ -128,6 +129,11 @@ pub fn play(
         drop(input);
         wrong.unless_at(is_told(answer, wanted), part.name, earliest);
     }
+    compare(wrong, rt, core, part);
+}
+
+// Compares what the core shows with the part.
+fn compare(wrong: &mut WrongRows, rt: &impl Abort, core: &Core<SimDisk>, part: &Part) {
     for fact in part.shows {
         wrong.unless_at(
             is_shown(rt, core, fact),
@@ -135,6 +141,28 @@ pub fn play(
             part.exchanges.len() as u64,
         );
     }
+}
+
+// The core once it has taken what the part says, one by one or so many in a group.
+fn played(
+    wrong: &mut WrongRows,
+    rt: &impl Abort,
+    alloc: Global,
+    core: Core<SimDisk>,
+    part: &Part,
+    together: Option<usize>,
+) -> Core<SimDisk> {
+    let mut core = core;
+    match together {
+        None => play(wrong, rt, alloc, &mut core, part),
+        Some(count) => {
+            for exchanges in part.exchanges.chunks(count) {
+                core = take_group(wrong, rt, alloc, core, part.name, exchanges);
+            }
+            compare(wrong, rt, &core, part);
+        }
+    }
+    core
 }
 
 fn is_in(alloc: Global, bytes: &[u8], fact: &Shows) -> bool {
@@ -164,11 +192,11 @@ fn left(
     disk: SimDisk,
     setting: Setting,
     part: &Part,
+    together: Option<usize>,
 ) -> SimDisk {
     match opened(rt, alloc, disk, setting) {
-        Ok(mut core) => {
-            play(wrong, rt, alloc, &mut core, part);
-            let mut disk = core.stop();
+        Ok(core) => {
+            let mut disk = played(wrong, rt, alloc, core, part, together).stop();
             let bytes = bytes_on(rt, alloc, &mut disk);
             for fact in part.shows {
                 let held = is_in(alloc, bytes.as_slice(), fact);
@@ -217,7 +245,7 @@ pub fn disk_of(
             part.exchanges = exchanges;
         }
     }
-    let disk = left(wrong, rt, alloc, formatted(rt, alloc), before, &part);
+    let disk = left(wrong, rt, alloc, formatted(rt, alloc), before, &part, None);
     match origin {
         Origin::Crashed(_) => disk.crash(&Choice::none(alloc)),
         _ => disk,
@@ -226,9 +254,24 @@ pub fn disk_of(
 
 /// Plays the stories, each up to each of its moments.
 pub fn tell(wrong: &mut WrongRows, rt: &impl Abort, alloc: Global, stories: &[Story]) {
+    tell_by(wrong, rt, alloc, stories, None);
+}
+
+/// The same, with the inputs one by one or so many in a group.
+pub fn tell_by(
+    wrong: &mut WrongRows,
+    rt: &impl Abort,
+    alloc: Global,
+    stories: &[Story],
+    together: Option<usize>,
+) {
     for story in stories {
         let mut setting = plain(story.shard, story.stride);
         if let Origin::Failing(call) = story.origin {
+            // A group whose device fails hands nothing out.
+            if together.is_some() {
+                continue;
+            }
             setting.fails = Some(call);
         }
         for moment in story.moments {
@@ -238,7 +281,7 @@ pub fn tell(wrong: &mut WrongRows, rt: &impl Abort, alloc: Global, stories: &[St
                 shows: moment.shows,
             };
             let disk = disk_of(wrong, rt, alloc, story.name, setting, story.origin);
-            drop(left(wrong, rt, alloc, disk, setting, &part));
+            drop(left(wrong, rt, alloc, disk, setting, &part, together));
         }
     }
 }

@@ -5,7 +5,7 @@ use crate::turned_nodes::turning;
 use crate::verdict::end;
 use crate::viewed::viewed;
 use crate::{
-    damaged, nodes, one_commit, promising, reopening, restarts, served, stories, together,
+    damaged, grouped, nodes, one_commit, promising, reopening, restarts, served, stories, together,
 };
 use made::WrongRows;
 
@@ -37,6 +37,27 @@ fn cores(rt: HostRuntime) {
         stories::tell(&mut wrong, &rt, rt.alloc(), table);
     }
     keep_books(&mut wrong, &rt, rt.alloc());
+    end(&rt, wrong);
+}
+
+/// Shows that cores that take inputs as a group do what they do with one input after another, also if the group fails.
+#[test]
+fn cores_take_groups(rt: HostRuntime) {
+    let mut wrong = WrongRows::none(rt.alloc());
+    for table in [
+        one_commit::commits(),
+        one_commit::beside(),
+        coordinating(),
+        promising::promises(),
+        promising::readers(),
+        served::advances(),
+        served::looks(),
+        reopening::reopened(),
+        reopening::unended(),
+    ] {
+        grouped::tell(&mut wrong, &rt, rt.alloc(), table);
+    }
+    grouped::fail(&mut wrong, &rt, rt.alloc());
     end(&rt, wrong);
 }
 

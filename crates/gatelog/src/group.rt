@@ -5,7 +5,7 @@ ghost use Rattle.std.specs.List.{AllByRecursion};
 ghost use Rattle.gatelog.specs.Groups.{group_bytes, opened_before};
 ghost use Rattle.spelling.specs.Limits.{IsRecord};
 
-use crate::token::bytes_for;
+use crate::token::{Noted, bytes_for};
 use counts::Past;
 use frames::OPEN_GATE;
 use record::Record;
@@ -157,6 +157,13 @@ impl Joined {
         ensures { result.now ≡ self.now }
     {
         &self.item
+    }
+
+    /// Spends the token for one by which a state may move before the group is appended.
+    pub fn note(self) -> Noted
+        ensures { result ≡ self }
+    {
+        Noted::new(self.spend())
     }
 
     /// Spends the token, and gives its record.

@@ -22,4 +22,4 @@ pub use group::{Gathered, Joined};
 pub use migrating::{is_old, migrate};
 pub use scanning::Sink;
 pub use slots::area_named;
-pub use token::{Entry, Logged, Staged};
+pub use token::{Entry, Logged, Noted, Staged};

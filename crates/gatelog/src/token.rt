@@ -181,11 +181,57 @@ impl Logged {
         &self.item
     }
 
+    /// Spends the token for one by which a state may move.
+    pub fn note(self) -> Noted
+        ensures { result ≡ self }
+    {
+        Noted::new(self.spend())
+    }
+
     /// Spends the token, and gives its record.
     pub fn spend(self) -> Record
         ensures { result ≡ self }
     {
         let Logged { item } = self;
+        item
+    }
+}
+
+/// A record by which a state may move: it stands in the log, or it has its place in a group. In a group it stands once that is appended.
+/// Only `Logged` and `Joined` make it; it has to be spent.
+pub struct Noted {
+    item: Record,
+}
+
+impl Model for Noted {
+    ghost use Rattle.record.specs.declared.record.Record.{Record};
+
+    ghost Value = { Record };
+
+    ghost view = { λ n. n.item };
+
+    ghost inverse = { λ r. record { item = r } };
+}
+
+impl Noted {
+    pub(crate) fn new(item: Record) -> Noted
+        ensures { result ≡ item }
+    {
+        Noted { item }
+    }
+
+    /// Its record.
+    pub fn item(&self) -> &Record
+        ensures { result.now ≡ self.now }
+    {
+        &self.item
+    }
+
+    /// Spends the token.
+    pub fn spend(self) -> Record
+        ensures { result ≡ self }
+    {
+        let Noted { item } = self;
         item
     }
 }

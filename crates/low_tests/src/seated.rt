@@ -3,7 +3,7 @@ use crate::checks::is_printed;
 use crate::drawn;
 use crate::ids::{admits, ask};
 use crate::text_logs::{keys_of, record_of};
-use gatelog::{GateLog, Logged};
+use gatelog::{GateLog, Noted};
 use made::{WrongRows, id, key, shard, stamp};
 use record::Record;
 use rows::{CommitRequest, Gathering, Row, Rows};
@@ -117,18 +117,18 @@ static STORIES: [Story; 6] = [
 type Log = GateLog<SimDisk>;
 
 // Logs a record.
-fn logged(log: &mut Log, alloc: Global, record: Record) -> Option<Logged> {
+fn logged(log: &mut Log, alloc: Global, record: Record) -> Option<Noted> {
     let Ok(staged) = log.stage(alloc, record) else {
         return None;
     };
     match log.append(staged) {
-        Ok(logged) => Some(logged),
+        Ok(logged) => Some(logged.note()),
         Err(_) => None,
     }
 }
 
 // Lets 1.1 go on by a record of its own, if it is in a state for it, and gives the record back.
-fn spend(rows: &mut Rows, logged: Logged) -> Record {
+fn spend(rows: &mut Rows, logged: Noted) -> Record {
     let own = id(1);
     match (logged.item(), rows.find(own)) {
         (Record::Prepare(record), Some(Row::Reading(state)))

@@ -18,7 +18,7 @@ use crate::state::State;
 use ledger::{Ended, Ledger};
 use message::Outbox;
 use record::Record;
-use rows::{Logged, Row, Rows};
+use rows::{Noted, Row, Rows};
 use safetime::SafeTime;
 use std::alloc::Global;
 use units::{Fault, Lock, Stamp, TxnId};
@@ -83,7 +83,7 @@ impl State {
 
     /// Carries out a plan for which all was made ready. If the step has a record, `logged` is the token that it is in the log. It
     /// takes no memory.
-    pub fn carry(&mut self, plan: Plan, logged: Option<Logged>) -> Outbox
+    pub fn carry(&mut self, plan: Plan, logged: Option<Noted>) -> Outbox
         requires ready { IsCarriable self.old (record { plan = plan; logged = logged }) }
         ensures setup { self.new.setup ≡ self.old.setup }
         ensures facts { self.new.facts ≡ facts_after self.old.facts logged }
@@ -117,7 +117,7 @@ impl State {
     }
 
     /// Learns a record of a renewed log's head: a version, or a transaction that ended. No row changes. `Memory` leaves all as it was.
-    pub fn keep(&mut self, logged: Logged) -> Result<(), Fault>
+    pub fn keep(&mut self, logged: Noted) -> Result<(), Fault>
         requires follows { IsTrue
             (follows_head self.old.setup.shard self.old.stage self.old.facts logged) }
         ensures setup { self.new.setup ≡ self.old.setup }
@@ -208,7 +208,7 @@ fn make_change(
     change: Change,
     wounded: &[TxnId],
     needs: &[Lock],
-    logged: Option<Logged>,
+    logged: Option<Noted>,
 ) -> Option<Record>
     requires holding { IsHolding times.old.holds rows.old.rows }
     requires fits { FitsRows rows.old.rows wounded.now needs.now logged change }
@@ -270,7 +270,7 @@ fn end(rows: &mut Rows, txn: TxnId)
 }
 
 // Ends the row of a transaction by the record that was logged.
-fn drop_row(rows: &mut Rows, times: &mut SafeTime, txn: TxnId, logged: Logged) -> Record
+fn drop_row(rows: &mut Rows, times: &mut SafeTime, txn: TxnId, logged: Noted) -> Record
     requires holding { IsHolding times.old.holds rows.old.rows }
     requires may { MayDrop rows.old.rows txn (Some logged) }
     ensures holding { IsHolding times.new.holds rows.new.rows }
@@ -303,7 +303,7 @@ fn held_at(rows: &Rows, txn: TxnId) -> Option<Stamp>
 }
 
 // Makes a row stand by its logged promise or decision. It then holds the safe time below its timestamp.
-fn stand(rows: &mut Rows, times: &mut SafeTime, txn: TxnId, logged: Logged) -> Record
+fn stand(rows: &mut Rows, times: &mut SafeTime, txn: TxnId, logged: Noted) -> Record
     requires holding { IsHolding times.old.holds rows.old.rows }
     requires stands { CanStand rows.old.rows txn logged }
     ensures holding { IsHolding times.new.holds rows.new.rows }
@@ -393,7 +393,7 @@ fn learn(ledger: &mut Ledger, item: Option<Record>)
 }
 
 // The token of a logged record, which is there.
-fn there(logged: Option<Logged>) -> Logged
+fn there(logged: Option<Noted>) -> Noted
     requires { IsSome logged }
     ensures { logged ≡ Some result }
 {
@@ -404,7 +404,7 @@ fn there(logged: Option<Logged>) -> Logged
 }
 
 // Spends the token of a logged record, if there is one.
-fn spend(logged: Option<Logged>) -> Option<Record>
+fn spend(logged: Option<Noted>) -> Option<Record>
     ensures { result ≡ logged }
 {
     match logged {

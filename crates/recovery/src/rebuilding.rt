@@ -252,9 +252,9 @@ fn take(state: &mut State, alloc: Global, entry: Entry) -> Result<(), Fault>
     match comes_next(state, alloc, &entry) {
         Ok(()) => {
             if state.follows(entry.item()) {
-                replay(state, alloc, entry.into_logged())
+                replay(state, alloc, entry.into_logged().note())
             } else {
-                keep(state, entry.into_logged())
+                keep(state, entry.into_logged().note())
             }
         }
         Err(fault) => {

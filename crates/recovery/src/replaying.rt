@@ -10,7 +10,7 @@ ghost use Rattle.memory.specs.Plans.{plan_of};
 ghost use Rattle.protocol.specs.Beside.{fits_facts, stands_in};
 ghost use Rattle.recovery.specs.Recovered.{IsRecovered};
 
-use gatelog::Logged;
+use gatelog::Noted;
 use memory::{Change, Plan, State, ready_plans_can_be_carried, shared_and_exclusive};
 use record::Record;
 use std::alloc::Global;
@@ -38,7 +38,7 @@ pub fn fits_beside(state: &State, alloc: Global, item: &Record) -> Result<bool, 
 }
 
 /// Changes the state as the record did when it was logged. `Memory` is its only refusal.
-pub fn replay(state: &mut State, alloc: Global, logged: Logged) -> Result<(), Fault>
+pub fn replay(state: &mut State, alloc: Global, logged: Noted) -> Result<(), Fault>
     requires recovered { IsRecovered state.old }
     requires follows { follows_facts state.old.setup.shard state.old.facts logged ≡ true }
     requires fits { fits_facts state.old.facts logged ≡ true }
@@ -70,7 +70,7 @@ pub fn replay(state: &mut State, alloc: Global, logged: Logged) -> Result<(), Fa
 }
 
 /// Changes the state by a record of a renewed log's head. `Memory` is its only refusal.
-pub fn keep(state: &mut State, logged: Logged) -> Result<(), Fault>
+pub fn keep(state: &mut State, logged: Noted) -> Result<(), Fault>
     requires recovered { IsRecovered state.old }
     requires follows { follows_head
         state.old.setup.shard state.old.stage state.old.facts logged ≡ true }

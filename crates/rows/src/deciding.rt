@@ -8,7 +8,7 @@ ghost use Rattle.rows.specs.RowTable.{has_phase, put_row, phase_by, phase_in, wi
 use crate::row::Row;
 use crate::rows::Rows;
 use crate::votes::Gathering;
-use gatelog::Logged;
+use gatelog::Noted;
 use record::Record;
 use units::{ShardNo, Stamp, TxnId};
 
@@ -39,7 +39,7 @@ impl Rows {
     }
 
     /// Makes an idle row prepared by its logged promise, and keeps its locks. It takes no memory.
-    pub fn prepare(&mut self, txn: TxnId, logged: Logged) -> Record
+    pub fn prepare(&mut self, txn: TxnId, logged: Noted) -> Record
         requires idle { has_phase is_idle self.old.rows txn ≡ true }
         requires mine { is_prepare_of txn logged ≡ true }
         ensures rows { self.new.rows ≡ put_row self.old.rows txn (held_in self.old.rows txn)
@@ -53,7 +53,7 @@ impl Rows {
     }
 
     /// Makes a row decided by its logged decision, and keeps its locks. It takes no memory.
-    pub fn decide(&mut self, txn: TxnId, logged: Logged) -> Record
+    pub fn decide(&mut self, txn: TxnId, logged: Noted) -> Record
         requires may { has_phase may_decide self.old.rows txn ≡ true }
         requires mine { is_commit_of txn logged ≡ true }
         ensures rows { self.new.rows ≡ put_row self.old.rows txn (held_in self.old.rows txn)
@@ -76,7 +76,7 @@ impl Rows {
     }
 
     /// Ends a row by its logged abort, and frees its locks. It takes no memory.
-    pub fn abort(&mut self, txn: TxnId, logged: Logged) -> Record
+    pub fn abort(&mut self, txn: TxnId, logged: Noted) -> Record
         requires may { has_phase may_abort self.old.rows txn ≡ true }
         requires mine { is_abort_of txn logged ≡ true }
         ensures rows { self.new.rows ≡ without_row self.old.rows txn }
@@ -88,7 +88,7 @@ impl Rows {
     }
 
     /// Ends a prepared or decided row by its logged outcome, and frees its locks. It takes no memory.
-    pub fn close(&mut self, txn: TxnId, logged: Logged) -> Record
+    pub fn close(&mut self, txn: TxnId, logged: Noted) -> Record
         requires may { has_phase may_close self.old.rows txn ≡ true }
         requires mine { is_outcome_of txn logged ≡ true }
         ensures rows { self.new.rows ≡ without_row self.old.rows txn }

@@ -10,7 +10,7 @@ mod states;
 mod votes;
 mod wait;
 
-pub use gatelog::Logged;
+pub use gatelog::Noted;
 pub use locks::{exclusive, shared_and_exclusive};
 pub use row::Row;
 pub use rows::Rows;

@@ -9,7 +9,7 @@ ghost use Rattle.locks.specs.Table.{has_claim, without_claim, change_claim, gran
 
 use crate::votes::{Gathering, Votes};
 use crate::wait::{CommitRequest, Wait};
-use gatelog::Logged;
+use gatelog::Noted;
 use locks::{Held, Table};
 use record::Record;
 use std::marker::Model;
@@ -157,7 +157,7 @@ impl RowReading {
     }
 
     // Spends its logged promise, and makes it prepared.
-    pub(crate) fn prepare(self, logged: Logged, table: &mut Table) -> (RowPrepared, Record)
+    pub(crate) fn prepare(self, logged: Noted, table: &mut Table) -> (RowPrepared, Record)
         requires mine { is_prepare_of self.token.txn logged ≡ true }
         requires claim { has_claim table.old self.token.txn ≡ true }
         ensures state { result.0 ≡ prepared_by self.token logged }
@@ -181,7 +181,7 @@ impl RowReading {
     }
 
     // Spends its logged decision, and makes it decided.
-    pub(crate) fn decide(self, logged: Logged, table: &mut Table) -> (RowDecided, Record)
+    pub(crate) fn decide(self, logged: Noted, table: &mut Table) -> (RowDecided, Record)
         requires mine { is_commit_of self.token.txn logged ≡ true }
         requires claim { has_claim table.old self.token.txn ≡ true }
         ensures state { result.0 ≡ decided_by self.token logged }
@@ -242,7 +242,7 @@ impl RowCollecting {
     }
 
     // Spends its logged decision, and makes it decided.
-    pub(crate) fn decide(self, logged: Logged) -> (RowDecided, Record)
+    pub(crate) fn decide(self, logged: Noted) -> (RowDecided, Record)
         requires { is_commit_of self.token.txn logged ≡ true }
         ensures state { result.0 ≡ decided_by self.token logged }
         ensures record { result.1 ≡ logged }
@@ -339,7 +339,7 @@ impl RowDecided {
 }
 
 // The state after a logged decision.
-fn decide(held: Held, logged: Logged) -> (RowDecided, Record)
+fn decide(held: Held, logged: Noted) -> (RowDecided, Record)
     requires { is_commit_of held.txn logged ≡ true }
     ensures state { result.0 ≡ decided_by held logged }
     ensures record { result.1 ≡ logged }

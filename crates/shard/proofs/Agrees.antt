@@ -24,7 +24,7 @@ fold_is f [] = refl
 fold_is f (r ∷ rs) = fold_is (learn f r) rs
 
 -- one more record is learnt behind the others
-learned-append : (f : Facts) (rs : List Record) (r : Record) → fold learn f (rs ++ r ∷ []) ≡ learn (fold learn f rs) r
+pub learned-append : (f : Facts) (rs : List Record) (r : Record) → fold learn f (rs ++ r ∷ []) ≡ learn (fold learn f rs) r
 learned-append f [] r = refl
 learned-append f (q ∷ qs) r = learned-append (learn f q) qs r
 

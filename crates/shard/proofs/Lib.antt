@@ -12,3 +12,4 @@ pub mod Openings
 pub mod TakenUp
 pub mod Showable
 pub mod Turnings
+pub mod Groups

@@ -11,6 +11,8 @@ pub mod Look
 pub mod Opened
 pub mod Taking
 pub mod Turned
+pub mod Groups
+pub mod Gathered
 pub use Rattle.recovery.specs.Recovered
 pub use Rattle.memory.specs.RowTable
 pub use Rattle.book.specs.Books

@@ -2,15 +2,21 @@
 #![tactic(auto)]
 
 mod addressing;
+mod ahead;
 mod booking;
+mod halted;
 mod inputs;
+mod lead;
 mod logging;
 mod machine;
 mod opening;
+mod planning;
 mod shard_core;
 mod staging;
 mod turning;
 
+pub use ahead::Ahead;
+pub use halted::Halted;
 pub use message::Input;
 pub use shard_core::Core;
 pub use units::Setup;

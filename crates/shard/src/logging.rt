@@ -5,15 +5,16 @@ ghost use Rattle.disk.specs.File.{surface};
 ghost use Rattle.disk.specs.declared.plan.FailurePlan.TheVariants.{Never, AfterWrite};
 ghost use Rattle.disk.specs.Image.{MayLeave};
 ghost use Rattle.disk.specs.Moments.{LeavesOnly};
-ghost use Rattle.gatelog.specs.Frames.{next_gate, staged_bytes, IsFull};
+ghost use Rattle.gatelog.specs.Frames.{end_from, next_gate, staged_bytes, IsFull};
 ghost use Rattle.gatelog.specs.Shown.{disk_of, gate_at, next_slot, is_stopped};
+ghost use Rattle.shard.specs.Groups.{and_logged_all, HoldsOldOrWithAll};
 ghost use Rattle.shard.specs.Armed.{FailsIn, GoesPast, HasPlace};
 ghost use Rattle.shard.specs.On.{IsLogFull};
 ghost use Rattle.shard.specs.Staged.{IsPlaced};
 ghost use Rattle.shard.specs.Logs.{records_in, and_logged, KeepsRecords, HoldsOldOrWith, BeginsAsBefore};
 
 use disk::Disk;
-use gatelog::{GateLog, Logged, Staged};
+use gatelog::{GateLog, Gathered, Logged, Staged};
 use record::Record;
 use std::alloc::Global;
 use units::Fault;
@@ -159,4 +160,33 @@ pub fn append_staged<D: Disk>(gate_log: &mut GateLog<D>, staged: Staged) -> Resu
         (D.file (disk_of gate_log.new))) }
 {
     gate_log.append(staged)
+}
+
+/// Appends a group of records. It takes no memory, and fails by the device alone.
+pub fn append_group<D: Disk>(gate_log: &mut GateLog<D>, group: Gathered) -> Result<(), Fault>
+    requires running { IsFalse (is_stopped gate_log.old) }
+    requires at { group.gate ≡ gate_at gate_log.old }
+    ensures failures_stay { D.failures (disk_of gate_log.old) ≤ D.failures (disk_of gate_log.new) }
+    ensures running { OnOk result (IsFalse (is_stopped gate_log.new)) }
+    ensures gate { OnOk result (gate_at gate_log.new ≡ end_from group.gate group.items) }
+    ensures slot { next_slot gate_log.new ≡ next_slot gate_log.old }
+    ensures cause { IfErr result (λ fault. (fault ≡ Fault.Device)
+        × (D.failures (disk_of gate_log.old) < D.failures (disk_of gate_log.new))
+        × IsTrue (is_stopped gate_log.new)) }
+    ensures any_moment { D.keeps_model →
+        LeavesOnly D.clock D.since (disk_of gate_log.old) (disk_of gate_log.new)
+        (HoldsOldOrWithAll (records_in (surface (D.file (disk_of gate_log.old))).seen)
+        group.items) }
+    ensures begins { D.keeps_model →
+        LeavesOnly D.clock D.since (disk_of gate_log.old) (disk_of gate_log.new)
+        (BeginsAsBefore (surface (D.file (disk_of gate_log.old)))) }
+    ensures durable { OnOk result (D.keeps_model →
+        KeepsRecords (surface (D.file (disk_of gate_log.new)))
+        (and_logged_all (records_in (surface (D.file (disk_of gate_log.old))).seen)
+        group.items)) }
+    ensures read { OnOk result (D.keeps_model →
+        records_in (surface (D.file (disk_of gate_log.new))).seen ≡ and_logged_all
+        (records_in (surface (D.file (disk_of gate_log.old))).seen) group.items) }
+{
+    gate_log.append_all(group)
 }

@@ -19,16 +19,13 @@ ghost use Rattle.shard.specs.Logs.{records_in, facts_logged, KeepsRecords};
 ghost use Rattle.shard.specs.On.{HasStepped, IsLogFull, step_of};
 ghost use Rattle.shard.specs.Opened.{HasAppended, HasNotAppended};
 
-use crate::inputs::plan_input;
 use crate::logging::append_record;
+use crate::planning::plan_due;
 use disk::Disk;
 use gatelog::GateLog;
 use memory::{State, Step};
 use message::{Input, Outbox};
-use protocol::{
-    fresh_is_showable, fresh_is_sound, installs_above, logged_follows, opening_keeps_sound,
-    own_refusals, step_keeps_showable, step_keeps_sound, writes_ascend,
-};
+use protocol::{fresh_is_showable, fresh_is_sound, opening_keeps_sound, own_refusals};
 use record::Record;
 use std::alloc::Global;
 use truetime::Reading;
@@ -62,16 +59,11 @@ impl<D: Disk> Machine<D> {
             (seen_machine self.now) (seen_machine self.now)
             (step_of (seen_machine self.now) now.now input.now) (Err fault)) }
     {
-        step_keeps_sound();
-        step_keeps_showable();
-        logged_follows();
-        installs_above();
         own_refusals();
-        writes_ascend(input);
         if self.gate_log.is_stopped() {
             return Err(Fault::Stopped);
         }
-        plan_input(&self.state, alloc, now, input)
+        plan_due(&self.state, alloc, now, input)
     }
 
     // Whether the log has room for the record of a step, if it has one.

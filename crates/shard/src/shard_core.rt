@@ -45,8 +45,8 @@ use units::{Epoch, Fault, Install, Key, Seen, Setup, Stamp, TxnId, may_look, sho
 /// A shard by itself: its log, its state in memory, and its book if it was told to keep one. Once a device call has failed in it, it is
 /// stopped and refuses each input. It has to be spent, by `stop`.
 pub struct Core<D: Disk> {
-    machine: Machine<D>,
-    book: Option<Book>,
+    pub(crate) machine: Machine<D>,
+    pub(crate) book: Option<Book>,
     ghost replays: { ∥ IsBookOf machine.state.setup book (record { facts = machine.state.facts; memory = machine.state.memory }) ∥₁ },
 }
 

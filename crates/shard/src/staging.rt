@@ -83,7 +83,7 @@ impl<D: Disk> Machine<D> {
             return Ok(self.state.carry(plan, None));
         };
         match append_staged(&mut self.gate_log, frame) {
-            Ok(logged) => Ok(self.state.carry(plan, Some(logged))),
+            Ok(logged) => Ok(self.state.carry(plan, Some(logged.note()))),
             Err(fault) => {
                 self.state.undo(&plan, ready);
                 drop(plan);

@@ -10,5 +10,5 @@ keep-requires-clause-follows c =
     let k = c.args.state.now in
     let none : follows_facts k.setup.shard k.facts c.args.entry.item ≡ false =
     ap (follows_facts k.setup.shard k.facts) (sym c.item.ensures) ∙ sym c.follows.ensures ∙ c.if-follows.false in
-    subst (λ (r : Record). follows_head k.setup.shard k.stage k.facts r ≡ true) (sym c.into_logged-else-follows.ensures)
+    subst (λ (r : Record). follows_head k.setup.shard k.stage k.facts r ≡ true) (sym (c.note-else-follows.ensures ∙ c.into_logged-else-follows.ensures))
     (of_head k.setup.shard k.stage k.facts c.args.entry.item c.in-Ok.ensures.follows none)

@@ -37,8 +37,8 @@ carry-requires-in-Ok g c =
     let ready = c.args.self.now.state in
     let k = unstaged ready c.args.staged in
     let s = step_staged c.args.staged in
-    let own : s.logged ≡ Some c.in-Ok.logged =
-    ap (option_map (λ (e : Placed). e.item)) c.in-Some.is ∙ ap (λ (r : Record). Some r) (sym c.in-Ok.ensures.item) in
+    let own : s.logged ≡ Some c.note.result =
+    ap (option_map (λ (e : Placed). e.item)) c.in-Some.is ∙ ap (λ (r : Record). Some r) (sym (c.note.ensures ∙ c.in-Ok.ensures.item)) in
     record {
       ready = subst (λ (l : Option Record). IsCarriable ready (record { plan = s.plan; logged = l })) own
           (can_carry k ready s c.requires.due c.requires.memory c.ready_plans_can_be_carried.ensures.carriable);
@@ -86,7 +86,7 @@ invariant_of-self-in-Ok g c =
     let s = step_staged c.args.staged in
     let done = c.carry-in-Ok in
     let item : s.logged ≡ Some c.in-Some.frame.item = ap (option_map (λ (e : Placed). e.item)) c.in-Some.is in
-    let own : s.logged ≡ Some c.in-Ok.logged = item ∙ ap (λ (r : Record). Some r) (sym c.in-Ok.ensures.item) in
+    let own : s.logged ≡ Some c.note.result = item ∙ ap (λ (r : Record). Some r) (sym (c.note.ensures ∙ c.in-Ok.ensures.item)) in
     let facts = facts_then k ready s c.requires.due c.requires.memory done.new.self.facts (done.ensures.facts ∙ ap (facts_after ready.facts) (sym own)) in
     let memory = memory_after k ready s c.requires.due c.requires.memory c.ready_plans_can_be_carried.ensures.unseen done.new.self.memory
     (done.ensures.memory ∙ ap (λ (l : Option Record). carried (plan_of ready.memory.rows (record { plan = s.plan; logged = l })) ready.memory) (sym own)) in
@@ -130,7 +130,7 @@ returns-in-Ok-clause-stepped g c =
     let done = c.carry-in-Ok in
     let a = c.in-Ok.ensures in
     let item : s.logged ≡ Some c.in-Some.frame.item = ap (option_map (λ (e : Placed). e.item)) c.in-Some.is in
-    let own : s.logged ≡ Some c.in-Ok.logged = item ∙ ap (λ (r : Record). Some r) (sym a.item) in
+    let own : s.logged ≡ Some c.note.result = item ∙ ap (λ (r : Record). Some r) (sym (c.note.ensures ∙ a.item)) in
     let facts = facts_then k ready s c.requires.due c.requires.memory done.new.self.facts (done.ensures.facts ∙ ap (facts_after ready.facts) (sym own)) in
     let memory = memory_after k ready s c.requires.due c.requires.memory c.ready_plans_can_be_carried.ensures.unseen done.new.self.memory
     (done.ensures.memory ∙ ap (λ (l : Option Record). carried (plan_of ready.memory.rows (record { plan = s.plan; logged = l })) ready.memory) (sym own)) in

@@ -1,34 +1,17 @@
-use Rattle.std.proofs.Common.{Result, Ok, Err, IfOk, IfErr, sym, ap, refl}
+use Rattle.std.proofs.Common.{Result, Ok, Err, IfErr, sym, ap, refl}
 use Rattle.units.specs.declared.fault.Fault.{Fault}
 use Rattle.protocol.specs.Step.{plan_input, step_within}
-use Rattle.memory.specs.Carry.{IsFit}
 use Rattle.memory.specs.Kept.{IsPlanned, start_of}
 use Rattle.memory.specs.declared.plan.Step.{Step}
 use Rattle.shard.specs.Core.{seen_machine}
-use Rattle.shard.specs.Due.{IsDue}
 use Rattle.shard.specs.Logs.{items_of}
 use Rattle.shard.specs.On.{HasStepped, step_of}
-use Rattle.shard.proofs.Plans.{is_due}
 use Rattle.shard.proofs.Results.{refused, refusal_is_no_device}
-use Rattle.shard.proofs.Showable.{showable_then}
 use Rattle.shard.proofs.machine.Machine.plan.Goals as goal
-
-pub returns-clause-due : goal.returns-clause-due
-returns-clause-due g c = by_result c.plan_input.result c.plan_input.ensures.planned c.plan_input.ensures.fit
-  where
-    by_result : (r : Result Step Fault)
-        → IsPlanned c.args.self.now.state (plan_input c.args.self.now.state.setup (start_of c.args.self.now.state) c.args.now.now c.args.input.now) r
-        → IfOk r (IsFit c.args.self.now.state) → IfOk r (IsDue c.args.self.now.state)
-    by_result (Ok p) planned fit =
-        is_due c.args.self.now.state c.args.now.now c.args.input.now p c.writes_ascend.ensures.limit planned
-        c.step_keeps_sound.ensures c.logged_follows.ensures c.installs_above.ensures c.args.self.now.sound fit
-        (showable_then c.args.self.now.state c.args.now.now c.args.input.now p c.writes_ascend.ensures.limit c.writes_ascend.ensures.order
-        planned c.step_keeps_showable.ensures c.args.self.now.sound c.args.self.now.showable)
-    by_result (Err fault) planned fit = tt
 
 pub returns-clause-refused : goal.returns-clause-refused
 unfolding step_within
-returns-clause-refused g c = by_result c.plan_input.result c.plan_input.ensures.planned
+returns-clause-refused g c = by_result c.plan_due.result c.plan_due.ensures.planned
   where
     by_result : (r : Result Step Fault)
         → IsPlanned c.args.self.now.state (plan_input c.args.self.now.state.setup (start_of c.args.self.now.state) c.args.now.now c.args.input.now) r
