@@ -1,16 +1,16 @@
 -- A step answers reads under locks alone, puts no row of an ended transaction, and logs what was read in the epoch in which it
 -- was asked for.
-use Rattle.std.proofs.Common.{◌≡◌, ℕ, ◌+◌, max, min, Bool, true, false, cond, ◌&&◌, nat_eq, nat_le, nat_lt, List, [], ◌∷◌, ◌++◌, Option, Some, None}
-use Rattle.std.proofs.Common.{refl, sym, ap, subst, map, ◌∙◌}
+use Rattle.std.proofs.Common.{◌≡◌, ℕ, ◌+◌, max, min, Bool, true, false, cond, nat_le, nat_lt, List, [], ◌∷◌, ◌++◌, Option, Some, None, refl, sym, ap, subst}
+use Rattle.std.proofs.Common.{map, ◌∙◌}
 use Rattle.std.specs.Prelude.{Ok, Err}
-use Rattle.std.specs.List.{AllByRecursion, list_all}
+use Rattle.std.specs.List.{AllByRecursion}
 use Rattle.std.proofs.lemmas.Bool.{eqb-true, and_parts}
 use Rattle.units.specs.Ids.{Id}
 use Rattle.protocol.specs.Outputs.{done_to, vote_to, outcome_to, promise, decision, refused_vote}
-use Rattle.protocol.specs.Cells.{Cell, ToRefuse, ToRest, ToReply, Provided, ToRead, ToPrepare, ToCommit, ToEnd, ToAbort, ToAbortFor, ToCount, ToClose}
-use Rattle.protocol.specs.Cells.{ToGoOn, ToSettle, ToServe, ToForget, commit_stamp, other_parts, still_stand, plan_read_row, plan_prepare_fresh}
-use Rattle.protocol.specs.Cells.{plan_promise, plan_commit_fresh, plan_commit_granted, plan_decide, plan_abort, plan_granted, plan_asks, plan_count}
-use Rattle.protocol.specs.Cells.{plan_advance, plan_forget, plan_cell, to_read, answers, refuses, tells}
+use Rattle.protocol.specs.Cells.{Cell, ToRefuse, ToRest, ToReply, Provided, ToRead, ToPrepare, ToCommit, ToEnd, ToAbort, ToAbortFor, ToCount, ToClose, ToGoOn}
+use Rattle.protocol.specs.Cells.{ToSettle, ToServe, ToForget, commit_stamp, other_parts, still_stand, plan_read_row, plan_prepare_fresh, plan_promise}
+use Rattle.protocol.specs.Cells.{plan_commit_fresh, plan_commit_granted, plan_decide, plan_abort, plan_granted, plan_asks, plan_count, plan_advance}
+use Rattle.protocol.specs.Cells.{plan_forget, plan_cell, to_read, answers, refuses, tells}
 use Rattle.units.specs.Keys.{Bytes}
 use Rattle.units.specs.Locks.{exclusive, holds}
 use Rattle.units.specs.Versions.{latest}
@@ -33,7 +33,7 @@ use Rattle.protocol.specs.Rows.{Row, Phase, Idle, WaitsRead, WaitsPrepare, Waits
 use Rattle.protocol.specs.Rows.{WasEnded, HasRow, WasAborted, WasSettled, WasClosed, find_row, with_vote}
 use Rattle.protocol.specs.Step.{cell, plan_input}
 use Rattle.protocol.specs.Sound.{is_open}
-use Rattle.protocol.specs.Plan.{time_limit, Plan, Planned, Before, Change, Keeps, Puts, replies, serves, ends, drops, puts, roomed, votes_of, stands}
+use Rattle.protocol.specs.Plan.{time_limit, Plan, Planned, Before, Change, Keeps, Puts, replies, serves, ends, drops, puts, votes_of, stands}
 use Rattle.protocol.proofs.Each.{Each, planned, refused, tested, either, within_room}
 use Rattle.protocol.proofs.CellsFrom.{IsHeard, IsLooseAt, IsIn, IsSaid, IsFrom, cell_is_from}
 use Rattle.protocol.proofs.Choices.{held_at, held_unknown, undecided_of_loose}
@@ -192,13 +192,16 @@ module _ (t : Id) (k : Bytes) (e : ℕ) (b : Before) where
           record {
             change = tt;
             logged = tt;
-            told = (record {
-              from = refl;
-              epoch = refl;
-              value = refl;
-              held =
-                  OfRow refl refl refl held phase (is ∙ ap (λ ls. HasRow ls phase) same) (undecided_of_loose (HasRow own phase) loose) there;
-            }, tt);
+            told = (
+              record {
+                from = refl;
+                epoch = refl;
+                value = refl;
+                held =
+                    OfRow refl refl refl held phase (is ∙ ap (λ ls. HasRow ls phase) same) (undecided_of_loose (HasRow own phase) loose) there;
+              },
+              tt,
+            );
           }
       by_standing WasEnded is loose = cc
       by_standing WasAborted is loose = cc

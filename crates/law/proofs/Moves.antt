@@ -1,12 +1,11 @@
 -- The few kinds of plan, each with what it rests on.
-use Rattle.std.proofs.Common.{◌≡◌, ℕ, List, [], ◌∷◌, ◌++◌, Option, Some, None}
-use Rattle.std.specs.Prelude.{Ok, Err}
+use Rattle.std.proofs.Common.{ℕ, List, [], ◌∷◌, ◌++◌, Option, Some, None}
+use Rattle.std.specs.Prelude.{Ok}
 use Rattle.units.specs.Ids.{Id}
 use Rattle.units.specs.declared.lock.Lock.{Lock}
 use Rattle.record.specs.declared.record.Record.{Record}
 use Rattle.message.specs.declared.message.Envelope.{Envelope}
-use Rattle.protocol.specs.Rows.{Row, Phase, WaitsPrepare, Standing, HasRow}
-use Rattle.protocol.specs.Rows.{WasAborted, WasSettled, find_row}
+use Rattle.protocol.specs.Rows.{Row, Phase, WaitsPrepare, Standing, HasRow, WasAborted, WasSettled, find_row}
 use Rattle.protocol.specs.Outputs.{refused_vote}
 use Rattle.protocol.specs.Plan.{Change, Puts, Plan, Planned, Before, votes_of, replies, serves, ends, drops, puts}
 use Rattle.protocol.proofs.Each.{Each, planned}

@@ -20,8 +20,8 @@ use Rattle.message.specs.declared.message.Vote.{Vote}
 use Rattle.protocol.specs.Rows.{Row, Phase, WaitsRead, WaitsPrepare, WaitsCommit, IsPrepared, standing, standing_by, find_row}
 use Rattle.protocol.specs.Outputs.{outcome_to}
 use Rattle.protocol.specs.Plan.{Before, stands}
-use Rattle.protocol.specs.Cells.{Cell, ToRefuse, ToRest, ToReply, Provided, ToRead, ToPrepare, ToCommit, ToEnd, ToAbort, ToAbortFor, ToCount, ToClose}
-use Rattle.protocol.specs.Cells.{ToGoOn, ToSettle, ToServe, ToForget, plan_read_row, plan_prepare_fresh, plan_commit_fresh, plan_cell, answers, refuses, raised}
+use Rattle.protocol.specs.Cells.{Cell, ToRefuse, ToRest, ToReply, Provided, ToRead, ToPrepare, ToCommit, ToEnd, ToAbort, ToAbortFor, ToCount, ToClose, ToGoOn}
+use Rattle.protocol.specs.Cells.{ToSettle, ToServe, ToForget, plan_read_row, plan_prepare_fresh, plan_commit_fresh, plan_cell, answers, refuses, raised}
 use Rattle.protocol.specs.Step.{cell, plan_input}
 use Rattle.protocol.proofs.CellsFrom.{IsHeard, IsIn, HasEnded, IsSaid, MayAbort, AtCommit, AtRow, IsFrom, cell_is_from}
 use Rattle.protocol.proofs.Each.{refused, tested, either}

@@ -1,7 +1,7 @@
 -- What the plans of the cells rest on.
-use Rattle.std.proofs.Common.{◌≡◌, ◌⊎◌, inl, inr, ℕ, ◌+◌, ◌<◌, ◌≤◌, max, min, nat_eq, nat_lt, nat_le, Bool, true, false, cond, ◌||◌, List, [], ◌∷◌, ◌++◌}
-use Rattle.std.proofs.Common.{Option, Some, None, refl, sym, ap, subst, map, arith}
-use Rattle.std.specs.Prelude.{Ok, Err}
+use Rattle.std.proofs.Common.{◌≡◌, ◌⊎◌, inl, inr, ℕ, ◌+◌, ◌<◌, ◌≤◌, max, min, nat_eq, nat_lt, Bool, true, false, cond, ◌||◌, List, [], ◌∷◌, ◌++◌, Option}
+use Rattle.std.proofs.Common.{Some, None, refl, sym, ap, subst, map, arith}
+use Rattle.std.specs.Prelude.{Ok}
 use Rattle.std.specs.List.{AllByRecursion, list_any}
 use Rattle.std.proofs.lemmas.Bool.{eqb-true, ltb-true, and_parts}
 use Rattle.units.specs.Lists.{has, greatest}
@@ -20,8 +20,8 @@ use Rattle.protocol.specs.Cells.{ToSettle, commit_stamp, other_parts, all_voted,
 use Rattle.protocol.specs.Cells.{plan_granted, plan_asks, plan_count, plan_advance, plan_forget, plan_cell, tells, answers, to_read, refuses}
 use Rattle.protocol.proofs.Each.{refused, tested, either, within_room}
 use Rattle.law.specs.Among.{IsAmong}
-use Rattle.law.specs.Evidence.{Scene, Sent, PrepareAsked, CommitAsked, VotedYes, VoteBelow, HasPromise, HasDecision, HasOutcome, WasTold}
-use Rattle.law.specs.Evidence.{WasAsked, WasQuestioned, RecordEvidence, Remembers, PhaseEvidence, AllTold}
+use Rattle.law.specs.Evidence.{Scene, Sent, PrepareAsked, CommitAsked, VotedYes, VoteBelow, HasPromise, HasDecision, HasOutcome, WasTold, WasAsked}
+use Rattle.law.specs.Evidence.{WasQuestioned, RecordEvidence, Remembers, PhaseEvidence, AllTold}
 use Rattle.law.proofs.Members.{among_left, among_last, all_append, all_at, some_passes}
 use Rattle.law.proofs.Moves.{LoggedEvidence, PlannedEvidence, replying, serving, dropping, putting, standing_by_record}
 

@@ -1,5 +1,5 @@
 -- Steps over logs that are alike are the same: a step reads versions by the latest value of a key alone.
-use Rattle.std.proofs.Common.{◌≡◌, ℕ, Bool, true, false, cond, List, [], ◌∷◌, Option, Some, None, refl, sym, ap, ◌∙◌}
+use Rattle.std.proofs.Common.{◌≡◌, ℕ, cond, List, [], ◌∷◌, None, refl, sym, ap, ◌∙◌}
 use Rattle.std.specs.Prelude.{Ok, Err}
 use Rattle.units.specs.Lists.{follow}
 use Rattle.units.specs.Ids.{Id}
@@ -13,7 +13,6 @@ use Rattle.units.specs.declared.writes.Install.{Install}
 use Rattle.record.specs.Facts.{TxnStatus, facts_with}
 use Rattle.truetime.specs.Interval.{Interval}
 use Rattle.message.specs.declared.message.Answer.TheVariants.{Holds}
-use Rattle.message.specs.declared.message.Envelope.{Envelope}
 use Rattle.message.specs.declared.message.Input.{Input}
 use Rattle.protocol.specs.Rows.{Memory, Phase, Idle, WaitsRead, needs_of, standing}
 use Rattle.protocol.specs.Outputs.{answer_to}

@@ -18,8 +18,8 @@ use Rattle.message.specs.declared.message.Prepare.{Prepare}
 use Rattle.protocol.specs.Rows.{Phase, Idle, WaitsRead, WaitsPrepare, WaitsCommit, Collecting, IsPrepared, IsDecided, Voted, Standing, IsUnknown, WasEnded}
 use Rattle.protocol.specs.Rows.{HasRow, WasAborted, WasSettled, WasClosed, claims, is_firm, held_in}
 use Rattle.protocol.specs.Plan.{Before, stands}
-use Rattle.protocol.specs.Cells.{Cell, ToRefuse, ToRest, ToReply, Provided, ToRead, ToPrepare, ToCommit, ToEnd, ToAbort, ToAbortFor, ToCount, ToClose}
-use Rattle.protocol.specs.Cells.{ToGoOn, ToSettle, ToServe, ToForget, is_outcome_for}
+use Rattle.protocol.specs.Cells.{Cell, ToReply, Provided, ToRead, ToPrepare, ToCommit, ToEnd, ToAbort, ToAbortFor, ToCount, ToClose, ToGoOn, ToSettle}
+use Rattle.protocol.specs.Cells.{ToServe, ToForget, is_outcome_for}
 use Rattle.protocol.specs.Table.{read_cell, prepare_cell, commit_cell, tell_cell, vote_cell, unpromised_cell, outcome_cell, give_up_cell, ask_cell}
 use Rattle.protocol.specs.Table.{go_on_cell, resume_cell, settle_cell, nudge_cell}
 use Rattle.protocol.specs.Step.{is_for, message_cell, cell}

@@ -1,6 +1,6 @@
 -- The shape of a plan that is chosen by tests, and what the standing of a transaction says of its row.
 use Rattle.std.proofs.Common.{refl, ap, ◌∙◌, arith}
-use Rattle.std.specs.Prelude.{ℕ, ◌≡◌, Bool, true, false, nat_eq, cond, List, [], ◌∷◌, Option, Some, None, Ok, Err}
+use Rattle.std.specs.Prelude.{ℕ, ◌≡◌, Bool, true, false, nat_eq, List, [], ◌∷◌, Option, Some, None, Ok, Err}
 use Rattle.std.specs.List.{AllByRecursion, list_any, list_all}
 use Rattle.std.proofs.lemmas.Bool.Decides.{nat_tests}
 use Rattle.std.proofs.lemmas.Bool.{false≢true, and_parts}
@@ -13,9 +13,8 @@ use Rattle.units.proofs.ByIdLaws.{found_all}
 use Rattle.units.proofs.ListLaws.{all_of_each, all_gives}
 use Rattle.record.specs.Facts.{recorded}
 use Rattle.message.specs.declared.message.Envelope.{Envelope}
-use Rattle.protocol.specs.Rows.{Row, Phase, IsPrepared, IsDecided, Standing, IsUnknown}
-use Rattle.protocol.specs.Rows.{HasRow, WasAborted, WasSettled, WasClosed, claims, find_row, standing, standing_by, held_by, held_in}
-use Rattle.protocol.specs.Rows.{without_rows}
+use Rattle.protocol.specs.Rows.{Row, Phase, IsPrepared, IsDecided, Standing, IsUnknown, HasRow, WasAborted, WasSettled, WasClosed, claims, find_row, standing}
+use Rattle.protocol.specs.Rows.{standing_by, held_by, held_in, without_rows}
 use Rattle.protocol.specs.Plan.{Planned, Before, stands, replies, roomed, in_way, opens}
 use Rattle.protocol.specs.Cells.{still_stand}
 use Rattle.protocol.specs.Sound.{fits}

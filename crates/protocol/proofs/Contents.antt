@@ -1,11 +1,10 @@
 -- Reads and writes that a plan puts into a row or a record are those of the message or of a row that stands, so what is
 -- told of them is told of these too; and a step refuses for reasons of its own.
 use Rattle.std.proofs.Common.{refl, sym, subst, ◌∙◌}
-use Rattle.std.specs.Prelude.{ℕ, ◌+◌, ◌≡◌, Bool, true, false, not, cond, max, nat_lt, List, [], ◌∷◌, Option, Some, None, Ok, Err}
+use Rattle.std.specs.Prelude.{ℕ, ◌+◌, ◌≡◌, Bool, true, false, not, cond, max, nat_lt, List, [], ◌∷◌, Option, Some, None, Ok}
 use Rattle.std.specs.List.{AllByRecursion, list_all}
 use Rattle.units.specs.Ids.{Id, same_id}
 use Rattle.units.specs.Keys.{Bytes}
-use Rattle.units.specs.declared.fault.Fault.{Fault}
 use Rattle.units.specs.declared.fault.Fault.TheVariants.{TimeSpent, Future, NotYet, Early, Stranger}
 use Rattle.units.specs.declared.lock.Lock.{Lock}
 use Rattle.units.specs.declared.setup.Setup.{Setup}
@@ -20,13 +19,12 @@ use Rattle.message.specs.declared.message.Message.{Message}
 use Rattle.message.specs.declared.message.Prepare.{Prepare}
 use Rattle.protocol.specs.Outputs.{promise, decision}
 use Rattle.protocol.specs.Refusals.{is_own}
-use Rattle.protocol.specs.Rows.{Memory, Row, Phase, Idle, WaitsRead, WaitsPrepare, WaitsCommit, Collecting, IsPrepared, IsDecided, Voted}
-use Rattle.protocol.specs.Rows.{with_vote, without_row, without_rows}
-use Rattle.protocol.specs.Plan.{Before, Change, Keeps, Ends, Drops, Puts, Plan, Planned, carried, after_change, roomed}
-use Rattle.protocol.specs.Cells.{Cell, ToRefuse, ToRest, ToReply, Provided, ToRead, ToPrepare, ToCommit, ToEnd, ToAbort, ToAbortFor, ToCount, ToClose}
-use Rattle.protocol.specs.Cells.{ToGoOn, ToSettle, ToServe, ToForget, commit_stamp, other_parts, plan_abort, plan_advance, plan_asks, plan_cell}
-use Rattle.protocol.specs.Cells.{plan_commit_fresh, plan_commit_granted, plan_count, plan_decide, plan_forget, plan_granted, plan_prepare_fresh}
-use Rattle.protocol.specs.Cells.{plan_promise, plan_read_row}
+use Rattle.protocol.specs.Rows.{Memory, Row, Phase, Idle, WaitsRead, WaitsPrepare, WaitsCommit, Collecting, IsPrepared, IsDecided, Voted, with_vote}
+use Rattle.protocol.specs.Rows.{without_row, without_rows}
+use Rattle.protocol.specs.Plan.{Before, Change, Keeps, Ends, Drops, Puts, Plan, Planned, carried, after_change}
+use Rattle.protocol.specs.Cells.{Cell, ToRefuse, ToRest, ToReply, Provided, ToRead, ToPrepare, ToCommit, ToEnd, ToAbort, ToAbortFor, ToCount, ToClose, ToGoOn}
+use Rattle.protocol.specs.Cells.{ToSettle, ToServe, ToForget, commit_stamp, other_parts, plan_abort, plan_advance, plan_asks, plan_cell, plan_commit_fresh}
+use Rattle.protocol.specs.Cells.{plan_commit_granted, plan_count, plan_decide, plan_forget, plan_granted, plan_prepare_fresh, plan_promise, plan_read_row}
 use Rattle.protocol.specs.Step.{is_for, cell, plan_input}
 use Rattle.protocol.proofs.CellsFrom.{IsHeard, IsIn, IsFrom, cell_is_from}
 use Rattle.protocol.proofs.Each.{Each, planned, refused, tested, either, within_room}

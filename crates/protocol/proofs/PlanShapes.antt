@@ -1,7 +1,7 @@
 -- Each plan of a step has one of the shapes.
 use Rattle.std.specs.List.{list_all}
 use Rattle.std.proofs.Common.{refl, sym, subst, ap, ◌∙◌, ltb-false, leb-false}
-use Rattle.std.specs.Prelude.{ℕ, ◌≡◌, max, Bool, true, false, not, cond, ◌&&◌, nat_eq, nat_lt, nat_le, List, [], Option, Some, None, Ok, Err}
+use Rattle.std.specs.Prelude.{ℕ, ◌≡◌, Bool, true, false, not, cond, ◌&&◌, nat_eq, nat_lt, nat_le, List, [], Option, Some, None, Ok, Err}
 use Rattle.std.proofs.lemmas.Bool.{and_parts, and_from}
 use Rattle.units.specs.Lists.{head, when}
 use Rattle.units.specs.Ids.{Id}
@@ -20,8 +20,8 @@ use Rattle.message.specs.declared.message.Prepare.{Prepare}
 use Rattle.message.specs.declared.message.Input.{Input}
 use Rattle.protocol.specs.Rows.{Memory, Phase, Collecting, IsPrepared, IsDecided, Voted, claims, held_in, needs_of, safe, with_vote}
 use Rattle.protocol.specs.Plan.{idles, serves, Plan, Planned, Before, start_of_step, is_crowded}
-use Rattle.protocol.specs.Cells.{Cell, ToRefuse, ToRest, ToReply, Provided, ToRead, ToPrepare, ToCommit, ToEnd, ToAbort, ToAbortFor, ToCount, ToClose}
-use Rattle.protocol.specs.Cells.{ToGoOn, ToSettle, ToServe, ToForget, ceiling_for, plan_count, plan_advance, plan_forget, plan_cell}
+use Rattle.protocol.specs.Cells.{Cell, ToRefuse, ToRest, ToReply, Provided, ToRead, ToPrepare, ToCommit, ToEnd, ToAbort, ToAbortFor, ToCount, ToClose, ToGoOn}
+use Rattle.protocol.specs.Cells.{ToSettle, ToServe, ToForget, plan_count, plan_advance, plan_forget, plan_cell}
 use Rattle.protocol.specs.Sound.{fits, holds_writes}
 use Rattle.protocol.specs.Step.{is_for, cell, plan_input}
 use Rattle.protocol.proofs.CellsFrom.{IsIn, IsNext, IsFrom, cell_is_from}

@@ -21,8 +21,7 @@ use Rattle.protocol.proofs.InWay.{in_way_gone, holds_exclusive}
 use Rattle.protocol.proofs.RowChanges.{row_as}
 use Rattle.protocol.proofs.Shapes.{Shaped, IsEnd, IsAbort, IsLock, IsWait, IsPromise, IsDecision, IsCleared, IsLooseOther, is_undecided, is_loose, all_fit}
 use Rattle.protocol.proofs.Shapes.{granted_to, reads_held}
-use Rattle.protocol.proofs.Choices.{Ascends, shaped_roomed, shaped_reply}
-use Rattle.protocol.proofs.Choices.{undecided, cleared, reads_still, reads_granted}
+use Rattle.protocol.proofs.Choices.{Ascends, shaped_roomed, shaped_reply, undecided, cleared, reads_still, reads_granted}
 
 -- ---- prepare
 

@@ -1,8 +1,7 @@
 -- The few shapes that the plan of a step can have, with what each of them promises of the state that it is made from.
-use Rattle.std.specs.Prelude.{ℕ, ◌≡◌, ◌<◌, ◌≤◌, Bool, true, false, not, ◌||◌, max, List, [], Option, Some, None, Ok, Err}
+use Rattle.std.specs.Prelude.{ℕ, ◌≡◌, ◌<◌, ◌≤◌, Bool, true, false, not, ◌||◌, max, List, [], Option, Some, None, nat_eq, nat_lt}
 use Rattle.std.specs.List.{AllByRecursion, list_all}
 use Rattle.units.specs.Lists.{head, when}
-use Rattle.std.specs.Prelude.{nat_eq, nat_lt}
 use Rattle.units.specs.Ids.{Id, same_id}
 use Rattle.units.specs.Keys.{Bytes}
 use Rattle.units.specs.Locks.{holds, exclusive, is_free, with_locks}
@@ -11,8 +10,8 @@ use Rattle.units.specs.declared.writes.Write.{Write}
 use Rattle.record.specs.declared.record.Record.{Record}
 use Rattle.message.specs.declared.message.Envelope.{Envelope}
 use Rattle.message.specs.declared.message.Input.{Input}
-use Rattle.protocol.specs.Rows.{Row, Phase, IsPrepared, IsDecided, Standing, IsUnknown, WasEnded, HasRow, claims, find_row, is_firm, needs_of}
-use Rattle.protocol.specs.Rows.{held_in, safe, without_rows}
+use Rattle.protocol.specs.Rows.{Row, Phase, IsPrepared, IsDecided, Standing, IsUnknown, WasEnded, HasRow, claims, find_row, is_firm, needs_of, held_in, safe}
+use Rattle.protocol.specs.Rows.{without_rows}
 use Rattle.protocol.specs.Outputs.{promise, decision}
 use Rattle.protocol.specs.Plan.{Plan, Planned, Before, stands, replies, serves, ends, drops, puts, in_way, is_crowded}
 use Rattle.protocol.specs.Cells.{is_outcome_for, raised, ceiling_for}

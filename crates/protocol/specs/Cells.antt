@@ -1,8 +1,7 @@
 -- What each cell of the table comes to: a cell is what the page `Table` says for an input and a standing, and its plan is
 -- told from the cell and the state.
 use Rattle.std.specs.List.{list_any, list_all}
-use Rattle.std.specs.Prelude.{ℕ, ◌+◌, Bool, true, false, not, cond, ◌&&◌, nat_lt, nat_le, nat_eq, min, max, List, [], ◌∷◌, map, Option, Some, None}
-use Rattle.std.specs.Prelude.{Ok, Err, filter}
+use Rattle.std.specs.Prelude.{ℕ, ◌+◌, Bool, true, not, cond, ◌&&◌, nat_lt, nat_le, nat_eq, min, max, List, [], ◌∷◌, map, Option, Some, None, Ok, Err, filter}
 use Rattle.units.specs.Lists.{greatest}
 use Rattle.units.specs.Ids.{Id}
 use Rattle.units.specs.Keys.{Bytes}

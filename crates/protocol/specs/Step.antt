@@ -1,6 +1,6 @@
 -- The step of a shard: from its state, a reading and an input to a refusal, or to the record that it logs, the memory
 -- after it and the messages that it puts out. The facts after it are those before it with the record learnt.
-use Rattle.std.specs.Prelude.{ℕ, ◌-◌, ◌^◌, ◌≤◌, Bool, true, false, cond, ◌&&◌, nat_lt, nat_eq, List, Option, Some, None, Ok, Err}
+use Rattle.std.specs.Prelude.{ℕ, ◌-◌, ◌^◌, ◌≤◌, Bool, true, false, ◌&&◌, nat_lt, nat_eq, List, Option, Some, None, Ok, Err}
 use Rattle.units.specs.Limits.{most_rows}
 use Rattle.units.specs.Lists.{head, when}
 use Rattle.units.specs.Keys.{shard_of}

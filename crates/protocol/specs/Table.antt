@@ -7,12 +7,12 @@ use Rattle.units.specs.Keys.{Bytes}
 use Rattle.message.specs.declared.message.Prepare.{Prepare}
 use Rattle.message.specs.declared.message.Commit.{Commit}
 use Rattle.message.specs.declared.message.Answer.TheVariants.{Refused}
-use Rattle.protocol.specs.Rows.{Idle, WaitsRead, WaitsPrepare, WaitsCommit, Collecting, IsPrepared, IsDecided, Standing, IsUnknown, WasEnded}
-use Rattle.protocol.specs.Rows.{HasRow, WasAborted, WasSettled, WasClosed}
+use Rattle.protocol.specs.Rows.{Idle, WaitsRead, WaitsPrepare, WaitsCommit, Collecting, IsPrepared, IsDecided, Standing, IsUnknown, WasEnded, HasRow}
+use Rattle.protocol.specs.Rows.{WasAborted, WasSettled, WasClosed}
 use Rattle.protocol.specs.Outputs.{vote_to, answer_to, done_to, outcome_to, ask_to}
 use Rattle.protocol.specs.Plan.{Before, stands}
-use Rattle.protocol.specs.Cells.{Cell, ToRefuse, ToRest, ToReply, Provided, ToRead, ToPrepare, ToCommit, ToEnd, ToAbort, ToAbortFor, ToCount, ToClose}
-use Rattle.protocol.specs.Cells.{ToGoOn, ToSettle, refuses, other_parts, is_outcome_for}
+use Rattle.protocol.specs.Cells.{Cell, ToRefuse, ToRest, ToReply, Provided, ToRead, ToPrepare, ToCommit, ToEnd, ToAbort, ToAbortFor, ToCount, ToClose, ToGoOn}
+use Rattle.protocol.specs.Cells.{ToSettle, refuses, other_parts, is_outcome_for}
 
 -- a read: it is refused once the transaction has ended, and passed over while it closes
 abbrev pub read_cell : Before → Id → Bytes → Standing → Cell

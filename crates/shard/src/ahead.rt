@@ -65,8 +65,8 @@ impl<D: Disk> Ahead<D> {
     ghost use Rattle.shard.specs.Core.{seen, book_of};
     ghost use Rattle.shard.specs.Gathered.{seen_ahead, seen_halted};
 
-    /// Takes an input after those before it. All growth is made before anything changes. An input that is refused leaves the group as it
-    /// was: by its own step, for want of memory, or as `TimeSpent` if the log has no room after the group's records.
+    /// Takes an input after those before it. All growth is made before anything changes. A refused input leaves the group as it was. It is
+    /// refused by its own step, for want of memory, or as `TimeSpent` if the log has no room after the group's records.
     pub fn take(&mut self, alloc: Global, now: &Reading, input: &Input) -> Result<(), Fault>
         ensures ahead { (from : CoreView D) → (arrivals : List Arrival)
             → IsAheadOf D.file D.clock D.since D.failures from (seen_ahead self.old) arrivals
@@ -109,7 +109,7 @@ impl<D: Disk> Ahead<D> {
         self.lead.state.earliest_decided()
     }
 
-    /// How many bytes its append writes behind the closed gate: none if none of its inputs has a record.
+    /// Gives how many bytes its append writes after the closed gate: none if none of its inputs has a record.
     pub fn len(&self) -> u64
         ensures { result ≡ length (group_bytes (seen_ahead self.now).records) }
     {

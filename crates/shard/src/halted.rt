@@ -52,7 +52,7 @@ impl<D: Disk> Halted<D> {
         self.state.setup()
     }
 
-    /// The horizon, below which no value is read: 0 where there is none.
+    /// Gives the horizon, below which no value is read: 0 if there is none.
     pub fn horizon(&self) -> Stamp
         ensures { result ≡ (seen_halted self.now).looks.horizon }
     {
