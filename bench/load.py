@@ -21,7 +21,7 @@ def build(made, revision):
     if revision:
         tree = to / "tree"
         tree.mkdir(parents=True)
-        crates = subprocess.run(["git", "-C", HERE, "archive", revision, "crates"], check=True, stdout=subprocess.PIPE, cwd=HERE.parent)
+        crates = subprocess.run(["git", "-C", HERE.parent, "archive", revision, "crates"], check=True, stdout=subprocess.PIPE)
         subprocess.run(["tar", "-x", "-C", tree], check=True, input=crates.stdout)
     subprocess.run([HERE / "serving.sh", tree, to], check=True)
     return to / "serving"
@@ -29,7 +29,7 @@ def build(made, revision):
 
 def turns(disk, clients):
     """How many transactions a row has."""
-    per_client = {"memory": 200, "files": 50, "5": 10, "15": 5}[disk]
+    per_client = {"memory": 100, "files": 25, "5": 3, "15": 2}[disk]
     return max(per_client * clients, per_client * 4)
 
 
@@ -42,7 +42,10 @@ def row(program, slow, disk, shards, clients):
         env.update(LD_PRELOAD=str(slow), SLOW_SYNC=str(int(disk) * 1000))
     with tempfile.TemporaryDirectory(dir=root) as folder:
         words = [place, shards, clients, turns(disk, clients), 1000, 100, folder]
-        told = subprocess.run([program, *map(str, words)], env=env, stdout=subprocess.PIPE, text=True, timeout=900, check=False)
+        try:
+            told = subprocess.run([program, *map(str, words)], env=env, stdout=subprocess.PIPE, text=True, timeout=120, check=False)
+        except subprocess.TimeoutExpired:
+            return "not ended in 120 seconds"
     return told.stdout.split(": ", 1)[-1].strip() or f"ended with {told.returncode}"
 
 

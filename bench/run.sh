@@ -94,6 +94,7 @@ build() {
         viewing) [ -f "$tree/crates/board/src/publisher.rt" ] || continue ;;
         esac
         if grep -q 'fn horizon' "$tree/crates/board/src/publisher.rt" 2>/dev/null; then horizons='--cfg horizons'; else horizons=; fi
+        ! grep -q 'places: &Places' "$tree/crates/board/src/making.rt" 2>/dev/null || horizons="$horizons --cfg places"
         # shellcheck disable=SC2046,SC2086
         link "$program" "$to" $(externs "$to") -L "$to" $horizons
     done

@@ -1,6 +1,6 @@
 #!/bin/sh
-# Builds the program `serving` over the crates of a tree, as plain Rust and without a proof: bench/serving.sh TREE FOLDER. What FOLDER has of an
-# earlier build is kept.
+# Builds the programs `serving` and `opening` over the crates of a tree, as plain Rust and without a proof: bench/serving.sh TREE FOLDER. What
+# FOLDER has of an earlier build is kept.
 set -eu
 here=$(cd "$(dirname "$0")" && pwd)
 tree=$1 to=$2
@@ -37,5 +37,7 @@ for crate in $low $simpler $high; do
     [ "$crate" != store ] || python3 "$here/without_folders.py" "$to/store"
     library "$crate" "$to/$crate/lib.rs"
 done
-# shellcheck disable=SC2046
-rustc --edition 2021 -C opt-level=3 -A warnings --crate-name serving "$here/serving.rs" $(externs "$to") -L "$to" -o "$to/serving"
+for program in serving opening; do
+    # shellcheck disable=SC2046
+    rustc --edition 2021 -C opt-level=3 -A warnings --crate-name "$program" "$here/$program.rs" $(externs "$to") -L "$to" -o "$to/$program"
+done

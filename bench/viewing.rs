@@ -7,19 +7,38 @@ use shim::Vec as List;
 use std::sync::atomic::{AtomicUsize, Ordering};
 use std::time::Duration;
 use units::{Install, Key, Seen, ShardNo, Splits, Stamp, Value};
+use versions::Places;
 
 /// Looks that each viewer makes, and rounds of a hundred publications, of which the least counts.
 const LOOKS: u64 = 500_000;
 const ROUNDS: u64 = 50;
 
-/// A board; earlier revisions have none with a horizon.
-#[cfg(horizons)]
+/// A board; earlier revisions are told no places, and have none with a horizon.
+#[cfg(places)]
 macro_rules! begun {
-    ($($first:expr),*; $($rest:expr),*) => { start($($first),*, Stamp::zero(), $($rest),*) };
+    ($rt:expr, $alloc:expr, $installs:expr, $places:expr, $safe:expr; $($rest:expr),*) => {
+        start($rt, $alloc, $installs, $places, $safe, Stamp::zero(), $($rest),*)
+    };
+}
+#[cfg(all(horizons, not(places)))]
+macro_rules! begun {
+    ($rt:expr, $alloc:expr, $installs:expr, $places:expr, $safe:expr; $($rest:expr),*) => {
+        start($rt, $alloc, $installs, $safe, Stamp::zero(), $($rest),*)
+    };
 }
 #[cfg(not(horizons))]
 macro_rules! begun {
-    ($($first:expr),*; $($rest:expr),*) => { start($($first),*, $($rest),*) };
+    ($rt:expr, $alloc:expr, $installs:expr, $places:expr, $safe:expr; $($rest:expr),*) => { start($rt, $alloc, $installs, $safe, $($rest),*) };
+}
+
+/// The places of the installs in order, as a core has them.
+fn places_of(installs: &List<Install>) -> Places {
+    let mut places = Places::none(Global);
+    places.reserve(installs.len()).unwrap();
+    for n in 0..installs.len() {
+        places.follow(&installs[..n + 1], n);
+    }
+    places
 }
 
 #[repr(C)]
@@ -73,8 +92,9 @@ fn board(count: u64, viewers: usize) -> (Publisher<Waiting>, List<Viewer>) {
         installs.push(version(n, n + 1)).unwrap();
     }
     let splits = Splits::new(Global, &[]).unwrap();
+    let _places = places_of(&installs);
     let began = cpu();
-    let made = begun!(Waiting, Global, &installs, Stamp::new(count).unwrap(); splits, ShardNo::new(0).unwrap(), viewers);
+    let made = begun!(Waiting, Global, &installs, &_places, Stamp::new(count).unwrap(); splits, ShardNo::new(0).unwrap(), viewers);
     tell(&format!("making a board, {count} versions"), cpu() - began, 1);
     made.ok().unwrap()
 }

@@ -1,10 +1,13 @@
 -- A board: a list of entries that only grows. What it shows is the fold of its list.
 use Rattle.std.specs.List.{list_all}
-use Rattle.std.specs.Prelude.{ℕ, Bool, true, false, ◌&&◌, nat_lt, nat_le, List, [], ◌∷◌, ◌++◌, map, cond, Option, Some, None}
+use Rattle.std.specs.Prelude.{◌≡◌, ℕ, ◌≤◌, length, Bool, true, false, ◌&&◌, nat_lt, nat_le, List, [], ◌∷◌, ◌++◌, map, cond, Option, Some, None}
 use Rattle.units.specs.Lists.{gather, greatest}
 use Rattle.units.specs.Keys.{Bytes}
 use Rattle.units.specs.Versions.{of_key, at_time}
 use Rattle.units.specs.declared.writes.Install.{Install}
+use Rattle.versions.specs.Headed.{Headed}
+use Rattle.versions.specs.Orders.{Orders}
+use Rattle.versions.specs.Places.{SameFrom}
 use Rattle.board.specs.declared.entry.BoardEntry.{BoardEntry}
 use Rattle.board.specs.declared.entry.BoardEntry.TheVariants.{Installed, Safe, Horizon}
 
@@ -54,6 +57,16 @@ horizon_entries horizon = cond (nat_lt 0 horizon) (Horizon horizon ∷ []) []
 -- the entries that a board begins with: its versions, its horizon, and the timestamp up to which looks are answered
 abbrev pub first_entries : List Install → ℕ → ℕ → List BoardEntry
 first_entries installs safe horizon = map (λ i. Installed i) installs ++ horizon_entries horizon ++ Safe safe ∷ []
+
+-- the places of all these versions in order, as the horizon or an earlier one leaves them
+abbrev pub AreInOrder : List Install → ℕ → Headed → Type 0
+AreInOrder installs horizon places = (from : ℕ) × (from ≤ horizon) × Orders from installs (length installs) places
+
+-- the versions give the values that a board with these entries shows, and these are its served time and its horizon
+pub record MatchesEntries (versions : List Install) (safe horizon : ℕ) (entries : List BoardEntry) : Type 0 where
+  pub same : SameFrom (horizon_on entries) versions (versions_on entries)
+  pub served : safe ≡ safe_on entries
+  pub since : horizon ≡ horizon_on entries
 
 -- the timestamp is above the last that looks are answered at
 abbrev pub is_past : Option ℕ → ℕ → Bool

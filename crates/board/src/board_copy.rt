@@ -1,19 +1,19 @@
 //! One of the two copies of a board.
 ghost use Rattle.std.specs.Prelude.{◌≡◌, true, false, Some, [], ◌∷◌, ◌++◌, length, IsTrue, MatchResult, IfOk, IfErr, OnOk};
 ghost use mathlib.Core.List.{IsPrefix};
-ghost use Rattle.board.specs.Board.{safe_on, has_safe, horizon_entries, first_entries, is_board};
+ghost use Rattle.board.specs.Board.{safe_on, has_safe, is_board, MatchesEntries};
 ghost use Rattle.board.specs.Look.{look_answer, look_buffer};
 ghost use Rattle.board.specs.State.{AddsVersion, Forgets, Takes};
 
 use crate::change::BoardChange;
-use crate::entry::{BoardEntry, copy_install};
+use crate::entry::BoardEntry;
 use crate::home::Home;
 use growing::{Beginning, Growing};
 use left_right::Absorb;
-use std::alloc::{AllocError, Global};
+use std::alloc::AllocError;
 use std::marker::Model;
 use units::{Fault, Install, Key, Seen, Stamp, may_look, show};
-use versions::{Versions, forgotten_is_not_missed, place_does_not_matter};
+use versions::{Versions, copy_install, forgotten_is_not_missed};
 
 /// What readers see. The list of entries itself exists in proofs alone.
 #[derive(Drop)]
@@ -79,27 +79,35 @@ impl Absorb<BoardChange> for BoardCopy {
 }
 
 impl BoardCopy {
-    /// Makes an empty copy. `second` says which of the two copies it is.
-    pub(crate) fn new(
-        alloc: Global,
+    /// Makes a copy with these versions, which shows all that is noted ahead. `second` says which of the two copies it is.
+    pub(crate) fn open(
         list: Growing<BoardEntry>,
         ahead: Growing<BoardEntry>,
         second: bool,
+        versions: Versions,
+        safe: Stamp,
+        horizon: Stamp,
     ) -> BoardCopy
-        requires { (list.entries ≡ []) × (ahead.entries ≡ []) × (list.second ≡ second) }
-        ensures { result ≡ record { board = list.names; second = second; list = []; ahead = [] } }
+        requires begun { (list.entries ≡ []) × (list.second ≡ second) }
+        requires first { MatchesEntries versions.installs safe horizon ahead.entries }
+        ensures { result ≡ record {
+          board = list.names;
+          second = second;
+          list = ahead.entries;
+          ahead = ahead.entries;
+        } }
     {
-        place_does_not_matter();
-        forgotten_is_not_missed();
+        let mut list = list;
+        list.follow(&ahead);
         BoardCopy {
             list,
             ahead,
             second,
-            versions: Versions::none(alloc),
-            safe: Stamp::zero(),
-            prepared_safe: Stamp::zero(),
-            horizon: Stamp::zero(),
-            prepared_horizon: Stamp::zero(),
+            versions,
+            safe,
+            prepared_safe: safe,
+            horizon,
+            prepared_horizon: horizon,
         }
     }
 
@@ -133,79 +141,6 @@ impl BoardCopy {
         self.safe = self.prepared_safe;
         self.horizon = self.prepared_horizon;
         self.list.follow(&self.ahead);
-    }
-
-    /// Adds copies of the installs, then the horizon if it is above 0, and then the safe timestamp.
-    pub(crate) fn open(
-        mut self,
-        installs: &[Install],
-        safe: Stamp,
-        horizon: Stamp,
-    ) -> Result<BoardCopy, Fault>
-        requires { self.ahead ≡ [] }
-        ensures list { IfOk result (λ s.
-            s ≡ record self {
-              list = first_entries installs.now safe horizon;
-              ahead = first_entries
-                  installs.now safe horizon;
-            }) }
-        ensures memory { IfErr result (λ fault. fault ≡ Fault.Memory) }
-    {
-        if !self.fill(installs, safe, horizon) {
-            drop(self);
-            return Err(Fault::Memory);
-        }
-        Ok(self)
-    }
-
-    // Adds copies of the installs, the horizon and the safe timestamp. Returns whether there was the memory.
-    fn fill(&mut self, installs: &[Install], safe: Stamp, horizon: Stamp) -> bool
-        requires { self.old.ahead ≡ [] }
-        ensures { IsTrue result → self.new ≡ record self.old {
-          list = first_entries installs.now safe horizon;
-          ahead = first_entries installs.now safe horizon;
-        } }
-    {
-        for install in installs {
-            if !self.prepare_copy(install) {
-                return false;
-            }
-        }
-        if !self.prepare_horizon(horizon) {
-            return false;
-        }
-        if self.prepare(&BoardEntry::Safe(safe)).is_err() {
-            return false;
-        }
-        self.commit();
-        true
-    }
-
-    // Prepares a copy of a version. Returns whether there was the memory.
-    fn prepare_copy(&mut self, install: &Install) -> bool
-        ensures { IsTrue result → self.new ≡ record self.old {
-          ahead = self.old.ahead ++ BoardEntry.Installed install.now ∷ [];
-        } }
-    {
-        let Ok(copy) = copy_install(install) else {
-            return false;
-        };
-        let entry = BoardEntry::Installed(copy);
-        let taken = self.prepare(&entry).is_ok();
-        drop(entry);
-        taken
-    }
-
-    // Prepares a horizon, if it is above 0. Returns whether there was the memory.
-    fn prepare_horizon(&mut self, horizon: Stamp) -> bool
-        ensures { IsTrue result → self.new ≡ record self.old {
-          ahead = self.old.ahead ++ horizon_entries horizon;
-        } }
-    {
-        if horizon.micros() == 0 {
-            return true;
-        }
-        self.prepare(&BoardEntry::Horizon(horizon)).is_ok()
     }
 
     /// Tells which of the two copies of a board this is.

@@ -14,11 +14,12 @@ mod told;
 mod viewer;
 mod viewers;
 
-pub use entry::{BoardEntry, copy_install};
+pub use entry::BoardEntry;
 pub use home::Home;
 pub use making::{MOST_VIEWERS, check_viewers, start};
 pub use publisher::Publisher;
 pub use snapshot::Snapshot;
 pub use told::Told;
+pub use versions::{Places, copy_install};
 pub use viewer::Viewer;
 pub use viewers::Viewers;

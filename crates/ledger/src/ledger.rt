@@ -9,7 +9,7 @@ ghost use Rattle.facts.specs.Stages.{follows_head, follows_next, stage_after, st
 ghost use Rattle.protocol.specs.Sound.{writes_standing};
 ghost use Rattle.versions.specs.Orders.{Orders};
 ghost use Rattle.ledger.specs.Turned.{turned};
-ghost use Rattle.ledger.specs.Ledger.{CanInstall};
+ghost use Rattle.ledger.specs.Ledger.{AreInOrder, CanInstall};
 
 use crate::renewing::{Recorder, renew};
 use facts::{Facts, Status};
@@ -106,6 +106,13 @@ impl Ledger {
         ensures { result.now ≡ self.now.facts.installs }
     {
         self.facts.installs()
+    }
+
+    /// Returns the places of the versions in order, by key and timestamp.
+    pub fn places(&self) -> &Places
+        ensures { AreInOrder self.now.facts result.now }
+    {
+        &self.places
     }
 
     /// Returns the newest value of a key. `None` if it never had one, or was erased.

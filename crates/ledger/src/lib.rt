@@ -16,3 +16,4 @@ pub use laws::{
 };
 pub use ledger::Ledger;
 pub use renewing::Recorder;
+pub use versions::Places;

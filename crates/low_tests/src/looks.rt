@@ -10,6 +10,7 @@ use std::thread;
 use std::thread::Threads;
 use truetime::Reading;
 use units::{Fault, Install, Reason, Seen, Splits, Value};
+use versions::Places;
 
 // A look for a key of one byte, with a buffer of so many bytes.
 struct Look {
@@ -122,7 +123,18 @@ fn new_board<R: Wait + Drop>(
     match Splits::new(alloc, &[key(b'm')]) {
         Ok(splits) => {
             let shard = splits.shard_of(&key(b'a'));
-            start(rt, alloc, &[], stamp(5), stamp(0), splits, shard, viewers)
+            let none = Places::none(alloc);
+            start(
+                rt,
+                alloc,
+                &[],
+                &none,
+                stamp(5),
+                stamp(0),
+                splits,
+                shard,
+                viewers,
+            )
         }
         Err(fault) => Err(fault),
     }
@@ -315,7 +327,8 @@ fn board_from_3<R: Wait + Drop>(rt: R, alloc: Global) -> Result<(Publisher<R>, V
     match Splits::new(alloc, &[key(b'm')]) {
         Ok(splits) => {
             let shard = splits.shard_of(&key(b'a'));
-            start(rt, alloc, &[], stamp(5), stamp(3), splits, shard, 2)
+            let none = Places::none(alloc);
+            start(rt, alloc, &[], &none, stamp(5), stamp(3), splits, shard, 2)
         }
         Err(fault) => Err(fault),
     }

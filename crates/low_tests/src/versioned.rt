@@ -633,11 +633,25 @@ fn agree(alloc: Global, versions: &mut Versions, all: &mut Vec<Plain>, row: &Dra
     true
 }
 
+// A copy of the versions agrees with the plain list at each version.
+fn copy_agrees(alloc: Global, versions: &Versions, all: &[Plain]) -> bool {
+    let Ok(copy) = versions.copy(alloc) else {
+        return false;
+    };
+    let mut agreed = true;
+    for one in all {
+        agreed &= agree_at(&copy, all, one);
+    }
+    drop(copy);
+    agreed
+}
+
 impl Row for Drawn {
     fn tell(&self, wrong: &mut WrongRows, rt: &HostRuntime) {
         let alloc = rt.alloc();
         let (mut versions, mut all) = (Versions::none(alloc), Vec::new(alloc));
-        let agreed = agree(alloc, &mut versions, &mut all, self);
+        let agreed = agree(alloc, &mut versions, &mut all, self)
+            && copy_agrees(alloc, &versions, &all);
         drop(versions);
         drop(all);
         wrong.unless(agreed, self.what);

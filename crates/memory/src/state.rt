@@ -11,6 +11,7 @@ ghost use Rattle.record.specs.Facts.{recorded};
 ghost use Rattle.protocol.specs.Rows.{safe, claims, find_row, held_in};
 ghost use Rattle.protocol.specs.Plan.{in_way, opens, is_crowded};
 ghost use Rattle.ledger.specs.Keeps.{IsRegular};
+ghost use Rattle.ledger.specs.Ledger.{AreInOrder};
 ghost use Rattle.ledger.specs.Turned.{turned};
 ghost use Rattle.rows.specs.CodeRows.{phase_of};
 ghost use Rattle.rows.specs.RowTable.{needs_in};
@@ -20,7 +21,7 @@ ghost use Rattle.protocol.specs.Sound.{writes_standing};
 ghost use Rattle.memory.specs.Standings.{standing_in, standing_of, row_by, Allows, HasRowIn};
 
 use crate::standing::{Standing, by_records, by_row};
-use ledger::{Ended, Ledger, Recorder};
+use ledger::{Ended, Ledger, Places, Recorder};
 use record::Record;
 use rows::{Row, Rows, exclusive};
 use safetime::SafeTime;
@@ -113,6 +114,13 @@ impl State {
         ensures { result.now ≡ self.now.facts.installs }
     {
         self.ledger.installs()
+    }
+
+    /// Returns the places of the versions in order, by key and timestamp.
+    pub fn places(&self) -> &Places
+        ensures { AreInOrder self.now.facts result.now }
+    {
+        self.ledger.places()
     }
 
     /// Returns the newest value of a key. `None` if it never had one, or was erased.

@@ -10,7 +10,8 @@ use Rattle.units.specs.declared.writes.Install.{Install}
 use Rattle.board.specs.declared.entry.BoardEntry.{BoardEntry}
 use Rattle.board.specs.declared.entry.BoardEntry.TheVariants.{Installed, Safe, Horizon}
 use Rattle.board.specs.Board.{versions_on, safe_from, safe_on, horizon_on, horizon_entries, is_past, is_rising, may_follow, is_board, first_entries}
-use Rattle.board.proofs.Longer.{follows_install, follows_safe, follows_horizon, safe_from-horizon, horizon_on-more, versions_on-more}
+use Rattle.board.proofs.First.{horizon_on-entries, safe_from-entries, safe_behind}
+use Rattle.board.proofs.Longer.{follows_install, follows_safe, follows_horizon}
 use Rattle.protocol.specs.Showable.{rises_by_key}
 use Rattle.protocol.proofs.Rising.{Alike, alike_more, below, below_more, rise_parts}
 use Rattle.node.specs.InStep.{as_entries}
@@ -134,18 +135,6 @@ pub as_entries-more : (xs ys : List Install) → as_entries (xs ++ ys) ≡ as_en
 as_entries-more [] ys = refl
 as_entries-more (i ∷ xs) ys = ap (λ es. Installed i ∷ es) (as_entries-more xs ys)
 
-pub versions_on-entries : (xs : List Install) → versions_on (as_entries xs) ≡ xs
-versions_on-entries [] = refl
-versions_on-entries (i ∷ xs) = ap (λ is. i ∷ is) (versions_on-entries xs)
-
-horizon_on-entries : (xs : List Install) → horizon_on (as_entries xs) ≡ 0
-horizon_on-entries [] = refl
-horizon_on-entries (i ∷ xs) = horizon_on-entries xs
-
-safe_from-entries : (low : ℕ) (xs : List Install) → safe_from low (as_entries xs) ≡ low
-safe_from-entries low [] = refl
-safe_from-entries low (i ∷ xs) = safe_from-entries low xs
-
 pub take_drop : (n : ℕ) (xs : List Install) → take n xs ++ drop n xs ≡ xs
 take_drop zero xs = refl
 take_drop (suc n) [] = refl
@@ -157,58 +146,18 @@ safe_from-more_entries low (Installed i ∷ xs) ys = safe_from-more_entries low 
 safe_from-more_entries low (Safe t ∷ xs) ys = safe_from-more_entries t xs ys
 safe_from-more_entries low (Horizon t ∷ xs) ys = safe_from-more_entries low xs ys
 
--- a horizon that is there, or none
-module _ (h : ℕ) where
-  pub no_versions : versions_on (horizon_entries h) ≡ []
-  no_versions = by_test (nat_lt 0 h)
-    where
-      by_test : (b : Bool) → versions_on (cond b (Horizon h ∷ []) []) ≡ []
-      by_test true = refl
-      by_test false = refl
-
-  pub that_horizon : horizon_on (horizon_entries h) ≡ h
-  that_horizon = by_test (nat_lt 0 h) refl
-    where
-      by_test : (b : Bool) → nat_lt 0 h ≡ b → horizon_on (cond b (Horizon h ∷ []) []) ≡ h
-      by_test true is = omega arith
-      by_test false is = let low : h ≤ 0 = grind (arith, nat_tests) in omega (arith, low)
-
-  pub safe_behind : (xs : List BoardEntry) → safe_on (xs ++ horizon_entries h) ≡ safe_on xs
-  safe_behind xs = by_test (nat_lt 0 h)
-    where
-      by_test : (b : Bool) → safe_on (xs ++ cond b (Horizon h ∷ []) []) ≡ safe_on xs
-      by_test true = safe_from-horizon 0 xs h
-      by_test false = ap safe_on (append-nil xs)
-
-  lawful_behind : (xs : List BoardEntry) → is_board xs ≡ true → horizon_on xs ≤ h → is_board (xs ++ horizon_entries h) ≡ true
-  lawful_behind xs lawful low = by_test (nat_lt 0 h)
-    where
-      by_test : (b : Bool) → is_board (xs ++ cond b (Horizon h ∷ []) []) ≡ true
-      by_test true = board_horizon xs h lawful low
-      by_test false = ap is_board (append-nil xs) ∙ lawful
+lawful_behind : (h : ℕ) (xs : List BoardEntry) → is_board xs ≡ true → horizon_on xs ≤ h → is_board (xs ++ horizon_entries h) ≡ true
+lawful_behind h xs lawful low = by_test (nat_lt 0 h)
+  where
+    by_test : (b : Bool) → is_board (xs ++ cond b (Horizon h ∷ []) []) ≡ true
+    by_test true = board_horizon xs h lawful low
+    by_test false = ap is_board (append-nil xs) ∙ lawful
 
 -- the versions of the core, its horizon and its served time are a board
 pub opening_is_board : (installs : List Install) (t h : ℕ) → may_follow [] None 0 (as_entries installs) ≡ true → is_board (first_entries installs t h) ≡ true
 opening_is_board installs t h order =
     board_safe (as_entries installs ++ horizon_entries h) t (lawful_behind h (as_entries installs) order (omega (arith, horizon_on-entries installs)))
     (omega (arith, safe_behind h (as_entries installs), safe_from-entries 0 installs))
-
--- and that is its horizon
-pub opening_horizon : (installs : List Install) (t h : ℕ) → horizon_on (first_entries installs t h) ≡ h
-opening_horizon installs t h =
-    omega (
-      arith,
-      horizon_on-more (as_entries installs ++ horizon_entries h) (Safe t ∷ []),
-      horizon_on-more (as_entries installs) (horizon_entries h),
-      horizon_on-entries installs,
-      that_horizon h,
-    )
-
--- and those are its versions
-pub opening_versions : (installs : List Install) (t h : ℕ) → versions_on (first_entries installs t h) ≡ installs
-opening_versions installs t h =
-    versions_on-more (as_entries installs ++ horizon_entries h) (Safe t ∷ []) ∙ append-nil (versions_on (as_entries installs ++ horizon_entries h))
-    ∙ versions_on-more (as_entries installs) (horizon_entries h) ∙ (λ i. versions_on-entries installs i ++ no_versions h i) ∙ append-nil installs
 
 -- versions that rise follow as entries
 pub entries_follow : (before installs : List Install) → rises_by_key before installs ≡ true → may_follow before None 0 (as_entries installs) ≡ true

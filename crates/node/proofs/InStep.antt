@@ -11,8 +11,8 @@ use Rattle.board.specs.Board.{versions_on, safe_on, horizon_on, is_board, horizo
 use Rattle.board.specs.Views.{Publishing, Published, PublishesAll}
 use Rattle.board.proofs.Longer.{front_is_board, versions_on-more, horizon_on-more, safe_from-install, safe_from-safe, safe_from-horizon}
 use Rattle.protocol.specs.Showable.{rises_by_key}
-use Rattle.node.proofs.Follow.{board_news, board_safe, board_horizon, opening_is_board, opening_horizon, opening_versions, as_entries-more, take_drop}
-use Rattle.node.proofs.Follow.{versions_on-entries, safe_from-more_entries, entries_follow}
+use Rattle.board.proofs.First.{opening_horizon, opening_versions, versions_on-entries}
+use Rattle.node.proofs.Follow.{board_news, board_safe, board_horizon, opening_is_board, as_entries-more, take_drop, safe_from-more_entries, entries_follow}
 use Rattle.node.specs.InStep.{InStep, ShowsAll, as_entries}
 
 pub opened_in_step : (installs : List Install) (t h : ℕ) → rises_by_key [] installs ≡ true → InStep installs t (length installs) h

@@ -1,6 +1,6 @@
 //! The core of a shard, and the publisher of its board.
 ghost use Rattle.std.specs.Prelude.{◌≡◌, ◌<◌, ◌+◌, ◌++◌, true, length, IfOk, IfErr, IsTrue, OnOk};
-ghost use Rattle.board.specs.Board.{first_entries, horizon_on, is_board};
+ghost use Rattle.board.specs.Board.{first_entries, horizon_on, is_board, AreInOrder};
 ghost use Rattle.disk.specs.File.{surface};
 ghost use Rattle.node.specs.DeskFaults.{refuses_input, refuses_advance, refuses_horizon, refuses_turnover};
 ghost use Rattle.node.specs.InStep.{InStep, IsInStep, IsNewBoard, AreOnBoard, IsNoDesk, StillShows, ShowsAll, HasAdvanced, HasNotAdvanced, HasTaken};
@@ -13,7 +13,7 @@ ghost use Rattle.shard.specs.Opened.{HasOpened};
 ghost use Rattle.shard.specs.Settled.{IsDurablySettled};
 
 use crate::measure::Measure;
-use board::{Publisher, Told, Viewer, check_viewers, copy_install, start};
+use board::{Places, Publisher, Told, Viewer, check_viewers, copy_install, start};
 use disk::Disk;
 use message::{Input, Outbox};
 use protocol::{own_refusals, step_keeps_showable, writes_ascend};
@@ -80,6 +80,7 @@ impl<D: Disk + Drop, R: Wait + Drop> Desk<D, R> {
             alloc,
             core.setup(),
             core.installs(),
+            core.places(),
             core.safe(),
             told,
             n,
@@ -278,11 +279,13 @@ fn board_of<R: Wait + Drop>(
     alloc: Global,
     setup: &Setup,
     installs: &[Install],
+    places: &Places,
     safe: Stamp,
     horizon: Stamp,
     n: usize,
 ) -> Result<(Publisher<R>, Vec<Viewer>), Fault>
-    requires { is_board (first_entries installs.now safe horizon) ≡ true }
+    requires lawful { is_board (first_entries installs.now safe horizon) ≡ true }
+    requires order { AreInOrder installs.now horizon places.now }
     ensures board { IfOk result
         (λ made. IsNewBoard made.0 (first_entries installs.now safe horizon)) }
     ensures viewers { IfOk result (λ made. AreOnBoard n setup.now made.0 made.1.items) }
@@ -291,7 +294,8 @@ fn board_of<R: Wait + Drop>(
 {
     check_viewers(n)?;
     let splits = setup.splits.copy(alloc)?;
-    start(rt, alloc, installs, safe, horizon, splits, setup.shard, n)
+    let shard = setup.shard;
+    start(rt, alloc, installs, places, safe, horizon, splits, shard, n)
 }
 
 // Hands the board the versions that it lacks, the horizon if it was raised, and the served time, and publishes them.

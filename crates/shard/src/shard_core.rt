@@ -21,6 +21,7 @@ ghost use Rattle.shard.specs.Due.{IsDue};
 ghost use Rattle.shard.specs.Logs.{records_in, KeepsRecords};
 ghost use Rattle.shard.specs.On.{HasStepped, step_of};
 ghost use Rattle.ledger.specs.Keeps.{IsLasting};
+ghost use Rattle.ledger.specs.Ledger.{AreInOrder};
 ghost use Rattle.shard.specs.Opened.{HasOpened, HasNotOpened};
 ghost use Rattle.shard.specs.Turned.{HasTurned};
 ghost use Rattle.shard.specs.Look.{IsLook, safe_at};
@@ -33,7 +34,7 @@ use crate::opening::Opening;
 use book::{Book, a_page_is_a_step};
 use disk::Disk;
 use gatelog::GateLog;
-use ledger::taken_lasts;
+use ledger::{Places, taken_lasts};
 use memory::Step;
 use message::{Input, Outbox};
 use protocol::{own_refusals, taken_is_showable};
@@ -278,6 +279,13 @@ impl<D: Disk> Core<D> {
         ensures { result.now ≡ (seen self.now).facts.installs }
     {
         self.machine.state.installs()
+    }
+
+    /// Returns the places of the versions in order, by key and timestamp.
+    pub fn places(&self) -> &Places
+        ensures { AreInOrder (seen self.now).facts result.now }
+    {
+        self.machine.state.places()
     }
 
     /// Returns the book, if the core keeps one. Replayed from the state that the opening left, its pages lead to what the core knows and

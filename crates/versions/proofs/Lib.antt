@@ -15,4 +15,5 @@ pub mod Pruned
 pub mod Passed
 pub mod Shorter
 pub mod Gathered
+pub mod Last
 mod Examples

@@ -52,7 +52,7 @@ keep-each p q [] all = refl
 keep-each p q (x ∷ t) all = ap (λ b. cond b (x ∷ filter p t) (filter p t)) all.0 ∙ ap (λ r. cond (q x) (x ∷ r) r) (keep-each p q t all.1)
 
 -- of two versions of one key, in order
-earlier : (x y : Install) → version_before x y ≡ true → same_key x.key y.key ≡ true → x.at < y.at
+pub earlier : (x y : Install) → version_before x y ≡ true → same_key x.key y.key ≡ true → x.at < y.at
 earlier x y before same =
     let level : key_before x.key y.key ≡ false = ap (key_before x.key) (sym (same_key-is x.key y.key same)) ∙ key_before-irreflexive x.key in
     grind (arith, nat_tests)

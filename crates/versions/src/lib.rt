@@ -2,6 +2,7 @@
 #![tactic(auto)]
 
 mod chunk;
+mod copying;
 mod forgetting;
 mod head;
 mod laws;
@@ -11,6 +12,7 @@ mod search;
 mod sequence;
 mod store;
 
+pub use copying::copy_install;
 pub use laws::{forgotten_is_not_missed, place_does_not_matter};
 pub use placed::Places;
 pub use store::Versions;

@@ -1,12 +1,15 @@
 //! The versions of keys.
-ghost use Rattle.std.specs.Prelude.{◌≡◌, ℕ, ◌+◌, ◌<◌, ◌≤◌, ◌^◌, [], length, IsTrue, IsOk, IfErr, OnOk};
+ghost use Rattle.std.specs.Prelude.{◌≡◌, ℕ, ◌+◌, ◌<◌, ◌≤◌, ◌^◌, ◌++◌, ◌∷◌, [], length, IsTrue, IsOk, IfOk, IfErr, OnOk};
 ghost use Rattle.std.specs.Option.{option_copied};
 ghost use Rattle.units.specs.Versions.{latest, at_time, versions, above_versions};
 ghost use Rattle.units.specs.Keys.{write_before};
 ghost use Rattle.units.specs.Lists.{ascends};
-ghost use Rattle.versions.specs.Ordered.{installed, all_installed, count_not_after, is_above};
+ghost use Rattle.versions.specs.Arranged.{arranged, AreWithin};
+ghost use Rattle.versions.specs.Ordered.{installed, all_installed, count_not_after, is_above, AscendsByVersion};
+ghost use Rattle.versions.specs.Orders.{Orders};
 ghost use Rattle.versions.specs.Pruned.{pruned};
 
+use crate::copying::copy_install;
 use crate::forgetting::{forget, gather};
 use crate::placed::Places;
 use crate::search::{self, find, install};
@@ -61,6 +64,56 @@ impl Versions {
             places: Places::none(alloc),
             room: 0,
         }
+    }
+
+    /// Copies the versions that have a place, in the order of the places. Each comes last, so no place is searched for.
+    pub fn of(alloc: Global, installs: &[Install], places: &Places) -> Result<Versions, Fault>
+        requires { (horizon : ℕ) × Orders horizon installs.now (length installs.now) places.now }
+        ensures versions { IfOk result
+            (λ versions. versions.installs ≡ arranged installs.now places.now.places) }
+        ensures memory { IfErr result (λ fault. fault ≡ Fault.Memory) }
+    {
+        Versions::in_order(alloc, installs, places)
+    }
+
+    /// A copy, which shares the values.
+    pub fn copy(&self, alloc: Global) -> Result<Versions, Fault>
+        ensures versions { IfOk result (λ copy. copy.installs ≡ self.now.installs) }
+        ensures memory { IfErr result (λ fault. fault ≡ Fault.Memory) }
+    {
+        Versions::in_order(alloc, &self.installs, &self.places)
+    }
+
+    // Copies of the versions at some places.
+    fn in_order(alloc: Global, installs: &[Install], places: &Places) -> Result<Versions, Fault>
+        requires within { AreWithin places.now.places (length installs.now) }
+        requires order { AscendsByVersion (arranged installs.now places.now.places) }
+        ensures versions { IfOk result
+            (λ versions. versions.installs ≡ arranged installs.now places.now.places) }
+        ensures memory { IfErr result (λ fault. fault ≡ Fault.Memory) }
+    {
+        let mut versions = Versions::none(alloc);
+        let Ok(()) = versions.reserve(places.len()) else {
+            return Err(Fault::Memory);
+        };
+        for at in 0..places.len() {
+            versions.append(&installs[places.get(at)])?;
+        }
+        Ok(versions)
+    }
+
+    // Adds a copy of a version that comes after all others in order.
+    fn append(&mut self, install: &Install) -> Result<(), Fault>
+        requires room { 0 < self.old.room }
+        requires last { AscendsByVersion (self.old.installs ++ install.now ∷ []) }
+        ensures installs { OnOk result
+            (self.new.installs ≡ self.old.installs ++ install.now ∷ []) }
+        ensures room { OnOk result (self.new.room + 1 ≡ self.old.room) }
+        ensures memory { IfErr result (λ fault. fault ≡ Fault.Memory) }
+    {
+        let Install { key, at, value } = copy_install(install)?;
+        self.install(key, at, value);
+        Ok(())
     }
 
     /// Makes room for so many more installs.

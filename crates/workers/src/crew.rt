@@ -139,6 +139,10 @@ fn work_all<R: Threads + Wait + time::Clock + Sync, C: Clock + Send + Drop, W: W
         {
             let mut worker = worker;
             let report = worker.work(course);
+            if report.is_err() {
+                // The drive has no counts then, so the others end soon too.
+                worker.shared.stop.tell();
+            }
             drop(worker);
             report
         },

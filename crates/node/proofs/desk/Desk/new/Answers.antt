@@ -1,16 +1,24 @@
-use Rattle.std.proofs.Common.{◌∙◌, []}
-use Rattle.board.specs.Board.{first_entries, is_board}
+use Rattle.std.proofs.Common.{ℕ, List, ◌∙◌, [], sym, subst, arith}
+use Rattle.units.specs.declared.writes.Install.{Install}
+use Rattle.board.specs.Board.{first_entries, is_board, AreInOrder}
 use Rattle.shard.specs.Core.{seen}
 use Rattle.shard.specs.Look.{safe_at}
 use Rattle.node.proofs.Follow.{entries_follow, opening_is_board}
 use Rattle.node.proofs.InStep.{opened_desk, opened_told}
 use Rattle.node.proofs.desk.Desk.new.Goals as goal
 
-pub board_of-requires : goal.board_of-requires
-board_of-requires g c =
+pub board_of-requires-clause-lawful : goal.board_of-requires-clause-lawful
+board_of-requires-clause-lawful g c =
     let core = seen c.args.core in
     (λ i. is_board (first_entries (c.installs.ensures i) (c.safe.ensures i) (c.horizon-told.ensures i)))
     ∙ opening_is_board core.facts.installs (safe_at core) core.facts.horizon (entries_follow [] core.facts.installs c.is_sound.ensures.showable.installs)
+
+pub board_of-requires-clause-order : goal.board_of-requires-clause-order
+board_of-requires-clause-order g c =
+    let facts = (seen c.args.core).facts in
+    let here : AreInOrder facts.installs facts.horizon c.places.result.now = (facts.horizon, omega arith, c.places.ensures) in
+    subst (λ (is : List Install). AreInOrder is c.horizon-told.result c.places.result.now) (sym c.installs.ensures)
+    (subst (λ (h : ℕ). AreInOrder facts.installs h c.places.result.now) (sym c.horizon-told.ensures) here)
 
 pub invariant_of-result : goal.invariant_of-result
 invariant_of-result g c =
