@@ -18,7 +18,7 @@ const TRIES: u32 = 5;
 // How often 20 milliseconds may pass in silence: two seconds, since a store that was opened again waits until the last ceiling has passed.
 const PATIENCE: u32 = 100;
 
-/// Opens the store, commits the write as a transaction of its own, and closes the store. Says what became of the write. A refusal behind
+/// Opens the store, commits the write as a transaction of its own, and closes the store. Says what became of the write. A refusal after
 /// the commit, for want of memory alone, does not say that the write stands nowhere.
 pub fn put_in_store<R: rt::Files<File = File> + RandomSource + Threads + Wait + time::Clock + Sync>(
     rt: &R,

@@ -34,7 +34,7 @@ pub struct Driven<D> {
     pub disks: Vec<D>,
 }
 
-/// Why there is no verdict on a drive, and its counts, where its workers have reported.
+/// Why there is no verdict on a drive, and its counts, if its workers have reported.
 #[derive(Clone, Copy)]
 pub struct NoVerdict {
     pub fault: Fault,
@@ -79,11 +79,11 @@ pub fn clock_of<'r, R>(rt: &'r R, settings: &Settings) -> MachineClock<'r, R>
     }
 }
 
-/// Drives the shards of some disks, one a shard, by a clock, of which each node and each worker has a copy; its readings do not go back,
+/// Drives the shards of some disks, one a shard, by a clock, of which each node and each worker has a copy. Its readings do not go back,
 /// and end no earlier than the greatest timestamp of the logs. Each disk has a formatted log. Settings beyond their limits, and more or
 /// fewer disks than shards, are refused as `settings`; a disk that is refused, as `Core::open` refuses it. The watch is told of each turn,
-/// by the thread of its worker, and of each shard whose device fails: then the workers end soon, and there is no verdict, but `Device`.
-/// Where there is no verdict, the counts are told all the same.
+/// by the thread of its worker, and of each shard whose device fails. Then the workers end soon, and there is no verdict, but `Device`.
+/// If there is no verdict, the counts are told all the same.
 pub fn drive_by<
     R: Threads + Wait + time::Clock + Sync,
     D: Disk + Drop + Send,

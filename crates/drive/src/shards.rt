@@ -25,13 +25,19 @@ use system::{Driven, NoVerdict};
 use units::{Fault, ShardNo};
 use workers::Summary;
 
-/// Runs shards and workers by some settings. The logs lie in the folder of the settings, where it has one, and else on disks in
-/// memory. Where there is a terminal, it shows how far the drive is, and each shard whose device fails. Then the drive ends soon, and is
-/// refused as `Device`, with its counts.
+/// Runs shards and workers by some settings. The logs lie in the folder of the settings, if it has one, and else on disks in memory.
+/// If there is a writer, turns are shown there while the drive runs, as on a terminal, or its table alone at its end. A shard whose device
+/// fails is shown too. Then the drive ends soon, and is refused as `Device`, with its counts.
 pub fn drive_shards<
     R: rt::Files<File = File> + RandomSource + Threads + Wait + time::Clock + Sync,
     W: Write + Drop + Send,
->(rt: &R, alloc: Global, settings: &Settings, terminal: Option<W>) -> Result<Driven, NoVerdict>
+>(
+    rt: &R,
+    alloc: Global,
+    settings: &Settings,
+    writer: Option<W>,
+    is_running: bool,
+) -> Result<Driven, NoVerdict>
     ensures told { IfOk result (λ driven. IsTold
         (settings.now.workers * settings.now.transactions)
         (string_bytes driven.text) driven.verdict) }
@@ -49,8 +55,8 @@ pub fn drive_shards<
         → IsDrivable settings.now.workers settings.now.transactions settings.now.keys }
 {
     let turns = settings.workers.saturating_mul(settings.transactions);
-    let watch = match terminal {
-        Some(writer) => Some(Terminal::new(rt, alloc, writer, turns)),
+    let watch = match writer {
+        Some(writer) => Some(terminal(rt, alloc, writer, turns, is_running)),
         None => None,
     };
     let driven = drive_watched(rt, alloc, settings, &Open, &watch);
@@ -58,6 +64,21 @@ pub fn drive_shards<
         terminal.finish();
     }
     driven
+}
+
+// What a drive of so many turns is shown on.
+fn terminal<'r, R: Wait + time::Clock, W: Write + Drop>(
+    rt: &'r R,
+    alloc: Global,
+    writer: W,
+    turns: u64,
+    is_running: bool,
+) -> Terminal<'r, R, W> {
+    if is_running {
+        Terminal::new(rt, alloc, writer, turns)
+    } else {
+        Terminal::quiet(rt, alloc, writer, turns)
+    }
 }
 
 /// Runs shards and workers by some settings, as the command `drive` does, with a gate that the letters of the nodes go through. Gives

@@ -4,7 +4,7 @@ use letters::Gate;
 use progress::Watch;
 use units::ShardNo;
 
-/// A gate that letters go through; and where a node has stopped, the watch and the workers are told.
+/// A gate that letters go through. When a node has stopped, the watch and the workers are told.
 #[derive(Drop)]
 pub struct Watched<'a, G, W> {
     pub gate: &'a G,

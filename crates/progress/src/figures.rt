@@ -3,7 +3,7 @@ ghost use Rattle.std.specs.Prelude.{◌≡◌, ◌≤◌, [], ◌↔◌, IsNone,
 ghost use Rattle.std.specs.List.Sorted.{IsNonDecreasing};
 ghost use Rattle.progress.specs.Figures.{IsPercentile, rate_of};
 
-/// How many a second, where there were so many in some microseconds. It is 0 where there were no microseconds.
+/// Tells how many there were a second, of so many in some microseconds. It is 0 if there were no microseconds.
 pub fn per_second(count: u64, micros: u64) -> u128
     ensures { result ≡ rate_of count micros }
 {

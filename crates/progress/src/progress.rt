@@ -11,8 +11,8 @@ use crate::turn::{Ended, Turn};
 use std::alloc::{AllocError, Global};
 use std::marker::Model;
 
-/// The turns of a drive: how many there are, how many are done, and how many of these committed or were aborted, with how many
-/// microseconds each took; and the same of the looks that were answered.
+/// The turns of a drive: how many there are, and how many are done. Of those that committed, of those that were aborted, and of the looks
+/// that were answered it has how many there were, and how many microseconds each took.
 #[derive(Drop)]
 pub struct Progress {
     turns: u64,
@@ -80,7 +80,7 @@ impl Progress {
         self.done == 0 && self.looks.count() == 0
     }
 
-    /// Counts a turn. Where there is no memory to keep how long it took, it is counted all the same.
+    /// Counts a turn. If there is no memory to keep how long it took, it is counted all the same.
     pub fn count(&mut self, turn: Turn) -> Result<(), AllocError>
         requires { self.old.done < self.old.turns }
         ensures turns { self.new.turns ≡ self.old.turns }
@@ -129,8 +129,8 @@ impl Progress {
         format!(in alloc; "{done} of {turns} done, {rate} commits a second")
     }
 
-    /// A table of the commits, the aborts and the looks: how many there were, and how many microseconds half of them took at most, 90 of
-    /// 100 and 99 of 100, and the longest.
+    /// Writes a table of the commits, the aborts and the looks. It tells how many there were, and how many microseconds half of them took
+    /// at most, 90 of 100 and 99 of 100, and the longest.
     pub fn table(self, alloc: Global) -> Result<String, AllocError>
         ensures { IfOk result (λ text. IsTable self (string_bytes text)) }
     {

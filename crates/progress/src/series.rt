@@ -49,7 +49,7 @@ impl Series {
         self.count
     }
 
-    /// Counts one that took so many microseconds. Where there is no memory to keep how many, it is counted all the same.
+    /// Counts one that took so many microseconds. If there is no memory to keep how many, it is counted all the same.
     pub fn add(&mut self, micros: u64) -> Result<(), AllocError>
         requires { self.old.count + 1 < 2 ^ 64 }
         ensures count { self.new.count ≡ self.old.count + 1 }
@@ -61,7 +61,7 @@ impl Series {
         Ok(())
     }
 
-    /// What they took, where it is known of one.
+    /// What they took, if it is known of one.
     pub fn figures(self) -> Result<Option<Figures>, AllocError>
         ensures { IfOk result (AreFiguresOf self.micros) }
     {

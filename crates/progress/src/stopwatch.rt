@@ -16,7 +16,7 @@ impl Stopwatch {
         }
     }
 
-    /// How many microseconds have passed since. There are none where the clock can't be read.
+    /// How many microseconds have passed since. There are none if the clock can't be read.
     pub fn micros<R: time::Clock>(&self, rt: &R) -> u64 {
         match self.since {
             Some(since) => match since.elapsed(rt) {

@@ -12,7 +12,7 @@ pub const HEAD: &str = "     us   count    half     90%     99%    most\n";
 // In the place of what they took.
 const DASHES: &str = "       -       -       -       -";
 
-/// A line of the table: what it is of, how many there were, and how long they took, where that is known.
+/// A line of the table: what it is of, how many there were, and how long they took, if that is known.
 pub fn row(
     alloc: Global,
     word: &str,

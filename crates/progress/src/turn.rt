@@ -1,6 +1,6 @@
 //! Turns that ended, and who is told of them.
 
-/// How a transaction ended for its worker. It is not known where the worker gave up while closing.
+/// How a transaction ended for its worker. It is not known if the worker gave up while closing.
 #[derive(Clone, Copy)]
 pub enum Ended {
     Committed,
@@ -19,7 +19,7 @@ pub struct Turn {
 pub trait Watch {
     fn turned(&self, turn: Turn);
 
-    /// The look behind a turn was answered after so many microseconds.
+    /// The look after a turn was answered after so many microseconds.
     fn looked(&self, _micros: u64) {}
 
     /// The device of this shard failed, so that it has stopped.

@@ -33,14 +33,14 @@ pub struct Settings {
     pub transactions: u64,
     /// From how many keys transactions take theirs: 1 to 10,000.
     pub keys: u64,
-    /// The folder of the logs. Where there is none, disks are in memory.
+    /// The folder of the logs. If there is none, disks are in memory.
     pub dir: Option<String>,
 }
 
 impl Settings {
-    /// The settings that a TOML text gives. Its keys are `shards` (1 to 16), `splits` (an array of texts of 1 to 64 bytes that ascend,
-    /// one less than the shards), `dir` (a text that is not empty), which may be left out, and the other fields by their names. Any other text is refused as
-    /// `settings`.
+    /// Reads the settings that a TOML text gives. Its keys are `shards` (1 to 16), `splits` and the other fields by their names. `splits` is
+    /// an array of texts of 1 to 64 bytes that ascend, one less than the shards. `dir` is a text that is not empty, and may be left out.
+    /// Any other text is refused as `settings`.
     pub fn read(alloc: Global, text: &str) -> Result<Settings, Fault>
         ensures { MatchResult result
             (λ settings. settings_of text.now ≡ Some (settings_view settings))

@@ -35,7 +35,7 @@ pub(crate) fn is_known_key(key: &str) -> bool
     }
 }
 
-/// The number at a key, where it lies between the two.
+/// The number at a key, if it lies between the two.
 pub(crate) fn number(table: &Table, key: Setting, least: u64, most: u64) -> Result<u64, Wrong>
     ensures value { MatchResult result
         (λ n. number_member (name_of key) least most (table_view table.now) ≡ Some n)
@@ -113,7 +113,7 @@ fn member<'a>(table: &'a Table, key: &str) -> Option<&'a Value>
     table.get(key)
 }
 
-/// The folder of the logs, where one is named.
+/// The folder of the logs, if one is named.
 pub(crate) fn folder(alloc: Global, table: &Table) -> Result<Option<String>, Unread>
     ensures { MatchResult result
         (λ d. dir_in (table_view table.now) ≡ Some (option_map string_bytes d))

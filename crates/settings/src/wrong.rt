@@ -119,7 +119,7 @@ impl From<Unread> for Fault {
 }
 
 impl Wrong {
-    /// The key that is wrong, where settings have it.
+    /// The key that is wrong, if settings have it.
     fn key(self) -> &'static str {
         match self {
             Wrong::NotToml { .. } | Wrong::Unknown => "",
@@ -129,7 +129,7 @@ impl Wrong {
         }
     }
 
-    /// The line of the text that is wrong, from 1, and its key, where they can be found.
+    /// The line of the text that is wrong, from 1, and its key, if they can be found.
     fn place(self, text: &str) -> Option<(u64, &str)> {
         let key = self.key();
         let mut line: u64 = 0;
@@ -148,7 +148,7 @@ impl Wrong {
         None
     }
 
-    /// What is wrong, as it stands behind the name of the file: the line, where there is one, the key, and what is wanted.
+    /// What is wrong, as it stands after the name of the file: the line, if there is one, the key, and what is wanted.
     pub fn told(self, alloc: Global, text: &str) -> Result<String, AllocError> {
         match (self, self.place(text)) {
             (Wrong::Unknown, Some((line, key))) => {
@@ -197,9 +197,10 @@ impl fmt::Display for Wrong {
             Wrong::Split => f.write_str("each of 'splits' has to be a text of 1 to 64 bytes"),
             Wrong::Count { splits, shards } => {
                 let wanted = shards.saturating_sub(1);
+                let word = if splits == 1 { "key" } else { "keys" };
                 write!(
                     f,
-                    "'splits' has {splits} keys, and {shards} shards want {wanted}"
+                    "'splits' has {splits} {word}, and {shards} shards want {wanted}"
                 )
             }
             Wrong::Order => f.write_str("the keys of 'splits' have to ascend"),
