@@ -35,7 +35,7 @@ awk -F'"' '
     wanted && /^ *"/ { if (line == "") { line = $2; given = 1 } else if (reason == "Command") { print line "\t" $2 "\t" usage; wanted = 0 } else wanted = 0; next }
     wanted && /Reason::/ { reason = $0; gsub(/[^A-Za-z:]/, "", reason); sub(/Reason::/, "", reason); next }
     /^ *\("/ { split($0, part, /Reason::|,/); reason = $3; gsub(/[^A-Za-z:]/, "", reason); sub(/Reason::/, "", reason); if (reason == "Command") print $2 "\t" $4 "\t" usage }
-' "$root/crates/program_tests/src/explained.rt" | grep -v 'whole number' >"$room/rows"
+' "$root/crates/program_tests/src/explained.rt" | grep -v 'whole number\|exclude each other\|backslash' >"$room/rows"
 rows=$(wc -l <"$room/rows")
 [ "$rows" -ge 50 ] || fail "only $rows rows were found"
 
@@ -63,9 +63,9 @@ begins() {
 begins 'usage: shards COMMAND WORD..' --help
 begins 'usage: shards COMMAND WORD..' help
 begins 'usage: shards COMMAND WORD..' gett --help
-begins 'get [--raw] DIR KEY [AT]' get --help
-begins 'get [--raw] DIR KEY [AT]' help get
-begins 'put [--bytes] DIR KEY VALUE' put logs -h
+begins 'get [--raw] [--json] DIR KEY [AT]' get --help
+begins 'get [--raw] [--json] DIR KEY [AT]' help get
+begins 'put [--raw] [--bytes] DIR KEY VALUE' put logs -h
 begins 'shards 1.0' --version
 grep -q '^not built; the sources are those of commit ' "$room/out" || fail "the version does not tell that nothing was built"
 

@@ -17,10 +17,9 @@ ghost use Rattle.commands.specs.Replies.{Tells, TellsTo, reply_of, reply_to};
 ghost use Rattle.output.specs.Streams.{failures_of, fault_line, writer_of};
 
 use crate::host_put::put_in_store;
-use commands::{Driven, Ended, Engine, Hints, NoVerdict, Put, Stream, System, answer};
+use commands::{Drive, Driven, Ended, Engine, Hints, NoVerdict, Put, Stream, System, answer};
 use drive::drive_shards;
 use host_files::HostFiles;
-use settings::Settings;
 use simdisk::SimDisk;
 use std::alloc::Global;
 use std::fs::File;
@@ -31,12 +30,21 @@ use std::thread::Threads;
 use std::{rt, time};
 use units::Fault;
 
+/// Standard error, to which a drive is shown.
+#[derive(Clone, Copy)]
+pub struct Shown {
+    /// Standard error itself.
+    pub writer: Stderr,
+    /// Says whether turns are shown while the drive runs, as on a terminal. Else only its table is, if its words ask for that.
+    pub is_running: bool,
+}
+
 /// Carries out a command line, with the files and threads of the machine, over standard output and standard error. Returns the exit status:
 /// 0, 1 for a verdict of no or for early, 2 for a fault.
 ///
 /// A fault is printed as a line on standard error, except that after a failed write nothing more is printed. A second line tells the file in
-/// which the fault lies, or what is wrong with the words, if that is known. If standard error is a terminal, a drive shows there how far it
-/// is.
+/// which the fault lies, or what is wrong with the words, if that is known. If `shown` says so, a drive shows how far it
+/// is. Its table is shown also without that, if the words ask for it.
 pub fn program<
     R: rt::Files<File = File> + Eprint + Input + RandomSource + Threads + Wait + time::Clock + Sync,
     O: Write,
@@ -44,7 +52,7 @@ pub fn program<
 >(
     rt: &R,
     alloc: Global,
-    terminal: Option<Stderr>,
+    shown: Option<Shown>,
     words: &[&str],
     out: &mut Stream<O>,
     err: &mut Stream<E>,
@@ -86,13 +94,16 @@ pub fn program<
         (fault_line fault))) }
     ensures silent { failures_of out.old < failures_of out.new → err.new ≡ err.old }
 {
-    let drive = |alloc: Global, settings: &Settings| -> Result<Driven, NoVerdict>
+    let drive = |alloc: Global, drive: Drive<'_>| -> Result<Driven, NoVerdict>
         ensures told { IfOk result (λ driven. IsTold
-            (settings.now.workers * settings.now.transactions)
+            (drive.entry.settings.now.workers * drive.entry.settings.now.transactions)
             (string_bytes driven.text) driven.verdict) }
         ensures refused { IfErr result (λ none. HasNoVerdict none.fault) }
-    { drive_shards(rt, alloc, settings, terminal) };
-    let files = HostFiles::new(rt, terminal.is_some());
+    {
+        let writer = writer_of(&shown, drive.table);
+        drive_shards(rt, alloc, drive.settings, writer, is_running(&shown))
+    };
+    let files = HostFiles::new(rt, is_running(&shown));
     let put = |alloc: Global, write: Put<'_>| -> Result<Ended, Fault>
         ensures written { IfOk result (IsWritten write.entry.folder.now write.entry.key.now
             write.entry.value.now) }
@@ -102,10 +113,26 @@ pub fn program<
     answer_by(alloc, files, engine, words, out, err)
 }
 
+// Whom a drive is shown to: while it runs, or its table alone, if that is asked for.
+fn writer_of(shown: &Option<Shown>, table: bool) -> Option<Stderr> {
+    match shown {
+        Some(shown) if table || shown.is_running => Some(shown.writer),
+        _ => None,
+    }
+}
+
+// Turns are shown while a drive runs.
+fn is_running(shown: &Option<Shown>) -> bool {
+    match shown {
+        Some(shown) => shown.is_running,
+        None => false,
+    }
+}
+
 // The same, with these files, and with what drives shards.
 fn answer_by<
     F: Hints + Drop,
-    D: Fn(Global, &Settings) -> Result<Driven, NoVerdict>,
+    D: Fn(Global, Drive<'_>) -> Result<Driven, NoVerdict>,
     P: Fn(Global, Put<'_>) -> Result<Ended, Fault>,
     O: Write,
     E: Write,

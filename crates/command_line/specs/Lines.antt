@@ -40,7 +40,8 @@ is_ahead word = not (bytes_eq word (codes "--"))
 
 -- the word is an option
 abbrev pub is_mark : Word → Bool
-is_mark word = bytes_eq word (codes "--raw") || bytes_eq word (codes "--bytes")
+is_mark word = bytes_eq word (codes "--raw") || (bytes_eq word (codes "--bytes")
+    || (bytes_eq word (codes "--json") || bytes_eq word (codes "--table")))
 
 -- an option is there, before any `--`
 abbrev pub has_mark : Word → List Word → Bool
@@ -48,7 +49,12 @@ has_mark mark words = list_any (λ word. bytes_eq word mark) (take_while is_ahea
 
 -- the options that are there
 abbrev pub marks_of : List Word → Marks
-marks_of words = record { raw = has_mark (codes "--raw") words; bytes = has_mark (codes "--bytes") words }
+marks_of words = record {
+  raw = has_mark (codes "--raw") words;
+  bytes = has_mark (codes "--bytes") words;
+  json = has_mark (codes "--json") words;
+  table = has_mark (codes "--table") words;
+}
 
 -- the words without the options before any `--`, where one was read or not
 unfoldable pub unmarked_from : Bool → List Word → List Word

@@ -4,7 +4,7 @@ use denote.Ref.{Bor}
 use Rattle.clap.specs.Words.{Shape, Text}
 use Rattle.units.specs.declared.fault.Fault.{Fault}
 use Rattle.units.specs.declared.fault.Fault.TheVariants.{Memory}
-use Rattle.command_line.specs.Commands.{Asked, Given, word_given, spelled_given, input_given, told_asked, once_asked, format_asked, play_asked, inspect_asked, drive_asked, dump_asked, history_asked}
+use Rattle.command_line.specs.Commands.{Asked, Given, word_given, input_given, told_asked, once_asked, format_asked, play_asked, inspect_asked, drive_asked, dump_asked, history_asked}
 use Rattle.command_line.specs.Commands.{command_of_line, told_or, get_asked, put_asked, stats_asked, migrate_asked, compact_asked, command_or_refusal}
 use Rattle.command_line.specs.Lines.{CommandLine, Word, are_plain, line_of}
 use Rattle.command_line.specs.Parser.{command_app}
@@ -26,7 +26,6 @@ told_shape form = (command_app form.0.now (told_words form.1.now)).top
 -- where a value comes from
 abbrev pub given_by : Source → Given
 given_by (source.Word value) = word_given value
-given_by (source.Spelled word) = spelled_given word.now
 given_by source.Input = input_given
 
 -- what it asks for
@@ -36,12 +35,12 @@ asked_for (command.Once key value first second) = once_asked key value first sec
 asked_for (command.Format file) = format_asked file.now
 asked_for (command.Play file) = play_asked file.now
 asked_for (command.Inspect lines logs) = inspect_asked lines.now (map (λ w. w.now) logs.items)
-asked_for (command.Drive file) = drive_asked file.now
-asked_for (command.Dump file) = dump_asked file.now
-asked_for (command.History dir key) = history_asked dir.now key
-asked_for (command.Get dir key at raw) = get_asked dir.now key at raw
+asked_for (command.Drive file table) = drive_asked file.now table
+asked_for (command.Dump file json) = dump_asked file.now json
+asked_for (command.History dir key json) = history_asked dir.now key json
+asked_for (command.Get dir key at form) = get_asked dir.now key at form
 asked_for (command.Put dir key value) = put_asked dir.now key (given_by value)
-asked_for (command.Stats logs) = stats_asked (map (λ w. w.now) logs.items)
+asked_for (command.Stats logs json) = stats_asked (map (λ w. w.now) logs.items) json
 asked_for (command.Migrate old new) = migrate_asked old.now new.now
 asked_for (command.Compact old new) = compact_asked old.now new.now
 

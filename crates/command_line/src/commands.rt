@@ -2,15 +2,24 @@
 use truetime::Reading;
 use units::{Key, Stamp, Value};
 
-/// Where the value of a write comes from.
+/// The source of the value of a write.
 #[derive(Drop)]
-pub enum Source<'a> {
-    /// The bytes of a word are the value.
+pub enum Source {
+    /// A word told it.
     Word(Value),
-    /// A word spells it: `\xHH` is a byte.
-    Spelled(&'a str),
     /// Standard input has it, to its end.
     Input,
+}
+
+/// How a value is told.
+#[derive(Clone, Copy, PartialEq, Eq)]
+pub enum Form {
+    /// As a line of text.
+    Line,
+    /// As its bytes, and nothing else.
+    Raw,
+    /// As a line of JSON.
+    Json,
 }
 
 /// A command.
@@ -50,34 +59,38 @@ pub enum Command<'a> {
         lines: &'a str,
         logs: Vec<&'a str>,
     },
-    /// Nodes and workers are driven by the settings of a file.
+    /// Nodes and workers are driven by the settings of a file, and a table of how long things took is told too, if `table`.
     Drive {
         file: &'a str,
+        table: bool,
     },
-    /// What the log in a file holds is told.
+    /// What the log in a file holds is told, as JSON, if `json`.
     Dump {
         file: &'a str,
+        json: bool,
     },
     /// What the log of the store in a folder says of a key is told.
     History {
         dir: &'a str,
         key: Key,
+        json: bool,
     },
-    /// The value of a key in the store in a folder is told, at a timestamp or by the latest version: its bytes alone, if `raw`.
+    /// The value of a key in the store in a folder is told, at a timestamp or by the latest version.
     Get {
         dir: &'a str,
         key: Key,
         at: Option<Stamp>,
-        raw: bool,
+        form: Form,
     },
     /// The write of a value to a key is committed in the store in a folder.
     Put {
         dir: &'a str,
         key: Key,
-        value: Source<'a>,
+        value: Source,
     },
-    /// What the logs in some files hold is told in figures.
+    /// What the logs in some files hold is told in figures, or the logs of the store in one folder.
     Stats {
         logs: Vec<&'a str>,
+        json: bool,
     },
 }

@@ -1,6 +1,7 @@
 //! What is wrong with words that are refused, and how their command is called.
 use crate::marks::Words;
 use crate::usage::{PAGE, paragraph};
+use requests::unspelled;
 use std::alloc::{AllocError, Global};
 use texts::stamp;
 use units::{Fault, Reason};
@@ -51,7 +52,13 @@ fn told_of(
     let given = given(alloc, rest)?;
     let what = match wrong_option(synopsis, words) {
         Some(option) => format!(in alloc; "'{option}' is no option of this command"),
-        None => wrong_word(alloc, synopsis, &given, fault),
+        None => match excluded(words) {
+            Some(option) => format!(in alloc; "'--raw' and '{option}' exclude each other"),
+            None => {
+                let spelling = Spelling::of(synopsis, words);
+                wrong_word(alloc, synopsis, &given, spelling, fault)
+            }
+        },
     };
     drop(given);
     let what = what?;
@@ -85,6 +92,59 @@ fn wrong_option<'a>(synopsis: &str, words: &[&'a str]) -> Option<&'a str> {
     None
 }
 
+// An option, before any `--`, that does not go with `--raw`, if that is there.
+fn excluded<'a>(words: &[&'a str]) -> Option<&'a str> {
+    if !has_raw(words) {
+        return None;
+    }
+    for word in words {
+        match *word {
+            "--" => return None,
+            "--json" | "--bytes" => return Some(*word),
+            _ => {}
+        }
+    }
+    None
+}
+
+// Which words of a command are spelled.
+#[derive(Clone, Copy)]
+struct Spelling {
+    key: bool,
+    value: bool,
+}
+
+impl Spelling {
+    fn of(synopsis: &str, words: &[&str]) -> Spelling {
+        let key = !synopsis.starts_with("once");
+        Spelling {
+            key,
+            value: key && !has_raw(words),
+        }
+    }
+
+    // The word at this place is spelled.
+    fn has(self, place: &str) -> bool {
+        match place {
+            "KEY" => self.key,
+            "VALUE" => self.value,
+            _ => false,
+        }
+    }
+}
+
+// `--raw` stands before any `--`.
+fn has_raw(words: &[&str]) -> bool {
+    for word in words {
+        match *word {
+            "--" => return false,
+            "--raw" => return true,
+            _ => {}
+        }
+    }
+    false
+}
+
 // The option stands in the synopsis, between brackets.
 fn takes(synopsis: &str, option: &str) -> bool {
     for place in synopsis.split(' ') {
@@ -107,6 +167,7 @@ fn wrong_word(
     alloc: Global,
     synopsis: &str,
     given: &[&str],
+    spelling: Spelling,
     fault: Fault,
 ) -> Result<String, AllocError> {
     let mut left = given;
@@ -123,7 +184,8 @@ fn wrong_word(
             }
             return format!(in alloc; "{} is missing", bare(place));
         };
-        if let Some(what) = wrong_in(alloc, bare(place), *word, fault)? {
+        let place = bare(place);
+        if let Some(what) = wrong_in(alloc, place, *word, spelling.has(place), fault)? {
             return Ok(what);
         }
         left = others;
@@ -137,14 +199,31 @@ fn wrong_word(
     }
 }
 
-// What is wrong with the word at a place, where the fault is one of that place.
+// How many bytes a word tells: its own, or those that it spells, if it spells any.
+fn told_len(alloc: Global, word: &str, is_spelled: bool) -> Option<usize> {
+    if !is_spelled {
+        return Some(word.len());
+    }
+    match unspelled(alloc, word) {
+        Ok(bytes) => Some(bytes.len()),
+        Err(Fault::Memory) => Some(word.len()),
+        Err(_) => None,
+    }
+}
+
+// What is wrong with the word at a place, if the fault is one of that place.
 fn wrong_in(
     alloc: Global,
     place: &str,
     word: &str,
+    is_spelled: bool,
     fault: Fault,
 ) -> Result<Option<String>, AllocError> {
-    let bytes = word.len();
+    let Some(bytes) = told_len(alloc, word, is_spelled) else {
+        return Ok(Some(format!(in alloc;
+            "{place} has a backslash that spells no byte: write '\\x5c' for a backslash"
+        )?));
+    };
     match (place, fault) {
         ("KEY", Fault::BadRequest(Reason::Key)) => Ok(Some(format!(in alloc;
             "KEY has 1 to 64 bytes, and not {bytes}"

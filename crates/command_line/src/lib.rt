@@ -8,7 +8,7 @@ mod parsing;
 mod usage;
 mod words;
 
-pub use commands::{Command, Source};
+pub use commands::{Command, Form, Source};
 pub use explaining::explanation;
 pub use marks::{Marks, Words};
 pub use usage::{PAGE, VERSION, paragraph};

@@ -12,14 +12,18 @@ use std::alloc::{AllocError, Global};
 /// Which options are there.
 #[derive(Clone, Copy, PartialEq, Eq)]
 pub struct Marks {
-    /// `--raw`: the bytes of a value, and nothing else.
+    /// `--raw`: a value is its bytes as they are.
     pub raw: bool,
-    /// `--bytes`: a value is spelled.
+    /// `--bytes`: a value is spelled, as without an option.
     pub bytes: bool,
+    /// `--json`: what is told is JSON.
+    pub json: bool,
+    /// `--table`: a drive tells its table.
+    pub table: bool,
 }
 
-/// The words of a command line, read as far as they tell of themselves: what is to be told, if they ask for help or for the version, the options
-/// before any `--`, and the other words.
+/// The words of a command line, read as far as they tell of themselves. That is what is to be told, if they ask for help or for the version, the
+/// options before any `--`, and the other words.
 #[derive(Drop)]
 pub struct Words<'a> {
     pub(crate) told: Option<&'static str>,
@@ -40,6 +44,8 @@ impl<'a> Words<'a> {
             marks: Marks {
                 raw: has_mark(words, "--raw"),
                 bytes: has_mark(words, "--bytes"),
+                json: has_mark(words, "--json"),
+                table: has_mark(words, "--table"),
             },
             plain: unmarked(alloc, words)?,
         })
@@ -111,7 +117,7 @@ fn has_mark(words: &[&str], mark: &str) -> bool
 fn is_mark(word: &str) -> bool
     ensures { result ≡ is_mark word.now }
 {
-    word == "--raw" || word == "--bytes"
+    word == "--raw" || word == "--bytes" || word == "--json" || word == "--table"
 }
 
 // The words without the options before any `--`.

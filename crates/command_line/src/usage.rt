@@ -41,47 +41,57 @@ write that fails nothing more is printed (2).
 ";
 
 pub const GET: &str = "\
-get [--raw] DIR KEY [AT]
+get [--raw] [--json] DIR KEY [AT]
     Prints the value of KEY at the timestamp AT, or by the latest version, as
-    '=' and the value, or 'none'. A byte that is not printable ASCII, and the
-    backslash, stand as '\\xHH'. It writes to no file.
-    --raw  prints the bytes of the value and nothing else; of no value nothing,
-           and the status is 1
+    '=' and the value, or 'none'. If a write may still come at AT or before it,
+    'not settled yet' stands after that. In KEY and in the value any byte may be
+    spelled '\\xHH', and all but printable ASCII, the blank and the backslash
+    are. It writes to no file.
+    --raw   prints the bytes of the value and nothing else; of no value nothing,
+            and the status is 1
+    --json  prints one JSON object
 ";
 
 pub const PUT: &str = "\
-put [--bytes] DIR KEY VALUE
+put [--raw] [--bytes] DIR KEY VALUE
     Commits the write of VALUE to KEY in the store in DIR, as a transaction of
     its own, and prints what became of it: 'committed' and the timestamp; or
     'aborted', if it stands nowhere, or 'unknown' and the transaction, if the
     store did not say in time whether it stands (1). No store is made.
-    VALUE    at most 4096 bytes; '-' takes the value from standard input
-    --bytes  '\\xHH' in VALUE is the byte HH, in hexadecimal digits
+    KEY      1 to 64 bytes; '\\xHH' is the byte HH, in hexadecimal digits
+    VALUE    at most 4096 bytes, spelled as KEY; '-' takes the value from
+             standard input
+    --raw    takes the bytes of VALUE as they are
+    --bytes  reads VALUE as without an option
 ";
 
 pub const HISTORY: &str = "\
-history DIR KEY
+history [--json] DIR KEY
     Prints each version of KEY in the store whose logs are in DIR: its timestamp,
-    its transaction, and '=' with its value, or 'none' where it was erased. A
-    write behind which 'decided' or 'in doubt' stands is no version: its
-    transaction has no outcome in the log. It writes to no file.
+    its transaction, and '=' with its value, or 'none' if it was erased. A write
+    with 'decided' or 'in doubt' at its end is no version: its transaction has
+    no outcome in the log. It writes to no file.
+    --json  prints a JSON object for each line
 ";
 
 pub const STATS: &str = "\
-stats LOG..
-    Prints what each log holds, 1 to 16 files, as numbers: bytes, records by kind,
-    keys, versions, the last epoch, the floor, and the transactions in doubt,
-    which were promised or decided and have no outcome; for several logs also
-    the sums. It writes to no file.
+stats [--json] LOG..
+    Prints what each log holds, 1 to 16 files, as numbers: bytes, bytes that are
+    dead, turnovers done and left, records by kind, keys, versions, the last
+    epoch, the floor, and the transactions in doubt, which were promised or
+    decided and have no outcome; for several logs also the sums. If LOG is the
+    folder of a store, these are all its logs. It writes to no file.
+    --json  prints one JSON object
 ";
 
 pub const DUMP: &str = "\
-dump LOG
+dump [--json] LOG
     Prints each record of a log, after the offset of its gate in the file, and
     last 'closed at' with the offset of the closed gate; or 'torn at', if bytes
     of a record that was not finished stand there. A byte of a key or a value
     that is no letter, digit or underline stands as '\\xHH'. It writes to no
     file.
+    --json  prints a JSON object for each line
 ";
 
 pub const INSPECT: &str = "\
@@ -92,12 +102,14 @@ inspect LINES LOG..
 ";
 
 pub const DRIVE: &str = "\
-drive FILE
+drive [--table] FILE
     Runs shards and workers in threads, by the settings in FILE: a TOML text
     with the keys shards, splits, stride, epsilon, workers, transactions, keys
     and, for logs in files, dir (docs/example.settings tells what each is).
     Prints how many transactions were committed, were aborted and are unknown,
     how many looks were answered, and the verdict on the logs.
+    --table  prints also how long commits, aborts and looks took, to standard
+             error, as a terminal shows it
 ";
 
 pub const FORMAT: &str = "\

@@ -3,15 +3,16 @@ ghost use Rattle.std.specs.Prelude.{◌≡◌, ◌⊎◌, List, Some, Ok, Err, I
 ghost use Rattle.clap.specs.Words.{all_of, first_value, found_of, rows_of, subcommand_rows_of};
 ghost use Rattle.units.specs.declared.fault.Fault.TheVariants.{Memory};
 ghost use Rattle.command_line.specs.Lines.{CommandLine, Word, are_plain, line_of};
-ghost use Rattle.command_line.specs.Commands.{at_of, command_or_refusal, given_of, key_of, takes, value_of};
+ghost use Rattle.command_line.specs.Commands.{are_within, at_of, choose_one, command_or_refusal, form_of, given_of, key_of, log_marks, marks_for, spelled_key_of, takes, told_bytes, value_of};
 ghost use Rattle.command_line.specs.Parser.{entry_of};
 ghost use Rattle.command_line.specs.Views.{Answers, AnswersAs, asked_by, given_by, is_covered};
 
-use crate::commands::{Command, Source};
+use crate::commands::{Command, Form, Source};
 use crate::marks::{Marks, Words};
 use crate::parsing::shards;
 use clap::ArgMatches;
 use clap::error::ErrorKind;
+use requests::unspelled;
 use std::alloc::{AllocError, Global};
 use texts::{reading, stamp};
 use units::{Fault, Key, Reason, Stamp, Value};
@@ -80,7 +81,84 @@ fn taken_command<'a>(
 fn takes(marks: Marks, name: &str) -> bool
     ensures { result ≡ takes marks name.now }
 {
-    (!marks.raw || name == "get") && (!marks.bytes || name == "put")
+    choose_one(marks) && are_within(marks, marks_for(name))
+}
+
+// The options that a command takes.
+fn marks_for(name: &str) -> Marks
+    ensures { result ≡ marks_for name.now }
+{
+    match name {
+        "get" => Marks {
+            raw: true,
+            bytes: false,
+            json: true,
+            table: false,
+        },
+        "put" => Marks {
+            raw: true,
+            bytes: true,
+            json: false,
+            table: false,
+        },
+        "history" => of_logs(),
+        "dump" => of_logs(),
+        "stats" => of_logs(),
+        "drive" => Marks {
+            raw: false,
+            bytes: false,
+            json: false,
+            table: true,
+        },
+        _ => Marks {
+            raw: false,
+            bytes: false,
+            json: false,
+            table: false,
+        },
+    }
+}
+
+// The options of what tells of logs.
+fn of_logs() -> Marks
+    ensures { result ≡ log_marks }
+{
+    Marks {
+        raw: false,
+        bytes: false,
+        json: true,
+        table: false,
+    }
+}
+
+// Each of some options is among others.
+fn are_within(marks: Marks, others: Marks) -> bool
+    ensures { result ≡ are_within marks others }
+{
+    (!marks.raw || others.raw)
+        && (!marks.bytes || others.bytes)
+        && (!marks.json || others.json)
+        && (!marks.table || others.table)
+}
+
+// The options choose no two forms.
+fn choose_one(marks: Marks) -> bool
+    ensures { result ≡ choose_one marks }
+{
+    !(marks.raw && (marks.bytes || marks.json))
+}
+
+// The form that the options choose.
+fn form_of(marks: Marks) -> Form
+    ensures { result ≡ form_of marks }
+{
+    if marks.raw {
+        Form::Raw
+    } else if marks.json {
+        Form::Json
+    } else {
+        Form::Line
+    }
 }
 
 // The command of this name, by its words.
@@ -104,14 +182,16 @@ fn named_command<'a>(
         "inspect" => read_inspect(alloc, given),
         "drive" => Ok(Command::Drive {
             file: word(given, "file"),
+            table: marks.table,
         }),
         "dump" => Ok(Command::Dump {
             file: word(given, "file"),
+            json: marks.json,
         }),
-        "history" => read_history(given),
-        "get" => read_get(marks.raw, given),
-        "put" => read_put(alloc, marks.bytes, given),
-        "stats" => read_stats(alloc, given),
+        "history" => read_history(alloc, marks, given),
+        "get" => read_get(alloc, marks, given),
+        "put" => read_put(alloc, marks, given),
+        "stats" => read_stats(alloc, marks, given),
         "migrate" => {
             let old = word(given, "old");
             let new = word(given, "new");
@@ -138,13 +218,15 @@ fn read_inspect<'a>(alloc: Global, given: &ArgMatches<'a>) -> Result<Command<'a>
 }
 
 // The words of `stats`.
-fn read_stats<'a>(alloc: Global, given: &ArgMatches<'a>) -> Result<Command<'a>, Fault>
+fn read_stats<'a>(alloc: Global, marks: Marks, given: &ArgMatches<'a>) -> Result<Command<'a>, Fault>
     ensures { (line : CommandLine) → (entry_of line).0 ≡ codes "stats"
-        → rows_of (found_of given.now) ≡ (entry_of line).1
-        → (marks : Marks) → Answers marks line result }
+        → rows_of (found_of given.now) ≡ (entry_of line).1 → Answers marks line result }
 {
     let logs = words_of(alloc, given, "logs")?;
-    Ok(Command::Stats { logs })
+    Ok(Command::Stats {
+        logs,
+        json: marks.json,
+    })
 }
 
 // The word that the argument was given, and the empty word where it was given none.
@@ -196,55 +278,76 @@ fn read_once<'a>(alloc: Global, given: &ArgMatches<'a>) -> Result<Command<'a>, F
 }
 
 // The words of `history`.
-fn read_history<'a>(given: &ArgMatches<'a>) -> Result<Command<'a>, Fault>
+fn read_history<'a>(
+    alloc: Global,
+    marks: Marks,
+    given: &ArgMatches<'a>,
+) -> Result<Command<'a>, Fault>
     ensures { (line : CommandLine) → (entry_of line).0 ≡ codes "history"
-        → rows_of (found_of given.now) ≡ (entry_of line).1
-        → (marks : Marks) → Answers marks line result }
+        → rows_of (found_of given.now) ≡ (entry_of line).1 → Answers marks line result }
 {
     let dir = word(given, "dir");
-    let key = read_key(word(given, "key"))?;
-    Ok(Command::History { dir, key })
+    let key = read_spelled_key(alloc, word(given, "key"))?;
+    Ok(Command::History {
+        dir,
+        key,
+        json: marks.json,
+    })
 }
 
 // The words of `get`.
-fn read_get<'a>(raw: bool, given: &ArgMatches<'a>) -> Result<Command<'a>, Fault>
+fn read_get<'a>(alloc: Global, marks: Marks, given: &ArgMatches<'a>) -> Result<Command<'a>, Fault>
     ensures { (line : CommandLine) → (entry_of line).0 ≡ codes "get"
-        → rows_of (found_of given.now) ≡ (entry_of line).1
-        → (marks : Marks) → marks.raw ≡ raw → Answers marks line result }
+        → rows_of (found_of given.now) ≡ (entry_of line).1 → Answers marks line result }
 {
     let dir = word(given, "dir");
     let key = word(given, "key");
     let at = given.get_str("at");
-    let key = read_key(key)?;
+    let key = read_spelled_key(alloc, key)?;
     let at = read_at(at)?;
-    Ok(Command::Get { dir, key, at, raw })
+    Ok(Command::Get {
+        dir,
+        key,
+        at,
+        form: form_of(marks),
+    })
 }
 
 // The words of `put`.
-fn read_put<'a>(alloc: Global, spelled: bool, given: &ArgMatches<'a>) -> Result<Command<'a>, Fault>
+fn read_put<'a>(alloc: Global, marks: Marks, given: &ArgMatches<'a>) -> Result<Command<'a>, Fault>
     ensures { (line : CommandLine) → (entry_of line).0 ≡ codes "put"
-        → rows_of (found_of given.now) ≡ (entry_of line).1
-        → (marks : Marks) → marks.bytes ≡ spelled → Answers marks line result }
+        → rows_of (found_of given.now) ≡ (entry_of line).1 → Answers marks line result }
 {
     let dir = word(given, "dir");
     let key = word(given, "key");
     let value = word(given, "value");
-    let key = read_key(key)?;
-    let value = read_source(alloc, spelled, value)?;
+    let key = read_spelled_key(alloc, key)?;
+    let value = read_source(alloc, marks.raw, value)?;
     Ok(Command::Put { dir, key, value })
 }
 
 // Where the word of a value has it come from.
-fn read_source<'a>(alloc: Global, spelled: bool, word: &'a str) -> Result<Source<'a>, Fault>
-    ensures { MatchResult result (λ s. given_of spelled word.now ≡ Ok (given_by s))
-        (λ f. (f ≡ Memory) ⊎ (given_of spelled word.now ≡ Err f)) }
+fn read_source(alloc: Global, raw: bool, word: &str) -> Result<Source, Fault>
+    ensures { MatchResult result (λ s. given_of raw word.now ≡ Ok (given_by s))
+        (λ f. (f ≡ Memory) ⊎ (given_of raw word.now ≡ Err f)) }
 {
     if word == "-" {
-        Ok(Source::Input)
-    } else if spelled {
-        Ok(Source::Spelled(word))
+        return Ok(Source::Input);
+    }
+    let bytes = read_bytes(alloc, raw, word)?;
+    let value = Value::new(alloc, &bytes)?;
+    Ok(Source::Word(value))
+}
+
+// The bytes that the word of a value tells: its own, or those that it spells.
+fn read_bytes(alloc: Global, raw: bool, word: &str) -> Result<Vec<u8>, Fault>
+    ensures { MatchResult result (λ bytes. told_bytes raw word.now ≡ Ok bytes.items)
+        (λ f. (f ≡ Memory) ⊎ (told_bytes raw word.now ≡ Err f)) }
+{
+    if raw {
+        Ok(word.as_bytes().to_vec(alloc)?)
     } else {
-        Ok(Source::Word(read_value(alloc, word)?))
+        unspelled(alloc, word)
     }
 }
 
@@ -258,6 +361,15 @@ fn read_at(word: Option<&str>) -> Result<Option<Stamp>, Fault>
         Some(word) => Ok(Some(stamp(word)?)),
         None => Ok(None),
     }
+}
+
+// The key that a word spells.
+fn read_spelled_key(alloc: Global, word: &str) -> Result<Key, Fault>
+    ensures { MatchResult result (λ k. spelled_key_of word.now ≡ Ok k)
+        (λ f. (f ≡ Memory) ⊎ (spelled_key_of word.now ≡ Err f)) }
+{
+    let bytes = unspelled(alloc, word)?;
+    Key::new(&bytes)
 }
 
 fn read_key(word: &str) -> Result<Key, Fault>

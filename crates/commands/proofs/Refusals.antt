@@ -55,16 +55,16 @@ module _ (drives puts : Fault → Type 0) where
   of_asked drives' puts' (format_asked file) fault more some is = is
   of_asked drives' puts' (play_asked file) fault more some is = is
   of_asked drives' puts' (inspect_asked lines logs) fault more some is = is
-  of_asked drives' puts' (drive_asked file) fault more some (inl unread) = inl unread
-  of_asked drives' puts' (drive_asked file) fault more some (inr (inl settings)) = inr (inl settings)
-  of_asked drives' puts' (drive_asked file) fault more some (inr (inr why)) = inr (inr (more why))
-  of_asked drives' puts' (dump_asked file) fault more some is = is
-  of_asked drives' puts' (history_asked dir key) fault more some is = is
-  of_asked drives' puts' (get_asked dir key at raw) fault more some is = is
+  of_asked drives' puts' (drive_asked file table) fault more some (inl unread) = inl unread
+  of_asked drives' puts' (drive_asked file table) fault more some (inr (inl settings)) = inr (inl settings)
+  of_asked drives' puts' (drive_asked file table) fault more some (inr (inr why)) = inr (inr (more why))
+  of_asked drives' puts' (dump_asked file json) fault more some is = is
+  of_asked drives' puts' (history_asked dir key json) fault more some is = is
+  of_asked drives' puts' (get_asked dir key at form) fault more some is = is
   of_asked drives' puts' (put_asked dir key given) fault more some (inl none) = inl none
   of_asked drives' puts' (put_asked dir key given) fault more some (inr (inl unread)) = inr (inl unread)
   of_asked drives' puts' (put_asked dir key given) fault more some (inr (inr why)) = inr (inr (some why))
-  of_asked drives' puts' (stats_asked logs) fault more some is = is
+  of_asked drives' puts' (stats_asked logs json) fault more some is = is
   of_asked drives' puts' (migrate_asked old new) fault more some is = is
   of_asked drives' puts' (compact_asked old new) fault more some is = is
 
@@ -85,12 +85,12 @@ module _ (drives puts : Fault → Type 0) where
   any_asked (format_asked file) = inl refl
   any_asked (play_asked file) = inl (inl refl)
   any_asked (inspect_asked lines logs) = inl (inl refl)
-  any_asked (drive_asked file) = inl (inl refl)
-  any_asked (dump_asked file) = inl refl
-  any_asked (history_asked dir key) = inl refl
-  any_asked (get_asked dir key at raw) = inl refl
+  any_asked (drive_asked file table) = inl (inl refl)
+  any_asked (dump_asked file json) = inl refl
+  any_asked (history_asked dir key json) = inl refl
+  any_asked (get_asked dir key at form) = inl refl
   any_asked (put_asked dir key given) = inl (inl (inl refl))
-  any_asked (stats_asked logs) = inl refl
+  any_asked (stats_asked logs json) = inl (inl refl)
   any_asked (migrate_asked old new) = inl refl
   any_asked (compact_asked old new) = inl refl
 
@@ -146,12 +146,12 @@ module _ (drives drives' : Driving) (puts puts' : Said) where
   tells_more (format_asked file) status text more some is = is
   tells_more (play_asked file) status text more some is = is
   tells_more (inspect_asked lines logs) status text more some is = is
-  tells_more (drive_asked file) status text more some is = (is.0, more text is.0 is.1, is.2)
-  tells_more (dump_asked file) status text more some is = is
-  tells_more (history_asked dir key) status text more some is = is
-  tells_more (get_asked dir key at raw) status text more some is = is
+  tells_more (drive_asked file table) status text more some is = (is.0, more text is.0 is.1, is.2)
+  tells_more (dump_asked file json) status text more some is = is
+  tells_more (history_asked dir key json) status text more some is = is
+  tells_more (get_asked dir key at form) status text more some is = is
   tells_more (put_asked dir key given) status text more some is = (is.0, is.1, is.2, some dir key is.0 is.1 is.3, is.4, is.5)
-  tells_more (stats_asked logs) status text more some is = is
+  tells_more (stats_asked logs json) status text more some is = is
   tells_more (migrate_asked old new) status text more some is = is
   tells_more (compact_asked old new) status text more some is = is
 

@@ -13,12 +13,12 @@ LogsCommand (once_asked key value first second) status disk = IsLogged key value
 LogsCommand (format_asked file) status disk = Unit {0}
 LogsCommand (play_asked file) status disk = Unit {0}
 LogsCommand (inspect_asked lines logs) status disk = Unit {0}
-LogsCommand (drive_asked file) status disk = Unit {0}
-LogsCommand (dump_asked file) status disk = Unit {0}
-LogsCommand (history_asked dir key) status disk = Unit {0}
-LogsCommand (get_asked dir key at raw) status disk = Unit {0}
+LogsCommand (drive_asked file table) status disk = Unit {0}
+LogsCommand (dump_asked file json) status disk = Unit {0}
+LogsCommand (history_asked dir key json) status disk = Unit {0}
+LogsCommand (get_asked dir key at form) status disk = Unit {0}
 LogsCommand (put_asked dir key value) status disk = Unit {0}
-LogsCommand (stats_asked logs) status disk = Unit {0}
+LogsCommand (stats_asked logs json) status disk = Unit {0}
 LogsCommand (migrate_asked old new) status disk = Unit {0}
 LogsCommand (compact_asked old new) status disk = Unit {0}
 

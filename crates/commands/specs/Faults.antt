@@ -31,6 +31,10 @@ IsNoManifest fault = (fault ≡ Memory) ⊎ (fault ≡ BadRequest Settings)
 abbrev pub IsUnreadStore : Fault → Type 0
 IsUnreadStore fault = (fault ≡ Memory) ⊎ ((fault ≡ Device) ⊎ (fault ≡ BadRequest Settings))
 
+-- a log is not shown, or the folder of a store is not read
+abbrev pub IsNotCounted : Fault → Type 0
+IsNotCounted fault = IsNotShown fault ⊎ IsUnreadStore fault
+
 -- the file is not read, it holds no schedule, or an event may not happen
 abbrev pub IsNotPlayed : Fault → Type 0
 IsNotPlayed fault = IsNotMade fault ⊎ (IsNoSchedule fault ⊎ ((event : ℕ) × (fault ≡ BadRequest (Unlawful event))))
@@ -43,9 +47,9 @@ IsNotDriven drives fault = IsNotMade fault ⊎ ((fault ≡ BadRequest Settings) 
 abbrev pub IsRefusedBy : {S : Type 0} → (S → Result Driven NoVerdict → Type 0) → Fault → Type 0
 IsRefusedBy {S} call fault = (settings : S) × (none : NoVerdict) × call settings (Err none) × (none.fault ≡ fault)
 
--- no value is had: besides, where it is too long or its word spells none
+-- no value is had: besides, if it is too long
 abbrev pub IsNoValue : Fault → Type 0
-IsNoValue fault = IsNotMade fault ⊎ ((fault ≡ BadRequest reason.Value) ⊎ (fault ≡ BadRequest reason.Command))
+IsNoValue fault = IsNotMade fault ⊎ (fault ≡ BadRequest reason.Value)
 
 -- no value is had, the folder of a store is not read, or what puts a write refuses for this
 abbrev pub IsNotPut : (Fault → Type 0) → Fault → Type 0
@@ -62,12 +66,12 @@ MayRefuse drives puts (once_asked key value first second) fault = Unit {0}
 MayRefuse drives puts (format_asked file) fault = IsNotMade fault
 MayRefuse drives puts (play_asked file) fault = IsNotPlayed fault
 MayRefuse drives puts (inspect_asked lines logs) fault = IsNotJudged fault
-MayRefuse drives puts (drive_asked file) fault = IsNotDriven drives fault
-MayRefuse drives puts (dump_asked file) fault = IsNotShown fault
-MayRefuse drives puts (history_asked dir key) fault = IsNotTold fault
-MayRefuse drives puts (get_asked dir key at raw) fault = IsNotTold fault
+MayRefuse drives puts (drive_asked file table) fault = IsNotDriven drives fault
+MayRefuse drives puts (dump_asked file json) fault = IsNotShown fault
+MayRefuse drives puts (history_asked dir key json) fault = IsNotTold fault
+MayRefuse drives puts (get_asked dir key at form) fault = IsNotTold fault
 MayRefuse drives puts (put_asked dir key value) fault = IsNotPut puts fault
-MayRefuse drives puts (stats_asked logs) fault = IsNotShown fault
+MayRefuse drives puts (stats_asked logs json) fault = IsNotCounted fault
 MayRefuse drives puts (migrate_asked old new) fault = IsNotMigrated fault
 MayRefuse drives puts (compact_asked old new) fault = IsNotCompacted fault
 

@@ -5,7 +5,7 @@ use Rattle.units.specs.Texts.{txn_text}
 use Rattle.units.specs.declared.fault.Fault.{Fault}
 use Rattle.client.specs.declared.ended.Ended.{Ended}
 use Rattle.client.specs.declared.ended.Ended.TheVariants.{Aborted, Committed, Unknown}
-use Rattle.command_line.specs.Commands.{Given, word_given, spelled_given, input_given}
+use Rattle.command_line.specs.Commands.{Given, word_given, input_given}
 use Rattle.commands.specs.declared.engine.Put.{Put}
 
 -- what became of it
@@ -20,10 +20,9 @@ put_status (Committed at) = 0
 put_status Aborted = 1
 put_status (Unknown txn) = 1
 
--- it is the value that was given: that of a word, or some value
+-- it is the value that was given: what a word told, or some value
 abbrev pub IsGiven : Given → List ℕ → Type 0
 IsGiven (word_given word) value = value ≡ word
-IsGiven (spelled_given word) value = Unit {0}
 IsGiven input_given value = Unit {0}
 
 -- what may become of the write of a value to a key in a folder, in this order: the folder, the key, the value

@@ -18,7 +18,7 @@ ghost use Rattle.commands.specs.Replies.{Tells, TellsTo, reply_of, reply_or_refu
 ghost use Rattle.output.specs.Streams.{failures_of, fault_line, writer_of};
 
 use crate::drive_command::run_drive;
-use crate::engine::{Engine, Put};
+use crate::engine::{Drive, Engine, Put};
 use crate::help::tell;
 use crate::hints::{Hints, tell_place};
 use crate::inspect::inspect;
@@ -26,13 +26,12 @@ use crate::key_commands::{history, run_get};
 use crate::play_command::play;
 use crate::printing::{done, print, print_text};
 use crate::put_command::put;
+use crate::stats_command::{dump, stats};
 use client::Ended;
 use command_line::{Command, Words};
 use compaction::compact_file;
 use once::once;
 use output::{Failure, Stream};
-use settings::Settings;
-use showing::{dump_file, stats_files};
 use simdisk::SimDisk;
 use std::alloc::Global;
 use std::io::Write;
@@ -41,12 +40,12 @@ use units::Fault;
 
 /// Carries a command line out, with what it asks of the system, on an empty disk and over standard output and standard error.
 /// Gives the status, 0, 1 for a verdict of no or for early, 2 for a fault, and the disk, which holds what was printed of a
-/// commit. A fault is printed on standard error, except that after a failed write nothing more is printed; who is told hints is told then where
-/// it lies.
+/// commit. A fault is printed on standard error, except that after a failed write nothing more is printed. Who is told hints is then told the
+/// place in which it lies.
 pub fn answer<
     'a,
     F: Hints,
-    D: Fn(Global, &Settings) -> Result<Driven, NoVerdict>,
+    D: Fn(Global, Drive<'_>) -> Result<Driven, NoVerdict>,
     P: Fn(Global, Put<'_>) -> Result<Ended, Fault>,
     O: Write,
     E: Write,
@@ -116,7 +115,7 @@ pub fn answer<
 fn carry_out<
     'a,
     F: Hints,
-    D: Fn(Global, &Settings) -> Result<Driven, NoVerdict>,
+    D: Fn(Global, Drive<'_>) -> Result<Driven, NoVerdict>,
     P: Fn(Global, Put<'_>) -> Result<Ended, Fault>,
     O: Write,
 >(
@@ -165,7 +164,7 @@ fn carry_out<
 // The same, of words that were read.
 fn carry_read<
     F: Hints,
-    D: Fn(Global, &Settings) -> Result<Driven, NoVerdict>,
+    D: Fn(Global, Drive<'_>) -> Result<Driven, NoVerdict>,
     P: Fn(Global, Put<'_>) -> Result<Ended, Fault>,
     O: Write,
 >(
@@ -214,7 +213,7 @@ fn carry_read<
 // Carries one command out.
 fn run<
     F: Hints,
-    D: Fn(Global, &Settings) -> Result<Driven, NoVerdict>,
+    D: Fn(Global, Drive<'_>) -> Result<Driven, NoVerdict>,
     P: Fn(Global, Put<'_>) -> Result<Ended, Fault>,
     O: Write,
 >(
@@ -263,16 +262,23 @@ fn run<
         Command::Inspect { lines, logs } => {
             (print(inspect(alloc, lines, &logs, files), out), disk)
         }
-        Command::Drive { file } => (run_drive(alloc, file, system, out), disk),
-        Command::Dump { file } => (print_text(dump_file(alloc, files, file), out), disk),
-        Command::History { dir, key } => (print_text(history(alloc, dir, &key, files), out), disk),
-        Command::Get { dir, key, at, raw } => {
-            (run_get(alloc, dir, &key, at, raw, files, out), disk)
+        Command::Drive { file, table } => (run_drive(alloc, file, table, system, out), disk),
+        Command::Dump { file, json } => (print_text(dump(alloc, file, json, files), out), disk),
+        Command::History { dir, key, json } => {
+            (
+                print_text(history(alloc, dir, &key, json, files), out),
+                disk,
+            )
+        }
+        Command::Get { dir, key, at, form } => {
+            (run_get(alloc, dir, &key, at, form, files, out), disk)
         }
         Command::Put { dir, key, value } => {
             (print(put(alloc, dir, &key, value, system), out), disk)
         }
-        Command::Stats { logs } => (print_text(stats_files(alloc, files, &logs), out), disk),
+        Command::Stats { logs, json } => {
+            (print_text(stats(alloc, &logs, json, files), out), disk)
+        }
         Command::Migrate { old, new } => (done(migrate_file(alloc, files, old, new)), disk),
         Command::Compact { old, new } => (done(compact_file(alloc, files, old, new)), disk),
     }

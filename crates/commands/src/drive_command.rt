@@ -10,7 +10,7 @@ ghost use Rattle.output.specs.declared.failure.Failure.TheVariants.{Refused, Unw
 ghost use Rattle.output.specs.Streams.{failures_of, writer_of};
 ghost use Rattle.output.specs.Verdicts.{exit_status};
 
-use crate::engine::Engine;
+use crate::engine::{Drive, Engine};
 use output::{Failure, Stream, status_of};
 use settings::Settings;
 use std::alloc::Global;
@@ -18,11 +18,12 @@ use std::io::Write;
 use system::{Driven, Files, NoVerdict, System, read_text};
 use units::Reason;
 
-/// Drives shards and workers by the settings of a file, and prints what came of it. Gives 0, or 1 where the verdict is a no. Where there
-/// is no verdict, the counts are printed, if there are any, and then that is refused.
-pub fn run_drive<F: Files, D: Fn(Global, &Settings) -> Result<Driven, NoVerdict>, P, O: Write>(
+/// Drives shards and workers by the settings of a file, and prints what came of it. Gives 0, or 1 if the verdict is a no. If there is no
+/// verdict, the counts are printed, if there are any, and then that is refused.
+pub fn run_drive<F: Files, D: Fn(Global, Drive<'_>) -> Result<Driven, NoVerdict>, P, O: Write>(
     alloc: Global,
     file: &str,
+    table: bool,
     system: &System<F, Engine<D, P>>,
     out: &mut Stream<O>,
 ) -> Result<u8, Failure>
@@ -43,7 +44,7 @@ pub fn run_drive<F: Files, D: Fn(Global, &Settings) -> Result<Driven, NoVerdict>
     ensures counted { (fault : Fault) → result ≡ Err (Refused fault)
         → failures_of out.new ≡ failures_of out.old }
 {
-    match driven_by(alloc, file, system) {
+    match driven_by(alloc, file, table, system) {
         Ok(driven) => {
             out.print(&driven.text)?;
             Ok(status_of(driven.verdict))
@@ -52,7 +53,7 @@ pub fn run_drive<F: Files, D: Fn(Global, &Settings) -> Result<Driven, NoVerdict>
     }
 }
 
-// Prints the counts, where there are any, and says why there is no verdict.
+// Prints the counts, if there are any, and says why there is no verdict.
 fn refuse<O: Write>(none: NoVerdict, out: &mut Stream<O>) -> Result<u8, Failure>
     ensures refusal { IfErr result
         (λ failure. FailsFor (failures_of out.old < failures_of out.new) failure None) }
@@ -73,9 +74,10 @@ fn refuse<O: Write>(none: NoVerdict, out: &mut Stream<O>) -> Result<u8, Failure>
 }
 
 // What came of a drive by the settings of a file.
-fn driven_by<F: Files, D: Fn(Global, &Settings) -> Result<Driven, NoVerdict>, P>(
+fn driven_by<F: Files, D: Fn(Global, Drive<'_>) -> Result<Driven, NoVerdict>, P>(
     alloc: Global,
     file: &str,
+    table: bool,
     system: &System<F, Engine<D, P>>,
 ) -> Result<Driven, NoVerdict>
     requires { D.IsAlwaysCallable system.now.drive.run }
@@ -88,5 +90,9 @@ fn driven_by<F: Files, D: Fn(Global, &Settings) -> Result<Driven, NoVerdict>, P>
     let settings = Settings::read(alloc, &text);
     drop(text);
     let settings = settings?;
-    (system.drive.run)(alloc, &settings)
+    let drive = Drive {
+        settings: &settings,
+        table,
+    };
+    (system.drive.run)(alloc, drive)
 }

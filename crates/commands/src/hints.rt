@@ -1,4 +1,4 @@
-//! Who is told where a fault lies.
+//! Who is told the place of a fault.
 ghost use Rattle.std.specs.Prelude.{◌≡◌, ◌⊎◌, IfErr};
 ghost use Rattle.units.specs.declared.fault.Fault.TheVariants.{Device, Memory};
 

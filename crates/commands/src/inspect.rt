@@ -10,7 +10,7 @@ use std::alloc::Global;
 use system::Files;
 use units::Fault;
 
-/// The verdict on the logs in some files, and on the lines in another one, as a line, with 0, or 1 where it is a no. Of each log that an
+/// Judges the logs in some files and the lines in another one. Gives the verdict as a line, with 0, or 1 if it is a no. Of each log that an
 /// opening would refuse though it is judged, who wants that told is told.
 pub fn inspect<F: Files>(
     alloc: Global,

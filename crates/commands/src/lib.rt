@@ -13,12 +13,13 @@ mod play_command;
 mod printing;
 mod put_command;
 mod settings_text;
+mod stats_command;
 mod store_folder;
 
 pub use answers::answer;
 pub use client::Ended;
-pub use command_line::{Command, Source, Words};
-pub use engine::{Engine, Put};
+pub use command_line::{Command, Form, Source, Words};
+pub use engine::{Drive, Engine, Put};
 pub use hints::Hints;
 pub use output::Stream;
 pub use places::place_of;

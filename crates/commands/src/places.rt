@@ -1,4 +1,5 @@
-//! Where the fault of a command lies, for whoever looks.
+//! The place in which the fault of a command lies, for whoever looks.
+use crate::stats_command::logs_in;
 use crate::store_folder::splits_of;
 use command_line::{Command, Words, explanation};
 use script::schedule;
@@ -8,8 +9,8 @@ use std::alloc::Global;
 use system::{Files, read_text};
 use units::{Fault, Key, Reason, Splits};
 
-/// Where the fault of a command over files lies: `--> FILE`, or `--> FILE:LINE` where it is one of a line or an event, and of settings also what is
-/// wrong with them. Of words it is what is wrong with these, and how their command is called. There is none of want of memory, and where nobody can
+/// Tells where the fault of a command over files lies: `--> FILE`, or `--> FILE:LINE` if it is one of a line or an event. Of settings it is also what
+/// is wrong with them. Of words it is what is wrong with these, and how their command is called. There is none of want of memory, or if nobody can
 /// say. The files are looked at once more, so what has changed meanwhile is told as it is then.
 pub fn place_of<F: Files>(
     alloc: Global,
@@ -42,15 +43,15 @@ fn place_for<F: Files>(
     match asked {
         Command::Told { .. } | Command::Once { .. } => None,
         Command::Format { file } => at_new(alloc, files, file),
-        Command::Dump { file } => at(alloc, files, file),
+        Command::Dump { file, .. } => at(alloc, files, file),
         Command::Play { file } => in_schedule(alloc, files, file, fault),
         Command::Inspect { lines, logs } => in_inspected(alloc, files, lines, logs, fault),
-        Command::Drive { file } => in_settings(alloc, files, file, fault),
-        Command::History { dir, key } | Command::Get { dir, key, .. } => {
+        Command::Drive { file, .. } => in_settings(alloc, files, file, fault),
+        Command::History { dir, key, .. } | Command::Get { dir, key, .. } => {
             in_log_of(alloc, files, dir, key)
         }
         Command::Put { dir, .. } => in_write(alloc, files, dir, fault),
-        Command::Stats { logs } => in_logs(alloc, files, logs, fault),
+        Command::Stats { logs, .. } => in_counted(alloc, files, logs, fault),
         Command::Migrate { old, new } | Command::Compact { old, new } => {
             in_copied(alloc, files, old, new, fault)
         }
@@ -87,9 +88,6 @@ fn at_line(alloc: Global, file: &str, line: u64) -> Option<String> {
 // In the value of a write, or in its store.
 fn in_write<F: Files>(alloc: Global, files: &F, dir: &str, fault: Fault) -> Option<String> {
     match fault {
-        Fault::BadRequest(Reason::Command) => {
-            format!(in alloc; "--> VALUE has a '\\x' without two hexadecimal digits").ok()
-        }
         Fault::BadRequest(Reason::Value) => {
             format!(in alloc; "--> VALUE has at most 4096 bytes").ok()
         }
@@ -139,6 +137,26 @@ fn in_inspected<F: Files>(
     None
 }
 
+// In the first of some logs that is refused like that, or of those in a folder.
+fn in_counted<F: Files>(alloc: Global, files: &F, logs: &[&str], fault: Fault) -> Option<String> {
+    let [folder] = logs else {
+        return in_logs(alloc, files, logs, fault);
+    };
+    match logs_in(alloc, folder, files) {
+        Ok(Some(names)) => in_named(alloc, files, &names, fault),
+        Ok(None) => in_logs(alloc, files, logs, fault),
+        Err(_) => in_manifest(alloc, files, folder),
+    }
+}
+
+fn in_named<F: Files>(alloc: Global, files: &F, names: &[String], fault: Fault) -> Option<String> {
+    let mut logs = Vec::new(alloc);
+    for name in names {
+        logs.push(name.as_str()).ok()?;
+    }
+    in_logs(alloc, files, &logs, fault)
+}
+
 // In the first log that is refused like that.
 fn in_logs<F: Files>(alloc: Global, files: &F, logs: &[&str], fault: Fault) -> Option<String> {
     for log in logs {
@@ -149,7 +167,7 @@ fn in_logs<F: Files>(alloc: Global, files: &F, logs: &[&str], fault: Fault) -> O
     None
 }
 
-// In the old file, but where the system refuses something and it can be read.
+// In the old file, unless the system refuses something and the old file can be read.
 fn in_copied<F: Files>(
     alloc: Global,
     files: &F,
@@ -186,7 +204,7 @@ fn in_settings<F: Files>(alloc: Global, files: &F, file: &str, fault: Fault) -> 
     }
 }
 
-// In the manifest, where the settings tell of another store; in the first log that is refused like that; or somewhere in the folder.
+// In the manifest, if the settings tell of another store; in the first log that is refused like that; or somewhere in the folder.
 fn in_folder<F: Files>(
     alloc: Global,
     files: &F,

@@ -39,7 +39,7 @@ pub fn print_text<O: Write>(told: Result<String, Fault>, out: &mut Stream<O>) ->
     Ok(0)
 }
 
-/// Prints the bytes of a value, and gives 0, or 1 where there is none. A refusal is passed on, and nothing is printed of it.
+/// Prints the bytes of a value, and gives 0, or 1 if there is none. A refusal is passed on, and nothing is printed of it.
 pub fn print_value<O: Write>(
     told: Result<Option<Value>, Fault>,
     out: &mut Stream<O>,

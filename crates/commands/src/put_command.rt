@@ -12,25 +12,24 @@ use client::Ended;
 use command_line::Source;
 use std::alloc::Global;
 use system::{Files, System};
-use texts::unspelled;
 use units::{Fault, Key, Value};
 
 // A byte more than a value has.
 const MOST_INPUT: u64 = 4097;
 
-/// Commits the write of a value to a key, as a transaction of its own, in the store in a folder. Gives what became of it, as text, and 0 where
-/// it is committed, and else 1. A folder without the manifest of a store is refused, and nothing is made there. The value is had first: one of
-/// more than 4,096 bytes is refused as `value`, and a word that spells none as `command`.
+/// Commits the write of a value to a key, as a transaction of its own, in the store in a folder. Gives what became of it, as text, and 0 if
+/// it is committed, else 1. A folder without the manifest of a store is refused, and nothing is made there. The value is had first: one of
+/// more than 4,096 bytes is refused as `value`.
 pub fn put<F: Hints, D, P: Fn(Global, Put<'_>) -> Result<Ended, Fault>>(
     alloc: Global,
     dir: &str,
     key: &Key,
-    source: Source<'_>,
+    source: Source,
     system: &System<F, Engine<D, P>>,
 ) -> Result<(String, u8), Fault>
     requires { P.IsAlwaysCallable system.now.drive.put }
     ensures put { IfOk result (λ told. (value : List ℕ) × (ended : Ended)
-        × IsGiven (given_by source.entry) value
+        × IsGiven (given_by source) value
         × IsPutBy (P.post system.now.drive.put alloc) dir.now key.now value ended
         × (told.1 ≡ put_status ended) × (string_bytes told.0 ≡ put_text ended)) }
     ensures refused { IfErr result (IsNotPut (IsUnputBy (P.post system.now.drive.put alloc))) }
@@ -40,13 +39,12 @@ pub fn put<F: Hints, D, P: Fn(Global, Put<'_>) -> Result<Ended, Fault>>(
 }
 
 // The value that a source has.
-fn value_of<F: Hints>(alloc: Global, source: Source<'_>, files: &F) -> Result<Value, Fault>
-    ensures given { IfOk result (IsGiven (given_by source.entry)) }
+fn value_of<F: Hints>(alloc: Global, source: Source, files: &F) -> Result<Value, Fault>
+    ensures given { IfOk result (IsGiven (given_by source)) }
     ensures refused { IfErr result IsNoValue }
 {
     match source {
         Source::Word(value) => Ok(value),
-        Source::Spelled(word) => Ok(Value::new(alloc, &unspelled(alloc, word)?)?),
         Source::Input => Ok(Value::new(alloc, &files.input(alloc, MOST_INPUT)?)?),
     }
 }

@@ -14,8 +14,8 @@ const NO_MANIFEST: Fault = Fault::BadRequest(Reason::Settings);
 // How long a manifest may be: 16 shards take no more than 6,000 bytes.
 const MOST_MANIFEST: u64 = 1 << 16;
 
-/// The log of the shard to which a key belongs, of the store in a folder, opened to be read alone, and what tells that shard whose
-/// keys are whose. Where the folder, its manifest (`store.toml`) or the log is not there, that is `Device`; a manifest that is none
+/// Opens the log of the shard to which a key belongs, of the store in a folder, to be read alone. Gives also what tells that shard whose
+/// keys are whose. If the folder, its manifest (`store.toml`) or the log is not there, that is `Device`; a manifest that is none
 /// is refused as `settings`. Nothing is made or locked.
 pub fn open_of_key<F: Files>(
     alloc: Global,

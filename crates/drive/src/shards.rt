@@ -31,7 +31,13 @@ use workers::Summary;
 pub fn drive_shards<
     R: rt::Files<File = File> + RandomSource + Threads + Wait + time::Clock + Sync,
     W: Write + Drop + Send,
->(rt: &R, alloc: Global, settings: &Settings, terminal: Option<W>) -> Result<Driven, NoVerdict>
+>(
+    rt: &R,
+    alloc: Global,
+    settings: &Settings,
+    writer: Option<W>,
+    is_running: bool,
+) -> Result<Driven, NoVerdict>
     ensures told { IfOk result (λ driven. IsTold
         (settings.now.workers * settings.now.transactions)
         (string_bytes driven.text) driven.verdict) }
@@ -49,8 +55,8 @@ pub fn drive_shards<
         → IsDrivable settings.now.workers settings.now.transactions settings.now.keys }
 {
     let turns = settings.workers.saturating_mul(settings.transactions);
-    let watch = match terminal {
-        Some(writer) => Some(Terminal::new(rt, alloc, writer, turns)),
+    let watch = match writer {
+        Some(writer) => Some(terminal(rt, alloc, writer, turns, is_running)),
         None => None,
     };
     let driven = drive_watched(rt, alloc, settings, &Open, &watch);
@@ -58,6 +64,21 @@ pub fn drive_shards<
         terminal.finish();
     }
     driven
+}
+
+// Makes what a drive of so many turns is shown on.
+fn terminal<'r, R: Wait + time::Clock, W: Write + Drop>(
+    rt: &'r R,
+    alloc: Global,
+    writer: W,
+    turns: u64,
+    is_running: bool,
+) -> Terminal<'r, R, W> {
+    if is_running {
+        Terminal::new(rt, alloc, writer, turns)
+    } else {
+        Terminal::quiet(rt, alloc, writer, turns)
+    }
 }
 
 /// Runs shards and workers by some settings, as the command `drive` does, with a gate that the letters of the nodes go through. Returns the

@@ -204,7 +204,7 @@ static CHANGED: [Changed; 7] = [
             ("splits = []", "2: 'splits' has 0 keys, and 3 shards want 2"),
             (
                 "splits = [\"b\"]",
-                "2: 'splits' has 1 keys, and 3 shards want 2",
+                "2: 'splits' has 1 key, and 3 shards want 2",
             ),
             (
                 "splits = [\"b\", \"c\", \"d\"]",

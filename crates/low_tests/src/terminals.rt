@@ -31,15 +31,25 @@ fn is_last(text: &str) -> bool {
     text.contains("\r20 of 20 done, ") && text.ends_with(TABLE)
 }
 
+// Tells whether this is all that is shown if no turn is shown before the end.
+fn is_table(text: &str) -> bool {
+    text.starts_with("20 of 20 done, ") && !text.contains("\r") && text.ends_with(TABLE)
+}
+
 // Tells whether the last lines of a drive of twenty turns are right, on a terminal that may be absent.
-fn counts<R: Threads + Wait + time::Clock + Sync>(rt: &R, alloc: Global) -> bool {
-    let terminal = Some(Terminal::new(rt, alloc, Vec::new(alloc), 20));
+fn counts<R: Threads + Wait + time::Clock + Sync>(rt: &R, alloc: Global, is_quiet: bool) -> bool {
+    let terminal = Some(if is_quiet {
+        Terminal::quiet(rt, alloc, Vec::new(alloc), 20)
+    } else {
+        Terminal::new(rt, alloc, Vec::new(alloc), 20)
+    });
     work(rt, &terminal);
     let Some(terminal) = terminal else {
         return false;
     };
     let written: Vec<u8> = terminal.finish();
     let counts = match str::from_utf8(&written) {
+        Ok(text) if is_quiet => is_table(text),
         Ok(text) => is_last(text),
         Err(_) => false,
     };
@@ -56,5 +66,6 @@ pub fn go_over<R: Threads + Wait + time::Clock + Sync>(
     let none: Option<NoWatch> = None;
     work(rt, &none);
     work(rt, &Some(NoWatch));
-    wrong.unless(counts(rt, alloc), "twenty turns");
+    wrong.unless(counts(rt, alloc, false), "twenty turns");
+    wrong.unless(counts(rt, alloc, true), "twenty turns, shown at the end");
 }

@@ -135,75 +135,75 @@ static DUMPED: [Asked; 7] = [
 static COUNTED: [Asked; 9] = [
     Asked {
         lines: &["stats done.log"],
-        printed: "log done.log\nbytes 9312\nrecords 3\nopened 1\nceiling 0\nprepare 0\ncommit 1\nabort 0\noutcome 1\n\
+        printed: "log done.log\nbytes 9312\ndead bytes 0\nturnovers 0\nturnovers left 1024\nrecords 3\nopened 1\nceiling 0\nprepare 0\ncommit 1\nabort 0\noutcome 1\n\
             horizon 0\nbase 0\nversion 0\nsettled 0\nclosed 0\n\
             keys 1\nversions 1\nepoch 1\nfloor 200\nin doubt 0\n",
         ..TAKEN
     },
     Asked {
         lines: &["stats promised.log done.log"],
-        printed: "log promised.log\nbytes 9274\nrecords 2\nopened 1\nceiling 0\nprepare 1\ncommit 0\nabort 0\noutcome 0\n\
+        printed: "log promised.log\nbytes 9274\ndead bytes 0\nturnovers 0\nturnovers left 1024\nrecords 2\nopened 1\nceiling 0\nprepare 1\ncommit 0\nabort 0\noutcome 0\n\
             horizon 0\nbase 0\nversion 0\nsettled 0\nclosed 0\n\
             keys 0\nversions 0\nepoch 1\nfloor 200\nin doubt 1\npromised 1.2 200\n\
-            log done.log\nbytes 9312\nrecords 3\nopened 1\nceiling 0\nprepare 0\ncommit 1\nabort 0\noutcome 1\n\
+            log done.log\nbytes 9312\ndead bytes 0\nturnovers 0\nturnovers left 1024\nrecords 3\nopened 1\nceiling 0\nprepare 0\ncommit 1\nabort 0\noutcome 1\n\
             horizon 0\nbase 0\nversion 0\nsettled 0\nclosed 0\n\
             keys 1\nversions 1\nepoch 1\nfloor 200\nin doubt 0\n\
-            all 2\nbytes 18586\nrecords 5\nopened 2\nceiling 0\nprepare 1\ncommit 1\nabort 0\noutcome 1\n\
+            all 2\nbytes 18586\ndead bytes 0\nturnovers 0\nrecords 5\nopened 2\nceiling 0\nprepare 1\ncommit 1\nabort 0\noutcome 1\n\
             horizon 0\nbase 0\nversion 0\nsettled 0\nclosed 0\n\
             keys 1\nversions 1\nin doubt 1\n",
         ..TAKEN
     },
     Asked {
         lines: &["stats forgotten.log"],
-        printed: "log forgotten.log\nbytes 9267\nrecords 3\nopened 1\nceiling 1\nprepare 0\ncommit 0\nabort 0\noutcome 0\n\
+        printed: "log forgotten.log\nbytes 9267\ndead bytes 0\nturnovers 0\nturnovers left 1024\nrecords 3\nopened 1\nceiling 1\nprepare 0\ncommit 0\nabort 0\noutcome 0\n\
             horizon 1\nbase 0\nversion 0\nsettled 0\nclosed 0\n\
             keys 0\nversions 0\nepoch 1\nfloor 300\nin doubt 0\n",
         ..TAKEN
     },
     Asked {
-        lines: &["stats one/shard-0.log"],
-        printed: "log one/shard-0.log\nbytes 9312\nrecords 3\nopened 1\nceiling 0\nprepare 0\ncommit 1\nabort 0\noutcome 1\n\
+        lines: &["stats one/shard-0.log", "stats one"],
+        printed: "log one/shard-0.log\nbytes 9312\ndead bytes 0\nturnovers 0\nturnovers left 1024\nrecords 3\nopened 1\nceiling 0\nprepare 0\ncommit 1\nabort 0\noutcome 1\n\
             horizon 0\nbase 0\nversion 0\nsettled 0\nclosed 0\n\
             keys 1\nversions 1\nepoch 1\nfloor 111\nin doubt 0\n",
         ..TAKEN
     },
     Asked {
-        lines: &["stats two/shard-0.log two/shard-1.log"],
-        printed: "log two/shard-0.log\nbytes 9425\nrecords 6\nopened 1\nceiling 0\nprepare 0\ncommit 3\nabort 0\noutcome 2\n\
+        lines: &["stats two/shard-0.log two/shard-1.log", "stats two"],
+        printed: "log two/shard-0.log\nbytes 9425\ndead bytes 0\nturnovers 0\nturnovers left 1024\nrecords 6\nopened 1\nceiling 0\nprepare 0\ncommit 3\nabort 0\noutcome 2\n\
             horizon 0\nbase 0\nversion 0\nsettled 0\nclosed 0\n\
             keys 1\nversions 2\nepoch 1\nfloor 400\nin doubt 1\ndecided 1.4 400\n\
-            log two/shard-1.log\nbytes 9416\nrecords 6\nopened 1\nceiling 0\nprepare 3\ncommit 0\nabort 0\noutcome 2\n\
+            log two/shard-1.log\nbytes 9416\ndead bytes 0\nturnovers 0\nturnovers left 1024\nrecords 6\nopened 1\nceiling 0\nprepare 3\ncommit 0\nabort 0\noutcome 2\n\
             horizon 0\nbase 0\nversion 0\nsettled 0\nclosed 0\n\
             keys 1\nversions 1\nepoch 1\nfloor 510\nin doubt 1\npromised 1.5 500\n\
-            all 2\nbytes 18841\nrecords 12\nopened 2\nceiling 0\nprepare 3\ncommit 3\nabort 0\noutcome 4\n\
+            all 2\nbytes 18841\ndead bytes 0\nturnovers 0\nrecords 12\nopened 2\nceiling 0\nprepare 3\ncommit 3\nabort 0\noutcome 4\n\
             horizon 0\nbase 0\nversion 0\nsettled 0\nclosed 0\n\
             keys 2\nversions 3\nin doubt 2\n",
         ..TAKEN
     },
     Asked {
         lines: &["stats kinds.log"],
-        printed: "log kinds.log\nbytes 9334\nrecords 5\nopened 2\nceiling 1\nprepare 0\ncommit 1\nabort 1\noutcome 0\n\
+        printed: "log kinds.log\nbytes 9334\ndead bytes 0\nturnovers 0\nturnovers left 1024\nrecords 5\nopened 2\nceiling 1\nprepare 0\ncommit 1\nabort 1\noutcome 0\n\
             horizon 0\nbase 0\nversion 0\nsettled 0\nclosed 0\n\
             keys 0\nversions 0\nepoch 2\nfloor 300\nin doubt 1\ndecided 1.2 200\n",
         ..TAKEN
     },
     Asked {
         lines: &["stats keys.log"],
-        printed: "log keys.log\nbytes 9315\nrecords 3\nopened 1\nceiling 0\nprepare 0\ncommit 1\nabort 0\noutcome 1\n\
+        printed: "log keys.log\nbytes 9315\ndead bytes 0\nturnovers 0\nturnovers left 1024\nrecords 3\nopened 1\nceiling 0\nprepare 0\ncommit 1\nabort 0\noutcome 1\n\
             horizon 0\nbase 0\nversion 0\nsettled 0\nclosed 0\n\
             keys 2\nversions 2\nepoch 1\nfloor 100\nin doubt 0\n",
         ..TAKEN
     },
     Asked {
         lines: &["stats passed.log"],
-        printed: "log passed.log\nbytes 9354\nrecords 6\nopened 1\nceiling 1\nprepare 0\ncommit 1\nabort 0\noutcome 1\n\
+        printed: "log passed.log\nbytes 9354\ndead bytes 0\nturnovers 0\nturnovers left 1024\nrecords 6\nopened 1\nceiling 1\nprepare 0\ncommit 1\nabort 0\noutcome 1\n\
             horizon 2\nbase 0\nversion 0\nsettled 0\nclosed 0\n\
             keys 1\nversions 1\nepoch 1\nfloor 300\nin doubt 0\n",
         ..TAKEN
     },
     Asked {
         lines: &["stats bare.log"],
-        printed: "log bare.log\nbytes 9225\nrecords 0\nopened 0\nceiling 0\nprepare 0\ncommit 0\nabort 0\noutcome 0\n\
+        printed: "log bare.log\nbytes 9225\ndead bytes 0\nturnovers 0\nturnovers left 1024\nrecords 0\nopened 0\nceiling 0\nprepare 0\ncommit 0\nabort 0\noutcome 0\n\
             horizon 0\nbase 0\nversion 0\nsettled 0\nclosed 0\n\
             keys 0\nversions 0\nepoch 0\nfloor 0\nin doubt 0\n",
         ..TAKEN
@@ -232,7 +232,12 @@ static TOLD: [Asked; 12] = [
     },
     Asked {
         lines: &[
+            "put one a stands",
+            "put one a \\x73t\\x61nds",
+            "put one \\x61 stan\\x64s",
             "put --bytes one a \\x73t\\x61nds",
+            "put --raw one a stands",
+            "put --raw one \\x61 stands",
             "put one a -",
             "put --bytes one a -",
             "put -- one a -",
@@ -272,10 +277,11 @@ static TOLD: [Asked; 12] = [
             "get two a",
             "get two a 199",
             "get two a 300",
-            "get two a 1000",
+            "get two a 399",
             "get two z 199",
             "get two y",
             "get bare a",
+            "get bare a 0",
             "get bytes a",
             "get renewed a",
             "get renewed a 110",
@@ -284,7 +290,7 @@ static TOLD: [Asked; 12] = [
         ..TAKEN
     },
     Asked {
-        lines: &["get two z 1000", "get renewed z"],
+        lines: &["get two z 499", "get renewed z"],
         printed: "=2\n",
         ..TAKEN
     },
@@ -338,14 +344,14 @@ static RENEWED: [Asked; 8] = [
     },
     Asked {
         lines: &["stats renewed/shard-0.log"],
-        printed: "log renewed/shard-0.log\nbytes 9412\nrecords 7\nopened 1\nceiling 0\nprepare 0\ncommit 1\nabort 0\noutcome 0\n\
+        printed: "log renewed/shard-0.log\nbytes 9412\ndead bytes 0\nturnovers 0\nturnovers left 1024\nrecords 7\nopened 1\nceiling 0\nprepare 0\ncommit 1\nabort 0\noutcome 0\n\
             horizon 0\nbase 1\nversion 2\nsettled 2\nclosed 0\n\
             keys 1\nversions 2\nepoch 2\nfloor 400\nin doubt 1\ndecided 1.4 400\n",
         ..TAKEN
     },
     Asked {
         lines: &["stats renewed/shard-1.log"],
-        printed: "log renewed/shard-1.log\nbytes 9386\nrecords 6\nopened 1\nceiling 0\nprepare 1\ncommit 0\nabort 0\noutcome 0\n\
+        printed: "log renewed/shard-1.log\nbytes 9386\ndead bytes 0\nturnovers 0\nturnovers left 1024\nrecords 6\nopened 1\nceiling 0\nprepare 1\ncommit 0\nabort 0\noutcome 0\n\
             horizon 0\nbase 1\nversion 1\nsettled 0\nclosed 2\n\
             keys 1\nversions 1\nepoch 2\nfloor 500\nin doubt 1\npromised 1.5 500\n",
         ..TAKEN
@@ -402,6 +408,13 @@ static REFUSED_WORDS: [Asked; 4] = [
             "put --bytes one a \\x7",
             "put --bytes one a stands\\x",
             "put --bytes one a \\xg0",
+            "put one a \\stands",
+            "put one a\\ stands",
+            "put --raw one \\ stands",
+            "get one \\x6",
+            "history one \\x6g",
+            "put --raw --bytes one a stands",
+            "get --raw --json one a",
         ],
         refused: "fault: 7 BadRequest(command)\n",
         ..REFUSED
@@ -580,19 +593,19 @@ static HELP: [Asked; 8] = [
     },
     Asked {
         lines: &["get --help", "help get", "get one -h"],
-        printed: "get [--raw] DIR KEY [AT]\n",
+        printed: "get [--raw] [--json] DIR KEY [AT]\n",
         writes: BEGUN,
         ..TAKEN
     },
     Asked {
         lines: &["put --help", "help put more"],
-        printed: "put [--bytes] DIR KEY VALUE\n",
+        printed: "put [--raw] [--bytes] DIR KEY VALUE\n",
         writes: BEGUN,
         ..TAKEN
     },
     Asked {
         lines: &["stats --help"],
-        printed: "stats LOG..\n",
+        printed: "stats [--json] LOG..\n",
         writes: BEGUN,
         ..TAKEN
     },
@@ -680,8 +693,8 @@ fn refused_files() -> &'static [Asked] {
     &REFUSED_FILES
 }
 
-// Goes over the lines of some rows.
-fn go_over(wrong: &mut WrongRows, alloc: Global, rows: &[Asked]) {
+/// Goes over the lines of some rows.
+pub fn go_over(wrong: &mut WrongRows, alloc: Global, rows: &[Asked]) {
     for row in rows {
         for line in row.lines {
             wrong.unless(comes_to(alloc, &all_files(), line, row), line);

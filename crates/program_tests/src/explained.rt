@@ -13,7 +13,7 @@ struct Usage {
 }
 
 static GET: Usage = Usage {
-    usage: "get [--raw] DIR KEY [AT]",
+    usage: "get [--raw] [--json] DIR KEY [AT]",
     rows: &[
         ("get", Reason::Command, "DIR is missing"),
         ("get one", Reason::Command, "KEY is missing"),
@@ -65,6 +65,11 @@ static GET: Usage = Usage {
             Reason::Stamp,
             "AT is a number of microseconds below 2^62, and not 99999999999999999999",
         ),
+        (
+            "get --json --raw one a",
+            Reason::Command,
+            "'--raw' and '--json' exclude each other",
+        ),
         ("get one ", Reason::Key, "KEY has 1 to 64 bytes, and not 0"),
         (
             "get one kkkkkkkkkkkkkkkkkkkkkkkkkkkkkkkkkkkkkkkkkkkkkkkkkkkkkkkkkkkkkkkkk",
@@ -75,7 +80,7 @@ static GET: Usage = Usage {
 };
 
 static PUT: Usage = Usage {
-    usage: "put [--bytes] DIR KEY VALUE",
+    usage: "put [--raw] [--bytes] DIR KEY VALUE",
     rows: &[
         ("put", Reason::Command, "DIR is missing"),
         ("put one", Reason::Command, "KEY is missing"),
@@ -88,9 +93,29 @@ static PUT: Usage = Usage {
             "'-5' is no option of this command",
         ),
         (
-            "put --raw one a 1",
+            "put --json one a 1",
             Reason::Command,
-            "'--raw' is no option of this command",
+            "'--json' is no option of this command",
+        ),
+        (
+            "put --raw one a 1 --bytes",
+            Reason::Command,
+            "'--raw' and '--bytes' exclude each other",
+        ),
+        (
+            "put one a\\x6 1",
+            Reason::Command,
+            "KEY has a backslash that spells no byte: write '\\x5c' for a backslash",
+        ),
+        (
+            "put one a c:\\temp",
+            Reason::Command,
+            "VALUE has a backslash that spells no byte: write '\\x5c' for a backslash",
+        ),
+        (
+            "put --raw one \\ c:\\temp",
+            Reason::Command,
+            "KEY has a backslash that spells no byte: write '\\x5c' for a backslash",
         ),
         (
             "put one  1",
@@ -106,7 +131,7 @@ static PUT: Usage = Usage {
 };
 
 static HISTORY: Usage = Usage {
-    usage: "history DIR KEY",
+    usage: "history [--json] DIR KEY",
     rows: &[
         ("history", Reason::Command, "DIR is missing"),
         ("history one", Reason::Command, "KEY is missing"),
@@ -116,9 +141,14 @@ static HISTORY: Usage = Usage {
             "'5' is one word too many",
         ),
         (
-            "history --json one a",
+            "history --raw one a",
             Reason::Command,
-            "'--json' is no option of this command",
+            "'--raw' is no option of this command",
+        ),
+        (
+            "history one a\\ab",
+            Reason::Command,
+            "KEY has a backslash that spells no byte: write '\\x5c' for a backslash",
         ),
         (
             "history one ",
@@ -129,7 +159,7 @@ static HISTORY: Usage = Usage {
 };
 
 static STATS: Usage = Usage {
-    usage: "stats LOG..",
+    usage: "stats [--json] LOG..",
     rows: &[
         ("stats", Reason::Command, "LOG is missing"),
         (
@@ -146,7 +176,7 @@ static STATS: Usage = Usage {
 };
 
 static DUMP: Usage = Usage {
-    usage: "dump LOG",
+    usage: "dump [--json] LOG",
     rows: &[
         ("dump", Reason::Command, "LOG is missing"),
         (
@@ -181,7 +211,7 @@ static INSPECT: Usage = Usage {
 };
 
 static DRIVE: Usage = Usage {
-    usage: "drive FILE",
+    usage: "drive [--table] FILE",
     rows: &[
         ("drive", Reason::Command, "FILE is missing"),
         ("drive a b", Reason::Command, "'b' is one word too many"),

@@ -1,8 +1,9 @@
 //! Files in memory, and drives and writes of nothing, for commands that ask for them.
-use commands::{Driven, Ended, Engine, Files, Hints, NoVerdict, Put, Stream, System, answer};
+use commands::{
+    Drive, Driven, Ended, Engine, Files, Hints, NoVerdict, Put, Stream, System, answer,
+};
 use disk::Disk;
 use made::{id, stamp, with_slots};
-use settings::Settings;
 use simdisk::SimDisk;
 use std::alloc::{AllocError, Global};
 use std::io;
@@ -80,9 +81,10 @@ impl Hints for Memory<'_> {
     }
 }
 
-// Drives nothing. The settings tell what came of it, and some of them are told too. A drive of one key is torn, and one of two has counts and
-// no verdict.
-fn told(alloc: Global, settings: &Settings) -> Result<Driven, NoVerdict> {
+// Drives nothing. What came of it is told by the settings, some of which are told too, and by whether a table is wanted: a drive of one key is
+// torn, and one of two has counts and no verdict.
+fn told(alloc: Global, drive: Drive<'_>) -> Result<Driven, NoVerdict> {
+    let settings = drive.settings;
     if settings.keys == 2 {
         return Err(NoVerdict {
             fault: Fault::Device,
@@ -95,8 +97,9 @@ fn told(alloc: Global, settings: &Settings) -> Result<Driven, NoVerdict> {
         ("yes", Verdict::Yes)
     };
     let stride = settings.stride.micros();
+    let table = if drive.table { "table\n" } else { "" };
     let text = format!(in alloc;
-        "stride {stride}\nepsilon {}\nworkers {}\nlooks {}\nverdict {says}\n",
+        "stride {stride}\nepsilon {}\nworkers {}\nlooks {}\nverdict {says}\n{table}",
         settings.epsilon, settings.workers, settings.keys
     );
     match text {

@@ -50,6 +50,8 @@ mod telling;
 #[cfg(test)]
 mod tests;
 #[cfg(test)]
+mod told_as;
+#[cfg(test)]
 mod totals;
 #[cfg(test)]
 mod turned;

@@ -6,7 +6,7 @@ use crate::turnovers::turnovers;
 use crate::verdict::end;
 use crate::{
     asked, comparing, each_call, explained, outside, places, played, pruned, schedule_texts, stops,
-    unlawful, words,
+    told_as, unlawful, words,
 };
 use made::WrongRows;
 
@@ -17,6 +17,7 @@ fn answers(rt: HostRuntime) {
     let mut wrong = WrongRows::none(alloc);
     asked::go_over_answers(wrong.of("answers"), alloc);
     asked::go_over_refusals(wrong.of("refusals"), alloc);
+    told_as::go_over_told(wrong.of("what is told otherwise"), alloc);
     pruned::go_over(wrong.of("pruned logs"), alloc);
     let told = asked::counts_no_log(alloc);
     wrong.of("numbers").unless(told, "no log");

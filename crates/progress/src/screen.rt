@@ -1,5 +1,5 @@
 //! Lines on a terminal, each written over the one before.
-ghost use Rattle.std.specs.Prelude.{◌≡◌, ◌⊎◌, [], ◌+◌, ◌-◌, ◌<◌, ◌≤◌, ◌++◌, ◌∷◌, IfOk, min, length, replicate, string_bytes};
+ghost use Rattle.std.specs.Prelude.{◌≡◌, ◌⊎◌, [], ◌+◌, ◌-◌, ◌<◌, ◌≤◌, ◌++◌, ◌∷◌, IfOk, IsFalse, IsTrue, min, length, replicate, string_bytes};
 ghost use Rattle.progress.specs.Tally.{abort_of, commit_of};
 
 use crate::pace::Pace;
@@ -18,22 +18,42 @@ pub struct Screen<W: Write> {
     pace: Pace,
     // How many bytes the last line on the terminal has.
     shown: usize,
+    // Nothing is shown before the end.
+    is_quiet: bool,
 }
 
 impl<W: Write> Screen<W> {
-    ghost use Rattle.progress.specs.Screens.{last_of, tally_of, writer_of};
+    ghost use Rattle.progress.specs.Screens.{is_quiet, last_of, tally_of, writer_of};
 
     /// Makes a screen for so many turns, of which none is done. Nothing is shown yet.
     pub fn new(alloc: Global, writer: W, turns: u64) -> Screen<W>
         ensures writer { writer_of result ≡ writer }
         ensures turns { ((tally_of result).turns ≡ turns) × ((tally_of result).done ≡ 0) }
         ensures last { last_of result ≡ 0 }
+        ensures loud { IsFalse (is_quiet result) }
     {
         Screen {
             writer,
             progress: Progress::new(alloc, turns),
             pace: Pace::new(),
             shown: 0,
+            is_quiet: false,
+        }
+    }
+
+    /// So many turns, of which none is done. No turn is shown before the end, but what is told is.
+    pub fn quiet(alloc: Global, writer: W, turns: u64) -> Screen<W>
+        ensures writer { writer_of result ≡ writer }
+        ensures turns { ((tally_of result).turns ≡ turns) × ((tally_of result).done ≡ 0) }
+        ensures last { last_of result ≡ 0 }
+        ensures quiet { IsTrue (is_quiet result) }
+    {
+        Screen {
+            writer,
+            progress: Progress::new(alloc, turns),
+            pace: Pace::new(),
+            shown: 0,
+            is_quiet: true,
         }
     }
 
@@ -52,11 +72,13 @@ impl<W: Write> Screen<W> {
         ensures early { micros < last_of self.old + 200000
             → (last_of self.new ≡ last_of self.old) × (writer_of self.new ≡ writer_of self.old) }
         ensures shown { last_of self.old + 200000 ≤ micros → last_of self.new ≡ micros }
+        ensures same { is_quiet self.new ≡ is_quiet self.old }
+        ensures quiet { IsTrue (is_quiet self.old) → writer_of self.new ≡ writer_of self.old }
     {
         if !self.progress.is_done() {
             let _ = self.progress.count(turn);
         }
-        if self.pace.is_due(micros) {
+        if self.pace.is_due(micros) && !self.is_quiet {
             let _ = self.show(alloc, micros);
         }
     }
@@ -74,6 +96,7 @@ impl<W: Write> Screen<W> {
             × ((tally_of self.new).aborts ≡ (tally_of self.old).aborts) }
         ensures last { last_of self.new ≡ last_of self.old }
         ensures writer { writer_of self.new ≡ writer_of self.old }
+        ensures same { is_quiet self.new ≡ is_quiet self.old }
     {
         if !self.progress.has_looked() {
             let _ = self.progress.count_look(micros);
@@ -84,6 +107,7 @@ impl<W: Write> Screen<W> {
     pub fn tell(&mut self, alloc: Global, line: &str)
         ensures tally { tally_of self.new ≡ tally_of self.old }
         ensures last { last_of self.new ≡ last_of self.old }
+        ensures same { is_quiet self.new ≡ is_quiet self.old }
     {
         let _ = self.write_over(alloc, line, "\n");
         self.shown = 0;
@@ -92,6 +116,7 @@ impl<W: Write> Screen<W> {
     fn show(&mut self, alloc: Global, micros: u64) -> io::Result<()>
         ensures tally { tally_of self.new ≡ tally_of self.old }
         ensures last { last_of self.new ≡ last_of self.old }
+        ensures same { is_quiet self.new ≡ is_quiet self.old }
     {
         let line = self.progress.line(alloc, micros)?;
         self.write_over(alloc, &line, "")?;
@@ -99,12 +124,17 @@ impl<W: Write> Screen<W> {
         Ok(())
     }
 
-    // Writes a line over the one before.
+    // Writes a line over the one before. A quiet screen has none, so that there is nothing to go back over.
     fn write_over(&mut self, alloc: Global, line: &str, end: &str) -> io::Result<()>
         ensures tally { tally_of self.new ≡ tally_of self.old }
         ensures last { last_of self.new ≡ last_of self.old }
+        ensures same { is_quiet self.new ≡ is_quiet self.old }
     {
-        let text = over(alloc, line, self.shown, end)?;
+        let text = if self.is_quiet {
+            format!(in alloc; "{line}{end}")?
+        } else {
+            over(alloc, line, self.shown, end)?
+        };
         self.writer.write_all(text.as_bytes())
     }
 
@@ -123,6 +153,7 @@ impl<W: Write> Screen<W> {
             progress,
             pace: _,
             shown: _,
+            is_quiet: _,
         } = screen;
         if let Ok(table) = progress.table(alloc) {
             let _ = writer.write_all(table.as_bytes());
@@ -138,6 +169,7 @@ impl<W: Write> Screen<W> {
             progress: _,
             pace: _,
             shown: _,
+            is_quiet: _,
         } = self;
         writer
     }

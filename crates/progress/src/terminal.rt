@@ -27,6 +27,16 @@ impl<'r, R: Wait + time::Clock, W: Write + Drop> Terminal<'r, R, W> {
         }
     }
 
+    /// Begins a drive of so many turns now, of which none is shown before the end.
+    pub fn quiet(rt: &'r R, alloc: Global, writer: W, turns: u64) -> Terminal<'r, R, W> {
+        Terminal {
+            rt,
+            alloc,
+            stopwatch: Stopwatch::start(rt),
+            screen: Mutex::new(Screen::quiet(alloc, writer, turns)),
+        }
+    }
+
     /// Shows the last line and the table once the drive is over, and returns the writer.
     pub fn finish(self) -> W {
         let Terminal {

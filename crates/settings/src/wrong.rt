@@ -197,9 +197,10 @@ impl fmt::Display for Wrong {
             Wrong::Split => f.write_str("each of 'splits' has to be a text of 1 to 64 bytes"),
             Wrong::Count { splits, shards } => {
                 let wanted = shards.saturating_sub(1);
+                let word = if splits == 1 { "key" } else { "keys" };
                 write!(
                     f,
-                    "'splits' has {splits} keys, and {shards} shards want {wanted}"
+                    "'splits' has {splits} {word}, and {shards} shards want {wanted}"
                 )
             }
             Wrong::Order => f.write_str("the keys of 'splits' have to ascend"),

@@ -3,6 +3,7 @@ mod Behind
 mod Counted
 mod Doubting
 mod Ends
+mod JsonLines
 mod Numbered
 mod Summing
 mod Telling

@@ -1,5 +1,6 @@
 -- What the log of a shard says of a key.
-use Rattle.std.specs.Prelude.{ℕ, Bool, true, false, List, [], ◌∷◌, Option, Some, None, Result, Ok, Err, map, filter, flat_map, option_map, if◌then◌else◌, nat_lt}
+use Rattle.std.specs.Prelude.{◌&&◌, ℕ, Bool, true, false, not, List, [], ◌∷◌, Option, Some, None, Result, Ok, Err, map, filter, flat_map, option_map, if◌then◌else◌, nat_lt}
+use Rattle.std.specs.List.{list_any}
 use Rattle.units.specs.Ids.{Id}
 use Rattle.units.specs.Keys.{Bytes, same_key}
 use Rattle.units.specs.Versions.{at_time, latest}
@@ -10,7 +11,7 @@ use Rattle.units.specs.declared.writes.Install.{Install}
 use Rattle.units.specs.declared.writes.Write.{Write}
 use Rattle.record.specs.Accepted.{taken}
 use Rattle.record.specs.Installs.{installs_of}
-use Rattle.record.specs.Records.{ended_of}
+use Rattle.record.specs.Records.{ended_of, floor_of}
 use Rattle.record.specs.declared.record.Record.{Record}
 use Rattle.record.specs.declared.record.Record.TheVariants.{Base, Prepare, Commit, Version}
 use Rattle.gatelog.specs.Log.{log}
@@ -20,6 +21,7 @@ use Rattle.texts.specs.Numbers.{and_then}
 use Rattle.showing.specs.declared.told.Standing.{Standing}
 use Rattle.showing.specs.declared.told.Standing.TheVariants.{Installed, Decided, Promised}
 use Rattle.showing.specs.declared.told.Told.{Told}
+use Rattle.showing.specs.declared.shard_log.Found.{Found}
 
 -- how a transaction ended by a log: not yet, or at a timestamp, or aborted
 abbrev pub end_in : List Record → Id → Option (Option ℕ)
@@ -93,9 +95,36 @@ unless_below false value = Ok value
 abbrev pub history_in : Setup → Bytes → List ℕ → Result (Option ℕ × List Told) Fault
 history_in setup k image = and_then (log_in setup image) (λ records. Ok (whole_from records, history records k))
 
-abbrev pub value_in : Setup → Bytes → Option ℕ → List ℕ → Result (Option Bytes) Fault
-value_in setup k at image =
-    and_then (log_in setup image) (λ records. unless_below (is_below at (whole_from records)) (value_by records k at))
+-- the value of a key by a log, if that is whole from the timestamp on
+abbrev pub value_told : List Record → Bytes → Option ℕ → Result (Option Bytes) Fault
+value_told records k at = unless_below (is_below at (whole_from records)) (value_by records k at)
+
+-- a write that stands so may become a version at this timestamp or before it
+abbrev pub may_come_by : ℕ → Standing → Bool
+may_come_by at (Installed from) = false
+may_come_by at (Decided from) = not (nat_lt at from)
+may_come_by at (Promised from) = not (nat_lt at from)
+
+-- no write of a key can come any more at this timestamp or before it: the log has a timestamp as great, and nothing as low stands without an outcome
+abbrev pub settled_by : ℕ → List Told → ℕ → Bool
+settled_by floor told at = not (nat_lt floor at) && not (list_any (λ t. may_come_by at t.standing) told)
+
+abbrev pub is_settled_at : List Record → Bytes → ℕ → Bool
+is_settled_at records k at = settled_by (floor_of records) (history records k) at
+
+abbrev pub is_settled : List Record → Bytes → Option ℕ → Bool
+is_settled records k None = true
+is_settled records k (Some at) = is_settled_at records k at
+
+-- what is found, which is settled or not
+abbrev pub as_found : Bool → Option Bytes → Found
+as_found settled value = record { value = value; is_settled = settled }
+
+abbrev pub found_by : List Record → Bytes → Option ℕ → Result Found Fault
+found_by records k at = and_then (value_told records k at) (λ value. Ok (as_found (is_settled records k at) value))
+
+abbrev pub value_in : Setup → Bytes → Option ℕ → List ℕ → Result Found Fault
+value_in setup k at image = and_then (log_in setup image) (λ records. found_by records k at)
 
 -- why a file does not hold the log of its shard, whatever it is
 abbrev pub is_no_shard_log : Fault → Bool

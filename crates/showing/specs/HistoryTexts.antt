@@ -1,7 +1,6 @@
 -- How a history and a value are printed.
-use Rattle.std.specs.Prelude.{◌≡◌, ◌⊎◌, ◌&&◌, ◌==◌, ◌/◌, ◌%◌, ℕ, Bool, not, IsTrue, List, [], ◌∷◌, ◌++◌, Option, Some, None, codes, flat_map, nat_le, nat_lt}
+use Rattle.std.specs.Prelude.{◌≡◌, ◌⊎◌, ℕ, Bool, true, false, IsTrue, List, [], ◌++◌, Option, Some, None, codes, flat_map, nat_lt}
 use Rattle.std.specs.Prelude.{if◌then◌else◌}
-use Rattle.std.specs.Char.{digit_char}
 use Rattle.std.specs.Fmt.{decimal}
 use Rattle.units.specs.Ids.{Id}
 use Rattle.units.specs.Keys.{Bytes}
@@ -9,23 +8,16 @@ use Rattle.units.specs.Texts.{txn_text}
 use Rattle.units.specs.declared.fault.Fault.{Fault}
 use Rattle.units.specs.declared.fault.Fault.TheVariants.{BadRequest, Device, Memory, TooOld}
 use Rattle.units.specs.declared.fault.Reason.TheVariants as reason
+use Rattle.requests.specs.Spelling.{spelled}
 use Rattle.showing.specs.Histories.{is_no_shard_log}
+use Rattle.showing.specs.declared.shard_log.Found.{Found}
 use Rattle.showing.specs.declared.told.Standing.{Standing}
 use Rattle.showing.specs.declared.told.Standing.TheVariants.{Installed, Decided, Promised}
 use Rattle.showing.specs.declared.told.Told.{Told}
 
--- the byte stands for itself: it is printable ASCII, and no backslash (92)
-abbrev pub is_plain : ℕ → Bool
-is_plain byte = nat_le 32 byte && nat_le byte 126 && not (byte == 92)
-
--- a byte of a value: itself, or two hexadecimal digits behind `\x`
-abbrev pub byte_text : ℕ → List ℕ
-byte_text byte =
-    if is_plain byte then byte ∷ [] else 92 ∷ 120 ∷ digit_char (byte / 16) ∷ digit_char (byte % 16) ∷ []
-
 -- a value, or what stands for none
 abbrev pub value_text : Option Bytes → List ℕ
-value_text (Some bytes) = codes "=" ++ flat_map byte_text bytes
+value_text (Some bytes) = codes "=" ++ spelled bytes
 value_text None = codes "none"
 
 -- the timestamp
@@ -68,9 +60,18 @@ history_text from told = from_line from ++ told_lines told
 abbrev pub IsAHistory : List ℕ → Type 0
 IsAHistory text = (from : Option ℕ) × (told : List Told) × (text ≡ history_text from told)
 
--- it is a value, or what stands for none, on a line
+-- what stands behind a value that is not settled
+abbrev pub settled_mark : Bool → List ℕ
+settled_mark true = []
+settled_mark false = codes " not settled yet"
+
+-- what is found of a key, as a line
+abbrev pub found_text : Found → List ℕ
+found_text found = value_text found.value ++ (settled_mark found.is_settled ++ codes "\n")
+
+-- it is what is found of some key, on a line
 abbrev pub IsAValue : List ℕ → Type 0
-IsAValue text = (value : Option Bytes) × (text ≡ value_text value ++ codes "\n")
+IsAValue text = (found : Found) × (text ≡ found_text found)
 
 -- why nothing is told of a key: memory is wanting, the system refuses a file, the folder has no manifest, its log is not taken, or is not
 -- whole from the timestamp on

@@ -2,6 +2,7 @@ pub mod Counting
 pub mod Dumps
 pub mod Histories
 pub mod HistoryTexts
+pub mod Json
 pub mod Stats
 pub mod StatsTexts
 pub mod Whose

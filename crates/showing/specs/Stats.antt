@@ -1,5 +1,5 @@
 -- What the log in a file holds, as numbers, and what is in doubt in it.
-use Rattle.std.specs.Prelude.{ℕ, true, false, List, [], ◌∷◌, ◌++◌, Option, Some, None, Result, Ok, length, map, fold, if◌then◌else◌}
+use Rattle.std.specs.Prelude.{◌-◌, ℕ, true, false, List, [], ◌∷◌, ◌++◌, Option, Some, None, Result, Ok, length, map, fold, if◌then◌else◌}
 use Rattle.units.specs.Ids.{Id}
 use Rattle.units.specs.Keys.{Bytes, has_key}
 use Rattle.units.specs.Lists.{gather, head}
@@ -9,13 +9,16 @@ use Rattle.record.specs.Installs.{installs_of}
 use Rattle.record.specs.Records.{epoch_of, floor_of}
 use Rattle.record.specs.declared.record.Record.{Record}
 use Rattle.record.specs.declared.record.Record.TheVariants.{Prepare, Commit, Settled}
-use Rattle.gatelog.specs.Log.{log}
+use Rattle.gatelog.specs.Gates.{first_gate}
+use Rattle.gatelog.specs.Log.{scan}
+use Rattle.gatelog.specs.Slots.{begins_in}
 use Rattle.frames.specs.Placed.{Placed}
 use Rattle.recovery.specs.Recovered.{items}
 use Rattle.inspection.specs.Files.{records_behind}
 use Rattle.texts.specs.Numbers.{and_then}
 use Rattle.showing.specs.Counting.{kinds_of}
 use Rattle.showing.specs.Histories.{end_in}
+use Rattle.showing.specs.declared.stats.FileNumbers.{FileNumbers}
 use Rattle.showing.specs.declared.stats.InDoubt.{InDoubt}
 use Rattle.showing.specs.declared.stats.Numbers.{Numbers}
 
@@ -46,10 +49,19 @@ doubt_of ends (Some begun) = unless_ended begun (ends begun.txn)
 abbrev pub doubts_in : List Record → List InDoubt
 doubts_in records = gather (λ r. doubt_of (end_in records) (as_begun r)) records
 
--- the numbers of a log, in a file of so many bytes
-abbrev pub numbers_of : ℕ → List Record → Numbers
-numbers_of bytes records = record {
-  bytes = bytes;
+-- where the area of a log begins: at its first entry, or at its closed gate
+abbrev pub area_at : ℕ → List Placed → ℕ
+area_at gate [] = gate
+area_at gate (e ∷ es) = e.offset
+
+-- the numbers of a file of so many bytes, with so many open slots, a closed gate, and entries before that: what stands before the area is dead
+abbrev pub file_of : ℕ → ℕ → ℕ → List Placed → FileNumbers
+file_of bytes slots gate entries = record { bytes = bytes; dead = area_at gate entries - first_gate; turnovers = slots }
+
+-- the numbers of a log, in a file with these
+abbrev pub numbers_of : FileNumbers → List Record → Numbers
+numbers_of file records = record {
+  file = file;
   records = length records;
   kinds = kinds_of records;
   keys = length (keys_of (installs_of records));
@@ -79,10 +91,11 @@ abbrev pub shard_told : List Record → ℕ
 shard_told records = or_last (head (gather (λ r. decided_by (parts_in r)) records))
 
 -- what the entries of a log tell, where each record follows those before it
-abbrev pub stats_by : ℕ → List Placed → Result (Numbers × List InDoubt) Fault
-stats_by bytes entries =
-    and_then (records_behind (shard_told (items entries)) [] entries) (λ records. Ok (numbers_of bytes records, doubts_in records))
+abbrev pub stats_by : FileNumbers → List Placed → Result (Numbers × List InDoubt) Fault
+stats_by file entries =
+    and_then (records_behind (shard_told (items entries)) [] entries) (λ records. Ok (numbers_of file records, doubts_in records))
 
 -- what a file tells, or why it holds no log
 abbrev pub stats_in : List ℕ → Result (Numbers × List InDoubt) Fault
-stats_in image = and_then (log image) (stats_by (length image))
+stats_in image =
+    and_then (scan image) (λ found. stats_by (file_of (length image) (begins_in image).slots found.1 found.0) found.0)

@@ -1,16 +1,20 @@
 -- How the numbers of logs are printed.
-use Rattle.std.specs.Prelude.{◌≡◌, ℕ, Bool, true, false, List, [], ◌∷◌, ◌++◌, codes, flat_map, length, map, sum_by, nat_lt, if◌then◌else◌}
+use Rattle.std.specs.Prelude.{◌≡◌, ◌-◌, ℕ, Bool, true, false, List, [], ◌∷◌, ◌++◌, codes, flat_map, length, map, sum_by, nat_lt, if◌then◌else◌}
 use Rattle.std.specs.Fmt.{decimal}
 use Rattle.units.specs.Texts.{txn_text}
+use Rattle.showing.specs.Json.{quoted}
 use Rattle.showing.specs.declared.figure.Figure.{Figure}
-use Rattle.showing.specs.declared.figure.Figure.TheVariants.{Bytes, Records, Opened, Ceilings, Prepares, Commits, Aborts, Outcomes, Horizons}
+use Rattle.showing.specs.declared.figure.Figure.TheVariants.{Bytes, DeadBytes, Turnovers, TurnoversLeft, Records, Opened, Ceilings, Prepares, Commits, Aborts, Outcomes, Horizons}
 use Rattle.showing.specs.declared.figure.Figure.TheVariants.{Bases, VersionRecords, Settled, Closed, Keys, Versions, Epoch, Floor, InDoubt}
 use Rattle.showing.specs.declared.stats.Numbers.{Numbers}
 use Rattle.showing.specs.declared.stats.InDoubt as doubts
 
 -- a number of a log
 abbrev pub number_of : Figure → Numbers → ℕ
-number_of Bytes numbers = numbers.bytes
+number_of Bytes numbers = numbers.file.bytes
+number_of DeadBytes numbers = numbers.file.dead
+number_of Turnovers numbers = numbers.file.turnovers
+number_of TurnoversLeft numbers = 1024 - numbers.file.turnovers
 number_of Records numbers = numbers.records
 number_of Opened numbers = numbers.kinds.opened
 number_of Ceilings numbers = numbers.kinds.ceilings
@@ -32,6 +36,9 @@ number_of InDoubt numbers = numbers.in_doubt
 -- what stands before it
 abbrev pub word_of : Figure → List ℕ
 word_of Bytes = codes "bytes"
+word_of DeadBytes = codes "dead bytes"
+word_of Turnovers = codes "turnovers"
+word_of TurnoversLeft = codes "turnovers left"
 word_of Records = codes "records"
 word_of Opened = codes "opened"
 word_of Ceilings = codes "ceiling"
@@ -53,18 +60,22 @@ word_of InDoubt = codes "in doubt"
 -- the numbers of which there are sums
 abbrev pub summed : List Figure
 summed =
-    Bytes ∷ Records ∷ Opened ∷ Ceilings ∷ Prepares ∷ Commits ∷ Aborts ∷ Outcomes ∷ Horizons ∷ Bases ∷ VersionRecords ∷ Settled ∷ Closed
-    ∷ Keys ∷ Versions ∷ InDoubt ∷ []
+    Bytes ∷ DeadBytes ∷ Turnovers ∷ Records ∷ Opened ∷ Ceilings ∷ Prepares ∷ Commits ∷ Aborts ∷ Outcomes ∷ Horizons ∷ Bases ∷ VersionRecords
+    ∷ Settled ∷ Closed ∷ Keys ∷ Versions ∷ InDoubt ∷ []
 
 -- all of them
 abbrev pub figures : List Figure
 figures =
-    Bytes ∷ Records ∷ Opened ∷ Ceilings ∷ Prepares ∷ Commits ∷ Aborts ∷ Outcomes ∷ Horizons ∷ Bases ∷ VersionRecords ∷ Settled ∷ Closed
-    ∷ Keys ∷ Versions ∷ Epoch ∷ Floor ∷ InDoubt ∷ []
+    Bytes ∷ DeadBytes ∷ Turnovers ∷ TurnoversLeft ∷ Records ∷ Opened ∷ Ceilings ∷ Prepares ∷ Commits ∷ Aborts ∷ Outcomes ∷ Horizons ∷ Bases
+    ∷ VersionRecords ∷ Settled ∷ Closed ∷ Keys ∷ Versions ∷ Epoch ∷ Floor ∷ InDoubt ∷ []
 
 -- a number on a line
 abbrev pub number_line : Figure → ℕ → List ℕ
 number_line figure number = word_of figure ++ (codes " " ++ (decimal number ++ codes "\n"))
+
+-- a number, as a member of a JSON object
+abbrev pub field_json : Figure → ℕ → List ℕ
+field_json figure number = codes "\"" ++ (word_of figure ++ (codes "\":" ++ (decimal number ++ codes ",")))
 
 -- how a transaction in doubt stands
 abbrev pub standing_word : Bool → List ℕ
@@ -85,6 +96,11 @@ pub record ToldLog : Type 0 where
 abbrev pub log_text : ToldLog → List ℕ
 log_text told = (codes "log " ++ (told.name ++ codes "\n"))
     ++ (flat_map (λ f. number_line f (number_of f told.numbers)) figures ++ flat_map doubt_line told.in_doubt)
+
+-- the same as a JSON object, up to what is in doubt
+abbrev pub log_json : List ℕ → Numbers → List ℕ → List ℕ
+log_json name numbers rest =
+    (codes "{\"log\":" ++ (quoted name ++ codes ",")) ++ (flat_map (λ f. field_json f (number_of f numbers)) figures ++ rest)
 
 -- a sum over some logs
 abbrev pub sum_of : Figure → List Numbers → ℕ

@@ -1,13 +1,19 @@
 //! The numbers of a log, one by one.
-ghost use Rattle.std.specs.Prelude.{◌≡◌, ◌<◌, ◌^◌};
+ghost use Rattle.std.specs.Prelude.{◌≡◌, ◌<◌, ◌-◌, ◌^◌};
 ghost use Rattle.showing.specs.StatsTexts.{number_of, sum_of, word_of};
 
 use crate::stats::Numbers;
+
+// How many turnovers a file takes.
+const SLOTS: u64 = 1_024;
 
 /// One of the numbers of a log.
 #[derive(Clone, Copy)]
 pub enum Figure {
     Bytes,
+    DeadBytes,
+    Turnovers,
+    TurnoversLeft,
     Records,
     Opened,
     Ceilings,
@@ -34,6 +40,9 @@ impl Figure {
     {
         match self {
             Figure::Bytes => "bytes",
+            Figure::DeadBytes => "dead bytes",
+            Figure::Turnovers => "turnovers",
+            Figure::TurnoversLeft => "turnovers left",
             Figure::Records => "records",
             Figure::Opened => "opened",
             Figure::Ceilings => "ceiling",
@@ -59,7 +68,10 @@ impl Figure {
         ensures { result ≡ number_of self numbers.now }
     {
         match self {
-            Figure::Bytes => numbers.bytes,
+            Figure::Bytes => numbers.file.bytes,
+            Figure::DeadBytes => numbers.file.dead,
+            Figure::Turnovers => numbers.file.turnovers,
+            Figure::TurnoversLeft => SLOTS.saturating_sub(numbers.file.turnovers),
             Figure::Records => numbers.records,
             Figure::Opened => numbers.kinds.opened,
             Figure::Ceilings => numbers.kinds.ceilings,

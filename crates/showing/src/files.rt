@@ -3,13 +3,17 @@ ghost use Rattle.std.specs.Prelude.{◌≡◌, ◌++◌, ◌∷◌, [], IfOk, If
 ghost use Rattle.frames.specs.Placed.{Placed};
 ghost use Rattle.showing.specs.Dumps.{IsADump, IsNotShown};
 ghost use Rattle.showing.specs.HistoryTexts.{IsAHistory, IsAValue, IsNotTold};
+ghost use Rattle.showing.specs.Json.{IsAJsonHistory, IsAJsonValue};
 ghost use Rattle.showing.specs.StatsTexts.{AreStats, ToldLog, log_text};
 
-use crate::history_lines::{history_text, value_line};
+use crate::history_json::{found_json, history_json};
+use crate::history_lines::{found_line, history_text};
 use crate::lines::dump_text;
-use crate::reading::read_dump;
+use crate::reading::{Dump, read_dump};
+use crate::record_json::dump_json;
 use crate::shard_log::{read_history, read_value};
-use crate::stats::{Numbers, read_stats};
+use crate::stats::{Numbers, Stats, read_stats};
+use crate::stats_json::{push_log_json, push_sums_json};
 use crate::stats_lines::{push_log, push_sums};
 use disk::Disk;
 use std::alloc::Global;
@@ -21,11 +25,56 @@ pub fn dump_file<F: Files>(alloc: Global, files: &F, path: &str) -> Result<Strin
     ensures text { IfOk result (λ text. IsADump (string_bytes text)) }
     ensures refused { IfErr result IsNotShown }
 {
-    let dump = read_dump(alloc, files.open(alloc, path)?)?;
+    let dump = dump_in(alloc, files, path)?;
     dump_text(alloc, &dump.entries, dump.end)
 }
 
-/// What the logs in some files hold, as numbers, and where they are several the sums. Each is opened to be read alone, and closed before
+// What the log in a file holds.
+fn dump_in<F: Files>(alloc: Global, files: &F, path: &str) -> Result<Dump, Fault>
+    ensures refused { IfErr result IsNotShown }
+{
+    read_dump(alloc, files.open(alloc, path)?)
+}
+
+// What it holds, as numbers.
+fn stats_in<F: Files>(alloc: Global, files: &F, log: &str) -> Result<Stats, Fault>
+    ensures refused { IfErr result IsNotShown }
+{
+    read_stats(alloc, files.open(alloc, log)?)
+}
+
+/// Tells what the log in a file holds, as JSON: an object a line. The file is opened to be read alone.
+pub fn dump_file_json<F: Files>(alloc: Global, files: &F, path: &str) -> Result<String, Fault>
+    ensures refused { IfErr result IsNotShown }
+{
+    let dump = dump_in(alloc, files, path)?;
+    dump_json(alloc, &dump.entries, dump.end)
+}
+
+/// Tells what the logs in some files hold, as one JSON object: the numbers of each, and their sums if there are several. They are opened as
+/// `stats_files` opens them.
+pub fn stats_files_json<F: Files>(alloc: Global, files: &F, logs: &[&str]) -> Result<String, Fault>
+    ensures refused { IfErr result IsNotShown }
+{
+    let mut text = String::from_str(alloc, "{\"logs\":[")?;
+    let mut told = Vec::new(alloc);
+    let mut mark = "";
+    for log in logs {
+        let stats = stats_in(alloc, files, log)?;
+        text.push_str(mark)?;
+        push_log_json(&mut text, alloc, log, &stats)?;
+        told.push(stats.numbers)?;
+        mark = ",";
+    }
+    text.push_str("]")?;
+    if told.len() > 1 {
+        push_sums_json(&mut text, &told)?;
+    }
+    text.push_str("}\n")?;
+    Ok(text)
+}
+
+/// What the logs in some files hold, as numbers, and their sums if there are several. Each is opened to be read alone, and closed before
 /// the next one.
 pub fn stats_files<F: Files>(alloc: Global, files: &F, logs: &[&str]) -> Result<String, Fault>
     ensures text { IfOk result (λ text.
@@ -56,7 +105,7 @@ fn tell_log<F: Files>(
         × (string_bytes text.new ≡ string_bytes text.old ++ log_text one)) }
     ensures refused { IfErr result IsNotShown }
 {
-    let stats = read_stats(alloc, files.open(alloc, log)?)?;
+    let stats = stats_in(alloc, files, log)?;
     push_log(text, log, &stats)?;
     told.push(stats.numbers)?;
     Ok(())
@@ -87,6 +136,35 @@ pub fn value_told<D: Disk + Drop>(
     ensures text { IfOk result (λ text. IsAValue (string_bytes text)) }
     ensures refused { IfErr result IsNotTold }
 {
-    let value = read_value(alloc, disk, setup, key, at)?;
-    value_line(alloc, &value)
+    let found = read_value(alloc, disk, setup, key, at)?;
+    found_line(alloc, &found)
+}
+
+/// Tells what the log of a shard says of a key, as JSON: an object a line.
+pub fn history_told_json<D: Disk + Drop>(
+    alloc: Global,
+    disk: D,
+    setup: &Setup,
+    key: &Key,
+) -> Result<String, Fault>
+    ensures text { IfOk result (λ text. IsAJsonHistory (string_bytes text)) }
+    ensures refused { IfErr result IsNotTold }
+{
+    let (from, told) = read_history(alloc, disk, setup, key)?;
+    history_json(alloc, from, &told)
+}
+
+/// Tells the value of a key by the log of a shard, as one JSON object.
+pub fn value_told_json<D: Disk + Drop>(
+    alloc: Global,
+    disk: D,
+    setup: &Setup,
+    key: &Key,
+    at: Option<Stamp>,
+) -> Result<String, Fault>
+    ensures text { IfOk result (λ text. IsAJsonValue (string_bytes text)) }
+    ensures refused { IfErr result IsNotTold }
+{
+    let found = read_value(alloc, disk, setup, key, at)?;
+    found_json(alloc, &at, &found)
 }

@@ -14,7 +14,7 @@ use record::{Record, learn_agrees};
 use std::alloc::Global;
 use units::{Fault, ShardNo};
 
-/// The facts of a log, where each record follows those before it; else it is damaged at the first that does not.
+/// Learns the facts of a log if each record follows those before it; else it is damaged at the first that does not.
 pub fn learn_followed(alloc: Global, shard: ShardNo, entries: &[Entry]) -> Result<Facts, Fault>
     ensures facts { IfOk result (λ facts. facts.facts ≡ facts_of (items entries.now)) }
     ensures shard { IfOk result (λ facts. facts.shard ≡ shard) }
@@ -55,7 +55,7 @@ fn learn_one(facts: &mut Facts, alloc: Global, entry: &Entry) -> Result<(), Faul
     }
 }
 
-/// The shard whose log it is, by its first decision. Where there is none it is the last shard, which takes each promise that any
+/// Tells the shard whose log it is, by its first decision. If there is none it is the last shard, which takes each promise that any
 /// shard takes.
 pub fn shard_told(entries: &[Entry]) -> ShardNo
     ensures { result ≡ shard_told (items entries.now) }
@@ -68,7 +68,7 @@ pub fn shard_told(entries: &[Entry]) -> ShardNo
     last_shard()
 }
 
-/// Where some shard takes records one after another, the shard that they tell does.
+/// If some shard takes records one after another, the shard that they tell does.
 pub fn tells_its_shard()
     ensures { TellsItsShard }
 {}

@@ -1,14 +1,15 @@
 //! A history and a value as text.
-ghost use Rattle.std.specs.Prelude.{◌≡◌, ◌++◌, ◌<◌, IfOk, IfErr, OnOk, codes, flat_map, string_bytes};
-ghost use Rattle.std.specs.Char.{digit_char};
-ghost use Rattle.showing.specs.HistoryTexts.{byte_text, from_line, history_text, is_plain, mark_of, stamp_of, told_line, told_lines, txn_word, value_text};
+ghost use Rattle.std.specs.Prelude.{◌≡◌, ◌++◌, ◌<◌, IfOk, IfErr, OnOk, codes, string_bytes};
+ghost use Rattle.showing.specs.HistoryTexts.{found_text, from_line, history_text, mark_of, settled_mark, stamp_of, told_line, told_lines, txn_word, value_text};
 
+use crate::shard_log::Found;
 use crate::told::{Standing, Told};
+use requests::push_spelled;
 use std::alloc::Global;
 use units::{Fault, Stamp, TxnId, Value};
 
-/// From when on it is whole, where that is not from the first; and a line for each write of a key: its timestamp, its transaction, or a dash where
-/// none is known, its value and how it stands, where it is no version.
+/// Writes from when on a history is whole, unless it is from the first, and a line for each write of a key. A line has its timestamp, its
+/// transaction, or a dash if none is known, its value, and how it stands, if it is no version.
 pub fn history_text(alloc: Global, from: Option<Stamp>, told: &[Told]) -> Result<String, Fault>
     ensures text { IfOk result (λ text. string_bytes text ≡ history_text from told.now) }
     ensures memory { IfErr result (λ fault. fault ≡ Fault.Memory) }
@@ -18,7 +19,7 @@ pub fn history_text(alloc: Global, from: Option<Stamp>, told: &[Told]) -> Result
     Ok(text)
 }
 
-// From when on a log is whole, as a line, where that is not from the first.
+// From when on a log is whole, as a line, unless that is from the first.
 fn from_line(alloc: Global, from: Option<Stamp>) -> Result<String, Fault>
     ensures text { IfOk result (λ text. string_bytes text ≡ from_line from) }
     ensures memory { IfErr result (λ fault. fault ≡ Fault.Memory) }
@@ -41,13 +42,21 @@ fn push_lines(text: &mut String, alloc: Global, told: &[Told]) -> Result<(), Fau
     Ok(())
 }
 
-/// A value, as a line: `=` and its bytes, or `none`. Printable ASCII but `\` stands for itself, and each other byte as `\xHH`.
-pub fn value_line(alloc: Global, value: &Option<Value>) -> Result<String, Fault>
-    ensures text { IfOk result (λ text. string_bytes text ≡ value_text value.now ++ codes "\n") }
+/// Writes what was found of a key as a line: `=` and the value, or `none`, and a mark if that is not settled. The value is spelled as the lines of a
+/// service spell it.
+pub fn found_line(alloc: Global, found: &Found) -> Result<String, Fault>
+    ensures text { IfOk result (λ text. string_bytes text ≡ found_text found.now) }
     ensures memory { IfErr result (λ fault. fault ≡ Fault.Memory) }
 {
-    let value = value_text(alloc, value)?;
-    Ok(format!(in alloc; "{value}\n")?)
+    let value = value_text(alloc, &found.value)?;
+    let mark = settled_mark(found.is_settled);
+    Ok(format!(in alloc; "{value}{mark}\n")?)
+}
+
+fn settled_mark(is_settled: bool) -> &'static str
+    ensures { result.now ≡ settled_mark is_settled }
+{
+    if is_settled { "" } else { " not settled yet" }
 }
 
 // The line of a write.
@@ -75,7 +84,8 @@ fn txn_word(alloc: Global, txn: Option<TxnId>) -> Result<String, Fault>
     }
 }
 
-fn stamp_of(standing: Standing) -> Stamp
+/// Gives the timestamp of a write.
+pub fn stamp_of(standing: Standing) -> Stamp
     ensures { result ≡ stamp_of standing }
 {
     match standing {
@@ -102,54 +112,9 @@ fn value_text(alloc: Global, value: &Option<Value>) -> Result<String, Fault>
     match value {
         Some(value) => {
             text.push_str("=")?;
-            push_bytes(&mut text, value.as_bytes())?;
+            push_spelled(&mut text, value.as_bytes())?;
         }
         None => text.push_str("none")?,
     }
     Ok(text)
-}
-
-fn push_bytes(text: &mut String, bytes: &[u8]) -> Result<(), Fault>
-    ensures bytes { OnOk result
-        (string_bytes text.new ≡ string_bytes text.old ++ flat_map byte_text bytes.now) }
-    ensures memory { IfErr result (λ fault. fault ≡ Fault.Memory) }
-{
-    for byte in bytes {
-        push_byte(text, *byte)?;
-    }
-    Ok(())
-}
-
-fn push_byte(text: &mut String, byte: u8) -> Result<(), Fault>
-    ensures byte { OnOk result (string_bytes text.new ≡ string_bytes text.old ++ byte_text byte) }
-    ensures memory { IfErr result (λ fault. fault ≡ Fault.Memory) }
-{
-    if is_plain(byte) {
-        text.push(char::from(byte))?;
-        return Ok(());
-    }
-    text.push_str("\\x")?;
-    text.push(digit_of(byte / 16))?;
-    text.push(digit_of(byte % 16))?;
-    Ok(())
-}
-
-// The byte is printable ASCII, and no backslash.
-fn is_plain(byte: u8) -> bool
-    ensures { result ≡ is_plain byte }
-{
-    byte >= 32 && byte <= 126 && byte != b'\\'
-}
-
-// The hexadecimal digit of a number below 16.
-fn digit_of(number: u8) -> char
-    requires { number < 16 }
-    ensures digit { result ≡ digit_char number }
-    ensures ascii { result < 128 }
-{
-    char::from(if number < 10 {
-        b'0' + number
-    } else {
-        b'a' + (number - 10)
-    })
 }

@@ -5,8 +5,8 @@ use std::alloc::Global;
 use system::{Files, Note};
 use units::{Book, Fault, Key, Setup, ShardNo, Splits, Stride};
 
-/// Tells of each log of shards 0, 1 and so on that an opening would refuse as damaged though it is judged: its locks or its versions
-/// don't fit beside each other, or more rows stand than a shard has. Which keys belong to a shard is not asked. Where nobody wants
+/// Tells of each log of shards 0, 1 and so on that an opening would refuse as damaged though it is judged. Its locks or its versions
+/// don't fit beside each other, or more rows stand than a shard has. Which keys belong to a shard is not asked. If nobody wants
 /// that told, nothing is read.
 pub fn note_refusals<F: Files>(alloc: Global, files: &F, logs: &[&str]) {
     if !files.wants_notes() {

@@ -12,7 +12,7 @@ use std::alloc::Global;
 use std::fmt;
 use units::Fault;
 
-/// What stands behind the last record of a log.
+/// What stands after the last record of a log.
 #[derive(Clone, Copy)]
 pub enum End {
     /// A closed gate at this offset, which is the last byte of the file.

@@ -2,13 +2,13 @@
 ghost use Rattle.std.specs.Prelude.{◌≡◌, ◌⊎◌, ◌<◌, Ok, Err, IfOk, IfErr, IsTrue, length};
 ghost use Rattle.disk.specs.File.{surface};
 ghost use Rattle.gatelog.specs.Log.{is_no_log};
-ghost use Rattle.showing.specs.Stats.{keys_of, stats_by, stats_in};
+ghost use Rattle.showing.specs.Stats.{area_at, file_of, keys_of, stats_by, stats_in};
 
 use crate::doubts::in_doubt;
 use crate::following::{learn_followed, shard_told};
 use crate::kinds::{Kinds, kinds_of};
 use disk::Disk;
-use gatelog::{Entry, GateLog};
+use gatelog::{Entry, FIRST_GATE, GateLog};
 use indexmap::IndexSet;
 use std::alloc::Global;
 use units::{Fault, Install, Stamp, TxnId};
@@ -21,11 +21,21 @@ pub struct InDoubt {
     pub is_decided: bool,
 }
 
+/// The numbers of a log's file.
+#[derive(Clone, Copy)]
+pub struct FileNumbers {
+    /// Its length.
+    pub bytes: u64,
+    /// How many bytes of older areas stand before that of the log.
+    pub dead: u64,
+    /// How often the log was turned over.
+    pub turnovers: u64,
+}
+
 /// The numbers of a log.
 #[derive(Clone, Copy)]
 pub struct Numbers {
-    /// The length of its file.
-    pub bytes: u64,
+    pub file: FileNumbers,
     pub records: u64,
     pub kinds: Kinds,
     /// How many keys have a version. An erasure is one.
@@ -33,7 +43,7 @@ pub struct Numbers {
     pub versions: u64,
     /// How often it was opened.
     pub epoch: u64,
-    /// Its greatest timestamp, 0 where there is none.
+    /// Its greatest timestamp, 0 if there is none.
     pub floor: Stamp,
     /// How many transactions it promises or decides and does not end.
     pub in_doubt: u64,
@@ -46,8 +56,8 @@ pub struct Stats {
     pub in_doubt: Vec<InDoubt>,
 }
 
-/// What the log in a file holds. It is refused as an opening refuses its bytes, and as damaged at the first record that does not follow
-/// those before it in the log of its shard, which its first decision tells; which keys belong to that is not asked. Nothing is written.
+/// Counts what the log in a file holds. It is refused as an opening refuses its bytes, and as damaged at the first record that does not
+/// follow those before it. Its shard is that of its first decision; which keys belong to that is not asked. Nothing is written.
 pub fn read_stats<D: Disk + Drop>(alloc: Global, disk: D) -> Result<Stats, Fault>
     ensures stats { D.keeps_model → IfOk result (λ stats.
         stats_in (surface (D.file disk)).seen ≡ Ok (stats.numbers, stats.in_doubt.items)) }
@@ -58,10 +68,11 @@ pub fn read_stats<D: Disk + Drop>(alloc: Global, disk: D) -> Result<Stats, Fault
 {
     match GateLog::open(alloc, disk) {
         Ok((gate_log, entries)) => {
+            let (slot, gate) = (gate_log.slot(), gate_log.gate());
             let disk = gate_log.into_disk();
             let bytes = disk.len();
             drop(disk);
-            count(alloc, bytes, &entries)
+            count(alloc, file_of(bytes, slot, gate, &entries), &entries)
         }
         Err((fault, disk)) => {
             drop(disk);
@@ -70,18 +81,39 @@ pub fn read_stats<D: Disk + Drop>(alloc: Global, disk: D) -> Result<Stats, Fault
     }
 }
 
-// What a log with these entries holds, in a file of so many bytes.
-fn count(alloc: Global, bytes: u64, entries: &[Entry]) -> Result<Stats, Fault>
+// The numbers of a file of so many bytes, with so many open slots, a closed gate at this offset, and these entries before that.
+fn file_of(bytes: u64, slots: u64, gate: u64, entries: &[Entry]) -> FileNumbers
+    ensures { result ≡ file_of bytes slots gate entries.now }
+{
+    FileNumbers {
+        bytes,
+        dead: area_at(gate, entries).saturating_sub(FIRST_GATE),
+        turnovers: slots,
+    }
+}
+
+// Where the area of a log begins: at its first entry, or at the closed gate.
+fn area_at(gate: u64, entries: &[Entry]) -> u64
+    ensures { result ≡ area_at gate entries.now }
+{
+    match entries {
+        [] => gate,
+        [first, ..] => first.offset(),
+    }
+}
+
+// What a log with these entries holds, in a file with these numbers.
+fn count(alloc: Global, file: FileNumbers, entries: &[Entry]) -> Result<Stats, Fault>
     ensures stats { IfOk result (λ stats.
-        stats_by bytes entries.now ≡ Ok (stats.numbers, stats.in_doubt.items)) }
+        stats_by file entries.now ≡ Ok (stats.numbers, stats.in_doubt.items)) }
     ensures refused { IfErr result (λ fault. (fault ≡ Fault.Memory)
-        ⊎ (IsTrue (is_no_log fault) × (stats_by bytes entries.now ≡ Err fault))) }
+        ⊎ (IsTrue (is_no_log fault) × (stats_by file entries.now ≡ Err fault))) }
 {
     let facts = learn_followed(alloc, shard_told(entries), entries)?;
     let keys = count_keys(alloc, facts.installs())?;
     let in_doubt = in_doubt(alloc, entries, &facts)?;
     let numbers = Numbers {
-        bytes,
+        file,
         records: entries.len() as u64,
         kinds: kinds_of(entries),
         keys,

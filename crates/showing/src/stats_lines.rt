@@ -6,9 +6,11 @@ use crate::figure::Figure;
 use crate::stats::{InDoubt, Numbers, Stats};
 use units::Fault;
 
-// The numbers of which there are sums.
-const SUMMED: [Figure; 16] = [
+/// The numbers of which there are sums.
+pub(crate) const SUMMED: [Figure; 18] = [
     Figure::Bytes,
+    Figure::DeadBytes,
+    Figure::Turnovers,
     Figure::Records,
     Figure::Opened,
     Figure::Ceilings,
@@ -26,9 +28,12 @@ const SUMMED: [Figure; 16] = [
     Figure::InDoubt,
 ];
 
-// All of them.
-const FIGURES: [Figure; 18] = [
+/// All of them.
+pub(crate) const FIGURES: [Figure; 21] = [
     Figure::Bytes,
+    Figure::DeadBytes,
+    Figure::Turnovers,
+    Figure::TurnoversLeft,
     Figure::Records,
     Figure::Opened,
     Figure::Ceilings,
@@ -133,7 +138,8 @@ fn push_doubt(text: &mut String, doubt: &InDoubt) -> Result<(), Fault>
     Ok(())
 }
 
-fn standing_word(is_decided: bool) -> &'static str
+/// Says how a transaction in doubt stands.
+pub(crate) fn standing_word(is_decided: bool) -> &'static str
     ensures { result.now ≡ standing_word is_decided }
 {
     if is_decided { "decided" } else { "promised" }

@@ -305,7 +305,7 @@ fn driven<R: Files<File = File> + RandomSource + Threads + Wait + time::Clock + 
     folder: &Folder,
     settings: &Settings,
 ) -> [Vec<u8>; 2] {
-    let driven = drive_shards(test, rt.alloc(), settings, None::<Vec<u8>>);
+    let driven = drive_shards(test, rt.alloc(), settings, None::<Vec<u8>>, false);
     let driven = driven.ok().expect(test, "a drive");
     let well = went_well(&driven.text);
     drop(driven);
@@ -351,7 +351,7 @@ fn drive_refused<R: Files<File = File> + RandomSource + Threads + Wait + time::C
     alloc: Global,
     settings: &Settings,
 ) -> Option<Fault> {
-    match drive_shards(rt, alloc, settings, None::<Vec<u8>>) {
+    match drive_shards(rt, alloc, settings, None::<Vec<u8>>, false) {
         Ok(driven) => {
             drop(driven);
             None

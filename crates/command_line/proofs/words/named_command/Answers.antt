@@ -12,16 +12,16 @@ pub returns-in-inspect : goal.returns-in-inspect
 returns-in-inspect c line named rows = c.read_inspect.ensures line (named ∙ c.in-inspect.is) rows c.args.marks
 
 pub returns-in-history : goal.returns-in-history
-returns-in-history c line named rows = c.read_history.ensures line (named ∙ c.in-history.is) rows c.args.marks
+returns-in-history c line named rows = c.read_history.ensures line (named ∙ c.in-history.is) rows
 
 pub returns-in-get : goal.returns-in-get
-returns-in-get c line named rows = c.read_get.ensures line (named ∙ c.in-get.is) rows c.args.marks refl
+returns-in-get c line named rows = c.read_get.ensures line (named ∙ c.in-get.is) rows
 
 pub returns-in-put : goal.returns-in-put
-returns-in-put c line named rows = c.read_put.ensures line (named ∙ c.in-put.is) rows c.args.marks refl
+returns-in-put c line named rows = c.read_put.ensures line (named ∙ c.in-put.is) rows
 
 pub returns-in-stats : goal.returns-in-stats
-returns-in-stats c line named rows = c.read_stats.ensures line (named ∙ c.in-stats.is) rows c.args.marks
+returns-in-stats c line named rows = c.read_stats.ensures line (named ∙ c.in-stats.is) rows
 
 pub returns-in-format : goal.returns-in-format
 returns-in-format c line named rows =

@@ -4,16 +4,16 @@ use Rattle.command_line.proofs.FoundLemmas.{answered_as, put_found, refused_as}
 use Rattle.command_line.proofs.words.read_put.Goals as goal
 
 pub returns-in_err-key : goal.returns-in_err-key
-returns-in_err-key c line name rows marks same =
-    refused_as _ marks line _ (put_found line (found_of c.args.given.now) _ _ _ name rows c.word-dir.ensures c.word-key.ensures c.word-value.ensures)
+returns-in_err-key c line name rows =
+    refused_as _ c.args.marks line _ (put_found line (found_of c.args.given.now) _ _ _ name rows c.word-dir.ensures c.word-key.ensures c.word-value.ensures)
     (search rules)
 
 pub returns-in_err-value : goal.returns-in_err-value
-returns-in_err-value c line name rows marks same =
-    refused_as _ marks line _ (put_found line (found_of c.args.given.now) _ _ _ name rows c.word-dir.ensures c.word-key.ensures c.word-value.ensures)
+returns-in_err-value c line name rows =
+    refused_as _ c.args.marks line _ (put_found line (found_of c.args.given.now) _ _ _ name rows c.word-dir.ensures c.word-key.ensures c.word-value.ensures)
     (search rules)
 
 pub returns : goal.returns
-returns c line name rows marks same =
-    answered_as marks line _ (put_found line (found_of c.args.given.now) _ _ _ name rows c.word-dir.ensures c.word-key.ensures c.word-value.ensures)
+returns c line name rows =
+    answered_as c.args.marks line _ (put_found line (found_of c.args.given.now) _ _ _ name rows c.word-dir.ensures c.word-key.ensures c.word-value.ensures)
     (search rules)

@@ -1,4 +1,6 @@
-use Rattle.std.proofs.Common.{◌∙◌, string_bytes}
+use Rattle.std.proofs.Common.{◌∙◌, subst, List, Bor, map, string_bytes}
+use Rattle.command_line.specs.Lines.{Word}
+use Rattle.commands.specs.Replies.{AreStatsAs}
 use Rattle.commands.proofs.Refusals.{of_printed, passed_on}
 use Rattle.commands.proofs.answers.run.Goals as goal
 
@@ -10,7 +12,7 @@ returns-in-Put-clause-numbered g c =
 pub returns-in-Stats-clause-numbered : goal.returns-in-Stats-clause-numbered
 returns-in-Stats-clause-numbered g c =
     rw (c.in-Stats.is)
-    (passed_on _ _ _ _ c.stats_files.result c.print_text-in-Stats.result c.stats_files.ensures.refused c.print_text-in-Stats.ensures.printed
+    (passed_on _ _ _ _ c.stats.result c.print_text-in-Stats.result c.stats.ensures.refused c.print_text-in-Stats.ensures.printed
     c.print_text-in-Stats.ensures.refused)
 
 pub returns-in-Play-clause-numbered : goal.returns-in-Play-clause-numbered
@@ -26,7 +28,7 @@ returns-in-Inspect-clause-numbered g c =
 pub returns-in-Dump-clause-numbered : goal.returns-in-Dump-clause-numbered
 returns-in-Dump-clause-numbered g c =
     rw (c.in-Dump.is)
-    (passed_on _ _ _ _ c.dump_file.result c.print_text.result c.dump_file.ensures.refused c.print_text.ensures.printed c.print_text.ensures.refused)
+    (passed_on _ _ _ _ c.dump.result c.print_text.result c.dump.ensures.refused c.print_text.ensures.printed c.print_text.ensures.refused)
 
 pub returns-in-History-clause-numbered : goal.returns-in-History-clause-numbered
 returns-in-History-clause-numbered g c =
@@ -48,7 +50,7 @@ returns-in-Inspect-clause-tells g c =
 pub returns-in-Dump-clause-tells : goal.returns-in-Dump-clause-tells
 returns-in-Dump-clause-tells g c =
     rw (c.in-Dump.is)
-    (of_printed _ _ _ _ _ c.dump_file.result c.print_text.result (λ t is status p. (string_bytes t, (p.0, is), p.1)) c.dump_file.ensures.text c.print_text.ensures.printed
+    (of_printed _ _ _ _ _ c.dump.result c.print_text.result (λ t is status p. (string_bytes t, (p.0, is), p.1)) c.dump.ensures.text c.print_text.ensures.printed
     c.print_text.ensures.refused)
 
 pub returns-in-History-clause-tells : goal.returns-in-History-clause-tells
@@ -56,3 +58,14 @@ returns-in-History-clause-tells g c =
     rw (c.in-History.is)
     (of_printed _ _ _ _ _ c.history.result c.print_text-in-History.result (λ t is status p. (string_bytes t, (p.0, is), p.1)) c.history.ensures.text c.print_text-in-History.ensures.printed
     c.print_text-in-History.ensures.refused)
+
+pub returns-in-Stats-clause-tells : goal.returns-in-Stats-clause-tells
+returns-in-Stats-clause-tells g c =
+    rw (c.in-Stats.is)
+    (of_printed _ _ _ _ _ c.stats.result c.print_text-in-Stats.result
+    (λ t is status p. (
+      string_bytes t,
+      (p.0, subst (λ (logs : List (Bor Word)). AreStatsAs c.in-Stats.json (map (λ w. w.now) logs) (string_bytes t)) c.deref-in-Stats.ensures.value is),
+      p.1,
+    ))
+    c.stats.ensures.text c.print_text-in-Stats.ensures.printed c.print_text-in-Stats.ensures.refused)
