@@ -13,7 +13,8 @@ use std::thread::Threads;
 use std::time;
 
 // What is printed: of a drive its counts, whose first three are of so many transactions together, and the verdict yes; of a write that it is
-// committed, also so many microseconds behind a whole hundredth of a second; of a key its value, or lines of which the last ends so.
+// committed, also so many microseconds behind a whole hundredth of a second; of a key its value; or a text that begins or ends so, or has so many
+// lines, or more than so many.
 #[derive(Clone, Copy)]
 pub enum Output {
     Nothing,
@@ -22,7 +23,10 @@ pub enum Output {
     Committed,
     CommittedBehind(u64),
     Is(&'static str),
+    Begins(&'static str),
     Ends(&'static str),
+    Lines(usize),
+    Over(usize),
 }
 
 // Command lines, one after another, that come to the same: what is printed, the fault, and the status. Single spaces part the words of a line,
@@ -295,7 +299,10 @@ fn is_printed(text: &str, output: Output) -> bool {
         Output::Committed => committed(text).is_some(),
         Output::CommittedBehind(micros) => is_behind(text, micros),
         Output::Is(right) => text == right,
+        Output::Begins(first) => text.starts_with(first),
         Output::Ends(last) => text.ends_with(last),
+        Output::Lines(count) => text.lines().count() == count,
+        Output::Over(count) => text.lines().count() > count,
     }
 }
 

@@ -8,6 +8,10 @@ mod command_lines;
 #[cfg(test)]
 mod compacting;
 #[cfg(test)]
+mod large_store;
+#[cfg(test)]
+mod large_values;
+#[cfg(test)]
 mod many_lines;
 #[cfg(test)]
 mod verdict;

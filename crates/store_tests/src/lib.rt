@@ -10,6 +10,8 @@ mod disks;
 #[cfg(test)]
 mod drives;
 #[cfg(test)]
+mod folder_scenes;
+#[cfg(test)]
 mod forgetting;
 #[cfg(test)]
 mod gates;
