@@ -260,7 +260,9 @@ fn opened<'r, R: Files<File = File> + RandomSource + Threads + Wait + Sync + Abo
         splits.push(key).ok().expect(rt, "memory");
     }
     let splits = Splits::new(alloc, &splits).ok().expect(rt, "splits");
-    let store = Store::open_folder(rt, alloc, folder, Options::new(splits, CLIENTS));
+    let mut options = Options::new(splits, CLIENTS);
+    options.make = true;
+    let store = Store::open_folder(rt, alloc, folder, options);
     store.ok().expect(rt, "a store")
 }
 
