@@ -5,11 +5,11 @@
 #     tests     until the tests of the last crate were proved
 #     edits     from the first crate whose wrong bodies were tried, until the last of them was refused
 #     runs      of the programs and the tests, once nothing is left to prove
-# The first three go beside one another. After a gate that passed, the programs that it built run with each growth of their memory refused, the
-# tests of the clients run over the program, and four histories of its threads are judged. Then the wrong bodies are tried of the crates whose
-# contracts are others than at the parent of HEAD, or at the commit BASE. What the gate prints passes through, and its exit status is passed on.
-# If a misuse or a wrong body is not refused, a program does not end as it should when memory is refused, a client's test fails, or a history breaks
-# a rule, that is the last line, and the status is 1.
+# The first three go beside one another. After a gate that passed, the programs that it built run with each growth of their memory refused. The
+# refused command lines and the tests of the clients run over the program, and four histories of its threads are judged. Then the wrong bodies are
+# tried of the crates whose contracts are others than at the parent of HEAD, or at the commit BASE. What the gate prints passes through, and its
+# exit status is passed on. If a misuse or a wrong body is not refused, a program does not end as it should when memory is refused, a line is
+# refused otherwise, a client's test fails, or a history breaks a rule, that is the last line, and the status is 1.
 set -u
 RT_JOBS=$(scripts/jobs.sh 40)
 export RT_JOBS
@@ -67,6 +67,7 @@ if [ -n "$misuse" ]; then
 fi
 if [ "$status" -eq 0 ]; then
     scripts/refused_memory.sh </dev/null 2>&1 || unended=yes
+    scripts/refusals.sh </dev/null 2>&1 || unrefused=yes
     scripts/clients.sh </dev/null 2>&1 || unserved=yes
     if python3 --version >/dev/null 2>&1; then
         scripts/histories.py 4 </dev/null 2>&1 || untold=yes
@@ -87,6 +88,10 @@ if [ -n "${misused:-}" ]; then
 fi
 if [ -n "${unended:-}" ]; then
     echo 'refused_memory: FAILED'
+    exit 1
+fi
+if [ -n "${unrefused:-}" ]; then
+    echo 'refusals: FAILED'
     exit 1
 fi
 if [ -n "${passed_on:-}" ]; then

@@ -1,0 +1,118 @@
+#!/bin/sh
+# Tries each line of scripts/refusals.txt over the program that is built, or that SHARDS_PROGRAM names: the fault, the words after it, the status,
+# and that nothing is printed or written. If no program is built it says so. It says how many lines it tried; its status is 1 if one failed.
+set -eu
+root=$(dirname "$(dirname "$(readlink -f "$0")")")
+program=${SHARDS_PROGRAM:-$root/crates/shards/out/shards}
+if [ ! -x "$program" ]; then
+    echo "refusals: the program is NOT BUILT (./run --build builds it): nothing was tried"
+    exit
+fi
+room=$(mktemp -d)
+server=
+trap '[ -z "$server" ] || kill "$server" 2>/dev/null; rm -rf "$room"' EXIT
+mkdir "$room/here"
+cd "$room/here"
+failed=0
+tried=0
+tab=$(printf '\t')
+
+# Settings of three shards, of which one line is another: settings NUMBER LINE.
+settings() {
+    printf '%s\n' 'shards = 3' 'splits = ["g", "p"]' 'stride = 1000' 'epsilon = 100' 'workers = 2' 'transactions = 10' 'keys = 8' |
+        sed "$1" >"$2.settings"
+}
+
+# What the lines name.
+"$program" make logs m
+"$program" put logs a 1 >committed
+"$program" put logs z 1 >committed
+for name in held lost older swapped unnamed; do cp -r logs $name; done
+rm lost/shard-1.log
+printf '%s\n' begin 'put a 2' 'put z 2' commit | "$program" serve older >committed
+cp logs/shard-1.log older
+mv swapped/shard-0.log kept
+mv swapped/shard-1.log swapped/shard-0.log
+mv kept swapped/shard-1.log
+echo 'no manifest' >unnamed/store.toml
+mkdir bare
+mkfifo pipe
+printf 'no text \377 and no log\n' >text
+head -c 9250 logs/shard-0.log >cut
+printf 'SPNLOG01\245\000\000\000\011\001\000\000\000\000\000\000\000\001\000' >old
+printf '%s\n' 'shards 2' 'split m' 'stride 1000' '100 begin 1.1' '50 begin 1.2' >late.schedule
+settings '3s/.*/stride 1000/' 1
+settings '$a other = 1' 2
+settings '/workers/d' 3
+settings '5s/.*/workers = 65/' 4
+settings '2s/.*/splits = 2/' 5
+settings '2s/.*/splits = ["g", ""]/' 6
+settings '2s/.*/splits = ["g"]/' 7
+settings '2s/.*/splits = ["p", "g"]/' 8
+settings '$a dir = ""' 9
+settings '$a dir = "logs"' other
+settings '1s/3/2/; 2s/.*/splits = ["m"]/; $a dir = "held"' held
+mkfifo ../lines
+"$program" serve held <../lines >../answers &
+server=$!
+exec 9>../lines
+for _ in 1 2 3 4 5 6 7 8 9 10; do
+    ! grep -q ready ../answers || break
+    sleep 1
+done
+sums() {
+    find . -type f ! -path './held/*' -exec cksum {} + | sort
+}
+sums >../before
+
+# The words of a line, one a line: spelled and long ones are told in full.
+words_of() {
+    for word in $1; do
+        case $word in
+        -) echo ;;
+        =) ;;
+        K65) printf '%065d\n' 0 ;;
+        V4097) printf '%04097d\n' 0 ;;
+        L17) seq 17 ;;
+        *) printf '%s\n' "$word" | sed 's/\\\\/\\/g' ;;
+        esac
+    done
+}
+
+# Tries one line.
+try() {
+    set -f
+    words_of "$3" >../words
+    set --
+    while IFS= read -r word; do set -- "$@" "$word"; done <../words
+    set +f
+    status=0
+    timeout 60 "$program" "$@" </dev/null >../out 2>../err || status=$?
+    tried=$((tried + 1))
+    told=$(sed -n 1p ../err | sed 's/ at [0-9]*$/ at */')
+    if [ "$status" != 2 ] || [ -s ../out ] || [ "$told" != "fault: $fault" ] || [ "$(sed -n 2p ../err)" != "--> $place" ]; then
+        echo "refusals: '$line': status $status, '$told', '$(sed -n 2p ../err)'; wanted 'fault: $fault', '--> $place'" >&2
+        failed=$((failed + 1))
+    fi
+}
+
+while IFS= read -r row; do
+    case $row in '#'*) continue ;; esac
+    fault=${row%%"$tab"*}
+    rest=${row#*"$tab"}
+    place=${rest%%"$tab"*}
+    line=${rest#*"$tab"}
+    try "$fault" "$place" "$line"
+done <"$root/scripts/refusals.txt"
+
+sums | cmp -s - ../before || {
+    echo "refusals: a refused command has written" >&2
+    failed=$((failed + 1))
+}
+exec 9>&-
+[ $failed = 0 ] || exit 1
+[ "$tried" -ge 105 ] || {
+    echo "refusals: only $tried lines were found" >&2
+    exit 1
+}
+echo "refusals: $tried lines were refused as they are to be"
