@@ -156,7 +156,7 @@ fn played(
     match together {
         None => play(wrong, rt, alloc, &mut core, part),
         Some(count) => {
-            for exchanges in part.exchanges.chunks(count) {
+            for exchanges in part.exchanges.chunks(count.max(1)) {
                 core = take_group(wrong, rt, alloc, core, part.name, exchanges);
             }
             compare(wrong, rt, &core, part);

@@ -85,7 +85,7 @@ fn tells_late_at<R: Wait + time::Clock>(
 }
 
 // What views at a time tell.
-fn told<R: Wait + time::Clock>(rt: &R, alloc: Global, clients: Vec<Client<'_, R>>) -> Option<Told> {
+fn work<R: Wait + time::Clock>(rt: &R, alloc: Global, clients: Vec<Client<'_, R>>) -> Option<Told> {
     let mut clients = clients;
     let mut client = clients.pop()?;
     drop(clients);
@@ -115,7 +115,7 @@ fn views_tell_the_past(rt: HostRuntime) {
     let mut options = of_two_shards(&rt, alloc, 100_000);
     options.keep = Some(KEEP);
     let store = store_of(&rt, alloc, disks_of(&rt, alloc, 2), options);
-    let served = store.serve(|clients: Vec<Client<'_, HostRuntime>>| told(&rt, alloc, clients));
+    let served = store.serve(|clients: Vec<Client<'_, HostRuntime>>| work(&rt, alloc, clients));
     let (told, disks) = served.ok().expect(&rt, "a service");
     drop(disks);
     let told = told.expect(&rt, "views");

@@ -29,7 +29,7 @@ fn write_till_stopped<R: Wait + time::Clock>(alloc: Global, client: &mut Client<
 }
 
 // What views tell behind a commit to both shards, and once shard 1 has stopped.
-fn told<R: Wait + time::Clock>(rt: &R, alloc: Global, clients: Vec<Client<'_, R>>) -> Option<Told> {
+fn work<R: Wait + time::Clock>(rt: &R, alloc: Global, clients: Vec<Client<'_, R>>) -> Option<Told> {
     let mut clients = clients;
     let mut client = clients.pop()?;
     let mut writer = clients.pop()?;
@@ -63,7 +63,7 @@ fn views_hear_of_stopped_shards(rt: HostRuntime) {
     let mut options = of_two_shards(&rt, alloc, 100_000);
     options.clients = 2;
     let store = store_of(&rt, alloc, disks, options);
-    let served = store.serve(|clients: Vec<Client<'_, HostRuntime>>| told(&rt, alloc, clients));
+    let served = store.serve(|clients: Vec<Client<'_, HostRuntime>>| work(&rt, alloc, clients));
     let (told, disks) = served.ok().expect(&rt, "a service");
     drop(disks);
     let Told {
