@@ -102,7 +102,8 @@ static OF_STORES: [Row; 10] = [
     Row {
         line: "put --bytes one a \\x7",
         fault: Fault::BadRequest(Reason::Command),
-        place: "--> VALUE has a '\\x' without two hexadecimal digits",
+        place: "--> VALUE has a backslash that spells no byte: write '\\x5c' for a backslash\n\
+            usage: shards put [--raw] [--bytes] DIR KEY VALUE",
     },
     Row {
         line: "get missing a",
