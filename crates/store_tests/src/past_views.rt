@@ -22,14 +22,15 @@ struct Told {
     forgotten: Result<(), Fault>,
 }
 
-// The timestamp of a commit of a value to both shards.
+// The timestamp of a commit of a value to both shards, in microseconds.
 fn committed<R: Wait + time::Clock>(
     alloc: Global,
     client: &mut Client<'_, R>,
     value: &[u8],
-) -> Option<Stamp> {
-    match write(alloc, client, 5, &KEYS, value) {
-        Ok(Ended::Committed(at)) => Some(at),
+) -> Option<u64> {
+    let ended = write(alloc, client, 5, &KEYS, value);
+    match &ended {
+        Ok(Ended::Committed(at)) => Some(at.micros()),
         _ => None,
     }
 }
@@ -77,7 +78,7 @@ fn tells_late_at<R: Wait + time::Clock>(
         if told.is_err() {
             break;
         }
-        drop(committed(alloc, client, b"3"));
+        let _ = committed(alloc, client, b"3");
         thread::sleep(rt, Duration::from_millis(10));
         told = tells_at(client, at, b"1");
     }
@@ -89,8 +90,8 @@ fn work<R: Wait + time::Clock>(rt: &R, alloc: Global, clients: Vec<Client<'_, R>
     let mut clients = clients;
     let mut client = clients.pop()?;
     drop(clients);
-    let first_at = committed(alloc, &mut client, b"1")?;
-    let second_at = committed(alloc, &mut client, b"2")?;
+    let first_at = Stamp::new(committed(alloc, &mut client, b"1")?).ok()?;
+    let second_at = Stamp::new(committed(alloc, &mut client, b"2")?).ok()?;
     let first = tells_soon_at(rt, &mut client, first_at, b"1");
     let second = tells_soon_at(rt, &mut client, second_at, b"2");
     let start = Instant::now(rt).ok()?;
