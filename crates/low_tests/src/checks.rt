@@ -1,9 +1,10 @@
 //! What the tests end with, and the checks that several of them use.
 use made::WrongRows;
+pub use made::{Row, go_over, go_over_all, is_text};
 use message::Envelope;
 use record::Record;
 use spelling::encode;
-use std::alloc::{AllocError, Global};
+use std::alloc::Global;
 use std::fmt::Display;
 use std::process::Abort;
 use texts::Text;
@@ -13,44 +14,6 @@ use units::{Line, Value};
 pub fn end(rt: &impl Abort, wrong: WrongRows) {
     assert!(rt; wrong.is_none(), "{}", wrong.text());
     drop(wrong);
-}
-
-/// A row of a table of tests.
-pub trait Row {
-    /// Notes the row by its name if it does not hold.
-    fn tell(&self, wrong: &mut WrongRows, rt: &HostRuntime);
-}
-
-/// Checks the rows of an area.
-pub fn go_over<R: Row>(wrong: &mut WrongRows, rt: &HostRuntime, area: &'static str, rows: &[R]) {
-    let wrong = wrong.of(area);
-    for row in rows {
-        row.tell(wrong, rt);
-    }
-}
-
-/// Checks the rows of an area that stand in several tables.
-pub fn go_over_all<R: Row>(
-    wrong: &mut WrongRows,
-    rt: &HostRuntime,
-    area: &'static str,
-    tables: &[&[R]],
-) {
-    for rows in tables {
-        go_over(wrong, rt, area, *rows);
-    }
-}
-
-/// Tells whether there is memory for the text, and it is this one.
-pub fn is_text(text: Result<String, AllocError>, wanted: &str) -> bool {
-    match text {
-        Ok(text) => {
-            let same = text.as_str() == wanted;
-            drop(text);
-            same
-        }
-        Err(_) => false,
-    }
 }
 
 /// Tells whether the thing is printed as this text.

@@ -21,10 +21,6 @@ mod drawers;
 #[cfg(test)]
 mod drawn;
 #[cfg(test)]
-mod drive_lines;
-#[cfg(test)]
-mod figures;
-#[cfg(test)]
 mod file_logs;
 #[cfg(test)]
 mod files;
@@ -59,8 +55,6 @@ mod refusals;
 #[cfg(test)]
 mod renewed;
 #[cfg(test)]
-mod screens;
-#[cfg(test)]
 mod seated;
 #[cfg(test)]
 mod sessions;
@@ -70,8 +64,6 @@ mod spellings;
 mod steps;
 #[cfg(test)]
 mod tables;
-#[cfg(test)]
-mod terminals;
 #[cfg(test)]
 mod tests;
 #[cfg(test)]

@@ -2,10 +2,9 @@
 //! function of their own.
 use crate::checks::{end, go_over};
 use crate::{
-    beside, clocks, crowd, devices, disks, documents, drawers, drive_lines, figures, files,
-    grouped, handed, horizons, known, ledgers, left, limits, looks, messages, migrated, plain,
-    records, refusals, renewed, screens, seated, sessions, spellings, tables, terminals, turned,
-    verdicts, versioned,
+    beside, clocks, crowd, devices, disks, documents, drawers, files, grouped, handed, horizons,
+    known, ledgers, left, limits, looks, messages, migrated, plain, records, refusals, renewed,
+    seated, sessions, spellings, tables, turned, verdicts, versioned,
 };
 use made::{Folder, WrongRows};
 
@@ -30,9 +29,9 @@ fn small_types_and_texts(rt: HostRuntime) {
     end(&rt, wrong);
 }
 
-/// Shows lock tables, rows, sessions, tickets, boards, and what a drive shows at the terminal.
+/// Shows lock tables, rows, sessions, tickets and boards.
 #[test]
-fn stories_and_what_is_shown(rt: HostRuntime) {
+fn stories(rt: HostRuntime) {
     let alloc = rt.alloc();
     let mut wrong = WrongRows::none(alloc);
     tables::tell_stories(&mut wrong, &rt);
@@ -40,10 +39,6 @@ fn stories_and_what_is_shown(rt: HostRuntime) {
     sessions::go_over(wrong.of("sessions"), alloc);
     drawers::go_over(wrong.of("tickets"), &rt, alloc);
     looks::go_over(wrong.of("looks"), &rt, alloc);
-    figures::go_over(wrong.of("figures"));
-    drive_lines::tell_drives(&mut wrong, &rt);
-    screens::tell_screens(&mut wrong, &rt);
-    terminals::go_over(wrong.of("terminals"), &rt, alloc);
     end(&rt, wrong);
 }
 

@@ -4,9 +4,11 @@
 ghost use Rattle.std.specs.Prelude.{◌≡◌, ◌<◌, ◌^◌};
 
 mod folder;
+mod rows;
 mod wrong_rows;
 
 pub use folder::Folder;
+pub use rows::{Row, go_over, go_over_all, is_text};
 use std::alloc::{AllocError, Global};
 use units::{Key, ShardNo, Stamp, TxnId};
 pub use wrong_rows::WrongRows;

@@ -1,6 +1,5 @@
 //! The lines that a drive shows, and its table.
-use crate::checks::{Row, go_over_all, is_text};
-use made::WrongRows;
+use made::{Row, WrongRows, go_over_all, is_text};
 use progress::{Ended, Progress, Turn};
 
 // So many turns that ended alike, or so many looks, which all took as long.

@@ -1,6 +1,5 @@
 //! Screens that are told of turns at given moments.
-use crate::checks::{Row, go_over};
-use made::WrongRows;
+use made::{Row, WrongRows, go_over};
 use progress::{Ended, Screen, Turn};
 use std::io;
 use std::io::Write;
