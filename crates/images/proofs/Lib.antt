@@ -1,6 +1,8 @@
 pub mod Acted
 pub mod AtOnce
+pub mod Answered
 pub mod Called
+pub mod Shown
 pub mod Failing
 pub mod Held
 pub mod Placed
