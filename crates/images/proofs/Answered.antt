@@ -1,11 +1,10 @@
 -- What a call of a core answers is what the run puts out at that event.
-use Rattle.std.proofs.Common.{◌≡◌, ◌⊎◌, inl, inr, ℕ, ◌≤◌, Bool, true, false, IsTrue, List, [], ◌∷◌, ◌++◌, Option, Some, None, Result, Ok, Err}
+use Rattle.std.proofs.Common.{◌≡◌, ℕ, ◌≤◌, false, IsTrue, List, [], ◌∷◌, ◌++◌, Option, Some, None, Result, Ok, Err}
 use Rattle.std.proofs.Common.{slice_get, refl, sym, ap, ◌∙◌, subst}
 use Rattle.std.proofs.lemmas.List.{append-nil}
 use Rattle.std.specs.Prelude.{IfOk}
 use Rattle.units.specs.declared.fault.Fault.{Fault}
-use Rattle.units.specs.declared.fault.Fault.TheVariants.{Stopped, Stranger}
-use Rattle.units.specs.declared.setup.Setup.{Setup}
+use Rattle.units.specs.declared.fault.Fault.TheVariants.{Stranger}
 use Rattle.truetime.specs.Interval.{Interval}
 use Rattle.disk.specs.declared.plan.FailurePlan.{FailurePlan}
 use Rattle.disk.specs.File.{File, surface}
@@ -20,7 +19,7 @@ use Rattle.record.specs.Accepted.{followed}
 use Rattle.record.specs.Facts.{facts_of}
 use Rattle.record.specs.declared.record.Record.{Record}
 use Rattle.ledger.specs.Keeps.{IsLasting}
-use Rattle.lives.specs.On.{CoreView, step_of}
+use Rattle.lives.specs.On.{step_of}
 use Rattle.lives.proofs.Living.{asks_the_resting, not_up_opens, turns_as}
 use Rattle.lives.specs.Carries.{opens_as, turns_in}
 use Rattle.world.specs.Headline.{doing_of}
@@ -45,7 +44,6 @@ use Rattle.images.proofs.Placed.{IsInput, given, input_whole, rests_holds}
 pub record ComesSo (w : World) (after : After) (result : Result (List Envelope) Fault) : Type 0 where
   pub reply : after.1 ≡ reply_of result
   pub bag : after.0.bag ≡ w.bag ++ sent result
-
 
 none-more : (bag : List Envelope) → bag ≡ bag ++ []
 none-more bag = sym (append-nil bag)
@@ -105,7 +103,7 @@ delivered_is w m now (Some x) n doing e = by_address x.to e
     by_address (Shard k) is = ap (λ (p : ℕ × Doing). do_at w p.0 p.1) (pair_is (k, Doing.Take m now) (n, doing) is)
     by_address (Session t) is = absurd (no_pair (n, doing) is)
 
-act_is : (w : World) (a : Act) (n : ℕ) (doing : Doing) → IsPlain a → doing_of w a ≡ Some (n, doing) → acts w a ≡ do_at w n doing
+pub act_is : (w : World) (a : Act) (n : ℕ) (doing : Doing) → IsPlain a → doing_of w a ≡ Some (n, doing) → acts w a ≡ do_at w n doing
 unfolding acts
 act_is w (Act.At k d) n doing plain is = ap (λ (p : ℕ × Doing). do_at w p.0 p.1) (pair_is (k, d) (n, doing) is)
 act_is w (Act.Deliver m now) n doing plain is = delivered_is w m now (slice_get w.bag m) n doing is

@@ -175,8 +175,7 @@ module _ {D : Type 0} (keeps obeys : Type 0) (file : D → File) (clock : D → 
             (step_of old p.0 p.1) result k own (λ q memory out e. follows doing q memory out (whole ∙ e)))
         by_state (IsStopped m) stops l =
             subst (Come (setup_of config n) s doing (Up new)) (sym (asks_the_resting (setup_of config n) bag s doing i.goes (ap is_up stops)))
-            (subst (λ t. LivesAs file (setup_of config n) t (Up new)) (sym (i.refused s)) (subst (LivesIn file (setup_of config n) s (Up new)) (sym stops)
-            (
+            (subst (λ t. LivesAs file (setup_of config n) t (Up new)) (sym (i.refused s)) (subst (LivesIn file (setup_of config n) s (Up new)) (sym stops) (
               (refuses_all keeps obeys file clock since failures plan counts kept (setup_of config n) s old new l.0 l.1 (step_of old p.0 p.1) result k).0,
               (refuses_all keeps obeys file clock since failures plan counts kept (setup_of config n) s old new l.0 l.1 (step_of old p.0 p.1) result k).1,
               still_refused keeps obeys file clock since failures plan counts kept (setup_of config n) s old new l.0 l.1 m (step_of old p.0 p.1) result k l.2,
@@ -206,8 +205,7 @@ module _ {D : Type 0} (keeps obeys : Type 0) (file : D → File) (clock : D → 
             (turn_comes keeps obeys file clock since failures plan counts kept (setup_of config n) s m old new l lasting runs result k.0 own)
         by_state (IsStopped m) stops l =
             subst (Come (setup_of config n) s Doing.Turn (Up new)) (sym (asks_the_resting (setup_of config n) bag s Doing.Turn refl (ap is_up stops)))
-            (subst (LivesIn file (setup_of config n) s (Up new)) (sym stops)
-            (
+            (subst (LivesIn file (setup_of config n) s (Up new)) (sym stops) (
               (refuses_turn keeps obeys file clock since failures plan counts kept (setup_of config n) s old new l.0 l.1 result k.0).0,
               (refuses_turn keeps obeys file clock since failures plan counts kept (setup_of config n) s old new l.0 l.1 result k.0).1,
               still_unturned keeps obeys file clock since failures plan counts kept (setup_of config n) s old new l.0 l.1 m result k.0 l.2,
@@ -301,8 +299,7 @@ module _ {D : Type 0} (keeps obeys : Type 0) (file : D → File) (clock : D → 
               (subst (λ st. Steps keeps obeys file clock since failures plan counts kept old new st (Err fault)) step_is k) in
               let disk = tells call r new.disk lt read (λ image may. left_now keeps obeys file clock since failures plan counts kept (setup_of config n) s m
               old new l (Does (Some r) memory out) (Err Device) stepped image may) told in
-              subst (LivesIn file (setup_of config n) (failed_in s call r) (Up new)) (sym (ap stopped_state runs))
-              (
+              subst (LivesIn file (setup_of config n) (failed_in s call r) (Up new)) (sym (ap stopped_state runs)) (
                 is_stopped keeps obeys file clock since failures plan counts kept (setup_of config n) s m old new l r memory out stepped,
                 disk,
                 still_failed keeps obeys file clock since failures plan counts kept (setup_of config n) s m old new l (Does (Some r) memory out) Device stepped (failed_in s call r) refl,

@@ -1,6 +1,6 @@
 -- How a core is looked at is how the run's shard is looked at, and what is told and shown stays.
-use Rattle.std.proofs.Common.{◌≡◌, inl, inr, ℕ, zero, suc, ◌≤◌, ◌<◌, Bool, true, false, not, cond, nat_eq, nat_le, nat_lt, IsTrue, List, [], ◌∷◌, ◌++◌, length}
-use Rattle.std.proofs.Common.{Option, Some, None, Result, Ok, Err, slice_get, refl, sym, ap, ◌∙◌, subst, append_assoc, arith}
+use Rattle.std.proofs.Common.{◌≡◌, inl, inr, ℕ, suc, ◌≤◌, ◌<◌, Bool, true, false, not, cond, nat_le, nat_lt, List, [], ◌∷◌, ◌++◌, length}
+use Rattle.std.proofs.Common.{Option, Some, None, Result, Ok, Err, slice_get, refl, sym, ap, subst, append_assoc, arith}
 use Rattle.std.proofs.lemmas.Bool.{and_parts, false≢true}
 use Rattle.std.proofs.lemmas.Bool.Decides.{nat_tests}
 use Rattle.units.specs.Ids.{Id}
@@ -21,12 +21,12 @@ use Rattle.ledger.proofs.Alike.{alike-keeps}
 use Rattle.message.specs.declared.message.Address.{Address}
 use Rattle.message.specs.declared.message.Envelope.{Envelope}
 use Rattle.protocol.specs.Rows.{Memory, safe}
-use Rattle.shard.specs.Look.{IsLook, IsLookBy, IsOver, IsSeen, Looks, looks_of, owns}
+use Rattle.shard.specs.Look.{IsLook, IsLookBy, IsOver, IsSeen, looks_of, owns}
 use Rattle.lives.specs.On.{CoreView}
 use Rattle.world.specs.Headline.{doing_of}
 use Rattle.world.specs.Lawful.{lawful, lawful_from, may_happen}
-use Rattle.world.specs.World.{World, After, ShardNow, State, Runs, IsStopped, IsDown, acts, at_shard, happens, look_noted, look_shard, look_view}
-use Rattle.world.specs.World.{refused, run, run_from, setup_of, start, view_of}
+use Rattle.world.specs.World.{World, After, ShardNow, State, Runs, IsStopped, IsDown, acts, effect, happens, look_noted, look_shard, look_view}
+use Rattle.world.specs.World.{refused, run, setup_of, start, view_of}
 use Rattle.world.specs.declared.event.Act.{Act}
 use Rattle.world.specs.declared.event.Config.{Config}
 use Rattle.world.specs.declared.event.Doing.{Doing}
@@ -44,15 +44,16 @@ use Rattle.law.proofs.Members.{among_last, among_right}
 use Rattle.law.proofs.WholeLaw.{commits_are_lines, run_on, lawful_on}
 use Rattle.images.specs.Answers.{HaveCommitted, HaveValue, IsAnswered, IsCall, IsPlain, LooksAreTheRuns, OutboxesAreTheRuns, RepliesAs, ShownIsSerial}
 use Rattle.images.specs.Answers.{StandBeside, ToldIsThere}
-use Rattle.images.specs.Images.{AreLeft, Calls, HaveLogs, Life, Up, Down, Turn, Happens, Starves, events_of}
+use Rattle.images.specs.Images.{AreLeft, Calls, HaveLogs, Life, Up, Turn, Happens, Starves, events_of}
 use Rattle.images.proofs.Answered.{calls_answer, event_so}
+use Rattle.images.proofs.Called.{answer_in}
 use Rattle.images.proofs.Held.{LivesAs, LivesIn}
 use Rattle.images.proofs.Turned.{HoldRun, follows, holds, images_have_logs, known}
 
 -- ---- one look
 
 -- by where the key belongs, whether the time is forgotten, and whether it is served
-abbrev picked : Bool → Bool → Bool → Reply → Reply
+abbrev pub picked : Bool → Bool → Bool → Reply → Reply
 picked here forgotten served shows =
     cond (not here) (Reply.Refused Stranger) (cond forgotten (Reply.Refused TooOld) (cond served shows (Reply.Refused NotYet)))
 
@@ -122,7 +123,7 @@ module _ {D : Type 0} (core : CoreView D) (setup : Setup) (f : Facts) (m : Memor
 
 -- ---- more turns
 
-events_more : (ts : List Turn) (e : Event) (later : List Turn) → events_of (ts ++ Happens e ∷ later) ≡ events_of ts ++ e ∷ events_of later
+pub events_more : (ts : List Turn) (e : Event) (later : List Turn) → events_of (ts ++ Happens e ∷ later) ≡ events_of ts ++ e ∷ events_of later
 events_more [] e later = refl
 events_more (Happens x ∷ ts) e later = ap (λ es. x ∷ es) (events_more ts e later)
 events_more (Starves n doing ∷ ts) e later = events_more ts e later
@@ -145,7 +146,7 @@ module _ (config : Config) (es later : List Event) (e : Event) (fair : lawful co
   unfolding run lawful
   rest = lawful_on (start config) es (e ∷ later) fair
 
-  behind : run config (es ++ e ∷ []) ≡ (happens (run config es) e).0
+  pub behind : run config (es ++ e ∷ []) ≡ (happens (run config es) e).0
   unfolding run
   behind = run_on (start config) es (e ∷ [])
 
@@ -191,27 +192,32 @@ module _ {D : Type 0} (keeps obeys : Type 0) (file : D → File) (clock : D → 
   hold : HoldRun keeps obeys file clock since failures plan counts kept config es lives
   hold = holds keeps obeys file clock since failures plan counts kept config turns b.first lives b.fair b.fresh b.leads
 
-  settings : (run config es).config ≡ config
+  pub settings : (run config es).config ≡ config
   settings = run_settings config es
 
-  live_as : (n : ℕ) (s : ShardNow) → slice_get (run config es).shards n ≡ Some s → LivesAs file (setup_of config n) s (lives n)
+  pub live_as : (n : ℕ) (s : ShardNow) → slice_get (run config es).shards n ≡ Some s → LivesAs file (setup_of config n) s (lives n)
   live_as n s there = subst (λ c. LivesAs file (setup_of c n) s (lives n)) settings (hold n s there)
 
   -- what a call answers
-  pub answered : (e : Event) (n : ℕ) (doing : Doing) → IsPlain e.act → doing_of (run config es) e.act ≡ Some (n, doing) →
-      (result : Result (List Envelope) Fault) → IsCall keeps obeys file clock since failures plan config turns lives n doing result →
-      IsAnswered (run config es) e result
-  answered e n doing plain of result c =
+  pub called_answer : (n : ℕ) (doing : Doing) (result : Result (List Envelope) Fault) →
+      (c : IsCall keeps obeys file clock since failures plan config turns lives n doing result) →
+      result ≡ answer_in (effect (setup_of (run config es).config n) (run config es).bag c.shard doing)
+  called_answer n doing result c =
       let w : World = run config es in
       let steady = is_steady config es b.fair in
       let areas = always_has_areas config es b.fair in
-      event_so w e n doing c.shard result plain of c.there
-      (calls_answer keeps obeys file clock since failures plan counts kept w.config w.bag n c.shard
+      calls_answer keeps obeys file clock since failures plan counts kept w.config w.bag n c.shard
       (known keeps obeys file clock since failures plan counts kept w steady areas n c.shard c.there) (areas.lasting n c.shard c.there)
       (follows keeps obeys file clock since failures plan counts kept w steady areas n c.shard c.there) doing (lives n) c.after result
       (subst (λ (x : Config). Calls keeps obeys file clock since failures plan (setup_of x n) w.bag doing (lives n) c.after result) (sym settings)
       c.called)
-      c.own c.quiet (hold n c.shard c.there))
+      c.own c.quiet (hold n c.shard c.there)
+
+  -- and what the run has of it
+  pub answered : (e : Event) (n : ℕ) (doing : Doing) → IsPlain e.act → doing_of (run config es) e.act ≡ Some (n, doing) →
+      (result : Result (List Envelope) Fault) → IsCall keeps obeys file clock since failures plan config turns lives n doing result →
+      IsAnswered (run config es) e result
+  answered e n doing plain of result c = event_so (run config es) e n doing c.shard result plain of c.there (called_answer n doing result c)
 
   -- what a look does
   pub looked : (n : ℕ) (core : CoreView D) → lives n ≡ Up core → (s : ShardNow) → slice_get (run config es).shards n ≡ Some s → (k : Bytes) (at : ℕ)

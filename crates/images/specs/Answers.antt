@@ -7,6 +7,7 @@ use Rattle.units.specs.declared.fault.Fault.{Fault}
 use Rattle.units.specs.declared.fault.Fault.TheVariants.{Room}
 use Rattle.units.specs.declared.line.Seen.{Seen}
 use Rattle.units.specs.declared.setup.Setup.{Setup}
+use Rattle.units.specs.declared.writes.Install.{Install}
 use Rattle.disk.specs.declared.plan.FailurePlan.{FailurePlan}
 use Rattle.disk.specs.File.{File}
 use Rattle.record.specs.History.{history, upto}
@@ -14,11 +15,15 @@ use Rattle.record.specs.Lines.{is_in_at}
 use Rattle.record.specs.Whole.{is_whole}
 use Rattle.message.specs.declared.message.Address.{Address}
 use Rattle.message.specs.declared.message.Envelope.{Envelope}
-use Rattle.shard.specs.Look.{IsLook, IsOver, IsSeen}
+use Rattle.board.specs.Board.{horizon_on, versions_on}
+use Rattle.board.specs.Look.{look_answer, look_buffer}
+use Rattle.board.specs.declared.entry.BoardEntry.{BoardEntry}
+use Rattle.board.specs.declared.entry.BoardEntry.TheVariants.{Safe}
+use Rattle.shard.specs.Look.{IsLook, IsOver, IsSeen, safe_at}
 use Rattle.lives.specs.On.{CoreView}
 use Rattle.world.specs.Headline.{doing_of}
 use Rattle.world.specs.Lawful.{lawful}
-use Rattle.world.specs.World.{World, ShardNow, happens, look_shard, run, setup_of, start}
+use Rattle.world.specs.World.{World, ShardNow, happens, look_at_view, look_shard, makes_view, run, setup_of, start}
 use Rattle.world.specs.declared.event.Act.{Act}
 use Rattle.world.specs.declared.event.Config.{Config}
 use Rattle.world.specs.declared.event.Doing.{Doing}
@@ -58,6 +63,29 @@ abbrev pub RepliesAs : Reply → List ℕ → List ℕ → Result Seen Fault →
 RepliesAs reply old new (Ok seen) = (x : Option Bytes) × (reply ≡ Reply.Shows x) × IsSeen x old new seen
 RepliesAs reply old new (Err Room) = (x : Option Bytes) × (reply ≡ Reply.Shows x) × IsOver x (length old)
 RepliesAs reply old new (Err fault) = reply ≡ Reply.Refused fault
+
+-- ---- lists of boards
+
+-- A list of a board shows these versions, in order, this horizon, and last this served time. So do the list that a desk publishes when it has
+-- opened its core, and the one that it publishes whenever it has advanced it
+pub record ShowsTo (entries : List BoardEntry) (installs : List Install) (horizon served : ℕ) : Type 0 where
+  pub versions : versions_on entries ≡ installs
+  pub horizon_is : horizon_on entries ≡ horizon
+  pub before : List BoardEntry
+  pub ends : entries ≡ before ++ Safe served ∷ []
+
+-- a viewer's look that this list answers
+pub record IsLookAt (setup : Setup) (entries : List BoardEntry) (k : Bytes) (at : ℕ) (old new : List ℕ) (result : Result Seen Fault) : Type 0 where
+  pub answered : result ≡ look_answer (record { splits = setup.splits; shard = setup.shard }) entries k at (length old)
+  pub filled : new ≡ look_buffer (record { splits = setup.splits; shard = setup.shard }) entries k at old
+
+-- looks that a list answers are looks at the view of that number of a shard of the run
+pub record IsViewOf (config : Config) (es : List Event) (n : ℕ) (entries : List BoardEntry) : Type 0 where
+  pub shard : ShardNow
+  pub there : slice_get (run config es).shards n ≡ Some shard
+  pub number : ℕ
+  pub looks : (k : Bytes) (at : ℕ) (old new : List ℕ) (result : Result Seen Fault) → IsLookAt (setup_of config n) entries k at old new result →
+      RepliesAs (look_at_view (setup_of config n) (slice_get shard.views number) k at) old new result
 
 -- ---- what the logs of images say
 
@@ -130,3 +158,25 @@ module _ {D : Type 0} (keeps obeys : Type 0) (file : D → File) (clock : D → 
       AreLeft keeps obeys file clock since failures plan config (events_of (turns ++ Happens (record { time = time; act = Act.Look n k at }) ∷ later)) now
       images → (x : Option Bytes) × IsSeen x old new seen
       × HaveValue config (events_of (turns ++ Happens (record { time = time; act = Act.Look n k at }) ∷ later)) images k at x
+
+  -- A shard makes a view at an event, as it is opened or advanced. From then on a list that shows its core is that view of the run
+  abbrev pub ListsAreViews : Type 0
+  ListsAreViews =
+      keeps → (config : Config) (turns : List Turn) (lives : ℕ → Life D) → StandBeside config turns lives → (e : Event) (n : ℕ) (doing : Doing) →
+      IsPlain e.act → doing_of (run config (events_of turns)) e.act ≡ Some (n, doing) → IsTrue (makes_view doing) → (out : List Envelope) →
+      IsCall config turns lives n doing (Ok out) → (next : ℕ → Life D) → StandBeside config (turns ++ Happens e ∷ []) next → (core : CoreView D) →
+      next n ≡ Up core → (entries : List BoardEntry) → ShowsTo entries core.facts.installs core.facts.horizon (safe_at core) →
+      (later : List Turn) (now : ℕ → Life D) → StandBeside config (turns ++ Happens e ∷ later) now →
+      IsViewOf config (events_of (turns ++ Happens e ∷ later)) n entries
+
+  -- What such a list shows a viewer is what the serial run has, in the logs of all images then and later, whatever crash comes
+  abbrev pub ViewedIsSerial : Type 0
+  ViewedIsSerial =
+      keeps → (config : Config) (turns : List Turn) (lives : ℕ → Life D) → StandBeside config turns lives → (n : ℕ) (entries : List BoardEntry) →
+      (v : IsViewOf config (events_of turns) n entries) → (k : Bytes) (at : ℕ) (old new : List ℕ) (seen : Seen) →
+      IsLookAt (setup_of config n) entries k at old new (Ok seen) → (time : ℕ) (later : List Turn) (now : ℕ → Life D) →
+      StandBeside config (turns ++ Happens (record { time = time; act = Act.View n v.number k at }) ∷ later) now → (images : List (List ℕ)) →
+      AreLeft keeps obeys file clock since failures plan config
+      (events_of (turns ++ Happens (record { time = time; act = Act.View n v.number k at }) ∷ later)) now images →
+      (x : Option Bytes) × IsSeen x old new seen
+      × HaveValue config (events_of (turns ++ Happens (record { time = time; act = Act.View n v.number k at }) ∷ later)) images k at x

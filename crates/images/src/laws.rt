@@ -1,5 +1,5 @@
 //! Laws of images.
-ghost use Rattle.images.specs.Answers.{LooksAreTheRuns, OutboxesAreTheRuns, ShownIsSerial, ToldIsThere};
+ghost use Rattle.images.specs.Answers.{ListsAreViews, LooksAreTheRuns, OutboxesAreTheRuns, ShownIsSerial, ToldIsThere, ViewedIsSerial};
 ghost use Rattle.images.specs.Images.{AllCrashAtOnce, AllGoOn, CoresKnowTheRun, CrashesAreTold, FailuresAreTold, ImagesHaveLogs};
 ghost use Rattle.images.specs.Unturned.{AreasAreLogs};
 
@@ -38,6 +38,10 @@ pub fn answers_are_the_runs<D: Disk>()
     ensures told { ToldIsThere D.keeps_model D.obeys D.file D.clock D.since D.failures D.plan }
     // What a look at a core shows is what the serial run has, in the logs of each later image of all disks.
     ensures shown { ShownIsSerial D.keeps_model D.obeys D.file D.clock D.since D.failures D.plan }
+    // A board's list that shows a core, as it was opened or advanced, is a view of the run.
+    ensures views { ListsAreViews D.keeps_model D.obeys D.file D.clock D.since D.failures D.plan }
+    // What such a list shows a viewer is what the serial run has, in the logs of each later image of all disks.
+    ensures viewed { ViewedIsSerial D.keeps_model D.obeys D.file D.clock D.since D.failures D.plan }
 {}
 
 /// Says that without a turnover in the run, whatever a crash leaves is the first area of its file, with all records of its shard.
