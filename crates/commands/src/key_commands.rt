@@ -79,6 +79,11 @@ pub fn run_get<F: Files, O: Write>(
     ensures status { IfOk result (λ status. (status ≡ 0) ⊎ (status ≡ 1)) }
     ensures printed { IfOk result (λ status. (text : List ℕ) × IsToldOf form status text
         × Appends (O.contents (writer_of out.old)) (O.contents (writer_of out.new)) text) }
+    // As a line it is that of the log of the key's shard.
+    ensures of_key { form ≡ Form.Line → IfOk result (λ status. (text : List ℕ)
+        × IsOfKey F.Log.keeps_model F.Log.file (F.is_named files.now) dir.now key.now
+        (λ setup image. IsValueIn setup key.now at image text)
+        × Appends (O.contents (writer_of out.old)) (O.contents (writer_of out.new)) text) }
     ensures failures { IfErr result
         (λ failure. FailsFor (failures_of out.old < failures_of out.new) failure None) }
     ensures numbered { IfErr result (FailsAs IsNotTold) }

@@ -302,7 +302,8 @@ module _ {D : Type 0} (keeps obeys : Type 0) (file : D → File) (clock : D → 
               subst (LivesIn file (setup_of config n) (failed_in s call r) (Up new)) (sym (ap stopped_state runs)) (
                 is_stopped keeps obeys file clock since failures plan counts kept (setup_of config n) s m old new l r memory out stepped,
                 disk,
-                still_failed keeps obeys file clock since failures plan counts kept (setup_of config n) s m old new l (Does (Some r) memory out) Device stepped (failed_in s call r) refl,
+                still_failed keeps obeys file clock since failures plan counts kept (setup_of config n) s m old new l (Does (Some r) memory out) Device stepped
+                    (failed_in s call r) refl,
               )
           by_state (IsStopped m) stops l = absurd (no_input (setup_of config n) bag s doing (Some r) memory out does
               (asks_the_resting (setup_of config n) bag s doing g (ap is_up stops)))
@@ -377,7 +378,8 @@ module _ {D : Type 0} (keeps obeys : Type 0) (file : D → File) (clock : D → 
         by_state (Runs m) runs l = subst (LivesIn file (setup_of config n) (failed_turn s call) (Up new)) (sym (ap stopped_state runs)) (
           turn_stops keeps obeys file clock since failures plan counts kept (setup_of config n) s m old new l f.called.0,
           turn_fails keeps obeys file clock since failures plan counts kept (setup_of config n) s m old new l lasting call lt f.called.0 f.read f.told,
-          still_turned keeps obeys file clock since failures plan counts kept (setup_of config n) s m old new l (Err Device) f.called.0 (failed_turn s call) refl,
+          still_turned keeps obeys file clock since failures plan counts kept (setup_of config n) s m old new l (Err Device) f.called.0
+              (failed_turn s call) refl,
         )
         by_state (IsStopped m) stops l = absurd (no_input (setup_of config n) bag s Doing.Turn None memory out does
             (asks_the_resting (setup_of config n) bag s Doing.Turn refl (ap is_up stops)))
@@ -395,8 +397,13 @@ module _ {D : Type 0} (keeps obeys : Type 0) (file : D → File) (clock : D → 
         by_state : (st : State) → LivesIn file (setup_of config n) s (Up old) st → LivesIn file (setup_of config n) s (Up new) st
         by_state (Runs m) l = starved keeps obeys file clock since failures plan counts kept (setup_of config n) s m old new l (step_of old p.0 p.1) k
         by_state (IsStopped m) l =
-            let r = refuses_all keeps obeys file clock since failures plan counts kept (setup_of config n) s old new l.0 l.1 (step_of old p.0 p.1) (Err WantsMemory) k in
-            (r.0, r.1, still_refused keeps obeys file clock since failures plan counts kept (setup_of config n) s old new l.0 l.1 m (step_of old p.0 p.1) (Err WantsMemory) k l.2)
+            let r = refuses_all keeps obeys file clock since failures plan counts kept (setup_of config n) s old new l.0 l.1 (step_of old p.0 p.1)
+            (Err WantsMemory) k in (
+              r.0,
+              r.1,
+              still_refused keeps obeys file clock since failures plan counts kept (setup_of config n) s old new l.0 l.1 m (step_of old p.0 p.1)
+                  (Err WantsMemory) k l.2,
+            )
         by_state IsDown l = absurd l
     takes_starves p (Up old) (Down back) k h = absurd k
     takes_starves p (Down disk) (Up new) k h = absurd k

@@ -104,19 +104,25 @@ module _ {D : Type 0} (core : CoreView D) (setup : Setup) (f : Facts) (m : Memor
   value : core.facts.horizon ≤ at → at_time core.facts.installs k at ≡ at_time f.installs k at
   value h = (alike-keeps core.facts f alike).values k at h
 
+  abbrev shows : Reply
+  shows = Reply.Shows (at_time f.installs k at)
+
   replies : (result : Result Seen Fault) → IsLookBy (looks_of core) k at old new result → RepliesAs (look_view setup (view_of f m) k at) old new result
   replies (Ok seen) l = (
     at_time f.installs k at,
-    shows_so (owns setup k) (nat_lt at f.horizon) (nat_le at (safe m)) (Reply.Shows (at_time f.installs k at)) (here_is true l.0) (low l.1) (high l.2),
+    shows_so (owns setup k) (nat_lt at f.horizon) (nat_le at (safe m)) shows (here_is true l.0) (low l.1) (high l.2),
     subst (λ x. IsSeen x old new seen) (value l.1) l.3,
   )
-  replies (Err Stranger) l = stranger_so (owns setup k) (nat_lt at f.horizon) (nat_le at (safe m)) (Reply.Shows (at_time f.installs k at)) (here_is false l.0)
-  replies (Err TooOld) l = old_so (owns setup k) (nat_lt at f.horizon) (nat_le at (safe m)) (Reply.Shows (at_time f.installs k at)) (here_is true l.0) (below at f.horizon (subst (λ z. at < z) alike.horizon l.1))
+  replies (Err Stranger) l = stranger_so (owns setup k) (nat_lt at f.horizon) (nat_le at (safe m)) shows (here_is false l.0)
+  replies (Err TooOld) l =
+      old_so (owns setup k) (nat_lt at f.horizon) (nat_le at (safe m)) shows (here_is true l.0)
+      (below at f.horizon (subst (λ z. at < z) alike.horizon l.1))
   replies (Err NotYet) l =
-      later_so (owns setup k) (nat_lt at f.horizon) (nat_le at (safe m)) (Reply.Shows (at_time f.installs k at)) (here_is true l.0) (low l.1) (above at (safe m) (subst (λ z. safe z < at) memory l.2))
+      later_so (owns setup k) (nat_lt at f.horizon) (nat_le at (safe m)) shows (here_is true l.0) (low l.1)
+      (above at (safe m) (subst (λ z. safe z < at) memory l.2))
   replies (Err Room) l = (
     at_time f.installs k at,
-    shows_so (owns setup k) (nat_lt at f.horizon) (nat_le at (safe m)) (Reply.Shows (at_time f.installs k at)) (here_is true l.0) (low l.1) (high l.2),
+    shows_so (owns setup k) (nat_lt at f.horizon) (nat_le at (safe m)) shows (here_is true l.0) (low l.1) (high l.2),
     subst (λ x. IsOver x (length old)) (value l.1) l.3,
   )
   replies (Err _) l = absurd l
