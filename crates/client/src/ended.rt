@@ -6,6 +6,7 @@ ghost use Rattle.client.specs.Ends.{ended_of};
 
 use message::Done;
 use session::{Closed, Finished, Tx};
+use std::alloc::AllocError;
 use units::{Fault, Reason, ShardNo, Stamp, TxnId};
 
 /// How a transaction ended.
@@ -43,6 +44,17 @@ impl From<Fault> for Halt {
             Fault::BadRequest(Reason::Doomed) => Halt::Again,
             _ => Halt::Refused(fault),
         }
+    }
+}
+
+impl From<AllocError> for Halt {
+    ghost use Rattle.units.specs.declared.fault.Fault.TheVariants.{Memory};
+    ghost use Rattle.client.specs.Ends.{halt_for};
+
+    ghost from_gives = { λ _ halt. halt ≡ halt_for Memory };
+
+    fn from(_error: AllocError) -> Halt {
+        Halt::Refused(Fault::Memory)
     }
 }
 

@@ -9,7 +9,7 @@ ghost use Rattle.client.specs.declared.ended.Ended.TheVariants.{Committed};
 
 use crate::ended::end_of;
 use crate::hearing::Hearing;
-use crate::{Ended, Halt, Wire};
+use crate::{Ended, Halt, InDoubt, Wire};
 use letters::Refused;
 use message::{Address, Done};
 use session::{Closed, Closing, Ongoing, Open, Tx};
@@ -104,7 +104,7 @@ impl<'s, R: Wait + time::Clock> Wire<'_, 's, R> {
                 match self.await_end(&tx) {
                     Some(done) => end_of(tx, &done),
                     None => {
-                        tx.spend();
+                        self.keep(InDoubt { tx });
                         Ended::Unknown(txn)
                     }
                 }
@@ -116,9 +116,9 @@ impl<'s, R: Wait + time::Clock> Wire<'_, 's, R> {
         }
     }
 
-    // Waits for the end, and asks for it after each silence. There is none if it does not come, or if a shard's refusal says that to wait on
-    // is in vain.
-    fn await_end<S: Closed>(&mut self, tx: &Tx<'s, S>) -> Option<Done>
+    /// Waits for the end, and asks for it after each silence. There is none if it does not come, or if a shard's refusal says that to wait on
+    /// is in vain.
+    pub(crate) fn await_end<S: Closed>(&mut self, tx: &Tx<'s, S>) -> Option<Done>
         ensures sent { (n : ℕ) × (self.new.sent ≡
             self.old.sent ++ times n (closing_messages tx.now.splits tx.now.client)) }
         ensures heard { (heard : List End) × (self.new.heard ≡ self.old.heard ++ heard)
@@ -168,8 +168,8 @@ impl<'s, R: Wait + time::Clock> Wire<'_, 's, R> {
         decides
     }
 
-    // Sends the messages of the closing once more, if there is memory.
-    fn ask_again<S: Closed>(&mut self, tx: &Tx<'s, S>)
+    /// Sends the messages of the closing once more, if there is memory.
+    pub(crate) fn ask_again<S: Closed>(&mut self, tx: &Tx<'s, S>)
         ensures sent { (n : ℕ) × (self.new.sent ≡
             self.old.sent ++ times n (closing_messages tx.now.splits tx.now.client)) }
         ensures heard { self.new.heard ≡ self.old.heard }

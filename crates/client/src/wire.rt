@@ -4,9 +4,9 @@ ghost use Rattle.std.specs.Prelude.{◌^◌, length};
 ghost use Rattle.session.specs.Sessions.{begun};
 ghost use Rattle.client.specs.Ends.{end_heard};
 
-use crate::Stop;
 use crate::hearing::Hearing;
 use crate::patience::Patience;
+use crate::{InDoubt, Stop};
 use crossbeam_channel::Receiver;
 use growing::Growing;
 use letters::{Network, Reply, UnderWay};
@@ -38,6 +38,8 @@ pub struct Wire<'r, 's, R> {
     patience: Patience,
     txn: Option<TxnId>,
     closes: bool,
+    // The last transaction whose end nobody told.
+    doubt: Option<InDoubt<'s>>,
     sent: Growing<Envelope>,
     heard: Growing<Done>,
 }
@@ -76,6 +78,7 @@ impl<'r, 's, R> Wire<'r, 's, R> {
             patience: Patience::new(patience, None),
             txn: None,
             closes: false,
+            doubt: None,
             sent,
             heard,
         }
@@ -106,6 +109,25 @@ impl<'r, 's, R> Wire<'r, 's, R> {
         ensures { self.new ≡ self.old }
     {
         self.patience = self.patience.insistent();
+    }
+
+    /// Keeps a transaction whose end nobody told, so that it can be asked for later.
+    pub(crate) fn keep(&mut self, doubt: InDoubt<'s>)
+        ensures { self.new ≡ self.old }
+    {
+        self.doubt = Some(doubt);
+    }
+
+    /// Hands out the last transaction that closed over this wire and whose end nobody told: none, or what `ask` needs.
+    pub fn take_doubt(&mut self) -> Option<InDoubt<'s>>
+        ensures { self.new ≡ self.old }
+    {
+        self.doubt.take()
+    }
+
+    /// Tells whether a shard has said that the transaction is decided.
+    pub(crate) fn is_decided(&self) -> bool {
+        self.patience.decided
     }
 
     // Nothing was heard.
@@ -197,6 +219,15 @@ impl<'s, R: Wait + time::Clock> Wire<'_, 's, R> {
         self.txn = Some(tx.txn());
         self.listen_anew();
         Ok(tx)
+    }
+
+    /// Has what comes for a transaction that closed come to this client, and begins to wait for its end.
+    pub(crate) fn attend(&mut self, txn: TxnId)
+        ensures { self.new ≡ self.old }
+    {
+        self.network.run(self.rt, self.number, txn);
+        self.txn = Some(txn);
+        self.insist();
     }
 
     /// Waits for a message, or the word that a letter was refused.

@@ -49,8 +49,8 @@ returns-in-None g c =
     c.in-Ok.ensures.splits c.in-Ok.ensures.client c.in-Ok.ensures.step.1 (ap (λ (t : Traffic). t.sent) listens ∙ c.send_all.ensures.sent) asked in (
       sent.0,
       heard.0,
-      sent.1,
-      heard.1 ∙ ap (λ (l : List End). l ++ heard.0) (ap (λ (t : Traffic). t.heard) listens ∙ c.send_all.ensures.heard),
+      ap (λ (t : Traffic). t.sent) c.keep.ensures ∙ sent.1,
+      ap (λ (t : Traffic). t.heard) c.keep.ensures ∙ (heard.1 ∙ ap (λ (l : List End). l ++ heard.0) (ap (λ (t : Traffic). t.heard) listens ∙ c.send_all.ensures.heard)),
       inr sent.2,
       (c.txn-txn.ensures, subst (λ (t : Id). WasNotHeard t heard.0) (ap (λ (k : Client). k.txn) c.in-Ok.ensures.client) heard.2),
     )
