@@ -1,11 +1,14 @@
 //! Whether the logs of a store are of one store and one moment.
-ghost use Rattle.std.specs.Prelude.{◌≡◌, ◌≤◌, IfErr};
+ghost use Rattle.std.specs.Prelude.{◌≡◌, ◌≤◌, IfErr, map};
 ghost use Rattle.host_files.specs.Folders.{IsFolderFault};
+ghost use Rattle.units.specs.Lists.{greatest};
 
 use crate::names::{Name, StoreFolder};
+use crate::newest::Newest;
 use crate::owners::all_fit;
 use crate::refused::Refused;
 use crate::shards::numbered;
+use disk::Disk;
 use facts::{Facts, Status};
 use gatelog::{Entry, GateLog};
 use std::alloc::Global;
@@ -13,15 +16,17 @@ use std::fs::File;
 use std::rt::Files;
 use units::{Fault, Parts, ShardNo, Splits, Stamp, TxnId};
 
-// What the log of a shard says of transactions, and the offset at which its records end.
+/// What the log of a shard says of transactions, and the offset at which its records end.
 #[derive(Drop)]
-struct Known {
-    facts: Facts,
-    end: u64,
+pub struct Known {
+    /// What its records say, one after the other.
+    pub facts: Facts,
+    /// The offset of its closed gate.
+    pub end: u64,
 }
 
 /// Checks what the opening of one shard cannot: that the logs of a store are of one store and one moment. It reads them all, and writes
-/// nothing. A log is refused for the first of these that is wrong:
+/// nothing. It gives the greatest timestamp of all of them. A log is refused for the first of these that is wrong:
 ///
 /// - it is no log, or damaged, or one of its records is of another shard or does not follow those before it;
 /// - it lacks the promise of a part of a commit, or the commit of an outcome, that the log of another shard tells of;
@@ -33,20 +38,68 @@ pub fn agree<R: Files<File = File>>(
     folder: &StoreFolder<'_, R>,
     alloc: Global,
     splits: &Splits,
-) -> Result<(), Refused>
+) -> Result<Newest, Refused>
     ensures { IfErr result (λ refused. IsFolderFault refused.fault) }
 {
     let mut all = Vec::new(alloc);
     for shard in 0..splits.as_slice().len() + 1 {
         all.push(known_in(folder, alloc, splits, shard)?)?;
     }
-    for one in &all {
-        let ids = one.facts.ids(alloc)?;
-        let backed = is_backed(one, &ids, &all);
-        drop(ids);
-        backed?;
+    check_agreement(alloc, &all)?;
+    Ok(newest_of(&all))
+}
+
+/// Checks that some logs, by their shards, are of one store and one moment (`agree`).
+pub fn check_agreement(alloc: Global, all: &[Known]) -> Result<(), Refused>
+    ensures { IfErr result (λ refused. IsFolderFault refused.fault) }
+{
+    match first_lack(alloc, all) {
+        Ok(None) => Ok(()),
+        Ok(Some(lack)) => Err(Refused::older(lack.shard, lack.end, lack.than)),
+        Err(fault) => Err(Refused::from(fault)),
     }
-    Ok(())
+}
+
+// The log of a shard, whose records end at this offset, lacks what the log of another one says of it.
+#[derive(Clone, Copy)]
+struct Lack {
+    shard: usize,
+    end: u64,
+    than: ShardNo,
+}
+
+// The first of some logs that lacks something, if one does.
+fn first_lack(alloc: Global, all: &[Known]) -> Result<Option<Lack>, Fault>
+    ensures { IfErr result IsFolderFault }
+{
+    for one in all {
+        let ids = one.facts.ids(alloc)?;
+        let lack = lack_beside(one, &ids, all);
+        drop(ids);
+        if lack.is_some() {
+            return Ok(lack);
+        }
+    }
+    Ok(None)
+}
+
+// The greatest timestamp of some logs.
+fn newest_of(all: &[Known]) -> Newest
+    ensures { result.at ≡ greatest (map (λ one. one.facts.facts.floor) all.now) }
+{
+    let mut newest = Newest {
+        shard: numbered(0),
+        at: Stamp::zero(),
+    };
+    for one in all {
+        if newest.at < one.facts.floor() {
+            newest = Newest {
+                shard: one.facts.shard(),
+                at: one.facts.floor(),
+            };
+        }
+    }
+    newest
 }
 
 // What the log of a shard says.
@@ -60,19 +113,33 @@ fn known_in<R: Files<File = File>>(
     ensures { IfErr result (λ refused. IsFolderFault refused.fault) }
 {
     let file = Name::Log(shard);
-    let (gate_log, entries) = match GateLog::open(alloc, folder.read_log(file)?) {
+    match known_on(alloc, folder.read_log(file)?, splits, shard) {
+        Ok(known) => Ok(known),
+        Err(fault) => Err(Refused::from(fault).of(file)),
+    }
+}
+
+/// Reads what the log on a disk says. It is refused if it is no log of this shard, or if its records do not follow one another.
+pub fn known_on<D: Disk + Drop>(
+    alloc: Global,
+    disk: D,
+    splits: &Splits,
+    shard: usize,
+) -> Result<Known, Fault>
+    requires { shard ≤ 15 }
+    ensures { IfErr result IsFolderFault }
+{
+    let (gate_log, entries) = match GateLog::open(alloc, disk) {
         Ok(opened) => opened,
         Err((fault, disk)) => {
             drop(disk);
-            return Err(Refused::from(fault).of(file));
+            return Err(fault);
         }
     };
     let end = gate_log.gate();
     drop(gate_log.into_disk());
-    match learnt(alloc, splits, numbered(shard), entries) {
-        Ok(facts) => Ok(Known { facts, end }),
-        Err(fault) => Err(Refused::from(fault).of(file)),
-    }
+    let facts = learnt(alloc, splits, numbered(shard), entries)?;
+    Ok(Known { facts, end })
 }
 
 // The facts of some entries, if they are those of a log of this shard.
@@ -97,18 +164,20 @@ fn learnt(
     Ok(facts)
 }
 
-// Each other log holds what this one says of it.
-fn is_backed(one: &Known, ids: &[TxnId], all: &[Known]) -> Result<(), Refused>
-    ensures { IfErr result (λ refused. IsFolderFault refused.fault) }
-{
+// The first log that lacks what this one says of it, if one does.
+fn lack_beside(one: &Known, ids: &[TxnId], all: &[Known]) -> Option<Lack> {
     let shard = one.facts.shard();
     for other in all {
         let number = other.facts.shard();
         if number != shard && (is_new_beside(one, ids, other) || lacks(one, ids, other)) {
-            return Err(Refused::older(usize::from(number.number()), other.end, shard));
+            return Some(Lack {
+                shard: usize::from(number.number()),
+                end: other.end,
+                than: shard,
+            });
         }
     }
-    Ok(())
+    None
 }
 
 // A log holds no record, and another one tells that its shard has served: each shard of a store is opened before that.

@@ -186,8 +186,11 @@ fn holds<R: Files<File = File>>(
     }
 }
 
-// The folder gets its manifest, which is whole before it has its name.
-fn tell<R: Files<File = File>>(folder: &mut StoreFolder<'_, R>, text: &str) -> Result<(), Refused>
+/// Gives the folder its manifest, which is whole before it has its name.
+pub fn tell<R: Files<File = File>>(
+    folder: &mut StoreFolder<'_, R>,
+    text: &str,
+) -> Result<(), Refused>
     ensures synced { OnOk result (IsTrue (names_are_synced folder.new)) }
     ensures refused { IfErr result IsFolderRefusal }
 {

@@ -1,7 +1,8 @@
 //! The machine's files, as commands ask for them.
-use crate::folder::{Expected, refusal_in};
+use crate::folder::{Expected, refusal_at};
 use crate::log_file::{LogFile, at_one_moment};
 use crate::names::read_front;
+use crate::newest::Limit;
 use filedisk::Cause;
 use std::alloc::Global;
 use std::cell::Cell;
@@ -18,6 +19,8 @@ pub struct HostFiles<'r, R> {
     pub rt: &'r R,
     /// Standard error is a terminal.
     pub is_watched: bool,
+    /// How far the logs of a store may be ahead of the clock, if that is limited: a store that is farther ahead is told as refused.
+    pub limit: Option<Limit>,
     /// Why the last file that was to be made was not.
     unmade: Cell<Option<Cause>>,
 }
@@ -28,6 +31,7 @@ impl<'r, R> HostFiles<'r, R> {
         HostFiles {
             rt,
             is_watched,
+            limit: None,
             unmade: Cell::new(None),
         }
     }
@@ -70,7 +74,7 @@ impl<R: rt::Files<File = File> + Eprint> Files for HostFiles<'_, R> {
     }
 
     fn why_unopened(&self, alloc: Global, folder: &str, splits: &Splits) -> Option<String> {
-        let refused = refusal_in(self.rt, alloc, folder, splits, Expected::Either)?;
+        let refused = refusal_at(self.rt, alloc, folder, splits, Expected::Either, self.limit)?;
         match (refused.file, refused.why) {
             (Some(file), Some(why)) => format!(in alloc; "{folder}/{file}: {why}").ok(),
             (Some(file), None) => format!(in alloc; "{folder}/{file}").ok(),

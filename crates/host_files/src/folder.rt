@@ -13,6 +13,7 @@ use crate::agreeing::agree;
 use crate::beginning::{begin, may_begin};
 use crate::manifest::{MOST_MANIFEST, is_manifest_of};
 use crate::names::{Kind, Name, StoreFolder};
+use crate::newest::{Limit, Newest};
 use crate::owners::first_fits;
 use crate::refused::Refused;
 use crate::shards::numbered;
@@ -52,6 +53,15 @@ impl Expected {
     }
 }
 
+/// The logs of a store in a folder, by shard, and the greatest timestamp in them.
+#[derive(Drop)]
+pub struct FoundLogs {
+    /// The logs, one more than there are splits.
+    pub disks: Vec<FileDisk>,
+    /// Their greatest timestamp.
+    pub newest: Newest,
+}
+
 /// Opens and locks the logs of a store in a folder: `shard-0.log` and so on, one more than there are splits. The folder has to be there. It
 /// is locked until this returns. What is expected there is checked first.
 ///
@@ -87,10 +97,27 @@ pub fn logs_in<R: Files<File = File> + RandomSource>(
         (λ logs. All (λ log. file_is_changed log ≡ false) logs.items) }
     ensures refused { IfErr result IsFolderRefusal }
 {
+    let FoundLogs { disks, .. } = found_in(rt, alloc, folder, splits, expected)?;
+    Ok(disks)
+}
+
+/// The same, with the greatest timestamp of the logs, so that a caller can compare it with a clock before anything is written to them.
+pub fn found_in<R: Files<File = File> + RandomSource>(
+    rt: &R,
+    alloc: Global,
+    folder: &str,
+    splits: &Splits,
+    expected: Expected,
+) -> Result<FoundLogs, Refused>
+    ensures all { IfOk result (λ found. length found.disks.items ≡ length splits.now + 1) }
+    ensures unchanged { IfOk result
+        (λ found. All (λ log. file_is_changed log ≡ false) found.disks.items) }
+    ensures refused { IfErr result IsFolderRefusal }
+{
     let mut folder = StoreFolder::lock(rt, alloc, folder)?;
-    let logs = logs_of(&mut folder, rt, alloc, splits, expected);
+    let found = logs_of(&mut folder, rt, alloc, splits, expected);
     drop(folder);
-    logs
+    found
 }
 
 // The same in a folder that is locked.
@@ -100,10 +127,10 @@ fn logs_of<R: Files<File = File> + RandomSource>(
     alloc: Global,
     splits: &Splits,
     expected: Expected,
-) -> Result<Vec<FileDisk>, Refused>
-    ensures all { IfOk result (λ logs. length logs.items ≡ length splits.now + 1) }
+) -> Result<FoundLogs, Refused>
+    ensures all { IfOk result (λ found. length found.disks.items ≡ length splits.now + 1) }
     ensures unchanged { IfOk result
-        (λ logs. All (λ log. file_is_changed log ≡ false) logs.items) }
+        (λ found. All (λ log. file_is_changed log ≡ false) found.disks.items) }
     ensures synced { OnOk result (IsTrue (names_are_synced folder.new)) }
     ensures refused { IfErr result IsFolderRefusal }
 {
@@ -111,9 +138,14 @@ fn logs_of<R: Files<File = File> + RandomSource>(
         begin(folder, alloc, splits, drawn(rt)?)?;
     }
     name_all(folder, splits)?;
-    let logs = open_all(folder, alloc, splits)?;
-    agree(folder, alloc, splits)?;
-    Ok(logs)
+    let disks = open_all(folder, alloc, splits)?;
+    match agree(folder, alloc, splits) {
+        Ok(newest) => Ok(FoundLogs { disks, newest }),
+        Err(refused) => {
+            drop(disks);
+            Err(refused)
+        }
+    }
 }
 
 // Whether there is a manifest, as expected. It is then that of a store with these splits.
@@ -241,31 +273,48 @@ pub fn refusal_in<R: Files<File = File>>(
     splits: &Splits,
     expected: Expected,
 ) -> Option<Refused> {
+    refusal_at(rt, alloc, folder, splits, expected, None)
+}
+
+/// The same. If there is a limit, logs that are farther ahead of its present are refused too.
+pub fn refusal_at<R: Files<File = File>>(
+    rt: &R,
+    alloc: Global,
+    folder: &str,
+    splits: &Splits,
+    expected: Expected,
+    limit: Option<Limit>,
+) -> Option<Refused> {
     match StoreFolder::lock(rt, alloc, folder) {
         Ok(folder) => {
             let looked = look(&folder, alloc, splits, expected);
             drop(folder);
-            looked.err()
+            match (looked, limit) {
+                (Err(refused), _) => Some(refused),
+                (Ok(Some(newest)), Some(limit)) => limit.check(newest).err(),
+                _ => None,
+            }
         }
         Err(refused) => Some(refused),
     }
 }
 
-// Looks at the logs of a store, if it has a manifest; else at what is there without one.
+// Looks at the logs of a store, if it has a manifest, for their greatest timestamp; else at what is there without one.
 fn look<R: Files<File = File>>(
     folder: &StoreFolder<'_, R>,
     alloc: Global,
     splits: &Splits,
     expected: Expected,
-) -> Result<(), Refused>
+) -> Result<Option<Newest>, Refused>
     ensures { IfErr result IsFolderRefusal }
 {
     if !is_known(folder, alloc, splits, expected)? {
-        return may_begin(folder, alloc, splits);
+        may_begin(folder, alloc, splits)?;
+        return Ok(None);
     }
     missing_logs(folder, splits)?;
     drop(open_all(folder, alloc, splits)?);
-    agree(folder, alloc, splits)
+    Ok(Some(agree(folder, alloc, splits)?))
 }
 
 /// Makes new logs on disks in memory, one for each shard.

@@ -3,19 +3,24 @@
 
 mod agreeing;
 mod beginning;
+mod copying;
 mod files;
 mod folder;
 mod log_file;
 mod manifest;
 mod names;
+mod newest;
 mod owners;
 mod refused;
 mod shards;
 mod walking;
 
+pub use agreeing::{Known, check_agreement, known_on};
+pub use copying::Copying;
 pub use files::HostFiles;
-pub use folder::{Expected, logs_in, logs_in_memory, refusal_in};
+pub use folder::{Expected, FoundLogs, found_in, logs_in, logs_in_memory, refusal_at, refusal_in};
 pub use log_file::{LogFile, at_one_moment};
 pub use manifest::manifest_text;
 pub use names::Name;
+pub use newest::{Limit, Newest};
 pub use refused::{Refused, Why};

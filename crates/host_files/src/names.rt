@@ -29,6 +29,8 @@ pub enum Name {
     Log(usize),
     /// The draft of the log of a shard.
     LogDraft(usize),
+    /// The log of a shard while it is copied from another folder, `shard-0.log.copy`.
+    LogCopy(usize),
 }
 
 impl fmt::Display for Name {
@@ -38,6 +40,7 @@ impl fmt::Display for Name {
             Name::ManifestDraft => f.write_str("store.toml.new"),
             Name::Log(shard) => write!(f, "shard-{shard}.log"),
             Name::LogDraft(shard) => write!(f, "shard-{shard}.log.new"),
+            Name::LogCopy(shard) => write!(f, "shard-{shard}.log.copy"),
         }
     }
 }

@@ -1,5 +1,5 @@
 //! Why the files of a store are refused.
-ghost use Rattle.std.specs.Prelude.{◌≡◌};
+ghost use Rattle.std.specs.Prelude.{◌≡◌, Some};
 
 use crate::names::Name;
 use filedisk::Cause;
@@ -28,6 +28,8 @@ pub enum Why {
     Older(ShardNo),
     /// The folder has no manifest, so it holds no store.
     NoStore,
+    /// Its greatest timestamp lies this many microseconds ahead of the clock: set the clock right, or wait.
+    Ahead(u64),
 }
 
 impl Refused {
@@ -50,7 +52,7 @@ impl Refused {
     /// Tells whose log the file is, if it is a log or the draft of one.
     pub fn shard(&self) -> Option<ShardNo> {
         match self.file {
-            Some(Name::Log(shard) | Name::LogDraft(shard)) => {
+            Some(Name::Log(shard) | Name::LogDraft(shard) | Name::LogCopy(shard)) => {
                 u8::try_from(shard).ok().and_then(ShardNo::new)
             }
             _ => None,
@@ -82,6 +84,20 @@ impl Refused {
             fault: Fault::Damaged { offset },
             file: Some(Name::Log(shard)),
             why: Some(Why::Older(than)),
+        }
+    }
+}
+
+impl Refused {
+    /// Refuses the log of a shard whose greatest timestamp lies this many microseconds ahead of the clock.
+    pub fn ahead(shard: ShardNo, micros: u64) -> Refused
+        ensures fault { result.fault ≡ Fault.Future }
+        ensures why { result.why ≡ Some (Why.Ahead micros) }
+    {
+        Refused {
+            fault: Fault::Future,
+            file: Some(Name::Log(usize::from(shard.number()))),
+            why: Some(Why::Ahead(micros)),
         }
     }
 }
@@ -143,6 +159,7 @@ impl fmt::Display for Why {
             Why::System(cause) => write!(f, "{cause}"),
             Why::Older(shard) => write!(f, "is older than shard {shard} says"),
             Why::NoStore => f.write_str("no store is there"),
+            Why::Ahead(micros) => write!(f, "is {micros} microseconds ahead of the clock"),
         }
     }
 }
