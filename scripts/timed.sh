@@ -82,6 +82,7 @@ parts="$parts, edits from $(minutes "$first") until $(minutes "$edits"), runs un
 echo "time: $parts"
 echo "time: $(minutes "$whole") on $(nproc) processors, of which (user, system) $(sed -n 2p "$room/times")"
 printf '%s\n' "${last-}"
+[ -x "$(dirname "$(rt doc | head -n 1)")/toolchain/bin/clang" ] || echo 'refused_memory: NOT TRIED, since the kit has no clang'
 if [ -n "${misused:-}" ]; then
     echo 'misuse: FAILED'
     exit 1
