@@ -1,5 +1,6 @@
 pub mod Agrees
 pub mod Appends
+pub mod Beginnings
 pub mod Booked
 pub mod Carried
 pub mod Commits

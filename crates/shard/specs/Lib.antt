@@ -1,6 +1,7 @@
 pub mod Logs
 pub mod Agrees
 pub mod Armed
+pub mod Beginnings
 pub mod On
 pub mod Due
 pub mod Booked
@@ -8,6 +9,7 @@ pub mod Settled
 pub mod Staged
 pub mod Core
 pub mod Look
+pub mod Moved
 pub mod Opened
 pub mod Taking
 pub mod Turned

@@ -9,6 +9,7 @@ ghost use Rattle.gatelog.specs.Groups.{group_bytes};
 ghost use Rattle.shard.specs.Groups.{Arrival, HasHalted, HasSteppedAll, IsAheadOf, IsLeftOut, IsSince, and_taken, batch_of};
 ghost use Rattle.shard.specs.On.{CoreView, step_of};
 
+use crate::begun::Begun;
 use crate::halted::Halted;
 use crate::lead::Lead;
 use crate::planning::plan_due;
@@ -26,6 +27,7 @@ pub struct Ahead<D: Disk> {
     pub(crate) outboxes: Vec<Outbox>,
     pub(crate) served: Stamp,
     pub(crate) versions: usize,
+    pub(crate) begun: Begun,
     ghost since: { ∥ IsSince served versions lead.state.facts lead.state.memory ∥₁ },
     ghost bookless: { ∥ lead.state.setup.book ≡ Off ∥₁ },
 }
@@ -47,7 +49,11 @@ impl<D: Disk> Core<D> {
         if self.book.is_some() {
             return Err(self);
         }
-        let Core { machine, book } = self;
+        let Core {
+            machine,
+            book,
+            begun,
+        } = self;
         drop(book);
         let served = machine.state.safe();
         let versions = machine.state.installs().len();
@@ -57,6 +63,7 @@ impl<D: Disk> Core<D> {
             outboxes: Vec::new(alloc),
             served,
             versions,
+            begun,
         })
     }
 }
@@ -134,12 +141,14 @@ impl<D: Disk> Ahead<D> {
             outboxes,
             served,
             versions,
+            begun,
         } = self;
         match lead.land() {
             Ok(machine) => Ok((
                 Core {
                     machine,
                     book: None,
+                    begun,
                 },
                 outboxes,
             )),

@@ -3,12 +3,14 @@
 
 mod addressing;
 mod ahead;
+mod begun;
 mod booking;
 mod halted;
 mod inputs;
 mod lead;
 mod logging;
 mod machine;
+mod moving;
 mod opening;
 mod planning;
 mod shard_core;
@@ -16,6 +18,7 @@ mod staging;
 mod turning;
 
 pub use ahead::Ahead;
+pub use begun::Begun;
 pub use halted::Halted;
 pub use message::Input;
 pub use shard_core::Core;

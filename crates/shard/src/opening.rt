@@ -4,10 +4,12 @@ ghost use Rattle.std.specs.List.{list_all};
 ghost use Rattle.book.specs.Books.{new_book};
 ghost use Rattle.protocol.specs.Showable.{record_ascends};
 ghost use Rattle.record.specs.Accepted.{Accepted, taken};
+ghost use Rattle.shard.specs.Beginnings.{begun_in, found_in};
 ghost use Rattle.recovery.specs.Recovered.{IsRebuilt, IsSoundlyRebuilt, fault_in, items};
 ghost use Rattle.recovery.specs.Taken.{taken_by, setup_of};
 ghost use Rattle.units.specs.declared.setup.Setup.{Setup};
 
+use crate::begun::{Begun, Found};
 use crate::booking::book_of_records;
 use book::Book;
 use gatelog::{Entry, Sink};
@@ -23,9 +25,11 @@ pub(crate) struct Opening {
     rebuild: Rebuild,
     setting: Setting,
     found: Vec<Record>,
+    begun: Found,
     ghost told: { setting ≡ (setup_of rebuild).book },
     ghost noted: { new_book setting found.items ≡ new_book setting (items (taken_by rebuild)) },
     ghost ascends: { IsTrue (list_all (λ e. record_ascends e.item) (taken_by rebuild)) },
+    ghost begins: { begun ≡ found_in (taken_by rebuild) },
 }
 
 impl Opening {
@@ -41,7 +45,15 @@ impl Opening {
             rebuild: Rebuild::new(alloc, setup)?,
             setting: setup.book,
             found: Vec::new(alloc),
+            begun: Found::nothing(),
         })
+    }
+
+    /// Tells where the log begins, which ends at this gate.
+    pub(crate) fn begun(&self, gate: u64) -> Begun
+        ensures { result ≡ begun_in (entries_in self.now) gate }
+    {
+        self.begun.up_to(gate)
     }
 
     /// Returns the state that the records leave and the book that is begun, or why the log is refused.
@@ -60,6 +72,7 @@ impl Opening {
             rebuild,
             setting,
             found,
+            begun: _,
         } = self;
         let state = match rebuild.finish() {
             Ok(state) => state,
@@ -85,6 +98,7 @@ impl Opening {
             rebuild,
             setting: _,
             found,
+            begun: _,
         } = self;
         rebuild.stop();
         drop(found);
@@ -102,10 +116,12 @@ impl Sink for Opening {
 
     fn take(&mut self, alloc: Global, entry: Entry) -> Result<(), Fault> {
         record_ascends(entry.item());
+        let begun = self.begun.and(&entry);
         if let Setting::On(_) = self.setting {
             let copy = entry.item().copy(alloc)?;
             self.found.push(copy)?;
         }
+        self.begun = begun;
         self.rebuild.take_over(alloc, entry)
     }
 }

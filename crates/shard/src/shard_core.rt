@@ -1,11 +1,12 @@
 //! The core of a shard.
-ghost use Rattle.std.specs.Prelude.{◌≡◌, ◌⊎◌, ◌<◌, ◌^◌, [], ◌∷◌, Ok, IsFalse, IfOk, IfErr, length, ◌≤◌, List, ℕ};
+ghost use Rattle.std.specs.Prelude.{◌≡◌, ◌⊎◌, ◌<◌, ◌^◌, [], ◌∷◌, Ok, Err, IsFalse, IfOk, IfErr, length, ◌≤◌, List, ℕ};
 ghost use Rattle.std.specs.Option.{option_copied};
 ghost use Rattle.disk.specs.File.{surface};
 ghost use Rattle.disk.specs.Image.{MayLeave};
 ghost use Rattle.disk.specs.Moments.{LeavesOnly};
 ghost use Rattle.disk.specs.Planned.{armed};
 ghost use Rattle.book.specs.Books.{HasBookRoom, IsBookFull, IsBookOf, new_book};
+ghost use Rattle.gatelog.specs.Slots.{slot_count};
 ghost use Rattle.memory.specs.Kept.{start_of};
 ghost use Rattle.memory.specs.Plans.{plan_of};
 ghost use Rattle.protocol.specs.Rows.{claims};
@@ -16,6 +17,7 @@ ghost use Rattle.units.specs.Lists.{gather};
 ghost use Rattle.protocol.specs.Showable.{IsShowable};
 ghost use Rattle.shard.specs.Agrees.{AgreesWithLog};
 ghost use Rattle.shard.specs.Armed.{HasPlace};
+ghost use Rattle.shard.specs.Beginnings.{IsBegunIn};
 ghost use Rattle.shard.specs.Booked.{HasEntered, IsCrowded, IsFirst, stand_of};
 ghost use Rattle.shard.specs.Due.{IsDue};
 ghost use Rattle.shard.specs.Logs.{records_in, KeepsRecords};
@@ -28,6 +30,7 @@ ghost use Rattle.shard.specs.Look.{IsLook, safe_at};
 ghost use Rattle.shard.specs.Settled.{IsDurablySettled};
 ghost use Rattle.units.specs.Locks.{ready};
 
+use crate::begun::Begun;
 use crate::booking::write_page;
 use crate::machine::Machine;
 use crate::opening::Opening;
@@ -48,11 +51,12 @@ use units::{Epoch, Fault, Install, Key, Seen, Setup, Stamp, TxnId, may_look, sho
 pub struct Core<D: Disk> {
     pub(crate) machine: Machine<D>,
     pub(crate) book: Option<Book>,
+    pub(crate) begun: Begun,
     ghost replays: { ∥ IsBookOf machine.state.setup book (record { facts = machine.state.facts; memory = machine.state.memory }) ∥₁ },
 }
 
 impl<D: Disk> Core<D> {
-    ghost use Rattle.shard.specs.Core.{seen, seen_machine, book_of};
+    ghost use Rattle.shard.specs.Core.{seen, seen_machine, book_of, begun_of};
 
     /// Opens the log of a disk: it rebuilds the state from the records, and logs the next opening. A refusal returns the disk. It is
     /// `Memory`, `Device`, or `NotALog`, `Damaged` or `Stranger` if the file holds no log of this shard. `TimeSpent` says that no epoch is
@@ -66,6 +70,8 @@ impl<D: Disk> Core<D> {
             (λ core. D.keeps_model → (records : List Record)
             → records_in (surface (D.file disk)).seen ≡ Ok records
             → book_of core ≡ new_book setup.book records) }
+        ensures begun { IfOk result (λ core. D.keeps_model
+            → IsBegunIn (surface (D.file disk)).seen (begun_of core)) }
         ensures refused { IfErr result
             (λ refused. HasNotOpened D.keeps_model D.obeys D.file D.clock D.since D.failures D.plan
             disk setup refused.0 refused.1) }
@@ -86,10 +92,15 @@ impl<D: Disk> Core<D> {
                 return Err(refused);
             }
         };
+        let begun = opening.begun(gate_log.gate());
         match opening.finish(alloc) {
             Ok((state, book)) => match state {
-                Some(state) => Core::with_book(Machine::take_up(alloc, gate_log, state), book),
-                None => Core::with_book(Machine::begin(alloc, gate_log, setup), book),
+                Some(state) => Core::with_book(
+                    Machine::take_up(alloc, gate_log, state),
+                    book,
+                    begun,
+                ),
+                None => Core::with_book(Machine::begin(alloc, gate_log, setup), book, begun),
             },
             Err(fault) => Err((fault, gate_log.into_disk())),
         }
@@ -99,14 +110,20 @@ impl<D: Disk> Core<D> {
     fn with_book(
         made: Result<Machine<D>, (Fault, D)>,
         book: Option<Book>,
+        begun: Begun,
     ) -> Result<Core<D>, (Fault, D)>
         requires { IfOk made (λ machine. ∥ IsBookOf (seen_machine machine).setup book
             (stand_of (seen_machine machine)) ∥₁) }
         ensures made { IfOk result (λ core. (made ≡ Ok core.machine) × (book_of core ≡ book)) }
+        ensures begun { IfOk result (λ core. begun_of core ≡ begun) }
         ensures refused { IfErr result (λ refused. made ≡ Err refused) }
     {
         match made {
-            Ok(machine) => Ok(Core { machine, book }),
+            Ok(machine) => Ok(Core {
+                machine,
+                book,
+                begun,
+            }),
             Err(refused) => {
                 drop(book);
                 Err(refused)
@@ -138,11 +155,13 @@ impl<D: Disk> Core<D> {
 
     /// Turns the log over: it writes a renewed log of the core's facts into a new area of the file, which the next slot then names. The
     /// state and the book stay as they are. All memory is taken before the file is changed. `TimeSpent` if no slot is left, or the file
-    /// would grow beyond 2^40 bytes.
+    /// would grow beyond 2^40 bytes. If no slot is left, no record is made.
     pub fn turn_over(&mut self, alloc: Global) -> Result<(), Fault>
         ensures turned { HasTurned D.keeps_model D.obeys D.file D.clock D.since D.failures D.plan
             (seen self.old) (seen self.new) result }
         ensures book { book_of self.new ≡ book_of self.old }
+        ensures spent { IsFalse (seen self.old).stopped → slot_count ≤ (seen self.old).slot
+            → result ≡ Err Fault.TimeSpent }
     {
         self.machine.turn_over(alloc)
     }
@@ -267,6 +286,13 @@ impl<D: Disk> Core<D> {
         self.machine.gate_log.gate()
     }
 
+    /// Tells where the log began when it was opened.
+    pub fn begun(&self) -> Begun
+        ensures { result ≡ begun_of self.now }
+    {
+        self.begun
+    }
+
     /// Returns the epoch: how often the log was opened.
     pub fn epoch(&self) -> Epoch
         ensures { result ≡ (seen self.now).facts.epoch }
@@ -321,7 +347,11 @@ impl<D: Disk> Core<D> {
     pub fn stop(self) -> D
         ensures { result ≡ (seen self).disk }
     {
-        let Core { machine, book } = self;
+        let Core {
+            machine,
+            book,
+            begun: _,
+        } = self;
         drop(book);
         machine.stop()
     }

@@ -1,11 +1,13 @@
-use Rattle.std.proofs.Common.{◌≡◌, ◌+◌, ◌∙◌, inl, length, IsFalse, refl, sym, subst, arith}
+use Rattle.std.proofs.Common.{◌≡◌, ◌≤◌, ◌+◌, ◌∙◌, inl, inr, length, IsFalse, refl, sym, subst, arith}
 use Rattle.std.proofs.Math.Logic.{∥∥₁_elim}
 use Rattle.disk.specs.File.{surface}
 use Rattle.gatelog.specs.Areas.{area_bytes}
 use Rattle.gatelog.specs.Shown.{disk_of, gate_at, next_slot, is_stopped}
+use Rattle.gatelog.specs.Slots.{slot_count}
 use Rattle.ledger.specs.Turned.{turned}
 use Rattle.ledger.proofs.Props.{regular-prop}
 use Rattle.ledger.specs.Keeps.{IsRegular}
+use Rattle.units.specs.declared.fault.Fault.TheVariants.{TimeSpent}
 use Rattle.shard.specs.Core.{seen_machine}
 use Rattle.shard.specs.On.{CoreView}
 use Rattle.shard.specs.Turned.{HasTurnPlace}
@@ -13,14 +15,26 @@ use Rattle.shard.proofs.Appends.{no-time}
 use Rattle.shard.proofs.Turnings.{IsStood, agrees_over, gone, no-place, stood, turned_as, unmoved, unturned}
 use Rattle.shard.proofs.machine.Machine.turn_over.Goals as goal
 
-pub returns-then-is_stopped : goal.returns-then-is_stopped
-returns-then-is_stopped g c =
+pub returns-then-is_stopped-clause-turned : goal.returns-then-is_stopped-clause-turned
+returns-then-is_stopped-clause-turned g c =
     let k = c.args.self.now.state in
     unmoved g.D.Disk.keeps_model g.D.Disk.obeys g.D.Disk.file g.D.Disk.clock g.D.Disk.since g.D.Disk.failures g.D.Disk.plan g.met.D.Disk.only_now
     (seen_machine c.args.self.now) (sym c.if-is_stopped.ensures.value) (∥∥₁_elim c.args.self.now.lasting (regular-prop k.facts) (λ l. l.regular))
 
-pub returns-in-Err : goal.returns-in-Err
-returns-in-Err g c =
+-- no slot is left
+pub returns-then-slot-ge-SLOTS-clause-turned : goal.returns-then-slot-ge-SLOTS-clause-turned
+returns-then-slot-ge-SLOTS-clause-turned g c =
+    let k = c.args.self.now.state in
+    let old = seen_machine c.args.self.now in
+    let spent : slot_count ≤ old.slot = omega (arith, c.slot.ensures, c.if-slot-ge-SLOTS.true) in
+    unturned g.D.Disk.keeps_model g.D.Disk.obeys g.D.Disk.file g.D.Disk.clock g.D.Disk.since g.D.Disk.failures g.D.Disk.plan old old
+    (sym c.if-is_stopped.ensures.value) (∥∥₁_elim c.args.self.now.lasting (regular-prop k.facts) (λ l. l.regular))
+    (λ keeps. stood (surface (g.D.Disk.file old.disk)) (c.if-is_stopped.ensures.stands refl keeps) (c.if-is_stopped.ensures.begun refl keeps))
+    refl refl refl TimeSpent (inr (refl, inl spent)) (refl, refl, refl, refl) (omega arith)
+    (no-time g.D.Disk.file g.D.Disk.clock g.D.Disk.since g.met.D.Disk.only_now old.disk) refl
+
+pub returns-in-Err-clause-turned : goal.returns-in-Err-clause-turned
+returns-in-Err-clause-turned g c =
     let k = c.args.self.now.state in
     let old = seen_machine c.args.self.now in
     unturned g.D.Disk.keeps_model g.D.Disk.obeys g.D.Disk.file g.D.Disk.clock g.D.Disk.since g.D.Disk.failures g.D.Disk.plan old old
@@ -29,8 +43,8 @@ returns-in-Err g c =
     refl refl refl c.in-Err.fault (inl c.in-Err.ensures.memory) (refl, refl, refl, refl) (omega arith)
     (no-time g.D.Disk.file g.D.Disk.clock g.D.Disk.since g.met.D.Disk.only_now old.disk) refl
 
-pub returns-in-Err-stage_area : goal.returns-in-Err-stage_area
-returns-in-Err-stage_area g c =
+pub returns-in-Err-stage_area-clause-turned : goal.returns-in-Err-stage_area-clause-turned
+returns-in-Err-stage_area-clause-turned g c =
     let k = c.args.self.now.state in
     let old = seen_machine c.args.self.now in
     let staged = c.in-Err-stage_area.ensures in
@@ -42,8 +56,8 @@ returns-in-Err-stage_area g c =
     (no-place old.slot old.gate c.in-Ok.area (turned k.facts) c.in-Err-stage_area.fault old.stopped c.in-Ok.ensures.records running staged.cause)
     (staged.same.2, staged.same.0, staged.same.1, staged.same.3) staged.failures_stay staged.time staged.plan
 
-pub returns-in-Ok-stage_area : goal.returns-in-Ok-stage_area
-returns-in-Ok-stage_area g c =
+pub returns-in-Ok-stage_area-clause-turned : goal.returns-in-Ok-stage_area-clause-turned
+returns-in-Ok-stage_area-clause-turned g c =
     let k = c.args.self.now.state in
     let old = seen_machine c.args.self.now in
     let mid = c.stage_area.new.self in

@@ -11,7 +11,10 @@ use Rattle.protocol.specs.Rows.{rebuilt}
 use Rattle.recovery.specs.Recovered.{IsRebuilt, fault_in, items}
 use Rattle.units.specs.declared.fault.Fault.{Fault}
 use Rattle.std.proofs.Common.{◌⊎◌}
-use Rattle.shard.specs.Core.{book_of, seen_machine}
+use Rattle.disk.specs.File.{surface}
+use Rattle.gatelog.specs.Log.{scan}
+use Rattle.shard.specs.Beginnings.{begun_in}
+use Rattle.shard.specs.Core.{begun_of, book_of, seen_machine}
 use Rattle.shard.specs.Taking.{entries_in, told_to}
 use Rattle.shard.specs.Logs.{facts_logged, items_of}
 use Rattle.shard.specs.Opened.{HasNotOpened, next_opening}
@@ -21,6 +24,7 @@ use Rattle.book.specs.Books.{new_book}
 use Rattle.units.specs.declared.setup.Setup.{Setup}
 use Rattle.shard.specs.Booked.{stand_of}
 use Rattle.shard.specs.Opened.{HasOpened}
+use Rattle.shard.proofs.Beginnings.{begun_by}
 use Rattle.shard.proofs.Booked.{begun, found-in, not-through, stands-at, through}
 use Rattle.shard.proofs.Showable.{taken-lasting, taken-showable}
 use Rattle.shard.proofs.shard_core.Core.open.Goals as goal
@@ -223,3 +227,21 @@ returns-in-None-clause-book g c =
     (λ core made keep records read.
     found-in c.args.setup (items ts) (book_of core) _ (ap items_of (c.in-Ok-scan.ensures.entries keep)) (made.1 ∙ booked) records read)
     c.with_book-in-None.ensures.made
+
+pub returns-in-Some-clause-begun : goal.returns-in-Some-clause-begun
+returns-in-Some-clause-begun g c =
+    let s = c.in-Ok-scan.ensures in
+    IfOk-weaker c.with_book.result _ _
+    (λ core is keeps.
+    begun_by (scan (surface (g.D.Disk.file c.args.disk)).seen) (entries_in c.scan.new.sink) (gate_at c.in-Ok-scan.gate_log) (begun_of core)
+    (s.entries keeps) (s.gate keeps) (is ∙ c.begun-begun.ensures ∙ ap (begun_in (entries_in c.scan.new.sink)) c.gate.ensures))
+    c.with_book.ensures.begun
+
+pub returns-in-None-clause-begun : goal.returns-in-None-clause-begun
+returns-in-None-clause-begun g c =
+    let s = c.in-Ok-scan.ensures in
+    IfOk-weaker c.with_book-in-None.result _ _
+    (λ core is keeps.
+    begun_by (scan (surface (g.D.Disk.file c.args.disk)).seen) (entries_in c.scan.new.sink) (gate_at c.in-Ok-scan.gate_log) (begun_of core)
+    (s.entries keeps) (s.gate keeps) (is ∙ c.begun-begun.ensures ∙ ap (begun_in (entries_in c.scan.new.sink)) c.gate.ensures))
+    c.with_book-in-None.ensures.begun

@@ -5,5 +5,5 @@ use Rattle.shard.proofs.shard_core.Core.turn_over.Goals as goal
 
 pub invariant_of-self : goal.invariant_of-self
 invariant_of-self g c =
-    let h = c.turn_over.ensures in
+    let h = c.turn_over.ensures.turned in
     record { replays = ∥∥₁_map c.args.self.now.replays (λ r. still-of _ _ _ _ _ _ _ _ h.setup refl h.facts h.memory r) }
