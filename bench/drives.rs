@@ -17,8 +17,11 @@ use std::time::{Duration, Instant};
 use record::Record;
 use units::{Fault, Key, ShardNo, Splits, Stride, Verdict};
 
-const SLOW_SYNC: Duration = Duration::from_millis(5);
+fn slow_sync() -> Duration {
+    Duration::from_micros(std::env::var("SYNC_US").ok().and_then(|n| n.parse().ok()).unwrap_or(5000))
+}
 const EPSILON: u64 = 100;
+static SYNCS: std::sync::atomic::AtomicU64 = std::sync::atomic::AtomicU64::new(0);
 
 /// A disk in memory whose syncs take longer, or a file.
 enum Device {
@@ -65,10 +68,11 @@ impl Disk for Device {
         }
     }
     fn sync(&mut self) -> Result<(), Fault> {
+        SYNCS.fetch_add(1, std::sync::atomic::Ordering::Relaxed);
         match self {
             Device::Memory(disk) => disk.sync(),
             Device::Slow(disk) => {
-                std::thread::sleep(SLOW_SYNC);
+                std::thread::sleep(slow_sync());
                 disk.sync()
             }
             Device::OnFile(file, _) => file.sync_all().map_err(|_| Fault::Device),
@@ -134,6 +138,7 @@ fn row(place: &str, folder: &str, shards: u64, workers: u64, turns: u64, keys: u
         disks.push(formatted(place, folder, shard as usize)).unwrap();
     }
     let settings = settings(shards, workers, turns, keys, stride);
+    SYNCS.store(0, std::sync::atomic::Ordering::Relaxed);
     let start = Instant::now();
     let times = Times(Mutex::new((Vec::new(), start)));
     let driven = drive(&Waiting, Global, &settings, disks, &Nobody, &times);
@@ -147,7 +152,8 @@ fn row(place: &str, folder: &str, shards: u64, workers: u64, turns: u64, keys: u
     let within = |percent: usize| times.get((times.len() * percent).saturating_sub(1) / 100).copied().unwrap_or(0);
     let counts = driven.summary.counts;
     let verdict = if let Verdict::Yes = driven.summary.verdict { "yes" } else { "NO" };
-    let mut kinds = [0; 6];
+    let syncs = SYNCS.load(std::sync::atomic::Ordering::Relaxed);
+    let mut kinds = [0u64; 6];
     for disk in driven.disks {
         let Ok((log, entries)) = GateLog::open(Global, disk) else { panic!() };
         drop(log);
@@ -164,7 +170,7 @@ fn row(place: &str, folder: &str, shards: u64, workers: u64, turns: u64, keys: u
         }
     }
     println!(
-        "{place:<7} {shards:>2} {workers:>3} | committed {:>6} aborted {:>5} unknown {:>3} | {:>8.0} commits/s, half {:>6} us, 99 of 100 {:>8} us, {:>7.0} turns/s, looks {:>3.0} % {verdict}; prepare {} abort {} commit {} outcome {} ceiling {}",
+        "{place:<7} {shards:>2} {workers:>3} | committed {:>6} aborted {:>5} unknown {:>3} | {:>8.0} commits/s, half {:>6} us, 99 of 100 {:>8} us, {:>7.0} turns/s, looks {:>3.0} % {verdict}; prepare {} abort {} commit {} outcome {} ceiling {}; syncs/commit {:.2}, records/2 syncs {:.2}",
         counts.committed,
         counts.aborted,
         counts.unknown,
@@ -178,6 +184,8 @@ fn row(place: &str, folder: &str, shards: u64, workers: u64, turns: u64, keys: u
         kinds[3],
         kinds[4],
         kinds[5],
+        syncs as f64 / counts.committed as f64,
+        2.0 * kinds.iter().sum::<u64>() as f64 / syncs as f64,
     );
 }
 
@@ -196,5 +204,9 @@ fn main() {
             }
         }
     }
-    std::fs::remove_dir_all(folder).unwrap();
+    if std::env::var("KEEP").is_err() {
+        std::fs::remove_dir_all(folder).unwrap();
+    } else {
+        println!("{}", folder.display());
+    }
 }

@@ -7,7 +7,7 @@ use crate::serves::{Due, Serves};
 use message::{Envelope, Input, Message, Outbox};
 use std::sync::Wait;
 use truetime::Clock;
-use units::{MOST_ROWS, TxnId};
+use units::{Fault, MOST_ROWS, ShardNo, TxnId};
 
 /// Gives the node an input, and posts what it puts out. If it refuses the letter of a session, that is posted. Returns whether it was taken.
 pub fn act<N: Serves, W: Wait, P: Post, C: Clock>(
@@ -28,24 +28,35 @@ pub fn act<N: Serves, W: Wait, P: Post, C: Clock>(
     }
 }
 
-/// Gives the node a message, as any other input. Returns whether the node keeps what a session asks for. If the session has sent that again,
-/// in a round, it is told so.
+/// Gives the node the message of a session, or any other input. Returns whether the node keeps what a session asks for. If the session has
+/// sent that again, in a round, it is told so.
 pub fn deliver<N: Serves, W: Wait, P: Post, C: Clock>(
     node: &N,
     rt: &W,
     post: &mut P,
     clock: &mut C,
-    message: Message,
+    input: &Input,
     round: Option<u64>,
 ) -> bool {
-    let input = Input::Deliver(message);
-    let Some(outbox) = taken(node, rt, post, clock, &input) else {
-        drop(input);
-        return false;
-    };
-    let keeps = keeps(&input, outbox.as_slice());
+    match taken(node, rt, post, clock, input) {
+        Some(outbox) => hand_on(node, rt, post, input, outbox, round),
+        None => false,
+    }
+}
+
+/// Posts what an input has put out. Returns whether the node keeps what a session asks for. If the session has sent that again, in a round,
+/// it is told so.
+pub fn hand_on<N: Serves, W: Wait, P: Post>(
+    node: &N,
+    rt: &W,
+    post: &mut P,
+    input: &Input,
+    outbox: Outbox,
+    round: Option<u64>,
+) -> bool {
+    let keeps = keeps(input, outbox.as_slice());
     post_all(post, outbox);
-    if let (true, Some(round), Some(txn)) = (keeps, round, session_of(&input)) {
+    if let (true, Some(round), Some(txn)) = (keeps, round, session_of(input)) {
         post.assure(UnderWay {
             txn,
             shard: node.shard(),
@@ -53,8 +64,14 @@ pub fn deliver<N: Serves, W: Wait, P: Post, C: Clock>(
             decided: is_decided(node, rt, txn),
         });
     }
-    drop(input);
     keeps
+}
+
+/// Tells the session whose letter an input is that a shard has refused it. An input that is no session's is passed over.
+pub fn refuse<P: Post>(post: &mut P, shard: ShardNo, input: &Input, fault: Fault) {
+    if let Some(txn) = session_of(input) {
+        post.refuse(Refused { txn, shard, fault });
+    }
 }
 
 // The node takes an input. If it refuses the letter of a session, the post is told.
@@ -68,20 +85,14 @@ fn taken<N: Serves, W: Wait, P: Post, C: Clock>(
     match node.take(rt, clock, input) {
         Ok(outbox) => Some(outbox),
         Err(fault) => {
-            if let Some(txn) = session_of(input) {
-                post.refuse(Refused {
-                    txn,
-                    shard: node.shard(),
-                    fault,
-                });
-            }
+            refuse(post, node.shard(), input, fault);
             None
         }
     }
 }
 
-// Posts what a node has put out.
-fn post_all<P: Post>(post: &mut P, outbox: Outbox) {
+/// Posts what a node has put out.
+pub fn post_all<P: Post>(post: &mut P, outbox: Outbox) {
     for envelope in outbox.into_vec() {
         post.post(envelope);
     }

@@ -1,8 +1,8 @@
 //! What a node does besides its letters.
-use crate::acts::act;
+use crate::acts::{act, post_all};
 use crate::bell::left;
 use crate::letter::Post;
-use crate::serves::{Due, Serves};
+use crate::serves::{Due, Serves, Taken};
 use message::Input;
 use std::sync::Wait;
 use std::time;
@@ -187,8 +187,8 @@ fn later(one: Duration, other: Duration) -> Duration {
     if one < other { other } else { one }
 }
 
-// Waits that can be granted go on, and what has passed is settled, until there is no more of either. It says whether anything was settled,
-// and when the next of what is decided will have passed.
+// Waits that can be granted go on, and what has passed is settled, until there is no more of either. It says whether there was any, and when
+// the next of what is decided will have passed.
 fn go_on<N: Serves, W: Wait, P: Post, C: Clock>(
     node: &N,
     rt: &W,
@@ -197,14 +197,57 @@ fn go_on<N: Serves, W: Wait, P: Post, C: Clock>(
 ) -> (bool, Option<Duration>) {
     let mut any = false;
     for _round in 0..MOST_ROWS {
-        resume(node, rt, post, clock);
-        let (settled, next) = settle(node, rt, post, clock);
-        if !settled {
+        let next = until_settled(node, rt, clock);
+        if next != Some(Duration::ZERO) && !node.is_ready(rt) {
             return (any, next);
+        }
+        let went = match node.take_all(rt, clock, &[]) {
+            Ok(Some(taken)) => hand_out(post, taken),
+            Ok(None) => go_on_singly(node, rt, post, clock),
+            Err(_) => false,
+        };
+        if !went {
+            return (any, Some(moment()));
         }
         any = true;
     }
     (any, Some(Duration::ZERO))
+}
+
+// When the next of what is decided will have passed; a moment if the clock has no reading.
+fn until_settled<N: Serves, W: Wait, C: Clock>(
+    node: &N,
+    rt: &W,
+    clock: &mut C,
+) -> Option<Duration> {
+    let (_, at) = node.earliest_decided(rt)?;
+    match clock.now() {
+        None => Some(moment()),
+        Some(now) if now.after(at) => Some(Duration::ZERO),
+        Some(now) => Some(until_after(&now, at)),
+    }
+}
+
+// Posts what the steps that were due have put out. It says whether there was any such step.
+fn hand_out<P: Post>(post: &mut P, taken: Taken) -> bool {
+    let Taken { refusals, outboxes } = taken;
+    drop(refusals);
+    let any = !outboxes.is_empty();
+    for outbox in outboxes {
+        post_all(post, outbox);
+    }
+    any
+}
+
+// The same for a node that takes inputs one by one. It says whether anything was settled.
+fn go_on_singly<N: Serves, W: Wait, P: Post, C: Clock>(
+    node: &N,
+    rt: &W,
+    post: &mut P,
+    clock: &mut C,
+) -> bool {
+    resume(node, rt, post, clock);
+    settle(node, rt, post, clock)
 }
 
 // Each wait goes on that can be granted.
@@ -216,31 +259,28 @@ fn resume<N: Serves, W: Wait, P: Post, C: Clock>(node: &N, rt: &W, post: &mut P,
     }
 }
 
-// Settles what is decided and has passed, the earliest first. It says whether there was any, and when the next will have passed, or
-// be tried again.
+// Settles what is decided and has passed, the earliest first. It says whether there was any.
 fn settle<N: Serves, W: Wait, P: Post, C: Clock>(
     node: &N,
     rt: &W,
     post: &mut P,
     clock: &mut C,
-) -> (bool, Option<Duration>) {
+) -> bool {
     let mut settled = false;
     for _row in 0..MOST_ROWS {
         let Some((txn, at)) = node.earliest_decided(rt) else {
-            return (settled, None);
+            return settled;
         };
-        let Some(now) = clock.now() else {
-            return (settled, Some(moment()));
-        };
-        if !now.after(at) {
-            return (settled, Some(until_after(&now, at)));
+        match clock.now() {
+            Some(now) if now.after(at) => {}
+            _ => return settled,
         }
         if !act(node, rt, post, clock, Input::Settle(txn)) {
-            return (settled, Some(moment()));
+            return settled;
         }
         settled = true;
     }
-    (settled, Some(Duration::ZERO))
+    settled
 }
 
 // How long it takes until a timestamp has surely passed, less what a sleep may take longer than it should. For the last of it the

@@ -1,9 +1,9 @@
 //! Transactions that a node keeps waiting, since others have their keys.
-use crate::acts::deliver;
+use crate::acts::{deliver, hand_on};
 use crate::bell::left;
 use crate::letter::{Post, Refused, UnderWay};
 use crate::serves::Serves;
-use message::{Envelope, Message, Read};
+use message::{Envelope, Input, Message, Outbox, Read};
 use std::alloc::Global;
 use std::sync::Wait;
 use std::time;
@@ -41,8 +41,8 @@ impl Kept {
         }
     }
 
-    /// Notes that one more waits. It passes over it if 1,024 wait already, or there is no memory.
-    pub fn add(&mut self, read: Read) {
+    // Notes that one more waits. It passes over it if 1,024 wait already, or there is no memory.
+    fn add(&mut self, read: Read) {
         if self.reads.len() < MOST && !self.has(&read) {
             drop(self.reads.push(read));
         }
@@ -58,9 +58,54 @@ impl Kept {
         false
     }
 
-    /// Looks at a message that is about to be taken. A transaction that closes no longer waits with a read, and may end others. Returns the
-    /// key with which the transaction waits, if the node keeps the message.
-    pub fn see(&mut self, message: &Message) -> Option<Read> {
+    /// Gives the node an input, whose letter a session may have sent again. If its transaction waits with it, that is kept in mind.
+    pub fn take<N: Serves, W: Wait, P: Post, C: Clock>(
+        &mut self,
+        node: &N,
+        rt: &W,
+        post: &mut P,
+        clock: &mut C,
+        input: &Input,
+        asked: Option<u64>,
+    ) {
+        let waits = self.see_input(input);
+        let mut post = Watched { post, kept: self };
+        let keeps = deliver(node, rt, &mut post, clock, input, asked);
+        if let (true, Some(read)) = (keeps, waits) {
+            self.add(read);
+        }
+    }
+
+    /// Hands on what an input has put out, whose letter a session may have sent again. If its transaction waits with it, that is kept in
+    /// mind.
+    pub fn answer<N: Serves, W: Wait, P: Post>(
+        &mut self,
+        node: &N,
+        rt: &W,
+        post: &mut P,
+        input: &Input,
+        outbox: Outbox,
+        asked: Option<u64>,
+    ) {
+        let waits = self.see_input(input);
+        let mut post = Watched { post, kept: self };
+        let keeps = hand_on(node, rt, &mut post, input, outbox, asked);
+        if let (true, Some(read)) = (keeps, waits) {
+            self.add(read);
+        }
+    }
+
+    // Looks at the message of an input, if it is one.
+    fn see_input(&mut self, input: &Input) -> Option<Read> {
+        match input {
+            Input::Deliver(message) => self.see(message),
+            _ => None,
+        }
+    }
+
+    // Looks at a message that is about to be taken. A transaction that closes no longer waits with a read, and may end others. Returns the
+    // key with which the transaction waits, if the node keeps the message.
+    fn see(&mut self, message: &Message) -> Option<Read> {
         match message {
             Message::Read(read) => Some(*read),
             Message::Commit(commit) => {
@@ -129,8 +174,8 @@ impl Kept {
             let Some(read) = self.reads.get(at) else {
                 return;
             };
-            let again = Message::Read(*read);
-            if deliver(node, rt, post, clock, again, None) {
+            let again = Input::Deliver(Message::Read(*read));
+            if deliver(node, rt, post, clock, &again, None) {
                 at += 1;
             } else {
                 drop(self.reads.remove(at));

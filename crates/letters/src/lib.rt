@@ -12,9 +12,11 @@ mod put_off;
 mod serves;
 mod sessions;
 mod threads;
+mod together;
+mod turns;
 
 pub use gate::Gate;
 pub use letter::{Letter, Post, Refused, Reply, UnderWay};
 pub use network::{Inboxes, Mail, Network};
-pub use serves::{Due, Serves, serve};
+pub use serves::{Due, Serves, Taken, serve};
 pub use threads::{Served, start, start_in, to_serve};

@@ -1,5 +1,6 @@
 //! Reads that wait while other letters are taken.
 use crate::letter::Letter;
+use crate::turns::Turns;
 use crossbeam_channel::{Receiver, RecvTimeoutError};
 use message::Message;
 use std::alloc::Global;
@@ -17,6 +18,21 @@ pub enum Next {
     Nothing,
     /// It ends, since no letter can come any more.
     Gone,
+}
+
+// So long a node waits for a letter while reads wait for their turn.
+fn turn() -> Duration {
+    Duration::from_micros(100)
+}
+
+// Whether a letter is a read that waits for its turn.
+fn is_put_off<W: time::Clock>(rt: &W, turns: &Turns, letter: &Letter) -> bool {
+    match letter {
+        Letter::Carry(Message::Read(read)) | Letter::Again(Message::Read(read), _) => {
+            turns.puts_off(rt, read)
+        }
+        _ => false,
+    }
 }
 
 /// Reads that came while other letters were not taken yet. They are taken after those. A transaction that closes is firm by then, and does
@@ -47,17 +63,28 @@ impl Waiting {
         self.reads.is_empty()
     }
 
-    /// Takes out the first of those that wait.
-    pub fn next(&mut self) -> Option<Letter> {
-        self.reads.pop_front()
+    /// Takes out the first of those that wait whose turn it is. Once the node is to close, each has its turn.
+    pub fn next<W: time::Clock>(&mut self, rt: &W, turns: &Turns) -> Option<Letter> {
+        let mut found = None;
+        for _read in 0..self.reads.len() {
+            let letter = self.reads.pop_front()?;
+            if found.is_none() && (self.closes || !is_put_off(rt, turns, &letter)) {
+                found = Some(letter);
+            } else {
+                drop(self.reads.push_back(letter));
+            }
+        }
+        found
     }
 
-    /// Takes the next letter: the first of the inbox that is no read, or else the first read. If neither is there, it waits for a letter, for
-    /// `pause` at most. The word to close comes after all reads that wait, and nothing comes after it.
+    /// Takes the next letter: the first of the inbox that is no read, or else the first read whose turn it is. If neither is there, it waits
+    /// for a letter, for `pause` at most, and no longer than a moment if a read waits for its turn. The word to close comes after all reads
+    /// that wait, and nothing comes after it.
     pub fn first_of<W: Wait + time::Clock>(
         &mut self,
         rt: &W,
         inbox: &Receiver<Letter>,
+        turns: &Turns,
         pause: Duration,
     ) -> Next {
         let mut pause = if self.is_none() {
@@ -67,26 +94,40 @@ impl Waiting {
         };
         for _read in 0..=self.reads.capacity() {
             if self.closes {
-                return Next::Take(self.next().unwrap_or(Letter::Close));
+                return Next::Take(self.next(rt, turns).unwrap_or(Letter::Close));
             }
             match inbox.recv_timeout(rt, pause) {
                 Ok(letter) => match self.keep(letter) {
                     Some(letter) => return Next::Take(letter),
                     None => pause = Duration::ZERO,
                 },
-                Err(error) => return self.next_read(error),
+                Err(error) => match (self.next(rt, turns), error) {
+                    (Some(letter), _) => return Next::Take(letter),
+                    (None, RecvTimeoutError::Disconnected) if self.is_none() => return Next::Gone,
+                    (None, _) if self.is_none() || pause > Duration::ZERO => return Next::Nothing,
+                    (None, _) => pause = turn(),
+                },
             }
         }
         Next::Nothing
     }
 
-    // The first of those that wait, if the inbox has nothing. If none waits and nobody is left to send any, that was all.
-    fn next_read(&mut self, error: RecvTimeoutError) -> Next {
-        match (self.next(), error) {
-            (Some(letter), _) => Next::Take(letter),
-            (None, RecvTimeoutError::Timeout) => Next::Nothing,
-            (None, RecvTimeoutError::Disconnected) => Next::Gone,
+    /// Takes a further letter of the inbox that is no read, if one is there. Reads that it meets wait, and so does the word to close.
+    pub fn further<W: Wait + time::Clock>(
+        &mut self,
+        rt: &W,
+        inbox: &Receiver<Letter>,
+    ) -> Option<Letter> {
+        for _read in 0..=self.reads.capacity() {
+            if self.closes {
+                return None;
+            }
+            let letter = inbox.recv_timeout(rt, Duration::ZERO).ok()?;
+            if let Some(letter) = self.keep(letter) {
+                return Some(letter);
+            }
         }
+        None
     }
 
     // Lets a read wait, after those that do. If there is no room, the first of them goes in its place. The word to close waits too. Any other

@@ -1,16 +1,17 @@
 //! How a node is served.
-use crate::acts::deliver;
 use crate::chores::Chores;
 use crate::gate::Gate;
 use crate::kept::{Kept, Watched};
 use crate::letter::{Letter, Post};
 use crate::put_off::{Next, Waiting};
+use crate::together::{Batch, take_all};
+use crate::turns::Turns;
 use crossbeam_channel::Receiver;
 use message::{Input, Message, Outbox};
 use std::alloc::Global;
 use std::sync::Wait;
 use std::time;
-use std::time::Duration;
+use std::time::{Duration, Instant};
 use truetime::Clock;
 use units::{Fault, ShardNo, Stamp, TxnId};
 
@@ -21,6 +22,15 @@ pub enum Due {
     Decided,
     /// Prepared.
     Prepared,
+}
+
+/// What a node made of some inputs that it took together.
+#[derive(Drop)]
+pub struct Taken {
+    /// Why each input was refused, in their order; `None` if it was taken.
+    pub refusals: Vec<Option<Fault>>,
+    /// What each input that was taken has put out, in their order. After that comes what each step has put out that was due.
+    pub outboxes: Vec<Outbox>,
 }
 
 /// What a node does for the thread that serves it. Each call but `shard` is under the node's lock.
@@ -36,6 +46,20 @@ pub trait Serves {
         clock: &mut C,
         input: &Input,
     ) -> Result<Outbox, Fault>;
+
+    /// Takes some inputs together at one reading, which is taken under the lock. After them it takes what is due at that reading: waits that
+    /// can be granted, and what is decided and has passed. Their records are logged together, and nothing that they put out is handed out
+    /// before that.
+    ///
+    /// `None` says that nothing was done, since the node takes inputs one by one: it is stopped, or keeps a book. A fault is that of all
+    /// inputs. `Memory`, and `TimeSpent` if the clock has no reading, say that nothing was done. After `Device` the node is stopped, and its
+    /// log has all that the inputs log or nothing of it.
+    fn take_all<W: Wait, C: Clock>(
+        &self,
+        rt: &W,
+        clock: &mut C,
+        inputs: &[Input],
+    ) -> Result<Option<Taken>, Fault>;
 
     /// Tells whether a transaction waits whose wait can be granted.
     fn is_ready<W: Wait>(&self, rt: &W) -> bool;
@@ -72,7 +96,11 @@ const READS_AT_MOST: usize = 1_024;
 /// - **Chores**: the node does them whenever no letter is there, and then waits for a letter until more are due. While letters come, it does
 ///   them after 64 letters, or after the first letter that ends more than a millisecond after the last chores. After them the gate is told if
 ///   the node has stopped.
-/// - **Reads** are taken once no other letter is there. After each 64 letters up to 64 reads are taken, also if other letters never cease.
+/// - **Letters that are no reads** are taken together if they are there at the same time: 64 at most, and no more once they are to write a
+///   megabyte. Their records are logged together, and each is answered after that, in order.
+/// - **Reads** are taken once no other letter is there: each by itself, 64 in a row. After each 64 letters up to 64 reads are taken, also if
+///   other letters never cease. Reads of a key that is read to be written take turns: one waits until the transaction that has read
+///   the key before it has closed, for 4 ms at most, or 100 ms if letters take long.
 pub fn serve<N: Serves, W: Wait + time::Clock, P: Post, C: Clock, G: Gate>(
     node: &N,
     rt: &W,
@@ -85,6 +113,7 @@ pub fn serve<N: Serves, W: Wait + time::Clock, P: Post, C: Clock, G: Gate>(
         chores: Chores::new(node, rt),
         reads: Waiting::none(node.alloc(), READS_AT_MOST),
         kept: Kept::none(node.alloc()),
+        turns: Turns::none(node.alloc()),
         n: 0,
         in_a_row: 0,
         stopped: false,
@@ -97,10 +126,9 @@ pub fn serve<N: Serves, W: Wait + time::Clock, P: Post, C: Clock, G: Gate>(
         } else {
             Duration::ZERO
         };
-        match round.reads.first_of(rt, inbox, pause) {
+        match round.reads.first_of(rt, inbox, &round.turns, pause) {
             Next::Take(letter) => {
-                round.in_a_row = round.in_a_row.saturating_add(1);
-                if !take(node, rt, post, clock, gate, &mut round, letter) {
+                if !take_next(node, rt, inbox, post, clock, gate, &mut round, letter) {
                     return;
                 }
             }
@@ -111,13 +139,14 @@ pub fn serve<N: Serves, W: Wait + time::Clock, P: Post, C: Clock, G: Gate>(
     unreachable!()
 }
 
-// What a node is in the midst of: its chores, the reads that wait to be taken, and those that wait for a lock. It also counts the letters
-// that were taken, and those since many in a row last let reads through, and notes whether it had stopped at its last chores.
+// What a node is in the midst of: its chores, the reads that wait to be taken, those that wait for a lock, and whose turn it is to read. It
+// also counts the letters that were taken, and those since many in a row last let reads through, and notes whether it had stopped at its last chores.
 #[derive(Drop)]
 struct Round {
     chores: Chores,
     reads: Waiting,
     kept: Kept,
+    turns: Turns,
     n: u64,
     in_a_row: u64,
     stopped: bool,
@@ -165,14 +194,67 @@ fn take_reads<N: Serves, W: Wait + time::Clock, P: Post, C: Clock, G: Gate>(
     round: &mut Round,
 ) {
     for _read in 0..LETTERS_IN_A_ROW {
-        let Some(letter) = round.reads.next() else {
+        let Some(letter) = round.reads.next(rt, &round.turns) else {
             return;
         };
         take(node, rt, post, clock, gate, round, letter);
     }
 }
 
-// Takes a letter, which is the next one of the gate. Returns whether more are taken. The word that a reader got `NotYet` only wakes the node.
+// Takes a letter. With a read it takes the reads that wait and whose turn it is, one by one. With another message it takes together those that
+// are there besides. Returns whether more are taken.
+fn take_next<N: Serves, W: Wait + time::Clock, P: Post, C: Clock, G: Gate>(
+    node: &N,
+    rt: &W,
+    inbox: &Receiver<Letter>,
+    post: &mut P,
+    clock: &mut C,
+    gate: &G,
+    round: &mut Round,
+    letter: Letter,
+) -> bool {
+    match &letter {
+        Letter::Look | Letter::Close => take(node, rt, post, clock, gate, round, letter),
+        Letter::Carry(Message::Read(_)) | Letter::Again(Message::Read(_), _) => {
+            take(node, rt, post, clock, gate, round, letter);
+            take_reads(node, rt, post, clock, gate, round);
+            true
+        }
+        Letter::Carry(_) | Letter::Again(_, _) => {
+            take_together(node, rt, inbox, post, clock, gate, round, letter)
+        }
+    }
+}
+
+// Takes a message that is no read, together with those that are there besides. Returns whether more are taken.
+fn take_together<N: Serves, W: Wait + time::Clock, P: Post, C: Clock, G: Gate>(
+    node: &N,
+    rt: &W,
+    inbox: &Receiver<Letter>,
+    post: &mut P,
+    clock: &mut C,
+    gate: &G,
+    round: &mut Round,
+    letter: Letter,
+) -> bool {
+    let Some(mut batch) = Batch::none(node.alloc()) else {
+        return take(node, rt, post, clock, gate, round, letter);
+    };
+    let start = Instant::now(rt).ok();
+    batch.fill(rt, &mut round.reads, inbox, letter);
+    batch.end_turns(&mut round.turns);
+    let first = round.n;
+    round.n = take_all(node, rt, post, clock, gate, &mut round.kept, first, batch);
+    round.in_a_row = round.in_a_row.saturating_add(round.n.saturating_sub(first));
+    round.chores.took_letter(rt);
+    if let (Some(start), Ok(end)) = (start, Instant::now(rt)) {
+        round.turns.note_pace(end.duration_since(start));
+    }
+    true
+}
+
+// Takes a letter by itself, which is the next one of the gate. Returns whether more are taken. The word that a reader got `NotYet` only
+// wakes the node.
 fn take<N: Serves, W: Wait + time::Clock, P: Post, C: Clock, G: Gate>(
     node: &N,
     rt: &W,
@@ -182,6 +264,7 @@ fn take<N: Serves, W: Wait + time::Clock, P: Post, C: Clock, G: Gate>(
     round: &mut Round,
     letter: Letter,
 ) -> bool {
+    round.in_a_row = round.in_a_row.saturating_add(1);
     gate.before(node.shard(), round.n);
     let goes_on = match letter {
         Letter::Carry(message) => {
@@ -202,7 +285,7 @@ fn take<N: Serves, W: Wait + time::Clock, P: Post, C: Clock, G: Gate>(
     goes_on
 }
 
-// Takes a message, which a session may have sent again. If its transaction waits with it, that is kept in mind.
+// Takes a message, which a session may have sent again.
 fn take_message<N: Serves, W: Wait + time::Clock, P: Post, C: Clock>(
     node: &N,
     rt: &W,
@@ -212,14 +295,11 @@ fn take_message<N: Serves, W: Wait + time::Clock, P: Post, C: Clock>(
     message: Message,
     asked: Option<u64>,
 ) {
-    let waits = round.kept.see(&message);
-    let mut post = Watched {
-        post,
-        kept: &mut round.kept,
-    };
-    let keeps = deliver(node, rt, &mut post, clock, message, asked);
-    if let (true, Some(read)) = (keeps, waits) {
-        round.kept.add(read);
+    if let Message::Read(read) = &message {
+        round.turns.begin(rt, read);
     }
+    let input = Input::Deliver(message);
+    round.kept.take(node, rt, post, clock, &input, asked);
+    drop(input);
     round.chores.took_letter(rt);
 }

@@ -24,7 +24,7 @@ use Rattle.node.proofs.InStep.{count_kept, same_kept, lawful_kept}
 use Rattle.protocol.proofs.Serves.{grows}
 
 -- a record does not lower the horizon
-horizon_rises : (facts : Facts) (logged : Option Record) → facts.horizon ≤ (facts_after facts logged).horizon
+pub horizon_rises : (facts : Facts) (logged : Option Record) → facts.horizon ≤ (facts_after facts logged).horizon
 unfolding learn
 horizon_rises facts None = omega arith
 horizon_rises facts (Some (Record.Opened epoch)) = omega arith

@@ -1,6 +1,7 @@
 mod DeskFaults
 mod Faults
 mod Follow
+mod Grouped
 mod InStep
 mod Kept
 mod Lists

@@ -1,5 +1,6 @@
 pub mod DeskFaults
 pub mod Faults
+pub mod Grouped
 pub mod InStep
 pub mod Opening
 pub mod Openings
@@ -8,6 +9,7 @@ pub mod Restart
 pub mod Seen
 pub mod SeenDesk
 pub mod SeenHeld
+pub mod SeenRest
 pub mod Setups
 pub mod Together
 pub mod Under

@@ -18,24 +18,29 @@ use Rattle.node.specs.Opening.{HasNoDesk, IsBegun}
 abbrev pub AreOnNewBoard : ℕ → Setup → List BoardEntry → List Viewing → Type 0
 AreOnNewBoard n setup entries viewers = (p : Publishing) × IsNewBoard p entries × AreOnBoard n setup p viewers
 
+-- the disk of a desk that was stopped, and its board, where that is still shown
+pub record RestView (D : Type 0) : Type 0 where
+  pub disk : D
+  pub board : Option Publishing
+
 -- a desk, or the disk of a desk that was stopped
 pub data PlaceView (D : Type 0) : Type 0 where
   Serving : DeskView D → PlaceView D
-  Resting : D → PlaceView D
+  Resting : RestView D → PlaceView D
 
 abbrev pub disk_of_place : {D : Type 0} → PlaceView D → D
 disk_of_place (Serving desk) = desk.core.disk
-disk_of_place (Resting disk) = disk
+disk_of_place (Resting rest) = rest.disk
 
 -- its core was stopped, or it is a disk alone
 abbrev pub is_at_rest : {D : Type 0} → PlaceView D → Bool
 is_at_rest (Serving desk) = desk.core.stopped
-is_at_rest (Resting disk) = true
+is_at_rest (Resting rest) = true
 
 -- what the core of a desk was told; of a disk alone there is no core, and it is this
 abbrev pub told_of : {D : Type 0} → Setup → Option (PlaceView D) → Setup
 told_of setup (Some (Serving desk)) = desk.core.setup
-told_of setup (Some (Resting disk)) = setup
+told_of setup (Some (Resting rest)) = setup
 told_of setup None = setup
 
 module _ {D : Type 0} (keeps obeys : Type 0) (file : D → File) (clock : D → ℕ) (since : D → ℕ → List ℕ → Type 0) (failures : D → ℕ)
@@ -52,10 +57,10 @@ module _ {D : Type 0} (keeps obeys : Type 0) (file : D → File) (clock : D → 
   -- what was stopped is served again
   abbrev pub HasRestarted : PlaceView D → PlaceView D → Setup → ℕ → List Viewing → Type 0
   HasRestarted old (Serving desk) setup n viewers = IsTrue (is_at_rest old) × HasReopened (disk_of_place old) setup n desk viewers
-  HasRestarted old (Resting disk) setup n viewers = ⊥
+  HasRestarted old (Resting rest) setup n viewers = ⊥
 
   -- What was not stopped stays as it is, and the request is wrong. Else the disk is there alone, and may be opened again.
   abbrev pub HasNotRestarted : PlaceView D → PlaceView D → Setup → ℕ → Fault → Type 0
   HasNotRestarted old (Serving desk) setup n fault = IsFalse (is_at_rest old) × (Serving desk ≡ old) × (fault ≡ BadRequest Again)
   HasNotRestarted old (Resting back) setup n fault =
-      IsTrue (is_at_rest old) × HasNoDesk keeps obeys file clock since failures plan (disk_of_place old) setup n fault back
+      IsTrue (is_at_rest old) × HasNoDesk keeps obeys file clock since failures plan (disk_of_place old) setup n fault back.disk × (back.board ≡ None)

@@ -40,7 +40,7 @@ abbrev pub IsDeskOf : {D : Type 0} → PlaceView D → CoreView D → Option Boo
 IsDeskOf (Serving desk) core book n viewers =
     (desk.core ≡ core) × (desk.book ≡ book) × IsNewBoard desk.board (first_entries core.facts.installs (safe_at core) core.facts.horizon)
     × AreOnBoard n core.setup desk.board viewers
-IsDeskOf (Resting disk) core book n viewers = ⊥
+IsDeskOf (Resting rest) core book n viewers = ⊥
 
 -- The shard is told what it was told. The place was there and is, and this is so of both.
 abbrev pub Became : {D : Type 0} → Under D → Under D → (PlaceView D → PlaceView D → Type 0) → Type 0
@@ -49,22 +49,22 @@ Became old new P = (new.setup ≡ old.setup) × IsUnder old (λ before. IsUnder 
 -- there is a transaction whose wait can be granted
 abbrev pub is_ready_in : {D : Type 0} → PlaceView D → Bool
 is_ready_in (Serving desk) = is_some (ready (claims desk.core.memory.rows))
-is_ready_in (Resting disk) = false
+is_ready_in (Resting rest) = false
 
 -- the n-th row of this standing
 abbrev pub due_in : {D : Type 0} → PlaceView D → Due → ℕ → Option (Id × ℕ)
 due_in (Serving desk) Decided n = nth_decided desk.core.memory.rows n
 due_in (Serving desk) Prepared n = nth_prepared desk.core.memory.rows n
-due_in (Resting disk) due n = None
+due_in (Resting rest) due n = None
 
 -- a decided row of the least timestamp
 abbrev pub IsEarliestIn : {D : Type 0} → PlaceView D → Option (Id × ℕ) → Type 0
 IsEarliestIn (Serving desk) found = IsEarliest (gather decided_row desk.core.memory.rows) found
-IsEarliestIn (Resting disk) found = found ≡ None
+IsEarliestIn (Resting rest) found = found ≡ None
 
 abbrev pub versions_in : {D : Type 0} → PlaceView D → ℕ
 versions_in (Serving desk) = length desk.core.facts.installs
-versions_in (Resting disk) = 0
+versions_in (Resting rest) = 0
 
 module _ {D : Type 0} (keeps obeys : Type 0) (file : D → File) (clock : D → ℕ) (since : D → ℕ → List ℕ → Type 0) (failures : D → ℕ)
     (plan : D → FailurePlan) where

@@ -1,5 +1,5 @@
 //! The core of a shard, and the publisher of its board.
-ghost use Rattle.std.specs.Prelude.{◌≡◌, ◌<◌, ◌+◌, ◌++◌, true, length, IfOk, IfErr, IsTrue, OnOk};
+ghost use Rattle.std.specs.Prelude.{◌≡◌, ◌<◌, ◌+◌, ◌++◌, true, length, IfOk, IfErr, IfSome, IfNone, IsTrue, OnOk};
 ghost use Rattle.board.specs.Board.{first_entries, horizon_on, is_board, AreInOrder};
 ghost use Rattle.disk.specs.File.{surface};
 ghost use Rattle.node.specs.DeskFaults.{refuses_input, refuses_advance, refuses_horizon, refuses_turnover};
@@ -12,9 +12,12 @@ ghost use Rattle.shard.specs.Look.{safe_at};
 ghost use Rattle.shard.specs.Opened.{HasOpened};
 ghost use Rattle.shard.specs.Settled.{IsDurablySettled};
 
+use crate::group::take_group;
 use crate::measure::Measure;
+use crate::rest::Rest;
 use board::{Places, Publisher, Told, Viewer, check_viewers, copy_install, start};
 use disk::Disk;
+use letters::Taken;
 use message::{Input, Outbox};
 use protocol::{own_refusals, step_keeps_showable, writes_ascend};
 use shard::Core;
@@ -44,6 +47,8 @@ impl<D: Disk + Drop, R: Wait + Drop> Drop for Desk<D, R> {
 
 impl<D: Disk + Drop, R: Wait + Drop> Desk<D, R> {
     ghost use Rattle.node.specs.SeenDesk.{seen_desk};
+    ghost use Rattle.node.specs.SeenRest.{seen_rest};
+    ghost use Rattle.node.specs.Grouped.{HasTakenTogether, HasStoppedTogether, IsOneByOne};
 
     /// Makes a desk for a core, and so many viewers of its board. The board shows the core's versions, its horizon and its served time.
     pub fn new(
@@ -162,6 +167,76 @@ impl<D: Disk + Drop, R: Wait + Drop> Desk<D, R> {
         writes_ascend(input);
         self.core.is_sound();
         self.core.on(self.alloc, now, input)
+    }
+
+    /// Takes some inputs as a group, and after them what is due at the reading: waits that can be granted, and settlings, 128 at most. Each is
+    /// the step of the core on what those before it leave. Their records are appended together, and what they put out is handed out after
+    /// that. The board stays.
+    ///
+    /// An input that is refused is left out. `Memory` says that nothing was done. `None` says the same of a core that is stopped or keeps a
+    /// book: it takes inputs one by one. If the device fails, the disk is left, and the board: viewers go on with what was published.
+    pub fn take_all(
+        self,
+        now: &Reading,
+        inputs: &[Input],
+    ) -> Result<(Desk<D, R>, Result<Option<Taken>, Fault>), Rest<D, R>>
+        ensures taken { IfOk result (λ done. IfOk done.1 (λ taken. IfSome taken
+            (HasTakenTogether D.keeps_model D.file D.clock D.since D.failures
+            (seen_desk self) (seen_desk done.0) now.now inputs.now))) }
+        ensures none { IfOk result (λ done. IfOk done.1 (λ taken. IfNone taken
+            ((seen_desk done.0 ≡ seen_desk self) × IsOneByOne (seen_desk self)))) }
+        ensures refused { IfOk result (λ done. IfErr done.1 (λ fault.
+            (fault ≡ Fault.Memory) × (seen_desk done.0 ≡ seen_desk self))) }
+        ensures failed { IfErr result (λ rest.
+            HasStoppedTogether D.keeps_model D.file D.clock D.since D.failures
+            (seen_desk self) (seen_rest rest) now.now inputs.now) }
+    {
+        if self.core.book().is_some() {
+            return Ok((self, Ok(None)));
+        }
+        let Ok(refusals) = Vec::with_capacity(self.alloc, inputs.len()) else {
+            return Ok((self, Err(Fault::Memory)));
+        };
+        let Desk {
+            alloc,
+            core,
+            publisher,
+            handed,
+            told,
+            measure,
+        } = self;
+        match core.gather(alloc) {
+            Ok(ahead) => match take_group(ahead, alloc, now, inputs, refusals) {
+                Ok((core, taken)) => {
+                    core.is_sound();
+                    let desk = Desk {
+                        alloc,
+                        core,
+                        publisher,
+                        handed,
+                        told,
+                        measure,
+                    };
+                    Ok((desk, Ok(Some(taken))))
+                }
+                Err(disk) => {
+                    let publisher = Some(publisher);
+                    Err(Rest { disk, publisher })
+                }
+            },
+            Err(core) => {
+                drop(refusals);
+                let desk = Desk {
+                    alloc,
+                    core,
+                    publisher,
+                    handed,
+                    told,
+                    measure,
+                };
+                Ok((desk, Ok(None)))
+            }
+        }
     }
 
     /// Raises the core's horizon, but keeps so many microseconds of the past. The horizon is that much before the earliest of the reading,

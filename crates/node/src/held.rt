@@ -1,9 +1,10 @@
 //! What lies under a node's lock.
-ghost use Rattle.std.specs.Prelude.{◌≡◌, IfOk, IfErr, OnOk, IfSome, IfNone, IsSome, IsTrue, length, option_map};
+ghost use Rattle.std.specs.Prelude.{◌≡◌, ◌⊎◌, IfOk, IfErr, OnOk, IfSome, IfNone, IsSome, IsTrue, length, option_map};
 ghost use Rattle.board.specs.Board.{first_entries};
 ghost use Rattle.node.specs.DeskFaults.{refuses_input, refuses_advance, refuses_horizon, refuses_turnover};
 ghost use Rattle.node.specs.InStep.{IsCount, IsNoDesk};
 ghost use Rattle.node.specs.Faults.{RefusesRestart};
+ghost use Rattle.node.specs.Grouped.{HasTakenIn, HasStoppedIn, IsOneByOneIn};
 ghost use Rattle.node.specs.Restart.{AreOnNewBoard, HasRestarted, HasNotRestarted, is_at_rest, disk_of_place, told_of};
 ghost use Rattle.node.specs.Seen.{seen_place};
 ghost use Rattle.node.specs.Under.{IsDeskOf, IsUnder, IsEarliestIn, Became, HasDelivered, HasAdvancedIn, HasNotAdvancedIn, HasKeptUp, HasNotKeptUp, HasKeptIn};
@@ -16,7 +17,7 @@ use crate::desk::Desk;
 use crate::place::Place;
 use board::{Told, Viewer, check_viewers};
 use disk::Disk;
-use letters::Due;
+use letters::{Due, Taken};
 use message::{Input, Outbox};
 use shard::Core;
 use std::alloc::Global;
@@ -87,6 +88,31 @@ impl<D: Disk + Drop, R: Wait + Drop> Held<D, R> {
             Some(Place::Serving(desk)) => desk.deliver(now, input),
             Some(Place::Resting(_)) | None => Err(Fault::Stopped),
         }
+    }
+
+    /// Takes some inputs as a group, and after them what is due (`Desk::take_all`). `None` says that nothing was done, since a core that is
+    /// stopped or keeps a book takes inputs one by one, and so does a disk alone. `Memory` says the same. After `Device` the disk is left
+    /// alone, beside a board that shows what was published.
+    pub fn take_all(&mut self, now: &Reading, inputs: &[Input]) -> Result<Option<Taken>, Fault>
+        ensures taken { IfOk result (λ taken. IfSome taken (λ taken.
+            Became (seen_held self.old) (seen_held self.new) (λ old. λ new.
+            HasTakenIn D.keeps_model D.file D.clock D.since D.failures
+            old new now.now inputs.now taken))) }
+        ensures none { IfOk result (λ taken. IfNone taken
+            (Became (seen_held self.old) (seen_held self.new) (λ old. λ new.
+            (new ≡ old) × IsOneByOneIn old))) }
+        ensures refused { IfErr result (λ fault.
+            Became (seen_held self.old) (seen_held self.new) (λ old. λ new.
+            ((fault ≡ Fault.Memory) × (new ≡ old)) ⊎ ((fault ≡ Fault.Device)
+            × HasStoppedIn D.keeps_model D.file D.clock D.since D.failures
+            old new now.now inputs.now))) }
+    {
+        let Some(place) = self.place.take() else {
+            unreachable!()
+        };
+        let (place, taken) = place.take_all(now, inputs);
+        self.place = Some(place);
+        taken
     }
 
     /// Advances the core and publishes its board. A disk alone refuses as a stopped core does.

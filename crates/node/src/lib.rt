@@ -4,12 +4,14 @@
 
 mod desk;
 mod fleet;
+mod group;
 mod held;
 mod machine_clock;
 mod measure;
 mod node;
 mod opening;
 mod place;
+mod rest;
 mod serves;
 mod steady;
 mod unopened;

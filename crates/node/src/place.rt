@@ -1,27 +1,33 @@
 //! A desk, or the disk of one that was stopped.
-ghost use Rattle.std.specs.Prelude.{◌≡◌, length, IfOk, IfErr, OnOk};
+ghost use Rattle.std.specs.Prelude.{◌≡◌, ◌⊎◌, length, IfOk, IfErr, IfSome, IfNone, OnOk, Some};
+ghost use Rattle.units.specs.declared.setup.Setup.{Setup};
 ghost use Rattle.node.specs.InStep.{IsCount};
 ghost use Rattle.node.specs.Faults.{RefusesRestart};
 
 use crate::desk::Desk;
+use crate::rest::Rest;
 use board::Viewer;
 use disk::Disk;
+use letters::Taken;
+use message::Input;
 use std::alloc::Global;
 use std::sync::Wait;
+use truetime::Reading;
 use units::{Fault, Reason, Setup};
 
-/// A desk; or the disk alone, after the desk was closed to be opened again and that was refused.
+/// A desk; or the disk alone, after a group has stopped the desk, or the desk was closed to be opened again and that was refused.
 #[derive(Drop)]
 pub enum Place<D: Disk + Drop, R: Wait + Drop> {
     /// The desk, which serves or is stopped.
     Serving(Desk<D, R>),
-    /// The disk alone.
-    Resting(D),
+    /// The disk, after the desk was stopped.
+    Resting(Rest<D, R>),
 }
 
 impl<D: Disk + Drop, R: Wait + Drop> Place<D, R> {
     ghost use Rattle.node.specs.Seen.{seen_place};
-    ghost use Rattle.node.specs.Restart.{HasRestarted, HasNotRestarted, disk_of_place};
+    ghost use Rattle.node.specs.Grouped.{HasTakenIn, HasStoppedIn, IsOneByOneIn};
+    ghost use Rattle.node.specs.Restart.{HasRestarted, HasNotRestarted, disk_of_place, told_of};
 
     /// Opens a stopped shard again, as a core is opened, with a new board and so many viewers. A desk that is not stopped is refused as
     /// `again`, and stays. After any other refusal the disk is there alone.
@@ -49,11 +55,45 @@ impl<D: Disk + Drop, R: Wait + Drop> Place<D, R> {
                 }
                 desk.close()
             }
-            Place::Resting(disk) => disk,
+            Place::Resting(rest) => rest.into_disk(),
         };
         match Desk::open(rt, alloc, disk, setup, n) {
             Ok((desk, viewers)) => (Place::Serving(desk), Ok(viewers)),
-            Err((fault, disk)) => (Place::Resting(disk), Err(fault)),
+            Err((fault, disk)) => {
+                let rest = Rest {
+                    disk,
+                    publisher: None,
+                };
+                (Place::Resting(rest), Err(fault))
+            }
+        }
+    }
+
+    /// Takes some inputs as a group, as a desk does (`Desk::take_all`). A disk alone takes them one by one, which refuses each as a stopped
+    /// core does.
+    pub fn take_all(
+        self,
+        now: &Reading,
+        inputs: &[Input],
+    ) -> (Place<D, R>, Result<Option<Taken>, Fault>)
+        ensures taken { IfOk result.1 (λ taken. IfSome taken
+            (HasTakenIn D.keeps_model D.file D.clock D.since D.failures
+            (seen_place self) (seen_place result.0) now.now inputs.now)) }
+        ensures none { IfOk result.1 (λ taken. IfNone taken
+            ((seen_place result.0 ≡ seen_place self) × IsOneByOneIn (seen_place self))) }
+        ensures refused { IfErr result.1 (λ fault. ((fault ≡ Fault.Memory)
+            × (seen_place result.0 ≡ seen_place self)) ⊎ ((fault ≡ Fault.Device)
+            × HasStoppedIn D.keeps_model D.file D.clock D.since D.failures
+            (seen_place self) (seen_place result.0) now.now inputs.now)) }
+        ensures told { (setup : Setup) → told_of setup (Some (seen_place self)) ≡ setup
+            → told_of setup (Some (seen_place result.0)) ≡ setup }
+    {
+        match self {
+            Place::Serving(desk) => match desk.take_all(now, inputs) {
+                Ok((desk, taken)) => (Place::Serving(desk), taken),
+                Err(rest) => (Place::Resting(rest), Err(Fault::Device)),
+            },
+            Place::Resting(rest) => (Place::Resting(rest), Ok(None)),
         }
     }
 
@@ -63,7 +103,7 @@ impl<D: Disk + Drop, R: Wait + Drop> Place<D, R> {
     {
         match self {
             Place::Serving(desk) => desk.close(),
-            Place::Resting(disk) => disk,
+            Place::Resting(rest) => rest.into_disk(),
         }
     }
 }

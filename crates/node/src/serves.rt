@@ -5,7 +5,7 @@ ghost use Rattle.node.specs.DeskFaults.{refuses_horizon};
 use crate::node::Node;
 use crossbeam_channel::Receiver;
 use disk::Disk;
-use letters::{Due, Gate, Letter, Post, Serves, serve};
+use letters::{Due, Gate, Letter, Post, Serves, Taken, serve};
 use message::{Input, Outbox};
 use std::alloc::Global;
 use std::sync::Wait;
@@ -27,6 +27,19 @@ impl<D: Disk + Drop, R: Wait + Drop> Serves for Node<D, R> {
         let mut held = self.held.lock(rt);
         match clock.now() {
             Some(now) => held.deliver(&now, input),
+            None => Err(Fault::TimeSpent),
+        }
+    }
+
+    fn take_all<W: Wait, C: Clock>(
+        &self,
+        rt: &W,
+        clock: &mut C,
+        inputs: &[Input],
+    ) -> Result<Option<Taken>, Fault> {
+        let mut held = self.held.lock(rt);
+        match clock.now() {
+            Some(now) => held.take_all(&now, inputs),
             None => Err(Fault::TimeSpent),
         }
     }

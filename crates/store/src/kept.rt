@@ -2,7 +2,7 @@
 ghost use Rattle.std.specs.Prelude.{◌≡◌, IfErr};
 
 use disk::Disk;
-use letters::{Due, Serves};
+use letters::{Due, Serves, Taken};
 use message::{Input, Outbox};
 use node::Node;
 use std::alloc::Global;
@@ -75,6 +75,15 @@ impl<D: Disk + Drop, H: Wait + Drop> Serves for Kept<'_, D, H> {
         input: &Input,
     ) -> Result<Outbox, Fault> {
         self.node.take(rt, clock, input)
+    }
+
+    fn take_all<W: Wait, C: Clock>(
+        &self,
+        rt: &W,
+        clock: &mut C,
+        inputs: &[Input],
+    ) -> Result<Option<Taken>, Fault> {
+        self.node.take_all(rt, clock, inputs)
     }
 
     fn is_ready<W: Wait>(&self, rt: &W) -> bool {

@@ -1,4 +1,4 @@
-use Rattle.std.proofs.Common.{rules, ◌≡◌, subst}
+use Rattle.std.proofs.Common.{rules, ◌≡◌, refl, subst}
 use Rattle.node.specs.Opening.{HasNoDesk}
 use Rattle.node.proofs.Faults.{no_desk}
 use Rattle.node.proofs.place.Place.restart.Goals as goal
@@ -11,8 +11,8 @@ returns-in-Err-clause-refused g c =
     = λ disk same. subst (λ (d : g.row.D.Denot). HasNoDesk g.D.Disk.keeps_model g.D.Disk.obeys g.D.Disk.file g.D.Disk.clock
     g.D.Disk.since g.D.Disk.failures g.D.Disk.plan d c.args.setup.now c.args.n c.in-Err.fault c.in-Err.disk) same c.in-Err.ensures.refused in
     elim c.match-self.branch [
-      | in-Serving+else-not-is_stopped w ↦ (search rules, back _ (search rules))
-      | in-Resting w ↦ (search rules, back _ (search rules))
+      | in-Serving+else-not-is_stopped w ↦ (search rules, back _ (search rules), refl)
+      | in-Resting w ↦ (search rules, back _ (search rules), refl)
     ]
 
 pub returns-in-Err-clause-faults : goal.returns-in-Err-clause-faults

@@ -1,0 +1,193 @@
+//! Letters that are taken together.
+use crate::acts::{post_all, refuse};
+use crate::gate::Gate;
+use crate::kept::{Kept, Watched};
+use crate::letter::{Letter, Post};
+use crate::put_off::Waiting;
+use crate::serves::{Serves, Taken};
+use crate::turns::Turns;
+use crossbeam_channel::Receiver;
+use message::{Input, Message};
+use std::alloc::Global;
+use std::sync::Wait;
+use std::time;
+use truetime::Clock;
+use units::{Stamp, Writes};
+
+// So many letters are taken together at most.
+const LETTERS_TOGETHER: usize = 64;
+
+// No letter joins others once these are to write so many bytes.
+const BYTES_TOGETHER: usize = 1 << 20;
+
+/// Letters that are taken together, in order: the inputs that they carry, and for each of these the round in which a session has sent it
+/// again. It also counts the letters and the bytes that they are to write.
+#[derive(Drop)]
+pub struct Batch {
+    inputs: Vec<Input>,
+    rounds: Vec<Option<u64>>,
+    letters: u64,
+    bytes: usize,
+}
+
+impl Batch {
+    /// Begins with no letter, and with room for as many as are taken together. `None` if memory is refused.
+    pub fn none(alloc: Global) -> Option<Batch> {
+        let inputs = Vec::with_capacity(alloc, LETTERS_TOGETHER).ok()?;
+        let rounds = Vec::with_capacity(alloc, LETTERS_TOGETHER).ok()?;
+        Some(Batch {
+            inputs,
+            rounds,
+            letters: 0,
+            bytes: 0,
+        })
+    }
+
+    /// Adds a letter, and the letters of the inbox that are there and are no reads, until there are enough.
+    pub fn fill<W: Wait + time::Clock>(
+        &mut self,
+        rt: &W,
+        reads: &mut Waiting,
+        inbox: &Receiver<Letter>,
+        first: Letter,
+    ) {
+        self.add(first);
+        for _letter in 1..LETTERS_TOGETHER {
+            if self.bytes >= BYTES_TOGETHER {
+                return;
+            }
+            match reads.further(rt, inbox) {
+                Some(letter) => self.add(letter),
+                None => return,
+            }
+        }
+    }
+
+    /// Tells of the transactions that close by it.
+    pub fn end_turns(&self, turns: &mut Turns) {
+        for input in &self.inputs {
+            if let Input::Deliver(message) = input {
+                turns.end(message);
+            }
+        }
+    }
+
+    // The round in which a session has sent the n-th input again.
+    fn round(&self, n: usize) -> Option<u64> {
+        *self.rounds.get(n)?
+    }
+
+    // Adds a letter, for which there is room. The word that a reader got `NotYet` only counts as a letter.
+    fn add(&mut self, letter: Letter) {
+        self.letters = self.letters.saturating_add(1);
+        let (message, round) = match letter {
+            Letter::Carry(message) => (message, None),
+            Letter::Again(message, round) => (message, Some(round)),
+            Letter::Look | Letter::Close => return,
+        };
+        self.bytes = self.bytes.saturating_add(bytes_of(&message));
+        drop(self.inputs.push(Input::Deliver(message)));
+        drop(self.rounds.push(round));
+    }
+}
+
+// How many bytes a message is to write, as far as they are values.
+fn bytes_of(message: &Message) -> usize {
+    match message {
+        Message::Prepare(prepare) => value_bytes(&prepare.writes),
+        Message::Commit(commit) => value_bytes(&commit.writes),
+        _ => 0,
+    }
+}
+
+fn value_bytes(writes: &Writes) -> usize {
+    let mut bytes = 0_usize;
+    for write in writes.as_slice() {
+        if let Some(value) = &write.value {
+            bytes = bytes.saturating_add(value.as_bytes().len());
+        }
+    }
+    bytes
+}
+
+/// Takes letters together; the first of them has this number at the gate. The gate is told of all of them before, and again once each is
+/// answered. Returns the number of the next letter.
+pub fn take_all<N: Serves, W: Wait, P: Post, C: Clock, G: Gate>(
+    node: &N,
+    rt: &W,
+    post: &mut P,
+    clock: &mut C,
+    gate: &G,
+    kept: &mut Kept,
+    first: u64,
+    batch: Batch,
+) -> u64 {
+    let end = first.saturating_add(batch.letters).min(Stamp::MAX);
+    for n in first..end {
+        gate.before(node.shard(), n);
+    }
+    answer_all(node, rt, post, clock, kept, &batch);
+    for n in first..end {
+        gate.after(node.shard(), n);
+    }
+    end
+}
+
+// Gives the node the inputs, and hands on what it makes of each, in their order.
+fn answer_all<N: Serves, W: Wait, P: Post, C: Clock>(
+    node: &N,
+    rt: &W,
+    post: &mut P,
+    clock: &mut C,
+    kept: &mut Kept,
+    batch: &Batch,
+) {
+    match node.take_all(rt, clock, &batch.inputs) {
+        Ok(Some(taken)) => hand_on_all(node, rt, post, kept, batch, taken),
+        Ok(None) => one_by_one(node, rt, post, clock, kept, batch),
+        Err(fault) => {
+            for input in &batch.inputs {
+                refuse(post, node.shard(), input, fault);
+            }
+        }
+    }
+}
+
+// Hands on what the node made of each input, and then what the steps that were due have put out.
+fn hand_on_all<N: Serves, W: Wait, P: Post>(
+    node: &N,
+    rt: &W,
+    post: &mut P,
+    kept: &mut Kept,
+    batch: &Batch,
+    taken: Taken,
+) {
+    let Taken { refusals, outboxes } = taken;
+    let mut outboxes = outboxes.into_iter();
+    for at in 0..batch.inputs.len() {
+        let input = &batch.inputs[at];
+        if let Some(Some(fault)) = refusals.get(at) {
+            refuse(post, node.shard(), input, *fault);
+        } else if let Some(outbox) = outboxes.next() {
+            kept.answer(node, rt, post, input, outbox, batch.round(at));
+        }
+    }
+    let mut post = Watched { post, kept };
+    for outbox in outboxes {
+        post_all(&mut post, outbox);
+    }
+}
+
+// Gives the node the inputs one by one.
+fn one_by_one<N: Serves, W: Wait, P: Post, C: Clock>(
+    node: &N,
+    rt: &W,
+    post: &mut P,
+    clock: &mut C,
+    kept: &mut Kept,
+    batch: &Batch,
+) {
+    for at in 0..batch.inputs.len() {
+        kept.take(node, rt, post, clock, &batch.inputs[at], batch.round(at));
+    }
+}
