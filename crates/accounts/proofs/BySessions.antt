@@ -15,10 +15,12 @@ use Rattle.world.specs.declared.event.Config.{Config}
 use Rattle.world.specs.declared.event.Event.{Event}
 use Rattle.law.proofs.Recorded.{among_first}
 use Rattle.law.proofs.WholeLaw.{as_they_are, externally_consistent}
+use Rattle.law.specs.Among.{IsAmong}
 use Rattle.law.specs.Written.{IsOfSession, has_closed}
+use Rattle.accounts.specs.Keeping.{AgreesWithReads}
 use Rattle.accounts.specs.Bank.{Bank, total}
 use Rattle.accounts.specs.Sessions.{AllClosed, AllTransfer, SessionsKeep, SessionsConserve, SessionsLeaveEnough, ServicesKeep}
-use Rattle.accounts.proofs.Induction.{Keeps}
+use Rattle.accounts.proofs.Induction.{Keeps, kept_behind}
 use Rattle.accounts.proofs.Sums.{NoneBelow, enough_keeps, from_the_start, sum_alike, transfer_keeps}
 use Rattle.law.proofs.OfSessions.{written_by_sessions}
 
@@ -36,6 +38,15 @@ pub keep_by_sessions : (P : Map → Type 0) (config : Config) (es : List Event) 
 keep_by_sessions P config es logs at fair may start all =
     from_the_start P config es logs at fair may start (λ u there below. by_session P (run config es) u
     (written_by_sessions config es logs fair may u there) all)
+
+-- what a transaction brings about and each closed session keeps
+pub keep_behind : (P : Map → Type 0) (config : Config) (es : List Event) (logs : List (List Record)) (u : Txn) (at : ℕ) → IsTrue (lawful config es) →
+    MayBeLeft config es logs → IsAmong (history logs) u → u.at ≤ at
+    → ((m : Map) → AgreesWithReads (run config es).lines u.txn m → P (put_all u.writes m))
+    → AllClosed (run config es) (λ c. Keeps P (run config es).lines c.txn c.writes) → P (upto (history logs) at)
+keep_behind P config es logs u at fair may among le brings all =
+    kept_behind P config logs (run config es).lines (externally_consistent config es logs fair may) u at among le brings
+    (λ v there. by_session P (run config es) v (written_by_sessions config es logs fair may v there) all)
 
 pub sessions_keep : SessionsKeep
 sessions_keep test = keep_by_sessions (λ m. IsTrue (test m))

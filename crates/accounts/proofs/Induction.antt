@@ -1,5 +1,5 @@
 -- What each transaction keeps holds of every snapshot.
-use Rattle.std.proofs.Common.{◌≡◌, inl, ℕ, ◌<◌, ◌≤◌, Bool, true, false, cond, nat_le, List, [], ◌∷◌, ◌++◌, refl, sym, ap, subst, ◌∙◌, arith, filter}
+use Rattle.std.proofs.Common.{◌≡◌, inl, inr, ℕ, ◌<◌, ◌≤◌, Bool, true, false, cond, nat_le, nat_lt, List, [], ◌∷◌, ◌++◌, refl, sym, ap, subst, ◌∙◌, arith, filter}
 use Rattle.std.proofs.lemmas.Bool.Decides.{nat_tests}
 use Rattle.units.specs.Ids.{Id}
 use Rattle.units.specs.declared.line.Line.{Line}
@@ -11,6 +11,7 @@ use Rattle.world.specs.Headline.{IsExternallyConsistent}
 use Rattle.world.specs.declared.event.Config.{Config}
 use Rattle.law.proofs.Members.{among_right}
 use Rattle.accounts.specs.Keeping.{AgreesWithReads}
+use Rattle.law.proofs.Serial.{serial_has}
 use Rattle.law.proofs.InOrder.{Apart, Strict, apart, found, serial_from, serial_strict, in_history_once, in_front, before_low, applied_more, nobody}
 
 append_one : (pre : List Txn) (u : Txn) (post : List Txn) → (pre ++ u ∷ []) ++ post ≡ pre ++ u ∷ post
@@ -20,6 +21,17 @@ append_one (p ∷ ps) u post = ap (λ (l : List Txn). p ∷ l) (append_one ps u 
 strict_later : (pre : List Txn) (u : Txn) (post : List Txn) → Strict (pre ++ u ∷ post) → (v : Txn) → IsAmong post v → u.at ≤ v.at
 strict_later [] u post s v k = before_low u v (s.0 v k)
 strict_later (p ∷ ps) u post s v k = strict_later ps u post s.1 v k
+
+strict_earlier : (pre : List Txn) (u : Txn) (post : List Txn) → Strict (pre ++ u ∷ post) → (v : Txn) → IsAmong pre v → v.at ≤ u.at
+strict_earlier [] u post s v k = absurd k
+strict_earlier (p ∷ ps) u post s v (inl same) = subst (λ z. z.at ≤ u.at) same (before_low p u (s.0 u (among_right ps (u ∷ post) u (inl refl))))
+strict_earlier (p ∷ ps) u post s v (inr later) = strict_earlier ps u post s.1 v later
+
+-- what stands in a list stands between two parts of it
+parted : (l : List Txn) (u : Txn) → IsAmong l u → (pre : List Txn) × (post : List Txn) × (l ≡ pre ++ u ∷ post)
+parted [] u k = absurd k
+parted (t ∷ ts) u (inl same) = ([], ts, ap (λ z. z ∷ ts) same)
+parted (t ∷ ts) u (inr later) = let rest = parted ts u later in (t ∷ rest.0, rest.1, ap (λ (l : List Txn). t ∷ l) rest.2)
 
 -- a transaction keeps a property
 abbrev pub Keeps : (Map → Type 0) → List Line → Id → List Write → Type 0
@@ -122,3 +134,44 @@ module _ (P : Map → Type 0) (config : Config) (logs : List (List Record)) (lin
   kept_always at p keeps =
       goes_on (λ a. false) at (λ a b k f. refl) (λ a k. cc) (λ u k f l. keeps u k l) [] (serial h) refl
       (subst (λ l. P (applied l empty)) (sym (nobody (λ v. false) (serial h) (λ u k. refl))) p)
+
+  -- what a transaction brings about and all others keep holds of every snapshot from it on
+  pub kept_behind : (u : Txn) (at : ℕ) → IsAmong h u → u.at ≤ at → ((m : Map) → AgreesWithReads lines u.txn m → P (put_all u.writes m))
+      → ((v : Txn) → IsAmong h v → Keeps P lines v.txn v.writes) → P (upto h at)
+  unfolding upto
+  kept_behind u at among le brings keeps =
+      let parts = parted (serial h) u (serial_has h u among) in
+      let pre = parts.0 in
+      let post = parts.1 in
+      let s : Strict (pre ++ u ∷ post) = subst Strict parts.2 strict in
+      let none : filter (λ v. nat_lt v.at u.at) post ≡ [] = nobody (λ v. nat_lt v.at u.at) post (λ v k. not_below u.at v.at (strict_later pre u post s v k)) in
+      let more : applied (pre ++ u ∷ []) empty ≡ put_all u.writes (applied pre empty) = applied_more pre u empty in
+      let now : P (applied (pre ++ u ∷ []) empty) = subst P (sym more) (brings (applied pre empty) (agrees pre u post parts.2)) in
+      let rest = goes_on (λ a. nat_lt a u.at) at (λ a b k f. falls a b k f) (λ a k. below a k) (λ v k f l. keeps v k) (pre ++ u ∷ []) post
+      (parts.2 ∙ sym (append_one pre u post)) (subst (λ l. P (applied l (applied (pre ++ u ∷ []) empty))) (sym none) now) in
+      subst (λ l. P (applied (filter (λ v. nat_le v.at at) l) empty)) (sym parts.2)
+      (subst P (sym (upto_parted pre post empty (λ v k. trans v.at u.at at (strict_earlier pre u post s v k) le))) rest)
+    where
+      falls : (a b : ℕ) → a ≤ b → nat_lt a u.at ≡ false → nat_lt b u.at ≡ false
+      falls a b k f = grind (arith, nat_tests)
+
+      below : (a : ℕ) → nat_lt a u.at ≡ true → a ≤ at
+      below a k = grind (arith, nat_tests)
+
+      not_below : (a b : ℕ) → a ≤ b → nat_lt b a ≡ false
+      not_below a b k = grind (arith, nat_tests)
+
+      is_below_at : (a : ℕ) → a ≤ at → nat_le a at ≡ true
+      is_below_at a k = grind (arith, nat_tests)
+
+      trans : (a b c : ℕ) → a ≤ b → b ≤ c → a ≤ c
+      trans a b c k l = omega (arith, k, l)
+
+      upto_parted : (front back : List Txn) (m : Map) → ((v : Txn) → IsAmong front v → v.at ≤ at) →
+          applied (filter (λ v. nat_le v.at at) (front ++ u ∷ back)) m ≡ applied (filter (λ v. nat_le v.at at) back) (applied (front ++ u ∷ []) m)
+      upto_parted [] back m low =
+          ap (λ b. applied (cond b (u ∷ filter (λ v. nat_le v.at at) back) (filter (λ v. nat_le v.at at) back)) m) (is_below_at u.at le)
+      upto_parted (p ∷ ps) back m low =
+          ap (λ b. applied (cond b (p ∷ filter (λ v. nat_le v.at at) (ps ++ u ∷ back)) (filter (λ v. nat_le v.at at) (ps ++ u ∷ back))) m)
+          (is_below_at p.at (low p (inl refl)))
+          ∙ upto_parted ps back (put_all p.writes m) (λ v k. low v (inr k))

@@ -1,19 +1,24 @@
 -- A transfer keeps the total.
-use Rattle.std.proofs.Common.{◌≡◌, ◌≢◌, inl, inr, ℕ, ◌+◌, ◌-◌, ◌≤◌, Bool, true, false, cond, nat_le, List, [], ◌∷◌, map, Some, refl, sym, ap, subst, ◌∙◌, arith}
+use Rattle.std.proofs.Common.{◌≡◌, ◌≢◌, inl, inr, ℕ, ◌+◌, ◌-◌, ◌≤◌, Bool, true, false, cond, nat_le, List, [], ◌∷◌, map, Some, refl, sym, ap, subst, ◌∙◌, arith, IsTrue}
 use Rattle.std.proofs.lemmas.Bool.Decides.{nat_tests}
 use Rattle.units.specs.Keys.{Bytes, same_key}
 use Rattle.units.specs.declared.writes.Write.{Write}
 use Rattle.units.proofs.KeyLaws.{same_key-is, same_key-refl}
-use Rattle.record.specs.History.{Map, put, put_all, empty, history, upto}
+use Rattle.record.specs.History.{Txn, Map, put, put_all, empty, history, upto}
 use Rattle.record.specs.declared.record.Record.{Record}
 use Rattle.law.specs.Among.{IsAmong}
 use Rattle.world.specs.Headline.{MayBeLeft}
+use Rattle.world.specs.Lawful.{lawful}
 use Rattle.world.specs.World.{ShardNow, run}
+use Rattle.world.specs.declared.event.Config.{Config}
+use Rattle.world.specs.declared.event.Event.{Event}
 use Rattle.law.proofs.WholeLaw.{externally_consistent, as_they_are}
 use Rattle.accounts.specs.Bank.{Bank, sum_of, total}
-use Rattle.accounts.specs.Transfers.{KeysOnce, IsSpelt, transfer, TransfersConserve}
+use Rattle.accounts.specs.Sessions.{AllClosed}
+use Rattle.accounts.specs.Transfers.{AllKeep, KeysOnce, IsSpelt, Leaves, transfer, TransfersConserve, TransfersKeep}
 use Rattle.accounts.proofs.Sums.{put_elsewhere, sum_alike}
-use Rattle.accounts.proofs.BySessions.{keep_by_sessions}
+use Rattle.accounts.proofs.BySessions.{keep_behind, keep_by_sessions}
+use Rattle.accounts.proofs.Induction.{Keeps}
 
 put_here : (w : Write) (m : Map) → put w m w.key ≡ w.value
 put_here w m = ap (λ b. cond b w.value (m w.key)) (same_key-refl w.key)
@@ -70,6 +75,31 @@ transfer_is_even b spell from to n m is from_in to_in apart = by_test (nat_le n 
         (record { key = to; value = Some (spell (b.amount (m to) + n)) }) refl refl (is.reads_back (b.amount (m from) - n))
         (is.reads_back (b.amount (m to) + n)) (le n (b.amount (m from)) e)
     by_test false e = refl
+
+-- a transfer, a session that writes no account and one that leaves the total keep it
+kept : (b : Bank) (spell : ℕ → Bytes) (sum : ℕ) (config : Config) (es : List Event) → IsSpelt b spell → AllKeep b spell sum (run config es)
+    → AllClosed (run config es) (λ c. Keeps (λ m. total b m ≡ sum) (run config es).lines c.txn c.writes)
+kept b spell sum config es is all c there closed m says p = elim (all c there closed) [
+  | inl t ↦ subst (λ ws. total b (put_all ws m) ≡ sum) (t.follows m says)
+      (transfer_is_even b spell t.from t.to t.amount m is t.from_account t.to_account t.apart ∙ p)
+  | inr (inl none) ↦ sum_alike b b.accounts (put_all c.writes m) m (λ k h. put_elsewhere c.writes m k (none k h)) ∙ p
+  | inr (inr leaves) ↦ leaves m says
+]
+
+pub transfers_keep : TransfersKeep
+transfers_keep = record {
+  snapshots = snapshot;
+  audits = λ b spell sum config es logs opening at seen is fair may among leaves all le audit.
+      sum_alike b b.accounts seen (upto (history logs) at) (λ k h. sym ((externally_consistent config es logs fair may).looks k at (seen k) (audit k h)))
+      ∙ snapshot b spell sum config es logs opening at is fair may among leaves all le;
+}
+  where
+    snapshot : (b : Bank) (spell : ℕ → Bytes) (sum : ℕ) (config : Config) (es : List Event) (logs : List (List Record)) (opening : Txn) (at : ℕ) →
+        IsSpelt b spell → IsTrue (lawful config es) → MayBeLeft config es logs →
+        IsAmong (history logs) opening → Leaves b sum (run config es).lines opening.txn opening.writes →
+        AllKeep b spell sum (run config es) → opening.at ≤ at → total b (upto (history logs) at) ≡ sum
+    snapshot b spell sum config es logs opening at is fair may among leaves all le =
+        keep_behind (λ m. total b m ≡ sum) config es logs opening at fair may among le leaves (kept b spell sum config es is all)
 
 pub transfers_conserve : TransfersConserve
 transfers_conserve b spell config es at seen is fair all audit =

@@ -1,15 +1,20 @@
 -- A service that moves money: what a transfer does, and what its audits find.
-use Rattle.std.specs.Prelude.{ℕ, ◌+◌, ◌-◌, ◌≡◌, ◌≢◌, ◌⊎◌, false, cond, nat_le, IsTrue, List, [], ◌∷◌, Some}
+use Rattle.std.specs.Prelude.{ℕ, ◌+◌, ◌-◌, ◌≡◌, ◌≢◌, ◌⊎◌, ◌≤◌, false, cond, nat_le, IsTrue, List, [], ◌∷◌, Some}
+use Rattle.units.specs.Ids.{Id}
 use Rattle.units.specs.Keys.{Bytes, writes_key}
+use Rattle.units.specs.declared.line.Line.{Line}
 use Rattle.units.specs.declared.writes.Write.{Write}
-use Rattle.record.specs.History.{Map, empty}
+use Rattle.record.specs.History.{Txn, Map, empty, history, put_all, upto}
+use Rattle.record.specs.declared.record.Record.{Record}
 use Rattle.session.specs.Sessions.{Client}
 use Rattle.law.specs.Among.{IsAmong}
+use Rattle.world.specs.Headline.{MayBeLeft}
 use Rattle.world.specs.Lawful.{lawful}
 use Rattle.world.specs.World.{World, run}
 use Rattle.world.specs.declared.event.Config.{Config}
 use Rattle.world.specs.declared.event.Event.{Event}
 use Rattle.accounts.specs.Bank.{Bank, total, IsAudit}
+use Rattle.accounts.specs.Keeping.{AgreesWithReads}
 use Rattle.accounts.specs.Sessions.{AllClosed, DoesAs}
 
 -- each key once
@@ -52,3 +57,24 @@ TransfersConserve =
     IsTrue (lawful config es) →
     AllClosed (run config es) (λ c. Transfers b spell (run config es) c ⊎ WritesNone b c) →
     IsAudit b (run config es).lines at seen → total b seen ≡ total b empty
+
+-- a session, or its transaction in the logs, leaves a total: on each map that says what it read, its writes make the accounts hold as much
+-- together, as those of a session do that opens them all
+abbrev pub Leaves : Bank → ℕ → List Line → Id → List Write → Type 0
+Leaves b sum lines t ws = (m : Map) → AgreesWithReads lines t m → total b (put_all ws m) ≡ sum
+
+-- each session that closes is a transfer, writes no account, or leaves the total
+abbrev pub AllKeep : Bank → (ℕ → Bytes) → ℕ → World → Type 0
+AllKeep b spell sum w = AllClosed w (λ c. Transfers b spell w c ⊎ (WritesNone b c ⊎ Leaves b sum w.lines c.txn c.writes))
+
+-- behind a session that leaves a total, transfers keep it: the accounts hold as much at its timestamp and at each later one, and so each view
+-- finds that is not before it, whatever crashed meanwhile
+pub record TransfersKeep : Type 0 where
+  pub snapshots : (b : Bank) (spell : ℕ → Bytes) (sum : ℕ) (config : Config) (es : List Event) (logs : List (List Record)) (opening : Txn) (at : ℕ) →
+      IsSpelt b spell → IsTrue (lawful config es) → MayBeLeft config es logs →
+      IsAmong (history logs) opening → Leaves b sum (run config es).lines opening.txn opening.writes →
+      AllKeep b spell sum (run config es) → opening.at ≤ at → total b (upto (history logs) at) ≡ sum
+  pub audits : (b : Bank) (spell : ℕ → Bytes) (sum : ℕ) (config : Config) (es : List Event) (logs : List (List Record)) (opening : Txn) (at : ℕ) (seen : Map) →
+      IsSpelt b spell → IsTrue (lawful config es) → MayBeLeft config es logs →
+      IsAmong (history logs) opening → Leaves b sum (run config es).lines opening.txn opening.writes →
+      AllKeep b spell sum (run config es) → opening.at ≤ at → IsAudit b (run config es).lines at seen → total b seen ≡ sum

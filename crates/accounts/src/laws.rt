@@ -2,7 +2,7 @@
 ghost use Rattle.accounts.specs.Keeping.{KeptBetween, KeptFromTheStart};
 ghost use Rattle.accounts.specs.Bank.{AuditsAgree, NeverBelow, TotalStays};
 ghost use Rattle.accounts.specs.Sessions.{ServicesKeep, SessionsConserve, SessionsKeep, SessionsLeaveEnough};
-ghost use Rattle.accounts.specs.Transfers.{TransfersConserve};
+ghost use Rattle.accounts.specs.Transfers.{TransfersConserve, TransfersKeep};
 
 /// Says that a test which the empty store passes holds at every timestamp of the recovered logs, whatever crash struck. Each transaction
 /// has to keep the test, on any map that agrees with what it read.
@@ -58,4 +58,10 @@ pub fn services_keep()
 /// account.
 pub fn transfers_conserve()
     ensures { TransfersConserve }
+{}
+
+/// Says that after a session that leaves a total, as one that opens all accounts, each audit finds that total. Each session that closes
+/// has to be a transfer between two accounts, to write no account, or to leave that total.
+pub fn transfers_keep()
+    ensures { TransfersKeep }
 {}

@@ -11,5 +11,5 @@ mod laws;
 
 pub use laws::{
     audits_agree, kept_between, kept_from_the_start, never_below, services_keep, sessions_conserve,
-    sessions_keep, sessions_leave_enough, total_stays, transfers_conserve,
+    sessions_keep, sessions_leave_enough, total_stays, transfers_conserve, transfers_keep,
 };

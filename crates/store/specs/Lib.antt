@@ -1,5 +1,6 @@
 pub mod Attempts
 pub mod Standing
+pub mod Typed
 pub mod Views
 pub mod Writing
 pub use Rattle.node.specs.Unopened

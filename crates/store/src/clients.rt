@@ -1,7 +1,8 @@
 //! A client: it runs transactions, one at a time, and opens views.
-ghost use Rattle.std.specs.Prelude.{◌≡◌, ◌⊎◌, ℕ, List, [], ◌∷◌, ◌++◌, IfSome, IsSome, IsTrue, MatchResult};
+ghost use Rattle.std.specs.Prelude.{◌≡◌, ◌⊎◌, ℕ, List, [], ◌∷◌, ◌++◌, IfErr, IfOk, IfSome, IsSome, IsTrue, MatchResult};
 ghost use Rattle.message.specs.Ends.{End};
 ghost use Rattle.message.specs.declared.message.Envelope.{Envelope};
+ghost use Rattle.client.specs.Outcomes.{IsFound};
 ghost use Rattle.store.specs.Attempts.{Attempt, CannotBegin, ComesTo, ComesWithin, Ends, HasTried, IsAtWork, IsCutShort, beginning, drew, kept, runs_again};
 ghost use Rattle.store.specs.Views.{IsPresent};
 
@@ -10,7 +11,7 @@ use crate::steady::ClientClock;
 use crate::view::{MOST_BYTES, TRIES};
 use crate::{Ended, Halt, Transaction, View};
 use board::Viewer;
-use client::{Wire, Wires};
+use client::{InDoubt, Outcome, Wire, Wires};
 use crossbeam_channel::Receiver;
 use letters::Reply;
 use std::marker::Model;
@@ -18,7 +19,7 @@ use std::sync::Wait;
 use std::time::{Duration, Instant};
 use std::{thread, time};
 use tickets::Drawer;
-use units::{Fault, ShardNo, Stamp};
+use units::{Fault, ShardNo, Stamp, TxnId};
 
 /// A client of a store. It is one thread's at a time. Contracts see the run of its ids, the splits of its store, what it has drawn, and its
 /// viewers. They see what was put out and heard of each of its attempts. Of its clock they see the epsilon, the timestamp from which it goes on,
@@ -36,6 +37,8 @@ pub struct Client<'s, R> {
     pub(crate) room: Box<[u8; MOST_BYTES]>,
     pub(crate) clock: ClientClock<'s, R>,
     pub(crate) patience: u32,
+    // Its last transactions whose end nobody told.
+    pub(crate) doubts: Vec<InDoubt<'s>>,
 }
 
 impl<'s, R> Model for Client<'s, R> {
@@ -63,6 +66,9 @@ const LONGEST: u32 = 100;
 
 // Clients that wait for one another are not to give up at the same time: so their patience differs, by their numbers.
 const APART: usize = 4;
+
+// So many transactions whose end nobody told a client keeps.
+const MOST_DOUBTS: usize = 16;
 
 // So many milliseconds a client rests before it runs an aborted transaction again, which is a younger one then and would mostly be in the way.
 const REST_MILLIS: u64 = 2;
@@ -155,6 +161,18 @@ impl<'s, R: Wait + time::Clock> Client<'s, R> {
             (λ fault. (self.new ≡ self.old) × CannotBegin self.old fault) }
     {
         let shared = self.shared;
+        let mut wire = self.wire(patience)?;
+        let tx = wire.begin(shared.run, &shared.splits, &shared.ids, &mut self.drawer)?;
+        let alloc = shared.alloc;
+        Ok(Transaction { wire, tx, alloc })
+    }
+
+    // A wire over which nothing was said.
+    fn wire(&self, patience: u32) -> Result<Wire<'s, 's, R>, Fault>
+        ensures none { IfOk result (λ wire. (wire.sent ≡ []) × (wire.heard ≡ [])) }
+        ensures memory { IfErr result (λ fault. fault ≡ Fault.Memory) }
+    {
+        let shared = self.shared;
         let wire = Wire::new(
             self.rt,
             shared.alloc,
@@ -164,9 +182,7 @@ impl<'s, R: Wait + time::Clock> Client<'s, R> {
             self.number,
             patience,
         );
-        let mut wire = wire.by_progress(shared.give_up);
-        let tx = wire.begin(shared.run, &shared.splits, &shared.ids, &mut self.drawer)?;
-        Ok(Transaction { wire, tx })
+        Ok(wire.by_progress(shared.give_up))
     }
 
     // Ends a transaction whose code has run.
@@ -185,10 +201,54 @@ impl<'s, R: Wait + time::Clock> Client<'s, R> {
             })
             × Ends transaction.entry.session ran sent heard result }
     {
-        let Transaction { mut wire, tx } = transaction;
+        let Transaction {
+            mut wire,
+            tx,
+            alloc: _,
+        } = transaction;
         let ended = wire.finish(tx, ran);
+        self.keep(wire.take_doubt());
         self.past.add(wire);
         ended
+    }
+
+    // Keeps a transaction whose end nobody told, beside the last ones before it.
+    fn keep(&mut self, doubt: Option<InDoubt<'s>>)
+        ensures { self.new ≡ self.old }
+    {
+        let Some(doubt) = doubt else {
+            return;
+        };
+        if self.doubts.len() >= MOST_DOUBTS {
+            drop(self.doubts.remove(0));
+        }
+        drop(self.doubts.push(doubt));
+    }
+
+    /// Asks how a transaction of this client ended, after `Ended::Unknown` named its id: the shard that decides says it from its log. The call
+    /// waits as long as the client does for an end. The client keeps its last 16 such transactions, while there is memory; of any other id,
+    /// and of one of another client, the answer is `Unknown` at once.
+    ///
+    /// After `Open` and `Unknown` the same call may be answered later. If the shard that decides has stopped it is not: open the store again,
+    /// and look for a key of your own that the transaction wrote. `Memory` if memory runs out.
+    pub fn outcome(&mut self, id: TxnId) -> Result<Outcome, Fault>
+        ensures asked { MatchResult result
+            (λ outcome. ((outcome ≡ Outcome.Unknown) × (self.new ≡ self.old))
+            ⊎ ((sent : List Envelope) × (heard : List End)
+            × (self.new ≡ record self.old {
+              traffics = self.old.traffics ++ (record { sent = sent; heard = heard }) ∷ [];
+            })
+            × IsFound id outcome heard))
+            (λ fault. (fault ≡ Fault.Memory) × (self.new ≡ self.old)) }
+    {
+        let mut asking = self.wire(self.patience)?;
+        let Some(doubt) = doubt_of(&self.doubts, id) else {
+            drop(asking);
+            return Ok(Outcome::Unknown);
+        };
+        let outcome = asking.ask(doubt);
+        self.past.add(asking);
+        Ok(outcome)
     }
 
     /// A view of the whole store at the present: its timestamp is the latest of a reading of the client's clock that is taken now. There is
@@ -236,6 +296,18 @@ impl<'s, R: Wait + time::Clock> Client<'s, R> {
     pub fn has_stopped(&self, shard: ShardNo) -> bool {
         self.shared.network.has_stopped(shard)
     }
+}
+
+// The transaction with this id, if it is one of these.
+fn doubt_of<'d, 's>(doubts: &'d [InDoubt<'s>], id: TxnId) -> Option<&'d InDoubt<'s>>
+    ensures { IfSome result (λ doubt. doubt.now.tx.client.txn ≡ id) }
+{
+    for doubt in doubts {
+        if doubt.txn() == id {
+            return Some(doubt);
+        }
+    }
+    None
 }
 
 // When no further attempt is begun: so long after that.

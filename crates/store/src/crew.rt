@@ -53,6 +53,7 @@ impl Crew {
             room,
             clock: ClientClock::new(clock),
             patience,
+            doubts: Vec::new(shared.alloc),
         })
     }
 }

@@ -10,9 +10,10 @@ mod shared;
 mod steady;
 mod store;
 mod transaction;
+mod typed;
 mod view;
 
-pub use client::{Ended, Halt};
+pub use client::{Ended, Halt, Outcome};
 pub use clients::Client;
 pub use filedisk::Cause;
 pub use host_files::{Expected, Name, Refused, Why, refusal_in};
@@ -20,5 +21,6 @@ pub use node::{Unopened, UnopenedIn};
 pub use options::Options;
 pub use store::Store;
 pub use transaction::{Transaction, own_writes_are_seen};
+pub use typed::Typed;
 pub use units::{Fault, Key, Reason, Splits, Stamp, TxnId, Value};
 pub use view::View;

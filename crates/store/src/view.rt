@@ -1,9 +1,12 @@
 //! A view of the whole store at one timestamp.
-ghost use Rattle.std.specs.Prelude.{◌≡◌, ◌⊎◌, ◌<◌, ◌≤◌, None, length, slice_get, IfErr, IfOk, IsSome};
+ghost use Rattle.std.specs.Prelude.{◌≡◌, ◌⊎◌, ◌<◌, ◌≤◌, ℕ, List, Option, None, length, slice_get, IfErr, IfOk, IsSome};
 ghost use Rattle.units.specs.Keys.{shard_of};
+ghost use Rattle.store.specs.Typed.{IsReadAs};
 ghost use Rattle.store.specs.Views.{IsShown, IsUnseenBy, LookedAt, seen_in};
 
+use crate::Typed;
 use crate::shared::Shared;
+use crate::typed::read_as;
 use board::Viewer;
 use counts::Past;
 use std::alloc::Global;
@@ -80,6 +83,32 @@ impl<R: Wait + time::Clock> View<'_, '_, R> {
             }
             None => Err(Fault::Stranger),
         }
+    }
+
+    /// Gives the value of a key as a type: none if the key has no value. One that spells no value of the type is refused as
+    /// `BadRequest(Value)`. Else it is refused as `get` is.
+    pub fn get_as<T: Typed>(&mut self, key: &Key) -> Result<Option<T>, Fault>
+        ensures at { self.new.at ≡ self.old.at }
+        ensures splits { self.new.shared.now.splits ≡ self.old.shared.now.splits }
+        ensures shown { IfOk result (λ read. (value : Option (List ℕ))
+            × LookedAt self.old.viewers.now.items
+            self.new.viewers.now.items (shard_of self.old.shared.now.splits key.now)
+            (λ viewer after. IsShown viewer after key.now self.old.at value)
+            × IsReadAs T.spelled value read) }
+    {
+        let value = self.get(key)?;
+        read_as(self.shared.alloc, value)
+    }
+
+    /// Sets for how long each further `get` waits until its shard serves the timestamp, in whole milliseconds; 0 does not wait. A view of the
+    /// present waits 3 seconds, and one that `Client::view_at` opened does not wait.
+    pub fn wait_at_most(&mut self, wait: Duration)
+        ensures at { self.new.at ≡ self.old.at }
+        ensures splits { self.new.shared.now.splits ≡ self.old.shared.now.splits }
+        ensures viewers { self.new.viewers.now.items ≡ self.old.viewers.now.items }
+    {
+        let pauses = u32::try_from(wait.as_millis() / u128::from(PAUSE)).unwrap_or(u32::MAX);
+        self.tries = pauses.saturating_add(1);
     }
 }
 

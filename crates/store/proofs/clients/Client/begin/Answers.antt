@@ -1,5 +1,3 @@
-use Rattle.std.proofs.Common.{ap, ◌∙◌}
-use Rattle.client.specs.Traffic.{Traffic}
 use Rattle.store.specs.Attempts.{Worker}
 use Rattle.store.proofs.Attempts.{begins}
 use Rattle.store.proofs.clients.Client.begin.Goals as goal
@@ -8,7 +6,7 @@ pub returns : goal.returns
 returns g c =
     let inside = c.self.inside in
     let is = c.in_ok-tx.ensures in
-    let same = c.by_progress-wire.ensures in
+    let none = c.in_ok-wire.ensures.none in
     let before : Worker = record {
       run = inside.shared.now.run;
       splits = inside.shared.now.splits;
@@ -19,6 +17,5 @@ returns g c =
       from = inside.clock.from;
       readings = inside.clock.readings;
     } in
-    begins before c.args.self.now c.begin.new.drawer c.in_ok-tx.tx c.by_progress-wire.result c.begin.new.self c.self.view_is
-    (ap (λ (t : Traffic). t.sent) same ∙ c.new-wire.ensures.0) (ap (λ (t : Traffic). t.heard) same ∙ c.new-wire.ensures.1)
+    begins before c.args.self.now c.begin.new.drawer c.in_ok-tx.tx c.in_ok-wire.wire c.begin.new.self c.self.view_is none.0 none.1
     is.wire is.splits is.begun is.source is.drawn
