@@ -27,7 +27,7 @@ settings() {
 "$program" make logs m
 "$program" put logs a 1 >committed
 "$program" put logs z 1 >committed
-for name in held lost older swapped unnamed; do cp -r logs $name; done
+for name in foreign held hurt linked lost older swapped unnamed; do cp -r logs $name; done
 rm lost/shard-1.log
 printf '%s\n' begin 'put a 2' 'put z 2' commit | "$program" serve older >committed
 cp logs/shard-1.log older
@@ -35,10 +35,15 @@ mv swapped/shard-0.log kept
 mv swapped/shard-1.log swapped/shard-0.log
 mv kept swapped/shard-1.log
 echo 'no manifest' >unnamed/store.toml
-mkdir bare
+mkdir bare strange
 mkfifo pipe
 printf 'no text \377 and no log\n' >text
 head -c 9250 logs/shard-0.log >cut
+cp cut hurt/shard-0.log
+cp text foreign/shard-1.log
+mv linked/shard-0.log elsewhere
+ln -s ../elsewhere linked/shard-0.log
+cp text strange/shard-0.log
 printf 'SPNLOG01\245\000\000\000\011\001\000\000\000\000\000\000\000\001\000' >old
 printf '%s\n' 'shards 2' 'split m' 'stride 1000' '100 begin 1.1' '50 begin 1.2' >late.schedule
 settings '3s/.*/stride 1000/' 1
@@ -51,7 +56,7 @@ settings '2s/.*/splits = ["g"]/' 7
 settings '2s/.*/splits = ["p", "g"]/' 8
 settings '$a dir = ""' 9
 settings '$a dir = "logs"' other
-settings '1s/3/2/; 2s/.*/splits = ["m"]/; $a dir = "held"' held
+for name in foreign held linked; do settings '1s/3/2/; 2s/.*/splits = ["m"]/; $a dir = "'$name'"' $name; done
 mkfifo ../lines
 "$program" serve held <../lines >../answers &
 server=$!
@@ -74,6 +79,7 @@ words_of() {
         K65) printf '%065d\n' 0 ;;
         V4097) printf '%04097d\n' 0 ;;
         L17) seq 17 ;;
+        S16) seq 10 25 ;;
         *) printf '%s\n' "$word" | sed 's/\\\\/\\/g' ;;
         esac
     done

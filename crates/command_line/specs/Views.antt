@@ -1,5 +1,5 @@
 -- Command lines and commands of the code, by their words.
-use Rattle.std.specs.Prelude.{◌≡◌, ◌⊎◌, ℕ, List, MatchResult, Option, Bool, ◌||◌, Result, Ok, Err, is_some, map, option_map}
+use Rattle.std.specs.Prelude.{◌≡◌, ◌⊎◌, ℕ, List, MatchResult, Bool, ◌||◌, Result, Ok, Err, is_some, map, option_map}
 use denote.Ref.{Bor}
 use Rattle.clap.specs.Words.{Shape, Text}
 use Rattle.units.specs.declared.fault.Fault.{Fault}

@@ -4,12 +4,21 @@ use crate::usage::{PAGE, paragraph};
 use requests::unspelled;
 use std::alloc::{AllocError, Global};
 use texts::stamp;
-use units::{Fault, Reason};
+use units::{Fault, Key, Reason};
 
 /// How many logs a command takes.
 const MOST_LOGS: usize = 16;
 
+/// How many splits a store takes.
+const MOST_SPLITS: usize = 15;
+
+// Options with values, which are read before: no other word stands in their place.
+const OPTIONS: &str = "[OPTION..]";
+
+const SPLITS: &str = "[SPLIT..]";
+
 /// Why words were refused for this fault, as one line: what is missing, wrong or too much. A second line tells how the command is called.
+/// Words of `serve` are given without its options and their numbers.
 pub fn explanation(alloc: Global, words: &[&str], fault: Fault) -> Result<String, AllocError> {
     let read = Words::new(alloc, words)?;
     let text = match read.plain.as_slice() {
@@ -172,8 +181,14 @@ fn wrong_word(
 ) -> Result<String, AllocError> {
     let mut left = given;
     for place in synopsis.split(' ').skip(1) {
-        if place.starts_with("[-") {
+        if place.starts_with("[-") || place == OPTIONS {
             continue;
+        }
+        if place == SPLITS {
+            return match wrong_split(alloc, left, fault)? {
+                Some(what) => Ok(what),
+                None => format!(in alloc; "these words are no command line"),
+            };
         }
         if place.ends_with("..") && !left.is_empty() {
             return format!(in alloc; "there are more than {MOST_LOGS} of {}", bare(place));
@@ -197,6 +212,37 @@ fn wrong_word(
         }
         [] => format!(in alloc; "these words are no command line"),
     }
+}
+
+// What is wrong with the splits of a store, if the fault is one of theirs.
+fn wrong_split(alloc: Global, splits: &[&str], fault: Fault) -> Result<Option<String>, AllocError> {
+    if splits.len() > MOST_SPLITS {
+        return Ok(Some(format!(in alloc; "there are more than {MOST_SPLITS} of SPLIT")?));
+    }
+    for word in splits {
+        if let Some(what) = wrong_in(alloc, "SPLIT", *word, true, fault)? {
+            return Ok(Some(what));
+        }
+    }
+    match unordered(alloc, splits) {
+        Some(word) => Ok(Some(format!(in alloc; "'{word}' is not above the SPLIT before it")?)),
+        None => Ok(None),
+    }
+}
+
+// The first split that is not above the one before it.
+fn unordered<'a>(alloc: Global, splits: &[&'a str]) -> Option<&'a str> {
+    let mut last: Option<Key> = None;
+    for word in splits {
+        let bytes = unspelled(alloc, word).ok()?;
+        let key = Key::new(&bytes).ok()?;
+        drop(bytes);
+        if last.is_some_and(|before| key <= before) {
+            return Some(*word);
+        }
+        last = Some(key);
+    }
+    None
 }
 
 // How many bytes a word tells: its own, or those that it spells, if it spells any.
@@ -225,9 +271,9 @@ fn wrong_in(
         )?));
     };
     match (place, fault) {
-        ("KEY", Fault::BadRequest(Reason::Key)) => Ok(Some(format!(in alloc;
-            "KEY has 1 to 64 bytes, and not {bytes}"
-        )?)),
+        ("KEY" | "SPLIT", Fault::BadRequest(Reason::Key)) if bytes == 0 || bytes > 64 => {
+            Ok(Some(format!(in alloc; "{place} has 1 to 64 bytes, and not {bytes}")?))
+        }
         ("VALUE", Fault::BadRequest(Reason::Value)) => Ok(Some(format!(in alloc;
             "VALUE has at most 4096 bytes, and not {bytes}"
         )?)),

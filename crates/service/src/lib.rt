@@ -4,6 +4,7 @@
 mod making;
 mod opening;
 mod options;
+mod refusal;
 mod running;
 
 pub use running::{is_service, service};

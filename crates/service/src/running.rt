@@ -3,6 +3,7 @@ ghost use Rattle.std.specs.Prelude.{◌≡◌, ◌⊎◌};
 
 use crate::making::make;
 use crate::opening::opened;
+use crate::refusal::Refusal;
 use commands::splits_of;
 use host_files::HostFiles;
 use requests::Answer;
@@ -16,7 +17,6 @@ use std::sync::Wait;
 use std::thread::Threads;
 use std::{rt, time};
 use store::Client;
-use units::Fault;
 
 /// Whether a command line is one of `make` or `serve`, and does not ask for help.
 pub fn is_service(words: &[&str]) -> bool {
@@ -40,7 +40,8 @@ fn asks_help(words: &[&str]) -> bool {
 }
 
 /// Carries out a command line of `make` or `serve`. `make` prints nothing. `serve` answers the lines of `input` on `output`; on a
-/// terminal it prompts for them. Gives the status: 0, or 2 at a fault, whose line is printed on `errors`, or if nobody reads the answers.
+/// terminal it prompts for them. Gives the status: 0, or 2 at a fault, or if nobody reads the answers. A fault is printed as a line on
+/// `errors`. A second line tells the file in which it lies, or what is wrong with the words; after words, a third tells how they are called.
 pub fn service<
     R: rt::Files<File = File> + Eprint + RandomSource + Threads + Wait + time::Clock + Sync,
     I: Read + Drop,
@@ -60,8 +61,12 @@ pub fn service<
     match carried_out(rt, alloc, words, is_terminal, input, output) {
         Ok(true) => 0,
         Ok(false) => 2,
-        Err(fault) => {
+        Err(refusal) => {
+            let Refusal { fault, told } = refusal;
             let _ = writeln!(errors, "fault: {fault}");
+            if let Some(told) = told {
+                let _ = writeln!(errors, "{told}");
+            }
             2
         }
     }
@@ -79,8 +84,12 @@ fn carried_out<
     is_terminal: bool,
     input: I,
     output: O,
-) -> Result<bool, Fault> {
-    match service_asked(alloc, words)? {
+) -> Result<bool, Refusal> {
+    let asked = match service_asked(alloc, words) {
+        Ok(asked) => asked,
+        Err(fault) => return Err(Refusal::of_words(alloc, words, fault)),
+    };
+    match asked {
         Asked::Make { dir, splits } => {
             make(rt, alloc, dir, &splits)?;
             Ok(true)
@@ -106,12 +115,23 @@ fn serve_folder<
     choices: Choices,
     input: I,
     desk: &Desk<O>,
-) -> Result<bool, Fault> {
+) -> Result<bool, Refusal> {
     let files = HostFiles::new(rt, false);
-    let splits = splits_of(alloc, &files, dir)?;
+    let splits = match splits_of(alloc, &files, dir) {
+        Ok(splits) => splits,
+        Err(fault) => return Err(Refusal::of_manifest(alloc, &files, dir, fault)),
+    };
     let store = match opened(rt, alloc, dir, &splits, &choices, false) {
         Ok(store) => store,
-        Err(unopened) => return Err(unopened.fault),
+        Err(unopened) => {
+            return Err(Refusal::of_store(
+                alloc,
+                &files,
+                dir,
+                &splits,
+                unopened.fault,
+            ));
+        }
     };
     let idle = choices.idle;
     let (served, disks) = store.serve(|clients: Vec<Client<'_, R>>| serve(

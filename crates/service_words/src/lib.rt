@@ -2,7 +2,10 @@
 #![tactic(auto)]
 
 mod choices;
+mod explaining;
+mod options;
 mod words;
 
 pub use choices::Choices;
+pub use explaining::explanation;
 pub use words::{Asked, service_asked};

@@ -2,6 +2,7 @@
 ghost use Rattle.std.specs.Prelude.{◌≡◌, ◌≤◌, IfOk};
 
 use crate::choices::Choices;
+use crate::options::{CLIENTS, EPSILON, IDLE, KEEP, Numbered, OPTIONS, PATIENCE, RENEW, STRIDE};
 use clap::error::ErrorKind;
 use clap::{Arg, ArgMatches, Command};
 use requests::unspelled;
@@ -21,18 +22,6 @@ pub enum Asked<'a> {
     /// The store in a folder is served.
     Serve { dir: &'a str, choices: Choices },
 }
-
-// How many microseconds a stride and an epsilon have, and how many clients there are, where nothing else is chosen.
-const STRIDE: u64 = 100_000;
-
-const EPSILON: u64 = 1_000;
-
-const CLIENTS: u64 = 64;
-
-// The patience of a client, and after how long an idle transaction is given up, in milliseconds.
-const PATIENCE: u64 = 100;
-
-const IDLE: u64 = 10_000;
 
 // The parts in which a client's patience is counted, in milliseconds.
 const SILENCE: u64 = 20;
@@ -70,16 +59,20 @@ fn making<'a>(alloc: Global) -> Result<Command<'a>, AllocError> {
 
 fn serving<'a>(alloc: Global) -> Result<Command<'a>, AllocError> {
     let mut command = Command::new(alloc, "serve").arg(Arg::new(alloc, "dir").required(true))?;
-    for name in &OPTIONS {
-        command = command.arg(Arg::new(alloc, *name).long(*name))?;
+    for option in &OPTIONS {
+        command = with_option(alloc, command, option.name)?;
     }
     Ok(command)
 }
 
-// The options of `serve`, each with a number.
-static OPTIONS: [&'static str; 7] = [
-    "clients", "epsilon", "stride", "keep", "renew", "patience", "idle",
-];
+// Adds an option of this name, which has a value.
+fn with_option<'a>(
+    alloc: Global,
+    command: Command<'a>,
+    name: &'a str,
+) -> Result<Command<'a>, AllocError> {
+    command.arg(Arg::new(alloc, name).long(name))
+}
 
 fn make<'a>(alloc: Global, given: &ArgMatches<'a>) -> Result<Asked<'a>, Fault> {
     let Some(dir) = given.get_str("dir") else {
@@ -105,49 +98,42 @@ fn serve<'a>(given: &ArgMatches<'a>) -> Result<Asked<'a>, Fault> {
         return Err(NO_COMMAND);
     };
     let choices = Choices {
-        clients: within(given, "clients", CLIENTS, 1, 64)?,
-        epsilon: within(given, "epsilon", EPSILON, 0, 1_000_000)?,
+        clients: within(given, &CLIENTS, 64)?,
+        epsilon: within(given, &EPSILON, 1_000)?,
         stride: stride(given)?,
-        keep: chosen(given, "keep")?,
-        renew: chosen(given, "renew")?,
+        keep: chosen(given, &KEEP)?,
+        renew: chosen(given, &RENEW)?,
         patience: patience(given)?,
-        idle: within(given, "idle", IDLE, 1_000, 3_600_000)?,
+        idle: within(given, &IDLE, 10_000)?,
     };
     Ok(Asked::Serve { dir, choices })
 }
 
 fn stride(given: &ArgMatches<'_>) -> Result<Stride, Fault> {
-    let micros = within(given, "stride", STRIDE, 0, u64::MAX)?;
+    let micros = within(given, &STRIDE, 100_000)?;
     Stride::new(micros).ok_or(BEYOND)
 }
 
 // How often a client waits in silence: so often that it is as patient as asked, in milliseconds.
 fn patience(given: &ArgMatches<'_>) -> Result<u32, Fault> {
-    let millis = within(given, "patience", PATIENCE, 1, 3_600_000)?;
+    let millis = within(given, &PATIENCE, 100)?;
     Ok(((millis + SILENCE - 1) / SILENCE) as u32)
 }
 
-// The number of an option, from a least to a greatest; or what it is where it was not chosen.
-fn within(
-    given: &ArgMatches<'_>,
-    name: &str,
-    else_is: u64,
-    least: u64,
-    most: u64,
-) -> Result<u64, Fault>
-    requires { (least ≤ else_is) × (else_is ≤ most) }
-    ensures { IfOk result (λ number. (least ≤ number) × (number ≤ most)) }
+// The number of an option, which is within its limits; or what it is if it is not chosen.
+fn within(given: &ArgMatches<'_>, option: &Numbered, else_is: u64) -> Result<u64, Fault>
+    ensures { IfOk result (λ number. (option.now.least ≤ number) × (number ≤ option.now.most)) }
 {
-    let number = chosen(given, name)?.unwrap_or(else_is);
-    if number < least || number > most {
+    let number = chosen(given, option)?.unwrap_or(else_is);
+    if number < option.least || number > option.most {
         return Err(BEYOND);
     }
     Ok(number)
 }
 
-// The number of an option, where it was chosen.
-fn chosen(given: &ArgMatches<'_>, name: &str) -> Result<Option<u64>, Fault> {
-    match given.get_str(name) {
+// The number of an option, if it is chosen.
+fn chosen(given: &ArgMatches<'_>, option: &Numbered) -> Result<Option<u64>, Fault> {
+    match given.get_str(option.name) {
         Some(word) => Ok(Some(number(word)?)),
         None => Ok(None),
     }

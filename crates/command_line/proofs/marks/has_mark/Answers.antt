@@ -1,4 +1,4 @@
-use Rattle.std.proofs.Common.{◌∙◌, sym, Bor, [], slice_index_or}
+use Rattle.std.proofs.Common.{◌∙◌, sym, Bor, []}
 use Rattle.command_line.specs.Lines.{Word}
 use Rattle.command_line.proofs.MarkLemmas.{mark_behind, mark_here}
 use Rattle.command_line.proofs.marks.has_mark.Goals as goal

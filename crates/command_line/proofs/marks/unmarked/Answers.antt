@@ -1,4 +1,4 @@
-use Rattle.std.proofs.Common.{◌≡◌, ◌+◌, ◌∙◌, ◌++◌, ◌∷◌, ap, sym, map, rules, Bor, List, [], slice_index_or}
+use Rattle.std.proofs.Common.{◌+◌, ◌∙◌, ◌++◌, ap, sym, map, rules, Bor, List, [], slice_index_or}
 use Rattle.command_line.specs.Lines.{Word}
 use Rattle.command_line.proofs.MarkLemmas.{left_from, none_is_left, one_more_kept, word_kept, word_left}
 use Rattle.command_line.proofs.marks.unmarked.Goals as goal

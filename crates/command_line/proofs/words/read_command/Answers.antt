@@ -1,5 +1,5 @@
 -- A parse that succeeds found the line, and one that fails for no want of memory met no line.
-use Rattle.std.proofs.Common.{◌≡◌, ◌∙◌, refl, sym, ap, subst, List, [], map, inl, inr}
+use Rattle.std.proofs.Common.{◌≡◌, ◌∙◌, sym, ap, subst, List, [], map, inl, inr}
 use Rattle.clap.specs.Words.{App, fault_of, is_simple_and_free, is_simple, subcommand_of}
 use Rattle.clap.specs.Kinds.{HasKind}
 use Rattle.command_line.specs.Commands.{command_or_refusal}

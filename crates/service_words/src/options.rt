@@ -1,0 +1,65 @@
+//! The options of `serve`, and the limits of their numbers.
+use units::Stride;
+
+/// An option of `serve`, which takes a number.
+#[derive(Clone, Copy)]
+pub struct Numbered {
+    /// Its name, without the hyphens.
+    pub name: &'static str,
+    /// The least number that it takes.
+    pub least: u64,
+    /// The greatest number that it takes.
+    pub most: u64,
+}
+
+/// How many clients work side by side.
+pub const CLIENTS: Numbered = Numbered {
+    name: "clients",
+    least: 1,
+    most: 64,
+};
+
+/// How far the clock may be from true time, in microseconds.
+pub const EPSILON: Numbered = Numbered {
+    name: "epsilon",
+    least: 0,
+    most: 1_000_000,
+};
+
+/// How far ahead of the served time a ceiling is logged, in microseconds.
+pub const STRIDE: Numbered = Numbered {
+    name: "stride",
+    least: 0,
+    most: Stride::MAX,
+};
+
+/// How long views of the past are answered, in microseconds.
+pub const KEEP: Numbered = Numbered {
+    name: "keep",
+    least: 0,
+    most: u64::MAX,
+};
+
+/// How many bytes a log grows by before it is turned over.
+pub const RENEW: Numbered = Numbered {
+    name: "renew",
+    least: 0,
+    most: u64::MAX,
+};
+
+/// How long a transaction waits for another one, in milliseconds.
+pub const PATIENCE: Numbered = Numbered {
+    name: "patience",
+    least: 1,
+    most: 3_600_000,
+};
+
+/// After how many milliseconds an idle transaction is given up.
+pub const IDLE: Numbered = Numbered {
+    name: "idle",
+    least: 1_000,
+    most: 3_600_000,
+};
+
+/// All options of `serve`.
+pub static OPTIONS: [Numbered; 7] = [CLIENTS, EPSILON, STRIDE, KEEP, RENEW, PATIENCE, IDLE];
