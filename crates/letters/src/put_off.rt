@@ -63,18 +63,17 @@ impl Waiting {
         self.reads.is_empty()
     }
 
-    /// Takes out the first of those that wait whose turn it is. Once the node is to close, each has its turn.
+    /// Takes out the first of those that wait whose turn it is. Those before it wait after the others from then on. Once the node is to close,
+    /// each has its turn.
     pub fn next<W: time::Clock>(&mut self, rt: &W, turns: &Turns) -> Option<Letter> {
-        let mut found = None;
         for _read in 0..self.reads.len() {
             let letter = self.reads.pop_front()?;
-            if found.is_none() && (self.closes || !is_put_off(rt, turns, &letter)) {
-                found = Some(letter);
-            } else {
-                drop(self.reads.push_back(letter));
+            if self.closes || !is_put_off(rt, turns, &letter) {
+                return Some(letter);
             }
+            drop(self.reads.push_back(letter));
         }
-        found
+        None
     }
 
     /// Takes the next letter: the first of the inbox that is no read, or else the first read whose turn it is. If neither is there, it waits
