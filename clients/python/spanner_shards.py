@@ -122,10 +122,11 @@ class _Writes(_Reads):
 
 class _Open(contextlib.AbstractContextManager):
     """A transaction or a view, until it is over. Then no line is sent: the program would serve it by itself."""
+    _words = []
 
     def __init__(self, client):
         self._client, self._over, client.end = client, None, self._end
-        self.id = client.id = client.ask(self._begin)
+        self.id = client.id = client.ask(self._begin, *self._words)
 
     def _ask(self, *words):
         if self._over:
@@ -149,6 +150,10 @@ class View(_Open, _Reads):
     """What stood at one timestamp, `at`, in microseconds."""
     _begin, _end = b"view", b"end"
     at = property(lambda self: int(self.id))
+
+    def __init__(self, client, at=None):
+        self._words = [] if at is None else [b"%d" % at]
+        super().__init__(client)
 
 
 class Store(_Writes, contextlib.AbstractContextManager):
@@ -231,10 +236,9 @@ class Store(_Writes, contextlib.AbstractContextManager):
 
     @contextlib.contextmanager
     def view(self, at=None):
-        """A view of the present: all that it answers stood at its timestamp."""
-        if at is not None:
-            raise NotImplementedError("a view of the past is not served yet: call view() for the present")
-        with self._client() as client, View(client) as view:
+        """A view of the present, or at a time in microseconds: all that it answers stood then. Of a time that is not served yet `get` raises
+        `Refused` with fault 9, which a retry heals, and of one that is forgotten with fault 15, for good."""
+        with self._client() as client, View(client, at) as view:
             yield view
 
     def close(self):

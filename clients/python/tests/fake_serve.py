@@ -43,6 +43,14 @@ def key_of(word):
     return key
 
 
+def stamp_of(word):
+    if not re.fullmatch(rb"0|[1-9][0-9]*", word):
+        raise Bad(COMMAND)
+    if int(word) >= 1 << 62:
+        raise Bad(b"fault: 7 BadRequest(stamp)")
+    return int(word)
+
+
 def value_of(word):
     value = unspelled(word)
     if len(value) > 4096:
@@ -120,9 +128,13 @@ class Transaction:
 
 
 class View:
-    def __init__(self, log):
-        self.at = log.now()
-        self.value = lambda key: log.value(key, self.at)
+    def __init__(self, log, at=None):
+        self.log, self.at = log, log.now() if at is None else at
+
+    def value(self, key):
+        if self.at > self.log.now():
+            raise Bad(b"fault: 9 NotYet")
+        return self.log.value(key, self.at)
 
 
 class Client:
@@ -204,10 +216,13 @@ class Client:
         self.open = None
         return b"aborted"
 
-    def view(self):
+    def view(self, *words):
+        at = [stamp_of(word) for word in words]
+        if len(at) > 1:
+            raise Bad(COMMAND)
         if self.open:
             raise Bad(STATE)
-        self.open = View(self.log)
+        self.open = View(self.log, *at)
         return b"at %d" % self.open.at
 
     def end(self):

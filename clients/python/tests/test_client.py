@@ -206,12 +206,20 @@ class Over(Told):
 
 
 class Past(Told):
-    def test_a_view_of_the_past_is_refused_in_plain_words(self):
+    def test_a_view_of_the_past(self):
         store = self.told()
-        with self.assertRaisesRegex(NotImplementedError, "a view of the past is not served yet"):
-            with store.view(at=17):
-                self.fail("it was refused")
-        self.assertIsNone(store.get(b"a"))
+        first = store.put(b"a", b"1").at
+        store.put(b"a", b"2")
+        for at, value in ((first - 1, None), (first, b"1")):
+            with store.view(at=at) as view:
+                self.assertEqual((view.at, view.get(b"a")), (at, value))
+        self.assertEqual(store.get(b"a"), b"2")
+
+    def test_a_view_of_the_future_is_not_served_yet(self):
+        with self.told().view(at=1 << 61) as view:
+            with self.assertRaises(Refused) as refused:
+                view.get(b"a")
+        self.assertEqual((refused.exception.number, refused.exception.ended), (9, False))
 
 
 class Answers(Told):

@@ -57,6 +57,18 @@ CONVERSATIONS = {
         ("end", "0 ended"),
         ("get a", "0 =2"),
     ],
+    "a view of another time": [
+        ("view 0", "0 at 0"),
+        ("get a", "0 none"),
+        ("end", "0 ended"),
+        ("view 1 2", "0 fault: 7 BadRequest(command)"),
+        ("view 01", "0 fault: 7 BadRequest(command)"),
+        ("view -1", "0 fault: 7 BadRequest(command)"),
+        ("view 4611686018427387904", "0 fault: 7 BadRequest(stamp)"),
+        ("view 4611686018427387903", "0 at 4611686018427387903"),
+        ("get a", "0 fault: 9 NotYet"),
+        ("end", "0 ended"),
+    ],
     "nothing is open": [
         ("abort", "0 aborted"),
         ("end", "0 ended"),
@@ -299,6 +311,23 @@ class OverStores:
         with store.view() as view:
             times.append(view.at)
         self.assertEqual(times, sorted(set(times)))
+
+    def test_a_view_of_the_past(self):
+        self.make()
+        store = self.open()
+        first = store.put(b"a", b"1").at
+        store.put(b"a", b"2")
+        for at, value in ((first - 1, None), (first, b"1")):
+            with store.view(at) as view:
+                self.assertEqual((view.at, view.get(b"a")), (at, value))
+        self.assertEqual(store.get(b"a"), b"2")
+
+    def test_a_view_of_the_future_is_not_served_yet(self):
+        self.make()
+        with self.open().view(1 << 61) as view:
+            with self.assertRaises(Refused) as refused:
+                view.get(b"a")
+        self.assertEqual((refused.exception.number, refused.exception.ended), (9, False))
 
     def test_a_view_in_a_transaction(self):
         """It is another client's, and sees what is committed."""

@@ -104,8 +104,18 @@ impl Store {
 
     /// A view of the present: all that it answers stood at its timestamp.
     pub fn view(&self) -> Result<View<'_>, Failed> {
+        self.open_view(&[])
+    }
+
+    /// A view at a time, in microseconds. Of one that is not served yet `get` is `Refused` as fault 9, which a retry heals, and of one that is
+    /// forgotten as fault 15, for good.
+    pub fn view_at(&self, at: u64) -> Result<View<'_>, Failed> {
+        self.open_view(&[at.to_string().as_bytes()])
+    }
+
+    fn open_view(&self, words: &[&[u8]]) -> Result<View<'_>, Failed> {
         let mut lease = self.lease();
-        let answer = lease.ask(&[("view", &[])], Failed::Closed)?;
+        let answer = lease.ask(&[("view", words)], Failed::Closed)?;
         Ok(View { lease, at: text(parted(&answer).1).parse().map_err(|_| Failed::Closed)? })
     }
 

@@ -192,6 +192,20 @@ fn a_view_that_ended() {
 }
 
 #[test]
+fn a_view_of_another_time() {
+    let logs = logs();
+    let store = logs.open(1, &[]);
+    let first = store.put(b"a", b"1").unwrap().at;
+    store.put(b"a", b"2").unwrap();
+    for (at, value) in [(first - 1, None), (first, Some("1".to_string()))] {
+        let mut view = store.view_at(at).unwrap();
+        assert_eq!((view.at, text(view.get(b"a").unwrap())), (at, value));
+    }
+    let late = Failed::Refused { words: "9 NotYet".into(), ended: false };
+    assert_eq!(store.view_at(1 << 61).unwrap().get(b"a"), Err(late));
+}
+
+#[test]
 fn an_idle_transaction_is_run_again() {
     let logs = logs();
     let store = logs.open(1, &["--idle", "100"]);

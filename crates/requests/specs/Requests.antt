@@ -7,10 +7,10 @@ use Rattle.units.specs.Keys.{Bytes}
 use Rattle.units.specs.declared.fault.Fault.{Fault}
 use Rattle.units.specs.declared.fault.Fault.TheVariants.{BadRequest}
 use Rattle.units.specs.declared.fault.Reason.TheVariants as reason
-use Rattle.texts.specs.Numbers.{and_then, number_of}
+use Rattle.texts.specs.Numbers.{and_then, number_of, stamp_of}
 use Rattle.requests.specs.Spelling.{unspelled}
 use Rattle.requests.specs.declared.asked.Request.{Request}
-use Rattle.requests.specs.declared.asked.Request.TheVariants.{Begin, Get, Put, Erase, Commit, Abort, View, End, Help, Quit}
+use Rattle.requests.specs.declared.asked.Request.TheVariants.{Begin, Get, Put, Erase, Commit, Abort, View, ViewAt, End, Help, Quit}
 
 -- the bytes of a word
 abbrev pub Word : Type 0
@@ -25,6 +25,7 @@ pub data Asked : Type 0 where
   commit : Asked
   give_up : Asked
   view : Asked
+  view_at : ℕ → Asked
   close : Asked
   help : Asked
   quit : Asked
@@ -68,6 +69,12 @@ abbrev pub erase_of : List Word → Result Asked Fault
 erase_of (key ∷ []) = and_then (key_of key) (λ k. Ok (erase k))
 erase_of _ = Err (BadRequest reason.Command)
 
+-- AT, or nothing for the present
+abbrev pub view_of : List Word → Result Asked Fault
+view_of [] = Ok view
+view_of (at ∷ []) = and_then (stamp_of at) (λ s. Ok (view_at s))
+view_of _ = Err (BadRequest reason.Command)
+
 -- nothing
 abbrev pub alone : Asked → List Word → Result Asked Fault
 alone asked [] = Ok asked
@@ -82,7 +89,7 @@ asked_by verb rest =
     else (if bytes_eq (codes "erase") verb then erase_of rest
     else (if bytes_eq (codes "commit") verb then alone commit rest
     else (if bytes_eq (codes "abort") verb then alone give_up rest
-    else (if bytes_eq (codes "view") verb then alone view rest
+    else (if bytes_eq (codes "view") verb then view_of rest
     else (if bytes_eq (codes "end") verb then alone close rest
     else (if bytes_eq (codes "help") verb then alone help rest
     else (if bytes_eq (codes "quit") verb then alone quit rest
@@ -102,6 +109,7 @@ asked_as (Erase key) = erase key
 asked_as Commit = commit
 asked_as Abort = give_up
 asked_as View = view
+asked_as (ViewAt at) = view_at at
 asked_as End = close
 asked_as Help = help
 asked_as Quit = quit

@@ -32,7 +32,7 @@ pub enum Answer {
 
 /// What may be asked, in one line.
 pub const VERBS: &str =
-    "begin, get KEY.., put KEY VALUE, erase KEY, commit, abort, view, end, help, quit";
+    "begin, get KEY.., put KEY VALUE, erase KEY, commit, abort, view [AT], end, help, quit";
 
 /// The answer that a transaction stands, with this id, at this timestamp.
 pub fn committed(at: Stamp, id: TxnId) -> Answer

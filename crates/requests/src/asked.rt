@@ -1,5 +1,5 @@
 //! What a line asks for.
-use units::{Key, Value};
+use units::{Key, Stamp, Value};
 
 /// A request.
 #[derive(Drop)]
@@ -18,6 +18,8 @@ pub enum Request {
     Abort,
     /// A view of the present is opened.
     View,
+    /// A view of this time is opened.
+    ViewAt(Stamp),
     /// The view ends.
     End,
     /// What may be asked is told.

@@ -1,10 +1,11 @@
 //! What the words of a line ask for.
 ghost use Rattle.std.specs.Prelude.{◌≡◌, ◌⊎◌, Ok, Err, List, MatchResult, map};
-ghost use Rattle.requests.specs.Requests.{Asked, alone, asked_as, asked_by, asked_of, erase_of, get_of, key_of, keys_of, put_of, put_of_words, value_of};
+ghost use Rattle.requests.specs.Requests.{Asked, alone, asked_as, asked_by, asked_of, erase_of, get_of, key_of, keys_of, put_of, put_of_words, value_of, view_of};
 
 use crate::Request;
 use crate::spelled::unspelled;
 use std::alloc::Global;
+use texts::stamp;
 use units::{Fault, Key, Reason, Value};
 
 const NO_REQUEST: Fault = Fault::BadRequest(Reason::Command);
@@ -34,7 +35,7 @@ fn by_verb(alloc: Global, verb: &str, rest: &[&str]) -> Result<Request, Fault>
         "erase" => erases(alloc, rest),
         "commit" => alone(Request::Commit, rest),
         "abort" => alone(Request::Abort, rest),
-        "view" => alone(Request::View, rest),
+        "view" => views(rest),
         "end" => alone(Request::End, rest),
         "help" => alone(Request::Help, rest),
         "quit" => alone(Request::Quit, rest),
@@ -52,6 +53,19 @@ fn alone(request: Request, words: &[&str]) -> Result<Request, Fault>
         Ok(request)
     } else {
         Err(NO_REQUEST)
+    }
+}
+
+// AT, or nothing for the present.
+fn views(words: &[&str]) -> Result<Request, Fault>
+    ensures { MatchResult result
+        (λ asked. view_of (map (λ w. w.now) words.now) ≡ Ok (asked_as asked))
+        (λ fault. view_of (map (λ w. w.now) words.now) ≡ Err fault) }
+{
+    match words {
+        [] => Ok(Request::View),
+        [at] => Ok(Request::ViewAt(stamp(at)?)),
+        _ => Err(NO_REQUEST),
     }
 }
 

@@ -55,6 +55,7 @@ IsActed splits (Ok request.Abort) (Ends (Err halt.Abandon)) c d = d ≡ c
 IsActed splits (Ok request.Help) (Stays answer.Help) c d = d ≡ c
 IsActed splits (Ok request.Begin) (Stays answer.Misplaced) c d = d ≡ c
 IsActed splits (Ok request.View) (Stays answer.Misplaced) c d = d ≡ c
+IsActed splits (Ok (request.ViewAt at)) (Stays answer.Misplaced) c d = d ≡ c
 IsActed splits (Ok request.End) (Stays answer.Misplaced) c d = d ≡ c
 IsActed splits (Ok request.Quit) (Stays answer.Misplaced) c d = d ≡ c
 IsActed splits (Err fault) (Stays (answer.Refused told)) c d = (told ≡ fault) × (d ≡ c)

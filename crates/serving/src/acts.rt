@@ -35,6 +35,7 @@ pub fn act<R: Wait + time::Clock>(
         Ok(Request::Help) => End::Stays(Answer::Help),
         Ok(Request::Begin) => End::Stays(Answer::Misplaced),
         Ok(Request::View) => End::Stays(Answer::Misplaced),
+        Ok(Request::ViewAt(_)) => End::Stays(Answer::Misplaced),
         Ok(Request::End) => End::Stays(Answer::Misplaced),
         Ok(Request::Quit) => End::Stays(Answer::Misplaced),
         Err(fault) => End::Stays(Answer::Refused(*fault)),

@@ -8,7 +8,7 @@ use requests::{Answer, Request};
 use std::alloc::Global;
 use std::sync::Wait;
 use std::time;
-use store::{Client, Halt, Transaction, TxnId};
+use store::{Client, Halt, Transaction, TxnId, View};
 use units::Fault;
 
 /// Why no more lines of a transaction are taken.
@@ -42,6 +42,10 @@ pub fn attend<A: Asks, R: Wait + time::Clock>(
                 }
             }
             Ok(Request::View) => view(rt, alloc, asks, client, asked)?,
+            Ok(Request::ViewAt(at)) => {
+                let mut view = client.view_at(*at);
+                look_on(rt, alloc, asks, &mut view, asked)?;
+            }
             _ => {
                 let answer = carry_out(rt, alloc, client, &asked);
                 asks.answer(Exchange { asked, answer })?;
@@ -177,7 +181,7 @@ fn take<A: Asks, R: Wait + time::Clock>(
     }
 }
 
-// A view, and what is asked of it.
+// A view of the present, and what is asked of it.
 fn view<A: Asks, R: Wait + time::Clock>(
     rt: &R,
     alloc: Global,
@@ -189,6 +193,17 @@ fn view<A: Asks, R: Wait + time::Clock>(
         let answer = Answer::Refused(Fault::Early);
         return asks.answer(Exchange { asked, answer });
     };
+    look_on(rt, alloc, asks, &mut view, asked)
+}
+
+// Tells the time of a view, and what is asked of it then.
+fn look_on<A: Asks, R: Wait + time::Clock>(
+    rt: &R,
+    alloc: Global,
+    asks: &mut A,
+    view: &mut View<'_, '_, R>,
+    asked: Result<Request, Fault>,
+) -> Result<(), Fault> {
     let answer = Answer::At(view.at());
     asks.answer(Exchange { asked, answer })?;
     for _line in rt.forever() {
@@ -199,7 +214,7 @@ fn view<A: Asks, R: Wait + time::Clock>(
             let answer = Answer::Ended;
             return asks.answer(Exchange { asked, answer });
         }
-        let answer = look(alloc, &mut view, &asked);
+        let answer = look(alloc, view, &asked);
         asks.answer(Exchange { asked, answer })?;
     }
     unreachable!()

@@ -40,7 +40,7 @@ put KEY VALUE      writes a value
 erase KEY          erases a key
 commit             closes the transaction, and tells its timestamp and its id
 abort              gives the transaction up
-view               opens a view of the present, of which 'get' tells then
+view [AT]          opens a view of the present, or of that time: then 'get' tells of it
 end                ends the view
 help               these lines
 quit               closes the store

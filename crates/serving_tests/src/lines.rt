@@ -69,6 +69,24 @@ static ROWS: [Row; 9] = [
         &[],
     ),
     (
+        "a view of another time shows what stood then, or what is served",
+        b"put a 1\nview 0\nget a\nbegin\nview\nend\nview 4611686018427387903\nget a\nend\nview x\nget a\n",
+        &[
+            b"committed *",
+            b"at 0",
+            b"none",
+            b"fault: 7 BadRequest(state)",
+            b"fault: 7 BadRequest(state)",
+            b"ended",
+            b"at 4611686018427387903",
+            b"fault: 9 NotYet",
+            b"ended",
+            b"fault: 7 BadRequest(command)",
+            b"=1",
+        ],
+        &[],
+    ),
+    (
         "verbs out of their place",
         b"commit\nabort\nend\nbegin\nbegin\nview\nend\nabort\nbegin\ncommit\n",
         &[
@@ -105,7 +123,7 @@ static ROWS: [Row; 9] = [
     ),
     (
         "lines that ask for nothing",
-        b"\n0\n1 \nget\nput a\nview 5\nhelp\n",
+        b"\n0\n1 \nget\nput a\nview 5 6\nhelp\n",
         &[
             b"fault: 7 BadRequest(command)",
             b"fault: 7 BadRequest(command)",
