@@ -2,6 +2,7 @@
 use Rattle.std.proofs.Common.{◌≡◌, ◌≢◌, ◌⊎◌, inl, inr, ℕ, ◌+◌, ◌<◌, ◌≤◌, ◌^◌, true, false, nat_le, nat_lt, IsTrue, List, [], ◌∷◌, ◌++◌, Option, Some, None}
 use Rattle.std.proofs.Common.{Result, Ok, Err, refl, sym, ap, ◌∙◌, subst, option_to_list}
 use Rattle.std.proofs.lemmas.Bool.{false≢true}
+use Rattle.std.specs.Prelude.{IfOk}
 use Rattle.std.proofs.lemmas.List.{append-nil}
 use Rattle.units.specs.declared.fault.Fault.{Fault}
 use Rattle.units.specs.declared.fault.Fault.TheVariants.{Device, Memory as WantsMemory, Stopped, TimeSpent}
@@ -41,7 +42,7 @@ use Rattle.lives.proofs.Alikes.{alike_after}
 use Rattle.lives.proofs.Opening.{does, epoch_is, finds_same, no_fault, ok_same, refuses, still_alike}
 use Rattle.lives.proofs.Stepping.{end_with, facts_with, room_for, with_logged}
 use Rattle.images.specs.Images.{HoldsSurely, IsOwn, IsOwnAnswer, Life, Up}
-use Rattle.images.proofs.Held.{HoldsLog, HoldsOr, IsRunning, LivesAs, LivesIn, ReadsAs, holds_or, same_holds, sure_log}
+use Rattle.images.proofs.Held.{HoldsLog, HoldsOr, IsRunning, LivesAs, LivesIn, ReadsAs, StillKnows, holds_or, same_holds, sure_log}
 use Rattle.images.proofs.Held.{sure_only, surely_holds, turn_failed_holds, turn_without_holds}
 use Rattle.images.proofs.Turnovers.{has_a_place, has_no_place}
 
@@ -77,6 +78,11 @@ opening_next : (setup : Setup) (s : ShardNow) → IsKnown setup s → IsTrue (fo
 opening_next setup s known = subst (λ n. IsTrue (followed setup.shard (read_log s ++ Record.Opened (n + 1) ∷ [])))
     (known.alike.epoch ∙ epoch_is (read_area s).records)
     (opening_follows setup.shard (read_log s) (accepted_follows setup (read_log s) known.takes))
+
+-- what the definitions answer
+abbrev pub answer_in : Stepped → Result (List Envelope) Fault
+answer_in (Refuses fault) = Err fault
+answer_in (Does logged memory out) = Ok out
 
 module _ {D : Type 0} (keeps obeys : Type 0) (file : D → File) (clock : D → ℕ) (since : D → ℕ → List ℕ → Type 0) (failures : D → ℕ)
     (plan : D → FailurePlan)
@@ -184,6 +190,27 @@ module _ {D : Type 0} (keeps obeys : Type 0) (file : D → File) (clock : D → 
         by_cause (Some r) (inr (inl full)) = subst (Comes setup s doing (Up new)) (sym (full_is old.gate r memory outbox full.1)) here
         by_cause l (inr (inr device)) = absurd (own.1 device.0)
 
+    -- what it answers is what the definitions do
+    pub steps_answer : (st : Stepped) (result : Result (List Envelope) Fault) → Steps old new st result → IsOwnAnswer result →
+        result ≡ answer_in (where_room old.gate st)
+    steps_answer (Refuses why) (Ok out) k own = absurd (k.done.2)
+    steps_answer (Does logged memory outbox) (Ok out) k own =
+        ap (λ o. Ok o) k.done.2.2 ∙ sym (ap answer_in (room_for old.gate logged memory outbox k.written.place))
+    steps_answer (Refuses why) (Err fault) k own = ap (λ f. Err f) (subst (λ b. IsCause b (Refuses why) fault
+        (IsLogFull old.gate None) ((failures old.disk < failures new.disk) × IsTrue new.stopped)) h.runs k.cause)
+    steps_answer (Does logged memory outbox) (Err fault) k own =
+        by_cause logged (subst (λ b. IsCause b (Does logged memory outbox) fault
+        (IsLogFull old.gate logged) ((failures old.disk < failures new.disk) × IsTrue new.stopped)) h.runs k.cause)
+      where
+        by_cause : (l : Option Record) →
+            (fault ≡ WantsMemory) ⊎ (((fault ≡ TimeSpent) × IsLogFull old.gate l)
+            ⊎ ((fault ≡ Device) × ((failures old.disk < failures new.disk) × IsTrue new.stopped))) →
+            ◌≡◌ {A = Result (List Envelope) Fault} (Err fault) (answer_in (where_room old.gate (Does l memory outbox)))
+        by_cause l (inl wants) = absurd (own.0 wants)
+        by_cause None (inr (inl full)) = absurd full.1
+        by_cause (Some r) (inr (inl full)) = ap (λ f. Err f) full.0 ∙ sym (ap answer_in (full_is old.gate r memory outbox full.1))
+        by_cause l (inr (inr device)) = absurd (own.1 device.0)
+
     -- since the call began a crash leaves the area, or this with the new record
     pub left_since : (st : Stepped) (result : Result (List Envelope) Fault) → Steps old new st result → (image : List ℕ) →
         since new.disk (clock old.disk) image → HoldsOr (read_area s) (record_of st) image
@@ -235,6 +262,23 @@ module _ {D : Type 0} (keeps obeys : Type 0) (file : D → File) (clock : D → 
         by_cause (inl wants) = cc
         by_cause (inr (inl full)) = absurd (spent_no_device (sym full.0))
         by_cause (inr (inr device)) = device.1.1
+
+    -- it still knows what it knew
+    pub still_failed : (st : Stepped) (fault : Fault) → Steps old new st (Err fault) → (t : ShardNow) → t.log ≡ read_log s →
+        StillKnows file setup t m new
+    still_failed st fault k t is = record {
+      setup_is = k.written.setup ∙ h.setup_is;
+      knows = subst (λ f. Alike f (facts_of t.log)) (sym k.written.kept.0) (subst (λ l. Alike old.facts (facts_of l)) (sym is) knows_read);
+      memory = k.written.kept.1 ∙ h.memory;
+    }
+
+    pub still_turned : (result : Result (List Envelope) Fault) → Turned old new result → (t : ShardNow) → t.log ≡ read_log s →
+        StillKnows file setup t m new
+    still_turned result k t is = record {
+      setup_is = k.setup ∙ h.setup_is;
+      knows = subst (λ f. Alike f (facts_of t.log)) (sym k.facts) (subst (λ l. Alike old.facts (facts_of l)) (sym is) knows_read);
+      memory = k.memory ∙ h.memory;
+    }
 
     -- memory is refused
     pub starved : (st : Stepped) → Steps old new st (Err WantsMemory) → IsRunning file setup s m new
@@ -346,6 +390,22 @@ module _ {D : Type 0} (keeps obeys : Type 0) (file : D → File) (clock : D → 
     turn_does lasting result k place = has_a_place s m (subst (λ n. n < slot_count) h.slot place.0)
         (subst (λ n. n + 1 ≤ 2 ^ 40) (same_end lasting result k) place.1)
 
+    -- what it answers is what the definitions do
+    pub turn_answers : IsLasting (facts_of (read_log s)) → (result : Result (List Envelope) Fault) → Turned old new result →
+        IfOk result (λ out. out ≡ []) → IsOwnAnswer result → result ≡ answer_in (step_of_turnover s m)
+    turn_answers lasting (Ok out) k empty own = ap (λ o. Ok o) empty ∙ sym (ap answer_in (turn_does lasting (Ok out) k k.place))
+    turn_answers lasting (Err fault) k empty own = by_cause (why_not fault k)
+      where
+        no_place : HasNoTurnPlace old.slot old.gate (turned old.facts) →
+            HasNoTurnPlace (read_area s).slot (gate_of (read_area s)) (turned (facts_of (read_log s)))
+        no_place = subst (λ x. x) (λ j. HasNoTurnPlace (h.slot j) (h.gate j) (same_turned lasting (Err fault) k j))
+
+        by_cause : IsTurnCause fault (HasNoTurnPlace old.slot old.gate (turned old.facts)) ((failures old.disk < failures new.disk) × IsTrue new.stopped) →
+            ◌≡◌ {A = Result (List Envelope) Fault} (Err fault) (answer_in (step_of_turnover s m))
+        by_cause (inl wants) = absurd (own.0 wants)
+        by_cause (inr (inl full)) = ap (λ f. Err f) full.0 ∙ sym (ap answer_in (has_no_place s m (no_place full.1)))
+        by_cause (inr (inr device)) = absurd (own.1 device.0)
+
     -- where they refuse it, since the call began a crash leaves only what it might have left before
     pub turn_only_before : IsLasting (facts_of (read_log s)) → (result : Result (List Envelope) Fault) → Turned old new result → (why : Fault) →
         step_of_turnover s m ≡ Refuses why → (image : List ℕ) → since new.disk (clock old.disk) image → MayLeave (surface (file old.disk)) image
@@ -399,6 +459,39 @@ module _ {D : Type 0} (keeps obeys : Type 0) (file : D → File) (clock : D → 
     pub refuses_all : (st : Stepped) (result : Result (List Envelope) Fault) → Steps old new st result → (new.stopped ≡ true) × HoldsLog file s new.disk
     refuses_all st (Ok out) k = absurd (false≢true (sym k.done.0 ∙ stopped))
     refuses_all st (Err fault) k = same fault k.written.kept (because st fault k)
+
+    -- what it answers
+    pub stopped_answers : (st : Stepped) (result : Result (List Envelope) Fault) → Steps old new st result → result ≡ Err Stopped
+    stopped_answers st (Ok out) k = absurd (false≢true (sym k.done.0 ∙ stopped))
+    stopped_answers st (Err fault) k = ap (λ f. Err f) (because st fault k)
+
+    pub stopped_turn_answers : (result : Result (List Envelope) Fault) → Turned old new result → result ≡ Err Stopped
+    stopped_turn_answers (Ok out) k = absurd (false≢true (sym k.done.0 ∙ stopped))
+    stopped_turn_answers (Err fault) k = by_cause k.cause
+      where
+        by_cause : ((fault ≡ Stopped) × IsTrue old.stopped × (new ≡ old))
+            ⊎ ((old.stopped ≡ false) × IsTurnCause fault (HasNoTurnPlace old.slot old.gate (turned old.facts))
+            ((failures old.disk < failures new.disk) × IsTrue new.stopped)) → ◌≡◌ {A = Result (List Envelope) Fault} (Err fault) (Err Stopped)
+        by_cause (inl is) = ap (λ f. Err f) is.0
+        by_cause (inr runs) = absurd (false≢true (sym runs.0 ∙ stopped))
+
+    -- it knows what it knew
+    pub still_refused : (m : Memory) (st : Stepped) (result : Result (List Envelope) Fault) → Steps old new st result → StillKnows file setup s m old →
+        StillKnows file setup s m new
+    still_refused m st (Ok out) k w = absurd (false≢true (sym k.done.0 ∙ stopped))
+    still_refused m st (Err fault) k w = record {
+      setup_is = k.written.setup ∙ w.setup_is;
+      knows = subst (λ f. Alike f (facts_of s.log)) (sym k.written.kept.0) w.knows;
+      memory = k.written.kept.1 ∙ w.memory;
+    }
+
+    pub still_unturned : (m : Memory) (result : Result (List Envelope) Fault) → Turned old new result → StillKnows file setup s m old →
+        StillKnows file setup s m new
+    still_unturned m result k w = record {
+      setup_is = k.setup ∙ w.setup_is;
+      knows = subst (λ f. Alike f (facts_of s.log)) (sym k.facts) w.knows;
+      memory = k.memory ∙ w.memory;
+    }
 
     -- and since the call began a crash leaves only what it might have left before
     pub refused_only_before : (st : Stepped) (result : Result (List Envelope) Fault) → Steps old new st result → (image : List ℕ) →
@@ -543,6 +636,20 @@ module _ {D : Type 0} (keeps obeys : Type 0) (file : D → File) (clock : D → 
 
         by_cause : (fault ≡ WantsMemory) ⊎ (((fault ≡ Device) × (failures disk < failures back))
             ⊎ (IsTrue (is_reason fault) × (keeps → IsReason setup (surface (file disk)) fault))) → Goal
+        by_cause (inl wants) = absurd (own.0 wants)
+        by_cause (inr (inl device)) = absurd (own.1 device.0)
+        by_cause (inr (inr told)) = reason (told.1 kept)
+
+    pub not_opened_spent : (fault : Fault) (back : D) → HasNotOpened keeps obeys file clock since failures plan disk setup fault back → IsOwn fault →
+        IsKnown setup s → fault ≡ TimeSpent
+    not_opened_spent fault back k own known = by_cause k.cause
+      where
+        reason : IsReason setup (surface (file disk)) fault → fault ≡ TimeSpent
+        reason (inl found) = absurd (no_fault setup (scanned_log (surface (file disk)).seen) (read_area s).records fault h.read.0 known.takes_area found)
+        reason (inr spent) = spent.0
+
+        by_cause : (fault ≡ WantsMemory) ⊎ (((fault ≡ Device) × (failures disk < failures back))
+            ⊎ (IsTrue (is_reason fault) × (keeps → IsReason setup (surface (file disk)) fault))) → fault ≡ TimeSpent
         by_cause (inl wants) = absurd (own.0 wants)
         by_cause (inr (inl device)) = absurd (own.1 device.0)
         by_cause (inr (inr told)) = reason (told.1 kept)

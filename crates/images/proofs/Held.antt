@@ -110,10 +110,16 @@ module _ {D : Type 0} (file : D → File) where
     pub gate : core.gate ≡ gate_of (read_area s)
     pub slot : core.slot ≡ (read_area s).slot
 
+  -- a core knows what a shard's records say, and keeps this memory
+  pub record StillKnows (setup : Setup) (s : ShardNow) (m : Memory) (core : CoreView D) : Type 0 where
+    pub setup_is : core.setup ≡ setup
+    pub knows : Alike core.facts (facts_of s.log)
+    pub memory : core.memory ≡ m
+
   -- what there is of a shard in this state; of one that is stopped maybe the disk alone
   abbrev pub LivesIn : Setup → ShardNow → Life D → State → Type 0
   LivesIn setup s (Up core) (Runs m) = IsRunning setup s m core
-  LivesIn setup s (Up core) (IsStopped m) = (core.stopped ≡ true) × HoldsLog s core.disk
+  LivesIn setup s (Up core) (IsStopped m) = (core.stopped ≡ true) × HoldsLog s core.disk × StillKnows setup s m core
   LivesIn setup s (Up core) IsDown = ⊥
   LivesIn setup s (Down disk) (Runs m) = ⊥
   LivesIn setup s (Down disk) (IsStopped m) = HoldsLog s disk

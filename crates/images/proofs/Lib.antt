@@ -1,10 +1,13 @@
 pub mod Acted
+pub mod Answered
 pub mod AtOnce
 pub mod Called
 pub mod Failing
 pub mod Held
 pub mod Placed
+pub mod Shown
 pub mod Told
 pub mod Turned
 pub mod Turnovers
 pub mod Unturned
+pub mod Viewed

@@ -39,7 +39,7 @@ use Rattle.law.proofs.Areas.{logs_no_turn}
 use Rattle.images.specs.Images.{Answers, Fails, FailsToTurn, GoesOn, HoldsSurely, IsDisk, IsOwnAnswer, Life, Up, Down}
 use Rattle.images.specs.Images.{OpensTo, RestartsWith, RestsOn, StarvesIn, Takes, TakesWhat, TurnsOver, WasEnded, disk_of}
 use Rattle.images.proofs.Called.{Comes, IsKnown, Steps, opening_now, comes, is_stopped, left_now, not_opened, not_opened_now, opened, refuses_all, refuses_turn}
-use Rattle.images.proofs.Called.{starved, turn_comes, turn_fails, turn_starved, turn_stops}
+use Rattle.images.proofs.Called.{starved, still_failed, still_refused, still_turned, still_unturned, turn_comes, turn_fails, turn_starved, turn_stops}
 use Rattle.images.proofs.Held.{HoldsLog, HoldsOr, IsRunning, LivesAs, LivesIn, failed_holds, life_holds, sure_area, sure_only, surely_holds}
 use Rattle.images.proofs.Held.{within_holds, without_holds}
 
@@ -175,8 +175,11 @@ module _ {D : Type 0} (keeps obeys : Type 0) (file : D → File) (clock : D → 
             (step_of old p.0 p.1) result k own (λ q memory out e. follows doing q memory out (whole ∙ e)))
         by_state (IsStopped m) stops l =
             subst (Come (setup_of config n) s doing (Up new)) (sym (asks_the_resting (setup_of config n) bag s doing i.goes (ap is_up stops)))
-            (subst (λ t. LivesAs file (setup_of config n) t (Up new)) (sym (i.refused s)) (subst (LivesIn file (setup_of config n) s (Up new)) (sym stops)
-            (refuses_all keeps obeys file clock since failures plan counts kept (setup_of config n) s old new l.0 l.1 (step_of old p.0 p.1) result k)))
+            (subst (λ t. LivesAs file (setup_of config n) t (Up new)) (sym (i.refused s)) (subst (LivesIn file (setup_of config n) s (Up new)) (sym stops) (
+              (refuses_all keeps obeys file clock since failures plan counts kept (setup_of config n) s old new l.0 l.1 (step_of old p.0 p.1) result k).0,
+              (refuses_all keeps obeys file clock since failures plan counts kept (setup_of config n) s old new l.0 l.1 (step_of old p.0 p.1) result k).1,
+              still_refused keeps obeys file clock since failures plan counts kept (setup_of config n) s old new l.0 l.1 m (step_of old p.0 p.1) result k l.2,
+            )))
         by_state IsDown down l = absurd l
     takes_comes doing p (Up old) (Down back) result i is k own h = absurd k
     takes_comes doing p (Down disk) (Up new) result i is k own h = absurd k
@@ -202,8 +205,11 @@ module _ {D : Type 0} (keeps obeys : Type 0) (file : D → File) (clock : D → 
             (turn_comes keeps obeys file clock since failures plan counts kept (setup_of config n) s m old new l lasting runs result k.0 own)
         by_state (IsStopped m) stops l =
             subst (Come (setup_of config n) s Doing.Turn (Up new)) (sym (asks_the_resting (setup_of config n) bag s Doing.Turn refl (ap is_up stops)))
-            (subst (LivesIn file (setup_of config n) s (Up new)) (sym stops)
-            (refuses_turn keeps obeys file clock since failures plan counts kept (setup_of config n) s old new l.0 l.1 result k.0))
+            (subst (LivesIn file (setup_of config n) s (Up new)) (sym stops) (
+              (refuses_turn keeps obeys file clock since failures plan counts kept (setup_of config n) s old new l.0 l.1 result k.0).0,
+              (refuses_turn keeps obeys file clock since failures plan counts kept (setup_of config n) s old new l.0 l.1 result k.0).1,
+              still_unturned keeps obeys file clock since failures plan counts kept (setup_of config n) s old new l.0 l.1 m result k.0 l.2,
+            ))
         by_state IsDown down l = absurd l
     turns_come (Up old) (Down back) result k own h = absurd k
     turns_come (Down disk) (Up new) result k own h = absurd k
@@ -293,8 +299,12 @@ module _ {D : Type 0} (keeps obeys : Type 0) (file : D → File) (clock : D → 
               (subst (λ st. Steps keeps obeys file clock since failures plan counts kept old new st (Err fault)) step_is k) in
               let disk = tells call r new.disk lt read (λ image may. left_now keeps obeys file clock since failures plan counts kept (setup_of config n) s m
               old new l (Does (Some r) memory out) (Err Device) stepped image may) told in
-              subst (LivesIn file (setup_of config n) (failed_in s call r) (Up new)) (sym (ap stopped_state runs))
-              (is_stopped keeps obeys file clock since failures plan counts kept (setup_of config n) s m old new l r memory out stepped, disk)
+              subst (LivesIn file (setup_of config n) (failed_in s call r) (Up new)) (sym (ap stopped_state runs)) (
+                is_stopped keeps obeys file clock since failures plan counts kept (setup_of config n) s m old new l r memory out stepped,
+                disk,
+                still_failed keeps obeys file clock since failures plan counts kept (setup_of config n) s m old new l (Does (Some r) memory out) Device stepped
+                    (failed_in s call r) refl,
+              )
           by_state (IsStopped m) stops l = absurd (no_input (setup_of config n) bag s doing (Some r) memory out does
               (asks_the_resting (setup_of config n) bag s doing g (ap is_up stops)))
           by_state IsDown down l = absurd l
@@ -368,6 +378,8 @@ module _ {D : Type 0} (keeps obeys : Type 0) (file : D → File) (clock : D → 
         by_state (Runs m) runs l = subst (LivesIn file (setup_of config n) (failed_turn s call) (Up new)) (sym (ap stopped_state runs)) (
           turn_stops keeps obeys file clock since failures plan counts kept (setup_of config n) s m old new l f.called.0,
           turn_fails keeps obeys file clock since failures plan counts kept (setup_of config n) s m old new l lasting call lt f.called.0 f.read f.told,
+          still_turned keeps obeys file clock since failures plan counts kept (setup_of config n) s m old new l (Err Device) f.called.0
+              (failed_turn s call) refl,
         )
         by_state (IsStopped m) stops l = absurd (no_input (setup_of config n) bag s Doing.Turn None memory out does
             (asks_the_resting (setup_of config n) bag s Doing.Turn refl (ap is_up stops)))
@@ -385,7 +397,13 @@ module _ {D : Type 0} (keeps obeys : Type 0) (file : D → File) (clock : D → 
         by_state : (st : State) → LivesIn file (setup_of config n) s (Up old) st → LivesIn file (setup_of config n) s (Up new) st
         by_state (Runs m) l = starved keeps obeys file clock since failures plan counts kept (setup_of config n) s m old new l (step_of old p.0 p.1) k
         by_state (IsStopped m) l =
-            refuses_all keeps obeys file clock since failures plan counts kept (setup_of config n) s old new l.0 l.1 (step_of old p.0 p.1) (Err WantsMemory) k
+            let r = refuses_all keeps obeys file clock since failures plan counts kept (setup_of config n) s old new l.0 l.1 (step_of old p.0 p.1)
+            (Err WantsMemory) k in (
+              r.0,
+              r.1,
+              still_refused keeps obeys file clock since failures plan counts kept (setup_of config n) s old new l.0 l.1 m (step_of old p.0 p.1)
+                  (Err WantsMemory) k l.2,
+            )
         by_state IsDown l = absurd l
     takes_starves p (Up old) (Down back) k h = absurd k
     takes_starves p (Down disk) (Up new) k h = absurd k
@@ -403,7 +421,8 @@ module _ {D : Type 0} (keeps obeys : Type 0) (file : D → File) (clock : D → 
         by_state : (st : State) → LivesIn file (setup_of config n) s (Up old) st → LivesIn file (setup_of config n) s (Up new) st
         by_state (Runs m) l = turn_starved keeps obeys file clock since failures plan counts kept (setup_of config n) s m old new l k.0
         by_state (IsStopped m) l =
-            refuses_turn keeps obeys file clock since failures plan counts kept (setup_of config n) s old new l.0 l.1 (Err WantsMemory) k.0
+            let r = refuses_turn keeps obeys file clock since failures plan counts kept (setup_of config n) s old new l.0 l.1 (Err WantsMemory) k.0 in
+            (r.0, r.1, still_unturned keeps obeys file clock since failures plan counts kept (setup_of config n) s old new l.0 l.1 m (Err WantsMemory) k.0 l.2)
         by_state IsDown l = absurd l
     turn_starves (Up old) (Down back) k h = absurd k
     turn_starves (Down disk) (Up new) k h = absurd k

@@ -321,11 +321,11 @@ module _ {D : Type 0} (keeps obeys : Type 0) (file : D → File) (clock : D → 
   -- ---- within a call
 
   module _ (w : World) (steady : IsSteady w) (areas : HasAreas w) (n : ℕ) (s : ShardNow) (there : slice_get w.shards n ≡ Some s) where
-    follows : (doing : Doing) (r : Record) (memory : Memory) (out : List Envelope) →
+    pub follows : (doing : Doing) (r : Record) (memory : Memory) (out : List Envelope) →
         effect (setup_of w.config n) w.bag s doing ≡ Does (Some r) memory out → IsTrue (followed n (read_log s ++ r ∷ []))
     follows doing r memory out e = steady.logged n s doing r memory out there e
 
-    known : IsKnown (setup_of w.config n) s
+    pub known : IsKnown (setup_of w.config n) s
     known = record { takes = steady.takes n s there; takes_area = areas.takes n s there; alike = areas.alike n s there }
 
     -- the area, or this with the record of the step

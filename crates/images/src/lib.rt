@@ -3,4 +3,4 @@
 
 mod laws;
 
-pub use laws::{areas_are_logs, images_have_logs};
+pub use laws::{answers_are_the_runs, areas_are_logs, images_have_logs};
