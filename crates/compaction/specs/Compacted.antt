@@ -46,3 +46,15 @@ module _ {D : Type 0} (file : D → File) (clock : D → ℕ) (since : D → ℕ
 -- old one holds no log
 abbrev pub IsNotCompacted : Fault → Type 0
 IsNotCompacted fault = (fault ≡ Memory) ⊎ ((fault ≡ Device) ⊎ ((fault ≡ TimeSpent) ⊎ IsTrue (is_no_log fault)))
+
+-- A file that was opened under one name, a file that was made under another, and what is on its disk now: on disks that keep the model the
+-- records of the first were filled in there, and each crash from now on leaves them.
+pub record WasCompacted {D : Type 0} (keeps : Type 0) (file : D → File) (clock : D → ℕ) (since : D → ℕ → List ℕ → Type 0)
+    (named : List ℕ → D → Type 0) (old new : List ℕ) : Type 0 where
+  pub from : D
+  pub opened : named old from
+  pub to : D
+  pub made : named new to
+  pub disk : D
+  pub filled : keeps → WasFilled file clock since (records_in (surface (file from)).seen) to disk
+  pub holds : keeps → Holds (records_in (surface (file from)).seen) (file disk)

@@ -1,6 +1,6 @@
 //! A log is compacted from a file into a new one.
-ghost use Rattle.std.specs.Prelude.{IfErr};
-ghost use Rattle.compaction.specs.Compacted.{IsNotCompacted};
+ghost use Rattle.std.specs.Prelude.{IfErr, OnOk};
+ghost use Rattle.compaction.specs.Compacted.{IsNotCompacted, WasCompacted};
 
 use crate::compacting::compact;
 use crate::gathered::Gathered;
@@ -11,7 +11,10 @@ use units::Fault;
 /// Copies the records of a log into a new file, and leaves the old file as it is. What is wrong with the old file is told first, and
 /// then no file is made. `Device` also says that a file has the new name already: choose another one.
 pub fn compact_file<F: Files>(alloc: Global, files: &F, old: &str, new: &str) -> Result<(), Fault>
-    ensures { IfErr result IsNotCompacted }
+    // The new file has the records of the old one.
+    ensures compacted { OnOk result (WasCompacted F.Log.keeps_model F.Log.file F.Log.clock
+        F.Log.since (F.is_named files.now) old.now new.now) }
+    ensures refused { IfErr result IsNotCompacted }
 {
     let from = match Gathered::of(alloc, files.open(alloc, old)?) {
         Ok(from) => from,

@@ -1,6 +1,6 @@
 -- Records behind others, and logs behind others, one at a time.
 use Rattle.std.proofs.Common.{◌≡◌, ◌∙◌, ◌++◌, ◌∷◌, [], ℕ, Bool, true, false, List, map, ap, refl, sym, subst, rules, Result, Ok, Err}
-use Rattle.std.specs.Prelude.{MatchResult, IfErr, IsFalse, if◌then◌else◌, Contains}
+use Rattle.std.specs.Prelude.{MatchResult, IfErr, IfOk, IsFalse, if◌then◌else◌, Contains}
 use Rattle.std.proofs.lemmas.List.Elements.{Contains-append_right}
 use Rattle.units.specs.declared.fault.Fault.{Fault}
 use Rattle.units.specs.declared.fault.Fault.TheVariants.{Damaged}
@@ -68,3 +68,8 @@ among front x back whole is = subst (λ xs. Contains xs x) is (Contains-append_r
 pub at_turn : {X : Type 0} (seen : X → List ℕ) (before : List (List Record)) (whole last : Result (List (List Record)) Fault) (left : List X) (x : X)
     (rest : List X) → whole ≡ logs_behind before (map seen left) → left ≡ x ∷ rest → logs_behind before (seen x ∷ map seen rest) ≡ last → whole ≡ last
 at_turn seen before whole last left x rest so_far steps next = so_far ∙ ap (λ xs. logs_behind before (map seen xs)) steps ∙ next
+
+-- a verdict on some lines
+pub on-some-lines : {L T E : Type 0} (P : L → T → Type 0) (lines : L) (r : Result T E) → IfOk r (P lines) → IfOk r (λ t. (ls : L) × P ls t)
+on-some-lines P lines (Ok t) is = (lines, is)
+on-some-lines P lines (Err e) is = tt

@@ -1,5 +1,5 @@
 -- The logs of shards 0, 1 and so on, by what a read of their files gives, and the verdict on them.
-use Rattle.std.specs.Prelude.{◌≡◌, ◌⊎◌, ◌<◌, IsTrue, ℕ, Bool, true, false, List, [], ◌∷◌, ◌++◌, length, Result, Ok, Err, if◌then◌else◌, nat_lt, Contains}
+use Rattle.std.specs.Prelude.{◌≡◌, ◌⊎◌, ◌<◌, IsTrue, ℕ, Bool, true, false, List, [], ◌∷◌, ◌++◌, length, map, Result, Ok, Err, if◌then◌else◌, nat_lt, Contains}
 use Rattle.units.specs.declared.fault.Fault.{Fault}
 use Rattle.units.specs.declared.fault.Fault.TheVariants.{BadRequest, Damaged, Device, NotALog}
 use Rattle.units.specs.declared.fault.Reason.TheVariants as reason
@@ -8,8 +8,10 @@ use Rattle.units.specs.declared.line.Verdict.{Verdict}
 use Rattle.record.specs.Accepted.{followed}
 use Rattle.record.specs.Verdict.{verdict}
 use Rattle.record.specs.declared.record.Record.{Record}
+use Rattle.disk.specs.File.{File, surface}
 use Rattle.gatelog.specs.Log.{log}
 use Rattle.frames.specs.Placed.{Placed}
+use Rattle.system.specs.Named.{AreNamed}
 use Rattle.texts.specs.Numbers.{and_then}
 use Rattle.texts.specs.Refusals.{IsNoText}
 
@@ -54,3 +56,10 @@ pub record HasFailed {D : Type 0} (failures : D → ℕ) (disks : List D) : Type
 -- why files are not judged: the lines are not read, a device failed, or it is for what the files hold, or for their number
 abbrev pub IsNotJudged : Fault → Type 0
 IsNotJudged fault = IsNoText fault ⊎ ((fault ≡ Device) ⊎ IsTrue (is_refusal fault))
+
+-- There are disks that were opened under these names, in order; on disks that keep the model this is the verdict on them and on the lines of some
+-- report.
+abbrev pub IsVerdictOn : {D : Type 0} → Type 0 → (D → File) → (List ℕ → D → Type 0) → List (List ℕ) → Verdict → Type 0
+IsVerdictOn {D} keeps file named names found =
+    (disks : List D) × AreNamed named names disks
+    × (keeps → (lines : List Line) × (verdict_on (map (λ d. (surface (file d)).seen) disks) lines ≡ Ok found))

@@ -1,6 +1,6 @@
 //! The verdict on files.
-ghost use Rattle.std.specs.Prelude.{IfErr};
-ghost use Rattle.inspection.specs.Files.{IsNotJudged};
+ghost use Rattle.std.specs.Prelude.{IfErr, IfOk, map};
+ghost use Rattle.inspection.specs.Files.{IsNotJudged, IsVerdictOn};
 
 use crate::judging::inspect_disks;
 use std::alloc::Global;
@@ -16,7 +16,10 @@ pub fn inspect_files<F: Files>(
     lines_file: &str,
     logs: &[&str],
 ) -> Result<Verdict, Fault>
-    ensures { IfErr result IsNotJudged }
+    // It is the verdict on disks that were opened under these names.
+    ensures verdict { IfOk result (IsVerdictOn F.Log.keeps_model F.Log.file
+        (F.is_named files.now) (map (λ log. log.now) logs.now)) }
+    ensures refused { IfErr result IsNotJudged }
 {
     let text = read_text(alloc, files, lines_file, Reason::Syntax(1))?;
     let told = lines(alloc, &text);

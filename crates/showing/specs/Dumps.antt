@@ -4,6 +4,7 @@ use Rattle.std.specs.Fmt.{decimal}
 use Rattle.std.specs.Prelude.{flat_map}
 use Rattle.units.specs.declared.fault.Fault.{Fault}
 use Rattle.units.specs.declared.fault.Fault.TheVariants.{Device, Memory}
+use Rattle.disk.specs.File.{File, surface}
 use Rattle.gatelog.specs.Log.{scan, is_no_log}
 use Rattle.frames.specs.Placed.{Placed}
 use Rattle.showing.specs.declared.reading.End.{End}
@@ -40,6 +41,12 @@ IsDumpText entries end text =
 -- it is the text of some file
 abbrev pub IsADump : List ℕ → Type 0
 IsADump text = (entries : List Placed) × (end : End) × IsDumpText entries end text
+
+-- on disks that keep the model it is the text of a disk that was opened under this name
+abbrev pub IsDumpOf : {D : Type 0} → Type 0 → (D → File) → (List ℕ → D → Type 0) → List ℕ → List ℕ → Type 0
+IsDumpOf {D} keeps file named name text =
+    (disk : D) × named name disk
+    × (keeps → (entries : List Placed) × (end : End) × (dump_of (surface (file disk)).seen ≡ Ok (entries, end)) × IsDumpText entries end text)
 
 -- why nothing is shown of a file: memory is wanting, the system refuses it, or it holds no log
 abbrev pub IsNotShown : Fault → Type 0

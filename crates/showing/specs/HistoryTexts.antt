@@ -1,5 +1,5 @@
 -- How a history and a value are printed.
-use Rattle.std.specs.Prelude.{◌≡◌, ◌⊎◌, ℕ, Bool, true, false, IsTrue, List, [], ◌++◌, Option, Some, None, codes, flat_map, nat_lt}
+use Rattle.std.specs.Prelude.{◌≡◌, ◌⊎◌, ℕ, Bool, true, false, IsTrue, List, [], ◌++◌, Option, Some, None, Ok, codes, flat_map, nat_lt}
 use Rattle.std.specs.Prelude.{if◌then◌else◌}
 use Rattle.std.specs.Fmt.{decimal}
 use Rattle.units.specs.Ids.{Id}
@@ -9,7 +9,8 @@ use Rattle.units.specs.declared.fault.Fault.{Fault}
 use Rattle.units.specs.declared.fault.Fault.TheVariants.{BadRequest, Device, Memory, TooOld}
 use Rattle.units.specs.declared.fault.Reason.TheVariants as reason
 use Rattle.requests.specs.Spelling.{spelled}
-use Rattle.showing.specs.Histories.{is_no_shard_log}
+use Rattle.units.specs.declared.setup.Setup.{Setup}
+use Rattle.showing.specs.Histories.{history_in, is_no_shard_log, value_in}
 use Rattle.showing.specs.declared.shard_log.Found.{Found}
 use Rattle.showing.specs.declared.told.Standing.{Standing}
 use Rattle.showing.specs.declared.told.Standing.TheVariants.{Installed, Decided, Promised}
@@ -60,6 +61,11 @@ history_text from told = from_line from ++ told_lines told
 abbrev pub IsAHistory : List ℕ → Type 0
 IsAHistory text = (from : Option ℕ) × (told : List Told) × (text ≡ history_text from told)
 
+-- it is that of a key by what a file holds, as a shard takes it
+abbrev pub IsHistoryIn : Setup → Bytes → List ℕ → List ℕ → Type 0
+IsHistoryIn setup k image text =
+    (from : Option ℕ) × (told : List Told) × (history_in setup k image ≡ Ok (from, told)) × (text ≡ history_text from told)
+
 -- what stands behind a value that is not settled
 abbrev pub settled_mark : Bool → List ℕ
 settled_mark true = []
@@ -72,6 +78,10 @@ found_text found = value_text found.value ++ (settled_mark found.is_settled ++ c
 -- it is what is found of some key, on a line
 abbrev pub IsAValue : List ℕ → Type 0
 IsAValue text = (found : Found) × (text ≡ found_text found)
+
+-- it is what is found of a key by what a file holds, as a shard takes it
+abbrev pub IsValueIn : Setup → Bytes → Option ℕ → List ℕ → List ℕ → Type 0
+IsValueIn setup k at image text = (found : Found) × (value_in setup k at image ≡ Ok found) × (text ≡ found_text found)
 
 -- why nothing is told of a key: memory is wanting, the system refuses a file, the folder has no manifest, its log is not taken, or is not
 -- whole from the timestamp on

@@ -1,8 +1,9 @@
 //! Texts of logs.
-ghost use Rattle.std.specs.Prelude.{◌≡◌, ◌++◌, ◌∷◌, [], IfOk, IfErr, List, OnOk, map, string_bytes};
+ghost use Rattle.std.specs.Prelude.{◌≡◌, ◌++◌, ◌∷◌, [], Ok, IfOk, IfErr, List, OnOk, map, string_bytes};
+ghost use Rattle.disk.specs.File.{surface};
 ghost use Rattle.frames.specs.Placed.{Placed};
-ghost use Rattle.showing.specs.Dumps.{IsADump, IsNotShown};
-ghost use Rattle.showing.specs.HistoryTexts.{IsAHistory, IsAValue, IsNotTold};
+ghost use Rattle.showing.specs.Dumps.{IsADump, IsDumpOf, IsNotShown, dump_of};
+ghost use Rattle.showing.specs.HistoryTexts.{IsAHistory, IsAValue, IsHistoryIn, IsNotTold, IsValueIn};
 ghost use Rattle.showing.specs.Json.{IsAJsonHistory, IsAJsonValue};
 ghost use Rattle.showing.specs.StatsTexts.{AreStats, ToldLog, log_text};
 
@@ -23,6 +24,8 @@ use units::{Fault, Key, Setup, Stamp};
 /// What the log in a file holds, as text. The file is opened to be read alone.
 pub fn dump_file<F: Files>(alloc: Global, files: &F, path: &str) -> Result<String, Fault>
     ensures text { IfOk result (λ text. IsADump (string_bytes text)) }
+    ensures named { IfOk result (λ text. IsDumpOf F.Log.keeps_model F.Log.file
+        (F.is_named files.now) path.now (string_bytes text)) }
     ensures refused { IfErr result IsNotShown }
 {
     let dump = dump_in(alloc, files, path)?;
@@ -31,6 +34,9 @@ pub fn dump_file<F: Files>(alloc: Global, files: &F, path: &str) -> Result<Strin
 
 // What the log in a file holds.
 fn dump_in<F: Files>(alloc: Global, files: &F, path: &str) -> Result<Dump, Fault>
+    ensures named { IfOk result (λ dump. (disk : F.Log) × F.is_named files.now path.now disk
+        × (F.Log.keeps_model → dump_of (surface (F.Log.file disk)).seen
+        ≡ Ok (dump.entries.items, dump.end))) }
     ensures refused { IfErr result IsNotShown }
 {
     read_dump(alloc, files.open(alloc, path)?)
@@ -119,6 +125,8 @@ pub fn history_told<D: Disk + Drop>(
     key: &Key,
 ) -> Result<String, Fault>
     ensures text { IfOk result (λ text. IsAHistory (string_bytes text)) }
+    ensures told { D.keeps_model → IfOk result (λ text. IsHistoryIn setup.now key.now
+        (surface (D.file disk)).seen (string_bytes text)) }
     ensures refused { IfErr result IsNotTold }
 {
     let (from, told) = read_history(alloc, disk, setup, key)?;
@@ -134,6 +142,8 @@ pub fn value_told<D: Disk + Drop>(
     at: Option<Stamp>,
 ) -> Result<String, Fault>
     ensures text { IfOk result (λ text. IsAValue (string_bytes text)) }
+    ensures told { D.keeps_model → IfOk result (λ text. IsValueIn setup.now key.now at
+        (surface (D.file disk)).seen (string_bytes text)) }
     ensures refused { IfErr result IsNotTold }
 {
     let found = read_value(alloc, disk, setup, key, at)?;

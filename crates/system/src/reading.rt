@@ -1,5 +1,6 @@
 //! Texts and logs in files.
-ghost use Rattle.std.specs.Prelude.{◌≡◌, ◌⊎◌, ◌≤◌, ◌^◌, IfOk, IfErr, length, string_bytes};
+ghost use Rattle.std.specs.Prelude.{◌≡◌, ◌⊎◌, ◌≤◌, ◌^◌, IfOk, IfErr, OnOk, length, map, string_bytes};
+ghost use Rattle.system.specs.Named.{AreNamed, WasMigrated};
 ghost use Rattle.system.specs.Refusals.{IsNotMigrated};
 ghost use Rattle.units.specs.declared.fault.Fault.TheVariants.{BadRequest, Device, Memory};
 
@@ -54,7 +55,10 @@ pub fn format_file<F: Files>(alloc: Global, files: &F, path: &str) -> Result<(),
 /// Makes a file with the records of another one, which holds a log of version 1 and stays as it is. What is wrong with the old file counts
 /// first, and then nothing is made. After that it is `Device` if there is something of the new name.
 pub fn migrate_file<F: Files>(alloc: Global, files: &F, old: &str, new: &str) -> Result<(), Fault>
-    ensures { IfErr result IsNotMigrated }
+    // The new file has the records of the old one.
+    ensures migrated { OnOk result (WasMigrated F.Log.keeps_model F.Log.file F.Log.clock
+        F.Log.since (F.is_named files.now) old.now new.now) }
+    ensures refused { IfErr result IsNotMigrated }
 {
     let mut first = files.open(alloc, old)?;
     is_old(alloc, &mut first)?;
@@ -70,6 +74,8 @@ pub fn migrate_file<F: Files>(alloc: Global, files: &F, old: &str, new: &str) ->
 
 /// Opens some files to be read, in their order. All of them read as they stand at one moment after they were opened.
 pub fn open_all<F: Files>(alloc: Global, files: &F, paths: &[&str]) -> Result<Vec<F::Log>, Fault>
+    ensures named { IfOk result (λ opened.
+        AreNamed (F.is_named files.now) (map (λ path. path.now) paths.now) opened.items) }
     ensures all { IfOk result (λ opened. length opened.items ≡ length paths.now) }
     ensures refused { IfErr result (λ fault. (fault ≡ Memory) ⊎ (fault ≡ Device)) }
 {
