@@ -13,6 +13,7 @@ mod serves;
 mod sessions;
 mod threads;
 
+pub use bell::left;
 pub use gate::Gate;
 pub use letter::{Letter, Post, Refused, Reply, UnderWay};
 pub use network::{Inboxes, Mail, Network};
