@@ -23,7 +23,7 @@ pub enum Asked<'a> {
 }
 
 // How many microseconds a stride and an epsilon have, and how many clients there are, where nothing else is chosen.
-const STRIDE: u64 = 100_000;
+const STRIDE: u64 = 500_000;
 
 const EPSILON: u64 = 1_000;
 
