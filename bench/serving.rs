@@ -1,8 +1,9 @@
 //! Clients of a store on threads: each runs transactions that read and write two keys, one behind the other. A line tells how they ended.
 //!
-//!     serving DISK SHARDS CLIENTS TRANSACTIONS KEYS EPSILON FOLDER
+//!     serving DISK SHARDS CLIENTS TRANSACTIONS KEYS EPSILON FOLDER [GIVE_UP [KEEP RENEW]]
 //!
-//! DISK is `memory`, `files` (in FOLDER), or how many microseconds a sync of a disk in memory takes.
+//! DISK is `memory`, `files` (in FOLDER), or how many microseconds a sync of a disk in memory takes. Clients wait for GIVE_UP milliseconds for a
+//! silent shard. With KEEP and RENEW each shard keeps the past for so many microseconds, and renews a log that has grown by so many bytes.
 use disk::Disk;
 use gatelog::GateLog;
 use shim::alloc::Global;
@@ -155,6 +156,12 @@ fn main() {
     let splits: Vec<Key> = (1..shards).map(split).collect();
     let mut options = Options::new(Splits::new(Global, &splits).unwrap(), clients as u64);
     options.epsilon = number(6) as u64;
+    if words.len() > 8 {
+        options.give_up = number(8) as u64;
+    }
+    if words.len() > 10 {
+        (options.keep, options.renew) = (Some(number(9) as u64), Some(number(10) as u64));
+    }
     let mut disks = List::new(Global);
     for shard in 0..shards {
         disks.push(formatted(place, &words[7], shard)).unwrap();

@@ -125,6 +125,11 @@ impl<T> std::ops::Deref for Box<T> {
         &self.0
     }
 }
+impl<T> std::ops::DerefMut for Box<T> {
+    fn deref_mut(&mut self) -> &mut T {
+        &mut self.0
+    }
+}
 
 #[derive(Debug)]
 pub struct Vec<T>(pub std::vec::Vec<T>);

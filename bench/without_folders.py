@@ -8,5 +8,6 @@ folder = pathlib.Path(sys.argv[1])
 for name in [folder / "store.rs", folder / "lib.rs"]:
     text = name.read_text(encoding="utf-8")
     text = re.sub(r"(?ms)^impl[^\n]*FileDisk> \{\n.*?^\}\n", "", text)
+    text = re.sub(r"(?ms)^fn unopened_by\(.*?^\}\n", "", text)
     text = re.sub(r"(?m)^(pub )?use (shim::(fs::File|random::RandomSource|rt::Files)|filedisk::\w+|host_files::[^;]+);\n", "", text)
     name.write_text(text, encoding="utf-8")

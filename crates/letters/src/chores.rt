@@ -21,10 +21,10 @@ fn long() -> Duration {
     Duration::from_secs(1)
 }
 
-// So many versions are shown though nobody looks: to show more at once would keep a node from its letters.
+// So many versions are shown soon, whoever looks: to show more at once would keep a node from its letters.
 const MANY_VERSIONS: usize = 256;
 
-// An advance may log, and wait for a device. While letters go on, the next one comes only after so many times as long as it took.
+// An advance for who looks may log, and wait for a device. While letters go on, the next one comes only after so many times as long as it took.
 const SHARE_OF_ADVANCES: u32 = 4;
 
 // A thread that sleeps wakes some 50 microseconds late, or a little more.
@@ -39,6 +39,7 @@ const LAST_ASK: u64 = 640;
 ///
 /// - when it last took a letter or settled;
 /// - when it last advanced, how long that took, and how many versions it showed then;
+/// - when it last tidied, and how long that took;
 /// - when it last asked for what is prepared, and how many milliseconds it waits before it asks again.
 #[derive(Clone, Copy)]
 pub struct Chores {
@@ -47,6 +48,8 @@ pub struct Chores {
     advanced: Option<Instant>,
     took: Duration,
     shown: usize,
+    tidied: Option<Instant>,
+    tidying: Duration,
     asked: Option<Instant>,
     patience: u64,
 }
@@ -60,6 +63,8 @@ impl Chores {
             advanced: None,
             took: Duration::ZERO,
             shown: node.versions(rt),
+            tidied: None,
+            tidying: Duration::ZERO,
             asked: None,
             patience: FIRST_ASK,
         }
@@ -80,7 +85,7 @@ impl Chores {
     /// - waits that can be granted go on;
     /// - what is decided is settled once its timestamp has passed;
     /// - what was prepared long ago is asked for;
-    /// - the node advances if that is wanted.
+    /// - the node advances if somebody looks, and shows new versions without an advance if nobody does. Before that it tidies, piece by piece.
     pub fn tend<N: Serves, W: Wait + time::Clock, P: Post, C: Clock>(
         &mut self,
         node: &N,
@@ -100,14 +105,18 @@ impl Chores {
             None => pause,
             Some(wait) if wait > Duration::ZERO => sooner(Some(wait), pause),
             Some(_) => {
-                self.advance(node, rt, post, clock);
-                // What it waits for may have come meanwhile.
+                if !self.tidy(node, rt, clock) {
+                    self.advance(node, rt, post, clock);
+                }
+                // Letters are taken before the next chores, and what it waits for may have come meanwhile.
+                self.done = Instant::now(rt).ok();
                 Duration::ZERO
             }
         }
     }
 
-    // How long it is until the node advances: if somebody got `NotYet`, or if it has versions that it did not show.
+    // How long it is until the node advances: if somebody got `NotYet`, or if it has versions that it did not show. After it tidied it does
+    // not for as long as that took.
     fn until_advance<N: Serves, W: Wait + time::Clock, P: Post>(
         &self,
         node: &N,
@@ -116,10 +125,10 @@ impl Chores {
     ) -> Option<Duration> {
         let share = self.took.saturating_mul(SHARE_OF_ADVANCES);
         let versions = node.versions(rt);
-        let rest = if post.is_looked_for(node.shard()) {
+        let rest = if versions >= self.shown.saturating_add(MANY_VERSIONS) {
+            moment()
+        } else if post.is_looked_for(node.shard()) {
             share
-        } else if versions >= self.shown.saturating_add(MANY_VERSIONS) {
-            later(share, moment())
         } else if versions != self.shown {
             return Some(left(rt, self.advanced, later(share, long())));
         } else {
@@ -129,10 +138,28 @@ impl Chores {
             left(rt, self.busy, moment()),
             left(rt, self.advanced, moment()),
         );
-        Some(sooner(Some(quiet), left(rt, self.advanced, rest)))
+        let wait = sooner(Some(quiet), left(rt, self.advanced, rest));
+        Some(later(wait, left(rt, self.tidied, self.tidying)))
     }
 
-    // Serves up to the latest of a reading, and tells who looks.
+    // Does a piece of what the node has to tidy. Returns whether there was any.
+    fn tidy<N: Serves, W: Wait + time::Clock, C: Clock>(
+        &mut self,
+        node: &N,
+        rt: &W,
+        clock: &mut C,
+    ) -> bool {
+        let start = Instant::now(rt).ok();
+        if !node.tidy(rt, clock) {
+            return false;
+        }
+        self.tidied = Instant::now(rt).ok();
+        self.tidying = between(start, self.tidied);
+        true
+    }
+
+    // Serves up to the latest of a reading if somebody looks, which may log a ceiling, and tells who looks. Else what there is is shown, and
+    // nothing is logged.
     fn advance<N: Serves, W: Wait + time::Clock, P: Post, C: Clock>(
         &mut self,
         node: &N,
@@ -142,16 +169,18 @@ impl Chores {
     ) {
         let start = Instant::now(rt).ok();
         let versions = node.versions(rt);
-        post.silence(node.shard());
-        if let Some(served) = node.keep_up(rt, clock) {
+        let served = if post.is_looked_for(node.shard()) {
+            post.silence(node.shard());
+            node.keep_up(rt, clock)
+        } else {
+            node.publish(rt, clock)
+        };
+        if let Some(served) = served {
             self.shown = versions;
             post.tell(node.shard(), served);
         }
         self.advanced = Instant::now(rt).ok();
-        self.took = match (start, self.advanced) {
-            (Some(start), Some(end)) => end.duration_since(start),
-            _ => Duration::ZERO,
-        };
+        self.took = between(start, self.advanced);
     }
 
     // Asks for what was prepared long ago. Each time that it finds any, it waits twice as long before it asks again.
@@ -171,6 +200,14 @@ impl Chores {
         } else {
             FIRST_ASK
         };
+    }
+}
+
+// How long it is from one moment to another; nothing if the clock could not be read.
+fn between(start: Option<Instant>, end: Option<Instant>) -> Duration {
+    match (start, end) {
+        (Some(start), Some(end)) => end.duration_since(start),
+        _ => Duration::ZERO,
     }
 }
 

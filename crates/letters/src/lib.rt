@@ -15,6 +15,7 @@ mod threads;
 mod together;
 mod turns;
 
+pub use bell::left;
 pub use gate::Gate;
 pub use letter::{Letter, Post, Refused, Reply, UnderWay};
 pub use network::{Inboxes, Mail, Network};

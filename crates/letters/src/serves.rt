@@ -80,6 +80,16 @@ pub trait Serves {
     /// `None` if it was refused, or the clock has no reading.
     fn keep_up<W: Wait, C: Clock>(&self, rt: &W, clock: &mut C) -> Option<Stamp>;
 
+    /// Shows what it has, up to the time that it serves already, without a record. Returns that time; `None` if it was refused, or the clock
+    /// has no reading.
+    fn publish<W: Wait, C: Clock>(&self, rt: &W, clock: &mut C) -> Option<Stamp>;
+
+    /// Does one piece of what keeps its memory and its log small, if any is due. Returns whether there was a piece. It is asked before it shows
+    /// something, and letters are taken between two pieces.
+    fn tidy<W: Wait, C: Clock>(&self, _rt: &W, _clock: &mut C) -> bool {
+        false
+    }
+
     /// Gives the allocator of letters that wait.
     fn alloc(&self) -> Global;
 }

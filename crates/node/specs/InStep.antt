@@ -97,6 +97,10 @@ WhyNot (Err own) fault = fault ≡ own
 abbrev pub horizon_for : ℕ → ℕ → ℕ → ℕ
 horizon_for served earliest micros = min served (earliest - micros)
 
+-- what a core serves already, by a reading: its safe time, and no later than the latest
+abbrev pub served_by : {D : Type 0} → CoreView D → Interval → ℕ
+served_by core now = min (safe_at core) now.latest
+
 -- how an input ends, whatever it puts out
 abbrev pub IsEndOf : Result (List Envelope) Fault → Result (Unit {0}) Fault → Type 0
 IsEndOf (Ok out) result = IsOk result

@@ -22,7 +22,7 @@ use Rattle.shard.specs.On.{CoreView}
 use Rattle.shard.specs.Look.{safe_at}
 use Rattle.board.specs.Board.{first_entries, safe_on}
 use Rattle.board.specs.Views.{Published, Viewing}
-use Rattle.node.specs.InStep.{HasTaken, HasAdvanced, HasNotAdvanced, HasKept, IsNewBoard, AreOnBoard}
+use Rattle.node.specs.InStep.{HasTaken, HasAdvanced, HasNotAdvanced, HasKept, IsNewBoard, AreOnBoard, served_by}
 use Rattle.node.specs.Renewed.{HasTurnedOver, HasRenewed}
 use Rattle.node.specs.Restart.{PlaceView, Serving, Resting}
 
@@ -66,6 +66,11 @@ abbrev pub versions_in : {D : Type 0} → PlaceView D → ℕ
 versions_in (Serving desk) = length desk.core.facts.installs
 versions_in (Resting rest) = 0
 
+-- what the core of a desk serves already, by a reading; of a disk alone nothing
+abbrev pub served_in : {D : Type 0} → PlaceView D → Interval → ℕ
+served_in (Serving desk) now = served_by desk.core now
+served_in _ now = 0
+
 module _ {D : Type 0} (keeps obeys : Type 0) (file : D → File) (clock : D → ℕ) (since : D → ℕ → List ℕ → Type 0) (failures : D → ℕ)
     (plan : D → FailurePlan) where
   -- the desk took an input, or refused it
@@ -94,6 +99,14 @@ module _ {D : Type 0} (keeps obeys : Type 0) (file : D → File) (clock : D → 
   -- the desk was to advance to the latest of the reading, and did not, or its board does not show it
   abbrev pub HasNotKeptUp : PlaceView D → PlaceView D → Interval → Type 0
   HasNotKeptUp old new now = (fault : Fault) × HasNotAdvancedIn old new now now.latest fault
+
+  -- the desk advanced to what it served already, and it serves up to the last time that its board shows
+  abbrev pub HasPublished : PlaceView D → PlaceView D → Interval → ℕ → Type 0
+  HasPublished old new now safe = (news : Published) × HasAdvancedIn old new now (served_in old now) news × (safe ≡ safe_on news.list)
+
+  -- the desk was to advance to what it served already, and did not, or its board does not show it
+  abbrev pub HasNotPublished : PlaceView D → PlaceView D → Interval → Type 0
+  HasNotPublished old new now = (fault : Fault) × HasNotAdvancedIn old new now (served_in old now) fault
 
   -- the desk was asked for the horizon that keeps so many microseconds
   abbrev pub HasKeptIn : PlaceView D → PlaceView D → Interval → ℕ → Result (Unit {0}) Fault → Type 0

@@ -1,10 +1,10 @@
 //! The core of a shard, and the publisher of its board.
-ghost use Rattle.std.specs.Prelude.{◌≡◌, ◌<◌, ◌+◌, ◌++◌, true, length, IfOk, IfErr, IfSome, IfNone, IsTrue, OnOk};
+ghost use Rattle.std.specs.Prelude.{◌≡◌, ◌<◌, ◌+◌, ◌++◌, true, length, min, IfOk, IfErr, IfSome, IfNone, IsTrue, OnOk};
 ghost use Rattle.board.specs.Board.{first_entries, horizon_on, is_board, AreInOrder};
 ghost use Rattle.disk.specs.File.{surface};
 ghost use Rattle.node.specs.DeskFaults.{refuses_input, refuses_advance, refuses_horizon, refuses_turnover};
 ghost use Rattle.node.specs.InStep.{InStep, IsInStep, IsNewBoard, AreOnBoard, IsNoDesk, StillShows, ShowsAll, HasAdvanced, HasNotAdvanced, HasTaken};
-ghost use Rattle.node.specs.InStep.{HasKept, IsCount, horizon_for as horizon_kept};
+ghost use Rattle.node.specs.InStep.{HasKept, IsCount, horizon_for as horizon_kept, served_by};
 ghost use Rattle.node.specs.Opening.{HasNoDesk, IsBegun};
 ghost use Rattle.node.specs.Renewed.{HasTurnedOver, HasRenewed, unmeasured};
 ghost use Rattle.shard.specs.Core.{seen, book_of};
@@ -312,6 +312,23 @@ impl<D: Disk + Drop, R: Wait + Drop> Desk<D, R> {
         )
     }
 
+    /// Publishes what the core has, up to the time that it serves already, or to the latest of the reading if that is earlier. The core logs
+    /// no ceiling for it, and serves no more than before. It is refused as `advance` is.
+    pub fn publish(&mut self, now: &Reading) -> Result<Told, Fault>
+        ensures published { IfOk result
+            (HasAdvanced D.keeps_model D.obeys D.file D.clock D.since D.failures D.plan
+            (seen_desk self.old) (seen_desk self.new) now.now
+            (served_by (seen_desk self.old).core now.now)) }
+        ensures refused { IfErr result
+            (HasNotAdvanced D.keeps_model D.obeys D.file D.clock D.since D.failures D.plan
+            (seen_desk self.old) (seen_desk self.new) now.now
+            (served_by (seen_desk self.old).core now.now)) }
+        ensures faults { IfErr result (λ fault. IsTrue (refuses_advance fault)) }
+    {
+        let to = earlier(self.core.safe(), now.latest());
+        self.advance(now, to)
+    }
+
     /// Gives the core, to be read.
     pub fn core(&self) -> &Core<D>
         ensures core { seen result.now ≡ (seen_desk self.now).core }
@@ -335,6 +352,13 @@ impl<D: Disk + Drop, R: Wait + Drop> Desk<D, R> {
         drop(publisher);
         core.stop()
     }
+}
+
+// The earlier of two timestamps.
+fn earlier(one: Stamp, other: Stamp) -> Stamp
+    ensures { result ≡ min one other }
+{
+    if one < other { one } else { other }
 }
 
 // The horizon that keeps so many microseconds, by what is served and the earliest of a reading.

@@ -8,7 +8,7 @@ ghost use Rattle.node.specs.Grouped.{HasTakenIn, HasStoppedIn, IsOneByOneIn};
 ghost use Rattle.node.specs.Restart.{AreOnNewBoard, HasRestarted, HasNotRestarted, is_at_rest, disk_of_place, told_of};
 ghost use Rattle.node.specs.Seen.{seen_place};
 ghost use Rattle.node.specs.Under.{IsDeskOf, IsUnder, IsEarliestIn, Became, HasDelivered, HasAdvancedIn, HasNotAdvancedIn, HasKeptUp, HasNotKeptUp, HasKeptIn};
-ghost use Rattle.node.specs.Under.{HasTurnedIn, HasRenewedIn};
+ghost use Rattle.node.specs.Under.{HasTurnedIn, HasRenewedIn, HasPublished, HasNotPublished, served_in};
 ghost use Rattle.node.specs.Under.{is_ready_in, due_in, versions_in};
 ghost use Rattle.shard.specs.Core.{seen, book_of};
 ghost use Rattle.shard.specs.Look.{safe_at};
@@ -143,6 +143,38 @@ impl<D: Disk + Drop, R: Wait + Drop> Held<D, R> {
         match self.advance(now, now.latest()) {
             Ok(told) => Some(told.safe()),
             Err(_) => None,
+        }
+    }
+
+    /// Publishes what the core has, up to the time that it serves already (`Desk::publish`). Returns the timestamp up to which it serves then;
+    /// `None` if it was refused.
+    pub fn publish(&mut self, now: &Reading) -> Option<Stamp>
+        ensures published { IfSome result
+            (λ safe. Became (seen_held self.old) (seen_held self.new)
+            (λ old. λ new. HasPublished D.keeps_model D.obeys D.file D.clock D.since D.failures D.plan
+            old new now.now safe)) }
+        ensures refused { IfNone result (Became (seen_held self.old) (seen_held self.new)
+            (λ old. λ new. HasNotPublished D.keeps_model D.obeys D.file D.clock D.since D.failures D.plan
+            old new now.now)) }
+    {
+        match self.show(now) {
+            Ok(told) => Some(told.safe()),
+            Err(_) => None,
+        }
+    }
+
+    // Publishes what the core has. A disk alone refuses as a stopped core does.
+    fn show(&mut self, now: &Reading) -> Result<Told, Fault>
+        ensures shown { IfOk result (λ told. Became (seen_held self.old) (seen_held self.new)
+            (λ old. λ new. HasAdvancedIn D.keeps_model D.obeys D.file D.clock D.since D.failures D.plan
+            old new now.now (served_in old now.now) told)) }
+        ensures refused { IfErr result (λ fault. Became (seen_held self.old) (seen_held self.new)
+            (λ old. λ new. HasNotAdvancedIn D.keeps_model D.obeys D.file D.clock D.since D.failures D.plan
+            old new now.now (served_in old now.now) fault)) }
+    {
+        match &mut self.place {
+            Some(Place::Serving(desk)) => desk.publish(now),
+            Some(Place::Resting(_)) | None => Err(Fault::Stopped),
         }
     }
 

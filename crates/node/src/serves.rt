@@ -70,6 +70,12 @@ impl<D: Disk + Drop, R: Wait + Drop> Serves for Node<D, R> {
         held.keep_up(&now)
     }
 
+    fn publish<W: Wait, C: Clock>(&self, rt: &W, clock: &mut C) -> Option<Stamp> {
+        let mut held = self.held.lock(rt);
+        let now = clock.now()?;
+        held.publish(&now)
+    }
+
     fn alloc(&self) -> Global {
         self.alloc
     }

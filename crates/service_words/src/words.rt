@@ -110,7 +110,7 @@ fn serve<'a>(given: &ArgMatches<'a>) -> Result<Asked<'a>, Fault> {
 }
 
 fn stride(given: &ArgMatches<'_>) -> Result<Stride, Fault> {
-    let micros = within(given, &STRIDE, 100_000)?;
+    let micros = within(given, &STRIDE, 500_000)?;
     Stride::new(micros).ok_or(BEYOND)
 }
 

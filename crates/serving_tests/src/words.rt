@@ -14,7 +14,7 @@ type Row = (&'static [&'static str], [u64; 7]);
 const NONE: u64 = u64::MAX;
 
 static ROWS: [Row; 3] = [
-    (&["serve", "d"], [64, 1_000, 100_000, NONE, NONE, 5, 10_000]),
+    (&["serve", "d"], [64, 1_000, 500_000, NONE, NONE, 5, 10_000]),
     (
         &[
             "serve",
@@ -38,7 +38,7 @@ static ROWS: [Row; 3] = [
     ),
     (
         &["serve", "--idle", "3600000", "--patience", "61", "d"],
-        [64, 1_000, 100_000, NONE, NONE, 4, 3_600_000],
+        [64, 1_000, 500_000, NONE, NONE, 4, 3_600_000],
     ),
 ];
 

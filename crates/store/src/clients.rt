@@ -152,7 +152,7 @@ impl<'s, R: Wait + time::Clock> Client<'s, R> {
         }
     }
 
-    // A new transaction.
+    // A new transaction, which has passed the door.
     fn begin(&mut self, patience: u32) -> Result<Transaction<'s, R>, Fault>
         ensures { MatchResult result
             (λ t. (n : ℕ)
@@ -163,6 +163,7 @@ impl<'s, R: Wait + time::Clock> Client<'s, R> {
         let shared = self.shared;
         let mut wire = self.wire(patience)?;
         let tx = wire.begin(shared.run, &shared.splits, &shared.ids, &mut self.drawer)?;
+        shared.door.enter(self.rt);
         let alloc = shared.alloc;
         Ok(Transaction { wire, tx, alloc })
     }
@@ -185,8 +186,30 @@ impl<'s, R: Wait + time::Clock> Client<'s, R> {
         Ok(wire.by_progress(shared.give_up))
     }
 
-    // Ends a transaction whose code has run.
+    // Ends a transaction whose code has run, which then leaves by the door.
     fn finish(
+        &mut self,
+        transaction: Transaction<'s, R>,
+        ran: Result<(), Halt>,
+    ) -> Result<Ended, Fault>
+        ensures work { IsAtWork transaction.entry }
+        ensures ended { (sent : List Envelope) × (heard : List End)
+            × (self.new ≡ record self.old {
+              traffics = self.old.traffics ++ (record {
+                sent = transaction.entry.traffic.sent ++ sent;
+                heard = transaction.entry.traffic.heard ++ heard;
+              }) ∷ [];
+            })
+            × Ends transaction.entry.session ran sent heard result }
+    {
+        let start = closing_from(self.rt, ran.is_ok());
+        let ended = self.end(transaction, ran);
+        self.shared.door.leave(since(self.rt, start));
+        ended
+    }
+
+    // Ends a transaction whose code has run.
+    fn end(
         &mut self,
         transaction: Transaction<'s, R>,
         ran: Result<(), Halt>,
@@ -335,6 +358,19 @@ fn is_over<R: time::Clock>(rt: &R, deadline: &Option<Deadline>) -> bool
     match deadline.start.elapsed(rt) {
         Ok(took) => took >= deadline.within,
         Err(_) => false,
+    }
+}
+
+// The moment at which a transaction closes, if it does.
+fn closing_from<R: time::Clock>(rt: &R, closes: bool) -> Option<Instant> {
+    if closes { Instant::now(rt).ok() } else { None }
+}
+
+// How long ago a moment is, if there is one and the clock can be read.
+fn since<R: time::Clock>(rt: &R, start: Option<Instant>) -> Option<Duration> {
+    match start {
+        Some(start) => start.elapsed(rt).ok(),
+        None => None,
     }
 }
 

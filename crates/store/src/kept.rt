@@ -7,18 +7,19 @@ use message::{Input, Outbox};
 use node::Node;
 use std::alloc::Global;
 use std::sync::Wait;
-use std::sync::atomic::{AtomicU64, Ordering};
+use std::sync::atomic::{AtomicBool, AtomicU64, Ordering};
 use truetime::Clock;
 use units::{Fault, ShardNo, Stamp, TxnId};
 
-/// A node that is served as it is. Whenever it advances it forgets what is older than so many microseconds, and it renews its log once that has
-/// grown by so many bytes. It also keeps when it was asked last.
+/// A node that is served as it is. Before it advances it forgets what is older than so many microseconds, and it renews its log once that has
+/// grown by so many bytes. It also keeps when it may forget again, and whether its log is looked at next.
 #[derive(Drop)]
 pub struct Kept<'n, D: Disk + Drop, H: Wait + Drop> {
     node: &'n Node<D, H>,
     keep: Option<u64>,
     renew: Option<u64>,
-    asked: AtomicU64,
+    again: AtomicU64,
+    renews: AtomicBool,
 }
 
 // To forget costs a record of the log, and a look at each version. So it is done no more than ten times a second, and once an eighth of
@@ -27,40 +28,51 @@ const SHORTEST_PAUSE: u64 = 100_000;
 
 const SHARE_OF_PAUSE: u64 = 8;
 
+// It takes no more than so small a share of the time, also on a slow device.
+const SHARE_OF_TIME: u64 = 16;
+
 impl<D: Disk + Drop, H: Wait + Drop> Kept<'_, D, H> {
-    // How long it is asked no more. Where nothing is forgotten, it is asked as often as may be.
-    fn pause(&self) -> u64 {
-        match self.keep {
+    // How long it is asked no more, after this took so many microseconds. Where nothing is forgotten, it is asked as often as may be.
+    fn pause(&self, took: u64) -> u64 {
+        let pause = match self.keep {
             Some(keep) => (keep / SHARE_OF_PAUSE).max(SHORTEST_PAUSE),
             None => SHORTEST_PAUSE,
-        }
+        };
+        pause.max(took.saturating_mul(SHARE_OF_TIME))
     }
 
-    // Asks the node to forget, and to renew its log, where enough time has passed since it was asked last. Where that is refused it is asked
-    // again behind the next pause. What is kept for good goes back to the beginning, so no horizon is asked for.
-    fn tidy<W: Wait, C: Clock>(&self, rt: &W, clock: &mut C) {
-        if self.keep.is_none() && self.renew.is_none() {
-            return;
-        }
-        let Some(now) = clock.now() else {
-            return;
+    // Asks the node to forget if enough time has passed since it was asked last. If that is refused it is asked again after the next pause.
+    // Its log is looked at after that, as a piece of its own. Returns whether it was asked.
+    fn forget<W: Wait, C: Clock>(&self, rt: &W, clock: &mut C) -> bool {
+        let Some(start) = micros_of(clock) else {
+            return false;
         };
-        let now = now.latest().micros();
-        if now
-            < self
-                .asked
-                .load(Ordering::SeqCst)
-                .saturating_add(self.pause())
-        {
-            return;
+        if start < self.again.load(Ordering::SeqCst) {
+            return false;
         }
-        self.asked.store(now, Ordering::SeqCst);
-        let keep = self.keep.unwrap_or(u64::MAX);
-        drop(match self.renew {
-            Some(least) => self.node.renew_by(rt, clock, keep, least),
-            None => self.node.keep_by(rt, clock, keep),
-        });
+        if let Some(keep) = self.keep {
+            drop(self.node.keep_by(rt, clock, keep));
+        }
+        let end = micros_of(clock).unwrap_or(start);
+        let pause = self.pause(end.saturating_sub(start));
+        self.again
+            .store(end.saturating_add(pause), Ordering::SeqCst);
+        self.renews.store(self.renew.is_some(), Ordering::SeqCst);
+        true
     }
+
+    // Renews the log if it has grown. What is kept for good goes back to the beginning, so no horizon is asked for.
+    fn renew<W: Wait, C: Clock>(&self, rt: &W, clock: &mut C) {
+        if let Some(least) = self.renew {
+            drop(self.node.renew_by(rt, clock, u64::MAX, least));
+        }
+    }
+}
+
+// The last microsecond of a reading.
+fn micros_of<C: Clock>(clock: &mut C) -> Option<u64> {
+    let now = clock.now()?;
+    Some(now.latest().micros())
 }
 
 impl<D: Disk + Drop, H: Wait + Drop> Serves for Kept<'_, D, H> {
@@ -107,8 +119,22 @@ impl<D: Disk + Drop, H: Wait + Drop> Serves for Kept<'_, D, H> {
     }
 
     fn keep_up<W: Wait, C: Clock>(&self, rt: &W, clock: &mut C) -> Option<Stamp> {
-        self.tidy(rt, clock);
         self.node.keep_up(rt, clock)
+    }
+
+    fn publish<W: Wait, C: Clock>(&self, rt: &W, clock: &mut C) -> Option<Stamp> {
+        self.node.publish(rt, clock)
+    }
+
+    fn tidy<W: Wait, C: Clock>(&self, rt: &W, clock: &mut C) -> bool {
+        if self.keep.is_none() && self.renew.is_none() {
+            return false;
+        }
+        if self.renews.swap(false, Ordering::SeqCst) {
+            self.renew(rt, clock);
+            return true;
+        }
+        self.forget(rt, clock)
     }
 
     fn alloc(&self) -> Global {
@@ -131,7 +157,8 @@ pub fn kept_nodes<'n, D: Disk + Drop, H: Wait + Drop>(
             node,
             keep,
             renew,
-            asked: AtomicU64::new(0),
+            again: AtomicU64::new(0),
+            renews: AtomicBool::new(false),
         })?;
     }
     Ok(kept)

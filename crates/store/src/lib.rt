@@ -3,6 +3,7 @@
 
 mod clients;
 mod crew;
+mod door;
 mod kept;
 mod options;
 mod serving;

@@ -8,8 +8,9 @@ use units::{Fault, Reason, Splits, Stride};
 pub struct Options {
     /// The keys that part the shards: one shard more than there are.
     pub splits: Splits,
-    /// How far ahead of its served time each shard logs a ceiling, in microseconds. After a restart nothing commits until the clock has
-    /// passed the last ceiling; a small stride has an active shard log more of them.
+    /// How far ahead of its served time each shard that is looked at logs a ceiling, in microseconds. After a crash or a restart nothing
+    /// commits until the clock has passed the last ceiling, up to a stride later. With a small stride a shard that is looked at logs more of
+    /// them. A shard that is only written to logs none.
     pub stride: Stride,
     /// How far the true time may be from the machine's clock on either side: 0 to 1,000,000 microseconds. A commit waits twice as long.
     pub epsilon: u64,
@@ -35,16 +36,16 @@ pub struct Options {
     pub make: bool,
 }
 
-// A tenth of a second: some ten ceilings a second of a shard that is looked at.
-const STRIDE: u64 = 100_000;
+// Half a second: at most two ceilings a second of a shard that is looked at.
+const STRIDE: u64 = 500_000;
 
 impl Options {
-    /// So many clients over these shards: a stride of 100,000 microseconds, an epsilon of 1,000, a patience of 100 milliseconds, and 30 seconds
+    /// So many clients over these shards: a stride of 500,000 microseconds, an epsilon of 1,000, a patience of 100 milliseconds, and 30 seconds
     /// for a shard that says nothing. Nothing is forgotten, no log is turned over, and a folder without a store gets none.
     pub fn new(splits: Splits, clients: u64) -> Options
         ensures splits { result.splits ≡ splits }
         ensures clients { result.clients ≡ clients }
-        ensures times { (result.stride ≡ 100000) × (result.epsilon ≡ 1000) × (result.patience ≡ 5)
+        ensures times { (result.stride ≡ 500000) × (result.epsilon ≡ 1000) × (result.patience ≡ 5)
             × (result.give_up ≡ 30000) }
         ensures all { (result.keep ≡ None) × (result.renew ≡ None) }
         ensures make { result.make ≡ false }

@@ -6,6 +6,7 @@ ghost use Rattle.std.specs.Thread.{IsSync, IsSend};
 use crate::Options;
 use crate::clients::Client;
 use crate::crew::{Crew, clients_of};
+use crate::door::Door;
 use crate::kept::kept_nodes;
 use crate::shared::Shared;
 use crate::steady::StoreClock;
@@ -121,6 +122,7 @@ fn shared_of(
         ids,
         stop: Stop::new(),
         give_up: options.give_up,
+        door: Door::new(options.give_up, options.epsilon),
     };
     let crew = Crew {
         inboxes: to_clients,

@@ -1,4 +1,5 @@
 //! What the clients of a store share.
+use crate::door::Door;
 use client::Stop;
 use letters::Network;
 use std::alloc::Global;
@@ -6,7 +7,7 @@ use tickets::Tickets;
 use units::{Run, Splits};
 
 /// What the clients of a store share: the run of their ids and the source of their numbers, the splits, and the network, which knows which
-/// shards have stopped.
+/// shards have stopped. They also share the door through which each transaction begins.
 #[derive(Drop)]
 pub struct Shared {
     pub alloc: Global,
@@ -16,4 +17,5 @@ pub struct Shared {
     pub ids: Tickets,
     pub stop: Stop,
     pub give_up: u64,
+    pub door: Door,
 }
