@@ -4,13 +4,26 @@ use Rattle.units.specs.declared.fault.Fault.{Fault}
 use Rattle.disk.specs.declared.plan.FailurePlan.{FailurePlan}
 use Rattle.disk.specs.File.{File}
 use Rattle.truetime.specs.Interval.{Interval}
+use Rattle.disk.specs.Image.{Surface}
+use Rattle.shard.specs.Beginnings.{IsBegunIn}
+use Rattle.shard.specs.Moved.{HoldsRenewal}
+use Rattle.record.specs.Facts.{Facts}
 use Rattle.shard.specs.Turned.{HasTurned}
+use Rattle.shard.specs.declared.begun.Begun.{Begun}
 use Rattle.node.specs.declared.measure.Measure.{Measure}
 use Rattle.node.specs.InStep.{DeskView, HasKept}
 
--- a log that ends at this gate, of which nothing else is known
-abbrev pub unmeasured : ℕ → Measure
-unmeasured gate = record { held = 0; ended = gate }
+-- a log by where it begins, and from where on it has grown
+abbrev pub found_at : Begun → Measure
+found_at begun = record { held = begun.grown - begun.at; ended = begun.grown }
+
+-- the log of a file was measured by where it begins there
+abbrev pub IsFoundIn : List ℕ → Measure → Type 0
+IsFoundIn image measure = (begun : Begun) × IsBegunIn image begun × (measure ≡ found_at begun)
+
+-- every image that a crash now may leave holds the records of a renewed log
+abbrev pub HoldsRenewed : Surface → Type 0
+HoldsRenewed disk = (facts : Facts) × HoldsRenewal disk facts
 
 -- it has grown by so many bytes at least, and by more than it held: behind a turnover, to more than twice its length
 abbrev pub has_grown : Measure → ℕ → ℕ → Bool

@@ -6,8 +6,8 @@ ghost use Rattle.node.specs.DeskFaults.{refuses_input, refuses_advance, refuses_
 ghost use Rattle.node.specs.InStep.{InStep, IsInStep, IsNewBoard, AreOnBoard, IsNoDesk, StillShows, ShowsAll, HasAdvanced, HasNotAdvanced, HasTaken};
 ghost use Rattle.node.specs.InStep.{HasKept, IsCount, horizon_for as horizon_kept, served_by};
 ghost use Rattle.node.specs.Opening.{HasNoDesk, IsBegun};
-ghost use Rattle.node.specs.Renewed.{HasTurnedOver, HasRenewed, unmeasured};
-ghost use Rattle.shard.specs.Core.{seen, book_of};
+ghost use Rattle.node.specs.Renewed.{HasTurnedOver, HasRenewed, IsFoundIn, found_at};
+ghost use Rattle.shard.specs.Core.{seen, book_of, begun_of};
 ghost use Rattle.shard.specs.Look.{safe_at};
 ghost use Rattle.shard.specs.Opened.{HasOpened};
 ghost use Rattle.shard.specs.Settled.{IsDurablySettled};
@@ -27,7 +27,8 @@ use truetime::Reading;
 use units::{Fault, Install, Setup, Stamp};
 
 /// The core of a shard with the publisher of its board (the desk). The board shows the first versions of the core; its served time and its
-/// horizon are at most the core's. The handle `R` is for the publisher, which waits for viewers. The core's log is measured at each turnover.
+/// horizon are at most the core's. The handle `R` is for the publisher, which waits for viewers. The core's log is measured when
+/// the desk is made, by where the log begins, and at each turnover.
 pub struct Desk<D: Disk + Drop, R: Wait + Drop> {
     alloc: Global,
     core: Core<D>,
@@ -67,7 +68,7 @@ impl<D: Disk + Drop, R: Wait + Drop> Desk<D, R> {
         ensures viewers { IfOk result
             (λ made. AreOnBoard n (seen core).setup (seen_desk made.0).board made.1.items) }
         ensures measure { IfOk result
-            (λ made. (seen_desk made.0).measure ≡ unmeasured (seen core).gate) }
+            (λ made. (seen_desk made.0).measure ≡ found_at (begun_of core)) }
         ensures count { OnOk result (IsCount n) }
         ensures refused { IfErr result
             (λ refused. IsNoDesk n refused.0 × (seen refused.1 ≡ seen core)
@@ -76,10 +77,7 @@ impl<D: Disk + Drop, R: Wait + Drop> Desk<D, R> {
         core.is_sound();
         let handed = core.installs().len();
         let told = core.horizon();
-        let measure = Measure {
-            held: 0,
-            ended: core.gate(),
-        };
+        let measure = Measure::found(core.begun());
         match board_of(
             rt,
             alloc,
@@ -127,8 +125,8 @@ impl<D: Disk + Drop, R: Wait + Drop> Desk<D, R> {
             (safe_at (seen_desk made.0).core) (seen_desk made.0).core.facts.horizon)) }
         ensures viewers { IfOk result
             (λ made. AreOnBoard n setup.now (seen_desk made.0).board made.1.items) }
-        ensures measure { IfOk result (λ made. (seen_desk made.0).measure
-            ≡ unmeasured (seen_desk made.0).core.gate) }
+        ensures measure { IfOk result (λ made. D.keeps_model
+            → IsFoundIn (surface (D.file disk)).seen (seen_desk made.0).measure) }
         ensures count { OnOk result (IsCount n) }
         ensures refused { IfErr result
             (λ refused. HasNoDesk D.keeps_model D.obeys D.file D.clock D.since D.failures D.plan
@@ -272,8 +270,8 @@ impl<D: Disk + Drop, R: Wait + Drop> Desk<D, R> {
 
     /// Calls `keep_for`, and turns the log over if it has grown. If `keep_for` is refused, so is this, and the log is not turned over.
     ///
-    /// It has grown if it is longer by `least` bytes or more than when a turnover was last tried, or the desk was made. It also has to be
-    /// longer by more than it held after the desk's last turnover.
+    /// It has grown if it is longer by `least` bytes or more than when a turnover was last tried. It also has to be longer by more than it held
+    /// after its last turnover, also if that was before the shard was opened.
     pub fn renew(&mut self, now: &Reading, micros: u64, least: u64) -> Result<(), Fault>
         ensures renewed { HasRenewed D.keeps_model D.obeys D.file D.clock D.since D.failures D.plan
             (seen_desk self.old) (seen_desk self.new) now.now micros least result }
@@ -361,8 +359,8 @@ fn earlier(one: Stamp, other: Stamp) -> Stamp
     if one < other { one } else { other }
 }
 
-// The horizon that keeps so many microseconds, by what is served and the earliest of a reading.
-fn horizon_for(served: Stamp, earliest: Stamp, micros: u64) -> Stamp
+/// The horizon that keeps so many microseconds, by what is served and the earliest of a reading.
+pub(crate) fn horizon_for(served: Stamp, earliest: Stamp, micros: u64) -> Stamp
     ensures { result ≡ horizon_kept served earliest micros }
 {
     match Stamp::new(earliest.micros().saturating_sub(micros)) {

@@ -225,7 +225,12 @@ fn stop_all<D: Disk + Drop>(cores: Vec<Result<Core<D>, (Fault, D)>>) {
 }
 
 // What the shard of this number is told.
-fn setup_of(alloc: Global, splits: &Splits, stride: Stride, number: usize) -> Result<Setup, Fault>
+pub(crate) fn setup_of(
+    alloc: Global,
+    splits: &Splits,
+    stride: Stride,
+    number: usize,
+) -> Result<Setup, Fault>
     ensures setup { IfOk result (IsSetupOf splits.now stride number) }
     ensures few { IsOk result → number < 16 }
     ensures refused { IfErr result (λ fault. (fault ≡ Fault.Memory)

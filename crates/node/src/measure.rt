@@ -1,19 +1,31 @@
 //! How much of a log there is, and when it has grown.
 ghost use Rattle.std.specs.Prelude.{◌≡◌};
-ghost use Rattle.node.specs.Renewed.{has_grown, measured};
+ghost use Rattle.node.specs.Renewed.{found_at, has_grown, measured};
 
+use shard::Begun;
 use units::Fault;
 
 /// How long a log was at its last turnover, to tell whether it has grown since.
 #[derive(Clone, Copy)]
 pub struct Measure {
-    /// How many bytes the log had after its last turnover, or 0 if none was made since the desk was made.
+    /// How many bytes the log had after its last turnover, or 0 if it was never turned over. If that was before the shard was opened: how many
+    /// of them are of what was held and had ended.
     pub held: u64,
-    /// The offset at which it ended when a turnover was last tried, or when the desk was made.
+    /// The offset at which it ended when a turnover was last tried; or, before the first try, from where on it has grown.
     pub ended: u64,
 }
 
 impl Measure {
+    /// Measures a log by where it begins, and from where on it has grown.
+    pub fn found(begun: Begun) -> Measure
+        ensures { result ≡ found_at begun }
+    {
+        Measure {
+            held: begun.grown.saturating_sub(begun.at),
+            ended: begun.grown,
+        }
+    }
+
     /// Tells whether a log that ends at this gate has grown by more than it held, and by `least` bytes at least.
     pub fn has_grown(&self, gate: u64, least: u64) -> bool
         ensures { result ≡ has_grown self.now gate least }

@@ -2,12 +2,11 @@ use Rattle.std.proofs.Common.{◌∙◌, ap, inl, inr, refl, subst, sym}
 use Rattle.units.specs.declared.setup.Setup.{Setup}
 use Rattle.board.specs.Board.{first_entries}
 use Rattle.shard.specs.Books.{new_book}
-use Rattle.shard.specs.Core.{seen}
+use Rattle.shard.specs.Core.{begun_of, seen}
 use Rattle.shard.specs.Look.{safe_at}
 use Rattle.shard.specs.On.{CoreView}
 use Rattle.shard.specs.Opened.{HasNotOpened, HasOpened}
 use Rattle.node.specs.InStep.{AreOnBoard, IsNewBoard}
-use Rattle.node.specs.Renewed.{unmeasured}
 use Rattle.node.proofs.desk.Desk.open.Goals as goal
 
 pub returns-in-Err-clause-refused : goal.returns-in-Err-clause-refused
@@ -57,5 +56,8 @@ returns-in-Ok-new-clause-viewers g c =
     (c.in-Ok-open.ensures.opened.setup ∙ c.in-Ok.ensures.same) c.in-Ok-new.ensures.viewers
 
 pub returns-in-Ok-new-clause-measure : goal.returns-in-Ok-new-clause-measure
-returns-in-Ok-new-clause-measure g c =
-    c.in-Ok-new.ensures.measure ∙ ap (λ (core : CoreView _). unmeasured core.gate) (sym c.in-Ok-new.ensures.core.0)
+returns-in-Ok-new-clause-measure g c = λ keeps. (
+  begun_of c.in-Ok-open.core,
+  c.in-Ok-open.ensures.begun keeps,
+  c.in-Ok-new.ensures.measure,
+)
