@@ -2,23 +2,28 @@
 #![tactic(auto)]
 
 mod clients;
+mod counted;
 mod crew;
 mod kept;
+mod numbers;
 mod options;
 mod serving;
 mod shared;
 mod steady;
 mod store;
+mod timed;
 mod transaction;
 mod view;
 
 pub use client::{Ended, Halt};
 pub use clients::Client;
 pub use filedisk::Cause;
-pub use host_files::{Expected, Name, Refused, Why, refusal_in};
+pub use host_files::{Expected, Limit, Name, Refused, Why, refusal_in};
 pub use node::{Unopened, UnopenedIn};
+pub use numbers::{Numbers, ShardNumbers};
 pub use options::Options;
 pub use store::Store;
+pub use timed::{default_limit, limit_by, refusal_of};
 pub use transaction::{Transaction, own_writes_are_seen};
 pub use units::{Fault, Key, Reason, Splits, Stamp, TxnId, Value};
 pub use view::View;

@@ -1,12 +1,14 @@
 //! What the clients of a store share.
+use crate::numbers::Numbers;
 use client::Stop;
 use letters::Network;
 use std::alloc::Global;
+use std::sync::Arc;
 use tickets::Tickets;
 use units::{Run, Splits};
 
 /// What the clients of a store share: the run of their ids and the source of their numbers, the splits, and the network, which knows which
-/// shards have stopped.
+/// shards have stopped. Also what the store counts.
 #[derive(Drop)]
 pub struct Shared {
     pub alloc: Global,
@@ -16,4 +18,5 @@ pub struct Shared {
     pub ids: Tickets,
     pub stop: Stop,
     pub give_up: u64,
+    pub numbers: Arc<Numbers, Global>,
 }
