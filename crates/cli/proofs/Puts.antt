@@ -206,7 +206,7 @@ module _ (run : ℕ) (key value : Bytes) (made : List Attempt) (each : All (IsPu
 
       by_cause : CannotBegin w cannot.2.0 → IsUnwritten fault
       by_cause (inl memory) = inl (inl (sym same ∙ memory))
-      by_cause (inr spent) = inr (inr (sym same ∙ spent.0))
+      by_cause (inr spent) = inr (inr (inl (sym same ∙ spent.0)))
   unwritten w fault (inr (inr over)) =
       inl (inl (failed run key value over.0.last fault (last_of over.0.before over.0.last over.0.whole) (sym over.0.told)))
 

@@ -4,7 +4,7 @@ use Rattle.std.specs.List.{All}
 use Rattle.units.specs.Ids.{Id}
 use Rattle.units.specs.Keys.{Bytes}
 use Rattle.units.specs.declared.fault.Fault.{Fault}
-use Rattle.units.specs.declared.fault.Fault.TheVariants.{Memory, TimeSpent}
+use Rattle.units.specs.declared.fault.Fault.TheVariants.{Future, Memory, TimeSpent}
 use Rattle.session.specs.Sessions.{Client, Goes, begun, buffers}
 use Rattle.session.specs.Shown.{IsDenied}
 use Rattle.client.specs.Ends.{halt_for}
@@ -66,4 +66,4 @@ IsWritten folder key value ended = IsPut key value ended
 
 -- why nothing is said: the folder or one of its logs is refused, memory is wanting, or no number is left for an id
 abbrev pub IsUnwritten : Fault → Type 0
-IsUnwritten fault = IsFolderFault fault ⊎ (IsUnmade fault ⊎ (fault ≡ TimeSpent))
+IsUnwritten fault = IsFolderFault fault ⊎ (IsUnmade fault ⊎ ((fault ≡ TimeSpent) ⊎ (fault ≡ Future)))

@@ -16,7 +16,7 @@ ghost use Rattle.system.specs.declared.asked.NoVerdict.{NoVerdict};
 ghost use Rattle.commands.specs.Replies.{Tells, TellsTo, reply_of, reply_to};
 ghost use Rattle.output.specs.Streams.{failures_of, fault_line, writer_of};
 
-use crate::host_put::put_in_store;
+use crate::host_put::{put_in_store, put_limit};
 use commands::{Drive, Driven, Ended, Engine, Hints, NoVerdict, Put, Stream, System, answer};
 use drive::drive_shards;
 use host_files::HostFiles;
@@ -103,7 +103,8 @@ pub fn program<
         let writer = writer_of(&shown, drive.table);
         drive_shards(rt, alloc, drive.settings, writer, is_running(&shown))
     };
-    let files = HostFiles::new(rt, is_running(&shown));
+    let mut files = HostFiles::new(rt, is_running(&shown));
+    files.limit = put_limit(rt);
     let put = |alloc: Global, write: Put<'_>| -> Result<Ended, Fault>
         ensures written { IfOk result (IsWritten write.entry.folder.now write.entry.key.now
             write.entry.value.now) }

@@ -9,7 +9,7 @@ use std::random::RandomSource;
 use std::sync::Wait;
 use std::thread::Threads;
 use std::{rt, time};
-use store::{Client, Ended, Halt, Options, Store, Transaction};
+use store::{Client, Ended, Halt, Limit, Options, Store, Transaction, default_limit};
 use units::{Fault, Key, Reason, Splits, Value};
 
 // How often the write is tried. No other client is there, but what the store was in the midst of when it was closed may abort it.
@@ -46,6 +46,11 @@ pub fn put_in_store<R: rt::Files<File = File> + RandomSource + Threads + Wait + 
     )?;
     drop(disks);
     ended
+}
+
+/// Tells how far the logs of a store may be ahead of the machine's clock, so that `put_in_store` opens it. `None` if the clock gives no reading.
+pub fn put_limit<R: time::Clock>(rt: &R) -> Option<Limit> {
+    default_limit(rt)
 }
 
 // One client, who waits that long. Its commit waits for the epsilon of every store, and nothing is forgotten for it. A new folder gets a store.

@@ -1,4 +1,5 @@
 pub mod Attempts
+pub mod Numbers
 pub mod Standing
 pub mod Typed
 pub mod Views

@@ -6,6 +6,7 @@ ghost use Rattle.client.specs.Outcomes.{IsFound};
 ghost use Rattle.store.specs.Attempts.{Attempt, CannotBegin, ComesTo, ComesWithin, Ends, HasTried, IsAtWork, IsCutShort, beginning, drew, kept, runs_again};
 ghost use Rattle.store.specs.Views.{IsPresent};
 
+use crate::numbers::Numbers;
 use crate::shared::Shared;
 use crate::steady::ClientClock;
 use crate::view::{MOST_BYTES, TRIES};
@@ -313,6 +314,12 @@ impl<'s, R: Wait + time::Clock> Client<'s, R> {
             tries: 1,
             readings: self.clock.readings(),
         }
+    }
+
+    /// Gives the numbers of the store, which any thread may read while the store is served.
+    pub fn numbers(&self) -> &'s Numbers {
+        let shared = self.shared;
+        &*shared.numbers
     }
 
     /// Tells whether the shard has stopped, since its device failed. It takes no more, and views up to the time that it served go on.

@@ -2,14 +2,17 @@
 #![tactic(auto)]
 
 mod clients;
+mod counted;
 mod crew;
 mod door;
 mod kept;
+mod numbers;
 mod options;
 mod serving;
 mod shared;
 mod steady;
 mod store;
+mod timed;
 mod transaction;
 mod typed;
 mod view;
@@ -17,10 +20,12 @@ mod view;
 pub use client::{Ended, Halt, Outcome};
 pub use clients::Client;
 pub use filedisk::Cause;
-pub use host_files::{Expected, Name, Refused, Why, refusal_in};
+pub use host_files::{Expected, Limit, Name, Refused, Why, refusal_in};
 pub use node::{Unopened, UnopenedIn};
+pub use numbers::{Numbers, ShardNumbers};
 pub use options::Options;
 pub use store::Store;
+pub use timed::{default_limit, limit_by, refusal_of};
 pub use transaction::{Transaction, own_writes_are_seen};
 pub use typed::Typed;
 pub use units::{Fault, Key, Reason, Splits, Stamp, TxnId, Value};

@@ -1,7 +1,8 @@
 //! How a store is parted and served.
-ghost use Rattle.std.specs.Prelude.{◌≡◌, ◌⊎◌, ◌<◌, ◌≤◌, Err, IfErr, IfOk, None, false};
+ghost use Rattle.std.specs.Prelude.{◌≡◌, ◌⊎◌, ◌+◌, ◌<◌, ◌≤◌, Err, IfErr, IfOk, None, false};
 
-use units::{Fault, Reason, Splits, Stride};
+use host_files::Limit;
+use units::{Fault, Reason, Splits, Stamp, Stride};
 
 /// How a store is parted over shards, and how it is served.
 #[derive(Drop)]
@@ -31,23 +32,34 @@ pub struct Options {
     /// to be more than twice as long as it was after the last turnover of this opening. Or `None`, never. The file does not shrink, and takes
     /// 1,024 turnovers: of a few bytes they are soon spent, and then its log grows on.
     pub renew: Option<u64>,
+    /// How far the greatest timestamp of a folder's logs may be ahead of the machine's clock, in microseconds, beyond the stride. One that is farther
+    /// ahead was written by a clock that was wrong, or the clock is wrong now: then the store is refused as `Future`, and nothing is logged.
+    pub ahead: u64,
     /// Whether `Store::open_folder` makes a store in a folder that holds none. Else that is refused, so a service that names a wrong folder
     /// hears so.
     pub make: bool,
 }
 
 // Half a second: at most two ceilings a second of a shard that is looked at.
-const STRIDE: u64 = 500_000;
+pub(crate) const STRIDE: u64 = 500_000;
+
+// Ten seconds.
+pub(crate) const AHEAD: u64 = 10_000_000;
+
+// A millisecond.
+pub(crate) const EPSILON: u64 = 1_000;
 
 impl Options {
     /// So many clients over these shards: a stride of 500,000 microseconds, an epsilon of 1,000, a patience of 100 milliseconds, and 30 seconds
-    /// for a shard that says nothing. Nothing is forgotten, no log is turned over, and a folder without a store gets none.
+    /// for a shard that says nothing. Nothing is forgotten, no log is turned over, and a folder without a store gets none. Logs may be 10 seconds
+    /// ahead of the clock.
     pub fn new(splits: Splits, clients: u64) -> Options
         ensures splits { result.splits ≡ splits }
         ensures clients { result.clients ≡ clients }
         ensures times { (result.stride ≡ 500000) × (result.epsilon ≡ 1000) × (result.patience ≡ 5)
             × (result.give_up ≡ 30000) }
         ensures all { (result.keep ≡ None) × (result.renew ≡ None) }
+        ensures ahead { result.ahead ≡ 10000000 }
         ensures make { result.make ≡ false }
     {
         let stride = match Stride::new(STRIDE) {
@@ -57,13 +69,25 @@ impl Options {
         Options {
             splits,
             stride,
-            epsilon: 1_000,
+            epsilon: EPSILON,
             clients,
             patience: 5,
             give_up: 30_000,
             keep: None,
             renew: None,
+            ahead: AHEAD,
             make: false,
+        }
+    }
+
+    // How far logs may be ahead of a clock that tells this present: a ceiling lies as far ahead as the stride says.
+    pub(crate) fn limit(&self, present: Stamp) -> Limit
+        ensures present { result.present ≡ present }
+        ensures ahead { result.ahead ≤ self.now.stride + self.now.ahead }
+    {
+        Limit {
+            present,
+            ahead: self.stride.micros().saturating_add(self.ahead),
         }
     }
 

@@ -5,9 +5,11 @@ ghost use Rattle.std.specs.Thread.{IsSync, IsSend};
 
 use crate::Options;
 use crate::clients::Client;
+use crate::counted::counted_nodes;
 use crate::crew::{Crew, clients_of};
 use crate::door::Door;
 use crate::kept::kept_nodes;
+use crate::numbers::Numbers;
 use crate::shared::Shared;
 use crate::steady::StoreClock;
 use board::Viewers;
@@ -17,8 +19,8 @@ use disk::Disk;
 use letters::{Inboxes, Letter, Network, Post, Served, Serves, start_in, to_serve};
 use node::{Node, run_of};
 use std::alloc::Global;
-use std::sync::Wait;
 use std::sync::atomic::AtomicU64;
+use std::sync::{Arc, Wait};
 use std::thread::Threads;
 use std::{thread, time};
 use tickets::Tickets;
@@ -51,7 +53,11 @@ pub fn serve_kept<
         → IfErr result (λ fault. fault ≡ Fault.Memory) }
 {
     let kept = kept_nodes(alloc, nodes, options.keep, options.renew)?;
-    serve_nodes(rt, alloc, options, epoch, last, &kept, viewers, work)
+    let numbers = Arc::new(alloc, Numbers::new(alloc, nodes.len())?)?;
+    let counted = counted_nodes(alloc, &kept, &numbers)?;
+    serve_nodes(
+        rt, alloc, options, epoch, last, &counted, numbers, viewers, work,
+    )
 }
 
 // Serves nodes of any kind, each on a thread, while `work` goes on with its clients.
@@ -67,6 +73,7 @@ fn serve_nodes<
     epoch: Epoch,
     last: Stamp,
     nodes: &[N],
+    numbers: Arc<Numbers, Global>,
     viewers: Viewers,
     work: F,
 ) -> Result<T, Fault>
@@ -77,7 +84,7 @@ fn serve_nodes<
         → length viewers.by_worker.items ≤ 256
         → IfErr result (λ fault. fault ≡ Fault.Memory) }
 {
-    let made = shared_of(alloc, options, epoch, nodes.len(), viewers);
+    let made = shared_of(alloc, options, epoch, nodes.len(), numbers, viewers);
     let (shared, to_nodes, crew) = made?;
     let reached = AtomicU64::new(last.micros());
     let clock = StoreClock::new(rt, options, last, &reached);
@@ -96,6 +103,7 @@ fn shared_of(
     options: &Options,
     epoch: Epoch,
     nodes: usize,
+    numbers: Arc<Numbers, Global>,
     viewers: Viewers,
 ) -> Result<(Shared, Vec<Receiver<Letter>>, Crew), Fault>
     ensures drawers { IfOk result
@@ -123,6 +131,7 @@ fn shared_of(
         stop: Stop::new(),
         give_up: options.give_up,
         door: Door::new(options.give_up, options.epsilon),
+        numbers,
     };
     let crew = Crew {
         inboxes: to_clients,

@@ -1,13 +1,15 @@
 //! What the clients of a store share.
 use crate::door::Door;
+use crate::numbers::Numbers;
 use client::Stop;
 use letters::Network;
 use std::alloc::Global;
+use std::sync::Arc;
 use tickets::Tickets;
 use units::{Run, Splits};
 
 /// What the clients of a store share: the run of their ids and the source of their numbers, the splits, and the network, which knows which
-/// shards have stopped. They also share the door through which each transaction begins.
+/// shards have stopped. They also share the door through which each transaction begins, and what the store counts.
 #[derive(Drop)]
 pub struct Shared {
     pub alloc: Global,
@@ -18,4 +20,5 @@ pub struct Shared {
     pub stop: Stop,
     pub give_up: u64,
     pub door: Door,
+    pub numbers: Arc<Numbers, Global>,
 }

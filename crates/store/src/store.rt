@@ -1,5 +1,5 @@
 //! An open store.
-ghost use Rattle.std.specs.Prelude.{◌≡◌, ◌⊎◌, ◌<◌, ◌≤◌, ◌+◌, [], All, length, Err, IfErr, IfNone, IfOk, IsOk, vec_capacity};
+ghost use Rattle.std.specs.Prelude.{◌≡◌, ◌⊎◌, ◌<◌, ◌≤◌, ◌+◌, ◌-◌, ℕ, [], All, length, Err, IfErr, IfNone, IfOk, IfSome, IsOk, vec_capacity};
 ghost use Rattle.node.specs.Unopened.{IsFirst, IsLastIn, IsRunOver, IsUnmade, unopened_for};
 ghost use Rattle.host_files.specs.Folders.{IsFolderFault};
 ghost use Rattle.store.specs.Attempts.{IsFresh};
@@ -7,9 +7,10 @@ ghost use Rattle.store.specs.Attempts.{IsFresh};
 use crate::Options;
 use crate::clients::Client;
 use crate::serving::serve_kept;
+use crate::timed::{check_time, expected_by, lead_by};
 use disk::Disk;
 use filedisk::FileDisk;
-use host_files::{Expected, Refused, logs_in};
+use host_files::{Expected, FoundLogs, Refused, found_in};
 use node::{Node, Opened, Unopened, open_shards};
 use std::alloc::Global;
 use std::fs::File;
@@ -96,6 +97,16 @@ impl<'r, R: Threads + Wait + Sync, D: Disk + Drop + Send> Store<'r, R, D> {
 }
 
 impl<'r, R: Threads + Wait + time::Clock + Sync, D: Disk + Drop + Send> Store<'r, R, D> {
+    /// Tells by how many microseconds the greatest timestamp of the logs lies ahead of the machine's clock now: 0 if the clock has passed it. `None`
+    /// if the clock gives no reading. Commits have later timestamps, so they wait until the clock has passed it. After a restart it may be as much
+    /// as the stride; if it is more, a clock is or was wrong.
+    pub fn ahead(&self) -> Option<u64>
+        ensures { IfSome result (λ lead. (micros : ℕ)
+            × (lead ≡ self.now.last - (micros + self.now.epsilon))) }
+    {
+        lead_by(self.rt, &self.options, self.opened.last)
+    }
+
     /// Serves the store on threads of its own while `work` goes on with its clients, and closes it after that. What `work` gave comes
     /// with the disks, by shard. It is refused as `Memory` if there is no thread or no memory for it, and then `work` has not begun. So what
     /// `work` gave is never lost: its type need not be one that may be dropped.
@@ -142,7 +153,11 @@ impl<'r, R: Threads + Wait + time::Clock + Sync, D: Disk + Drop + Send> Store<'r
     }
 }
 
-impl<'r, R: Files<File = File> + RandomSource + Threads + Wait + Sync> Store<'r, R, FileDisk> {
+impl<'r, R: Files<File = File> + RandomSource + Threads + Wait + time::Clock + Sync> Store<
+    'r,
+    R,
+    FileDisk,
+> {
     /// Makes a store in a folder, which has to be there and to hold none, and opens it. If one is there it is refused as `Device`, and left as
     /// it is; a store that was cut off while it was made is made whole. Else it is refused as `open_folder` says.
     pub fn make_folder(
@@ -159,12 +174,12 @@ impl<'r, R: Files<File = File> + RandomSource + Threads + Wait + Sync> Store<'r,
             ⊎ ((options.clients ≡ 0) ⊎ (64 < options.clients))
             → IfOk result (λ _. ⊥) }
         ensures refused { IfErr result (λ unopened. IsFolderFault unopened.fault
-            ⊎ IsUnmade unopened.fault) }
+            ⊎ (IsUnmade unopened.fault ⊎ (unopened.fault ≡ Fault.Future))) }
         ensures whole { IfErr result
             (λ unopened. IfNone unopened.shard (IsFolderFault unopened.fault)) }
     {
-        match logs_in(rt, alloc, folder, &options.splits, Expected::NoStore) {
-            Ok(logs) => Store::open(rt, alloc, logs, options),
+        match found_in(rt, alloc, folder, &options.splits, Expected::NoStore) {
+            Ok(found) => open_found(rt, alloc, found, options),
             Err(refused) => {
                 drop(options);
                 Err(unopened_by(refused))
@@ -177,7 +192,10 @@ impl<'r, R: Files<File = File> + RandomSource + Threads + Wait + Sync> Store<'r,
     /// is refused is told, whose log is the file `shard-N.log`. A log that lacks what the log of another shard says of it is `Damaged`: it is
     /// of another moment or of another store, or new. No log takes a record before all were read.
     ///
-    /// `Device` may heal: another program may have the folder open, or the device may fail. `refusal_in` says more of why it is refused.
+    /// Logs whose greatest timestamp lies farther ahead of the machine's clock than `Options::ahead` and the stride are refused as `Future`, before
+    /// any of them takes a record. That heals once the clock is right, or has passed more of them.
+    ///
+    /// `Device` may heal: another program may have the folder open, or the device may fail. `refusal_of` says more of why it is refused.
     pub fn open_folder(
         rt: &'r R,
         alloc: Global,
@@ -192,21 +210,46 @@ impl<'r, R: Files<File = File> + RandomSource + Threads + Wait + Sync> Store<'r,
             ⊎ ((options.clients ≡ 0) ⊎ (64 < options.clients))
             → IfOk result (λ _. ⊥) }
         ensures refused { IfErr result (λ unopened. IsFolderFault unopened.fault
-            ⊎ IsUnmade unopened.fault) }
+            ⊎ (IsUnmade unopened.fault ⊎ (unopened.fault ≡ Fault.Future))) }
         ensures whole { IfErr result
             (λ unopened. IfNone unopened.shard (IsFolderFault unopened.fault)) }
     {
-        let expected = if options.make {
-            Expected::Either
-        } else {
-            Expected::Store
-        };
-        match logs_in(rt, alloc, folder, &options.splits, expected) {
-            Ok(logs) => Store::open(rt, alloc, logs, options),
+        match found_in(rt, alloc, folder, &options.splits, expected_by(&options)) {
+            Ok(found) => open_found(rt, alloc, found, options),
             Err(refused) => {
                 drop(options);
                 Err(unopened_by(refused))
             }
+        }
+    }
+}
+
+// Opens a store over the logs of a folder, unless they are too far ahead of the clock.
+fn open_found<'r, R: Threads + Wait + time::Clock + Sync>(
+    rt: &'r R,
+    alloc: Global,
+    found: FoundLogs,
+    options: Options,
+) -> Result<Store<'r, R, FileDisk>, Unopened>
+    ensures splits { IfOk result (λ store. store.splits ≡ options.splits) }
+    ensures shards { IfOk result (λ store. store.shards ≡ length found.disks.items) }
+    ensures clients { IfOk result (λ store. store.clients ≡ options.clients) }
+    ensures epsilon { IfOk result (λ store. store.epsilon ≡ options.epsilon) }
+    ensures limits { (1000000 < options.epsilon)
+        ⊎ ((options.clients ≡ 0) ⊎ (64 < options.clients))
+        → IfOk result (λ _. ⊥) }
+    ensures refused { IfErr result (λ unopened. IsUnmade unopened.fault
+        ⊎ (unopened.fault ≡ Fault.Future)) }
+    ensures whole { IfErr result
+        (λ unopened. IfNone unopened.shard (IsFolderFault unopened.fault)) }
+{
+    let FoundLogs { disks, newest } = found;
+    match check_time(rt, &options, newest) {
+        Ok(()) => Store::open(rt, alloc, disks, options),
+        Err(unopened) => {
+            drop(disks);
+            drop(options);
+            Err(unopened)
         }
     }
 }

@@ -9,6 +9,7 @@ use std::random::RandomSource;
 use std::rt::Files;
 use std::sync::Wait;
 use std::thread::Threads;
+use std::time::Clock;
 use store::{Expected, Name, Store, Why, refusal_in};
 use units::{Fault, Splits};
 
@@ -60,7 +61,7 @@ static ROWS: [Row; 6] = [
 ];
 
 // How it ends.
-fn ended<R: Files<File = File> + RandomSource + Threads + Wait + Sync + Abort>(
+fn ended<R: Files<File = File> + RandomSource + Threads + Wait + Clock + Sync + Abort>(
     rt: &R,
     alloc: Global,
     folder: &str,

@@ -1,0 +1,107 @@
+//! Nodes whose work is counted.
+ghost use Rattle.std.specs.Prelude.{◌≡◌, IfErr};
+
+use crate::numbers::{Numbers, ShardCounts};
+use letters::{Due, Serves};
+use message::{Input, Outbox};
+use std::alloc::Global;
+use std::sync::{Arc, Wait};
+use truetime::Clock;
+use units::{Fault, ShardNo, Stamp, TxnId};
+
+/// A node that is served as it is, and whose work is counted.
+#[derive(Drop)]
+pub struct Counted<'k, N> {
+    node: &'k N,
+    numbers: Arc<Numbers, Global>,
+    place: usize,
+}
+
+impl<N> Counted<'_, N> {
+    fn counts(&self) -> Option<&ShardCounts> {
+        self.numbers.counts(self.place)
+    }
+}
+
+impl<N: Serves> Serves for Counted<'_, N> {
+    fn shard(&self) -> ShardNo {
+        self.node.shard()
+    }
+
+    fn take<W: Wait, C: Clock>(
+        &self,
+        rt: &W,
+        clock: &mut C,
+        input: &Input,
+    ) -> Result<Outbox, Fault> {
+        let taken = self.node.take(rt, clock, input);
+        if let Some(counts) = self.counts() {
+            match &taken {
+                Ok(out) => counts.count_taken(input, out.as_slice()),
+                Err(_) => counts.count_refused(),
+            }
+        }
+        taken
+    }
+
+    fn is_ready<W: Wait>(&self, rt: &W) -> bool {
+        self.node.is_ready(rt)
+    }
+
+    fn earliest_decided<W: Wait>(&self, rt: &W) -> Option<(TxnId, Stamp)> {
+        self.node.earliest_decided(rt)
+    }
+
+    fn due<W: Wait>(&self, rt: &W, due: Due, n: usize) -> Option<(TxnId, Stamp)> {
+        self.node.due(rt, due, n)
+    }
+
+    fn is_stopped<W: Wait>(&self, rt: &W) -> bool {
+        self.node.is_stopped(rt)
+    }
+
+    fn versions<W: Wait>(&self, rt: &W) -> usize {
+        self.node.versions(rt)
+    }
+
+    fn keep_up<W: Wait, C: Clock>(&self, rt: &W, clock: &mut C) -> Option<Stamp> {
+        let served = self.node.keep_up(rt, clock);
+        let micros = micros_of(&served);
+        let versions = self.node.versions(rt) as u64;
+        let has_stopped = self.node.is_stopped(rt);
+        if let Some(counts) = self.counts() {
+            counts.count_advance(micros, versions, has_stopped);
+        }
+        served
+    }
+
+    fn alloc(&self) -> Global {
+        self.node.alloc()
+    }
+}
+
+fn micros_of(served: &Option<Stamp>) -> Option<u64> {
+    match served {
+        Some(served) => Some(served.micros()),
+        None => None,
+    }
+}
+
+/// The nodes, whose work is counted in these numbers.
+pub fn counted_nodes<'k, N>(
+    alloc: Global,
+    nodes: &'k [N],
+    numbers: &Arc<Numbers, Global>,
+) -> Result<Vec<Counted<'k, N>>, Fault>
+    ensures { IfErr result (λ fault. fault ≡ Fault.Memory) }
+{
+    let mut counted = Vec::new(alloc);
+    for (place, node) in nodes.iter().enumerate() {
+        counted.push(Counted {
+            node,
+            numbers: Arc::try_clone(numbers)?,
+            place,
+        })?;
+    }
+    Ok(counted)
+}

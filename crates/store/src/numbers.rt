@@ -1,0 +1,227 @@
+//! Numbers of a store while it is served, which any thread may read without a lock.
+ghost use Rattle.std.specs.Prelude.{◌≡◌, IfErr};
+ghost use Rattle.store.specs.Numbers.{is_commit};
+
+use message::{Envelope, Input, Message};
+use std::alloc::Global;
+use std::sync::atomic::{AtomicU64, Ordering};
+use units::Fault;
+
+/// What a shard has done since its store was opened, and how it stands. Counts begin at 0 with each opening.
+#[derive(Clone, Copy, PartialEq, Eq)]
+pub struct ShardNumbers {
+    /// Letters and chores that it took.
+    pub taken: u64,
+    /// Letters and chores that it refused.
+    pub refused: u64,
+    /// Transactions that it decided and settled: each commit is counted once, by the least shard that it wrote or read on.
+    pub commits: u64,
+    /// Answers by which it told a session that its transaction was aborted.
+    pub aborts: u64,
+    /// Versions that it holds.
+    pub versions: u64,
+    /// The timestamp up to which it serves views, in microseconds; 0 until it first did.
+    pub served: u64,
+    /// How often it went on in serving views, and how often that was refused.
+    pub advances: u64,
+    pub late: u64,
+    /// Whether it has stopped since its device failed.
+    pub has_stopped: bool,
+}
+
+// The counts of a shard. Only the thread that serves the shard writes them.
+#[derive(Drop)]
+pub(crate) struct ShardCounts {
+    taken: AtomicU64,
+    refused: AtomicU64,
+    commits: AtomicU64,
+    aborts: AtomicU64,
+    versions: AtomicU64,
+    served: AtomicU64,
+    advances: AtomicU64,
+    late: AtomicU64,
+    stopped: AtomicU64,
+}
+
+impl ShardCounts {
+    fn new() -> ShardCounts {
+        ShardCounts {
+            taken: AtomicU64::new(0),
+            refused: AtomicU64::new(0),
+            commits: AtomicU64::new(0),
+            aborts: AtomicU64::new(0),
+            versions: AtomicU64::new(0),
+            served: AtomicU64::new(0),
+            advances: AtomicU64::new(0),
+            late: AtomicU64::new(0),
+            stopped: AtomicU64::new(0),
+        }
+    }
+
+    /// Counts an input that was taken, and what it put out.
+    pub(crate) fn count_taken(&self, input: &Input, out: &[Envelope]) {
+        more(&self.taken, 1);
+        if is_commit(input) {
+            more(&self.commits, 1);
+        }
+        more(&self.aborts, aborts_in(out));
+    }
+
+    /// Counts an input that was refused.
+    pub(crate) fn count_refused(&self) {
+        more(&self.refused, 1);
+    }
+
+    /// Counts an advance: up to which timestamp views are served then, if it was not refused.
+    pub(crate) fn count_advance(&self, served: Option<u64>, versions: u64, has_stopped: bool) {
+        match served {
+            Some(served) => {
+                more(&self.advances, 1);
+                self.served.store(served, Ordering::SeqCst);
+            }
+            None => more(&self.late, 1),
+        }
+        self.versions.store(versions, Ordering::SeqCst);
+        self.stopped.store(number_of(has_stopped), Ordering::SeqCst);
+    }
+
+    fn read(&self) -> ShardNumbers {
+        ShardNumbers {
+            taken: self.taken.load(Ordering::SeqCst),
+            refused: self.refused.load(Ordering::SeqCst),
+            commits: self.commits.load(Ordering::SeqCst),
+            aborts: self.aborts.load(Ordering::SeqCst),
+            versions: self.versions.load(Ordering::SeqCst),
+            served: self.served.load(Ordering::SeqCst),
+            advances: self.advances.load(Ordering::SeqCst),
+            late: self.late.load(Ordering::SeqCst),
+            has_stopped: self.stopped.load(Ordering::SeqCst) != 0,
+        }
+    }
+}
+
+// 1 for yes, 0 for no.
+fn number_of(yes: bool) -> u64 {
+    if yes { 1 } else { 0 }
+}
+
+// Raises a count that nobody else writes.
+fn more(count: &AtomicU64, by: u64) {
+    let before = count.load(Ordering::SeqCst);
+    count.store(before.saturating_add(by), Ordering::SeqCst);
+}
+
+// An input that was taken is a commit of this shard's: it settles a transaction that it decided.
+fn is_commit(input: &Input) -> bool
+    ensures { result ≡ is_commit input.now }
+{
+    matches!(input, Input::Settle(_))
+}
+
+// How many sessions some messages tell that their transactions were aborted.
+fn aborts_in(out: &[Envelope]) -> u64 {
+    let mut count: u64 = 0;
+    for envelope in out {
+        if is_abort(&envelope.message) {
+            count = count.saturating_add(1);
+        }
+    }
+    count
+}
+
+fn is_abort(message: &Message) -> bool {
+    match message {
+        Message::Done(done) => done.outcome().is_none(),
+        _ => false,
+    }
+}
+
+/// The numbers of a store that is served. Any thread may read them at any time, without a lock; each number is right by itself, and they are not of
+/// one moment together.
+#[derive(Drop)]
+pub struct Numbers {
+    alloc: Global,
+    shards: Vec<ShardCounts>,
+}
+
+impl Numbers {
+    /// Nothing was counted yet, of so many shards.
+    pub(crate) fn new(alloc: Global, shards: usize) -> Result<Numbers, Fault>
+        ensures { IfErr result (λ fault. fault ≡ Fault.Memory) }
+    {
+        let mut counts = Vec::new(alloc);
+        for _shard in 0..shards {
+            counts.push(ShardCounts::new())?;
+        }
+        Ok(Numbers {
+            alloc,
+            shards: counts,
+        })
+    }
+
+    pub(crate) fn counts(&self, shard: usize) -> Option<&ShardCounts> {
+        self.shards.get(shard)
+    }
+
+    /// Tells how many shards there are.
+    pub fn shards(&self) -> usize {
+        self.shards.len()
+    }
+
+    /// Reads the numbers of a shard. `None` if there is none of that number.
+    pub fn of(&self, shard: usize) -> Option<ShardNumbers> {
+        match self.shards.get(shard) {
+            Some(counts) => Some(counts.read()),
+            None => None,
+        }
+    }
+
+    /// Writes all numbers as a text that Prometheus reads: for each its kind, and a line for each shard.
+    pub fn text(&self) -> Result<String, Fault>
+        ensures { IfErr result (λ fault. fault ≡ Fault.Memory) }
+    {
+        let mut text = String::new(self.alloc);
+        for name in &NAMES {
+            self.push(&mut text, *name)?;
+        }
+        Ok(text)
+    }
+
+    // Adds one number of all shards.
+    fn push(&self, text: &mut String, name: &str) -> Result<(), Fault>
+        ensures { IfErr result (λ fault. fault ≡ Fault.Memory) }
+    {
+        let kind = if is_gauge(name) { "gauge" } else { "counter" };
+        write!(text, "# TYPE spanner_shards_{name} {kind}\n")?;
+        for (shard, counts) in self.shards.iter().enumerate() {
+            let value = value_of(&counts.read(), name);
+            write!(text, "spanner_shards_{name}{{shard=\"{shard}\"}} {value}\n")?;
+        }
+        Ok(())
+    }
+}
+
+// The names of all numbers.
+static NAMES: [&'static str; 9] = [
+    "taken", "refused", "commits", "aborts", "versions", "served", "advances", "late", "stopped",
+];
+
+// A number that also falls.
+fn is_gauge(name: &str) -> bool {
+    name == "versions" || name == "served" || name == "stopped"
+}
+
+// The number of this name.
+fn value_of(numbers: &ShardNumbers, name: &str) -> u64 {
+    match name {
+        "taken" => numbers.taken,
+        "refused" => numbers.refused,
+        "commits" => numbers.commits,
+        "aborts" => numbers.aborts,
+        "versions" => numbers.versions,
+        "served" => numbers.served,
+        "advances" => numbers.advances,
+        "late" => numbers.late,
+        _ => number_of(numbers.has_stopped),
+    }
+}
