@@ -2,7 +2,7 @@
 ghost use Rattle.std.specs.Prelude.{◌≡◌, IfErr};
 
 use crate::numbers::{Numbers, ShardCounts};
-use letters::{Due, Serves};
+use letters::{Due, Serves, Taken};
 use message::{Input, Outbox};
 use std::alloc::Global;
 use std::sync::{Arc, Wait};
@@ -23,6 +23,18 @@ impl<N> Counted<'_, N> {
     }
 }
 
+impl<N: Serves> Counted<'_, N> {
+    // Counts what the node shows now, or was refused.
+    fn count_shown<W: Wait>(&self, rt: &W, served: &Option<Stamp>) {
+        let micros = micros_of(served);
+        let versions = self.node.versions(rt) as u64;
+        let has_stopped = self.node.is_stopped(rt);
+        if let Some(counts) = self.counts() {
+            counts.count_shown(micros, versions, has_stopped);
+        }
+    }
+}
+
 impl<N: Serves> Serves for Counted<'_, N> {
     fn shard(&self) -> ShardNo {
         self.node.shard()
@@ -38,7 +50,24 @@ impl<N: Serves> Serves for Counted<'_, N> {
         if let Some(counts) = self.counts() {
             match &taken {
                 Ok(out) => counts.count_taken(input, out.as_slice()),
-                Err(_) => counts.count_refused(),
+                Err(_) => counts.count_refused(1),
+            }
+        }
+        taken
+    }
+
+    fn take_all<W: Wait, C: Clock>(
+        &self,
+        rt: &W,
+        clock: &mut C,
+        inputs: &[Input],
+    ) -> Result<Option<Taken>, Fault> {
+        let taken = self.node.take_all(rt, clock, inputs);
+        if let Some(counts) = self.counts() {
+            match &taken {
+                Ok(Some(taken)) => counts.count_all(inputs, taken),
+                Ok(None) => {}
+                Err(_) => counts.count_refused(inputs.len() as u64),
             }
         }
         taken
@@ -66,13 +95,18 @@ impl<N: Serves> Serves for Counted<'_, N> {
 
     fn keep_up<W: Wait, C: Clock>(&self, rt: &W, clock: &mut C) -> Option<Stamp> {
         let served = self.node.keep_up(rt, clock);
-        let micros = micros_of(&served);
-        let versions = self.node.versions(rt) as u64;
-        let has_stopped = self.node.is_stopped(rt);
-        if let Some(counts) = self.counts() {
-            counts.count_advance(micros, versions, has_stopped);
-        }
+        self.count_shown(rt, &served);
         served
+    }
+
+    fn publish<W: Wait, C: Clock>(&self, rt: &W, clock: &mut C) -> Option<Stamp> {
+        let served = self.node.publish(rt, clock);
+        self.count_shown(rt, &served);
+        served
+    }
+
+    fn tidy<W: Wait, C: Clock>(&self, rt: &W, clock: &mut C) -> bool {
+        self.node.tidy(rt, clock)
     }
 
     fn alloc(&self) -> Global {

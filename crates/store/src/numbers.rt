@@ -2,6 +2,7 @@
 ghost use Rattle.std.specs.Prelude.{◌≡◌, IfErr};
 ghost use Rattle.store.specs.Numbers.{is_commit};
 
+use letters::Taken;
 use message::{Envelope, Input, Message};
 use std::alloc::Global;
 use std::sync::atomic::{AtomicU64, Ordering};
@@ -67,13 +68,39 @@ impl ShardCounts {
         more(&self.aborts, aborts_in(out));
     }
 
-    /// Counts an input that was refused.
-    pub(crate) fn count_refused(&self) {
-        more(&self.refused, 1);
+    /// Counts inputs that were taken together, and what was due after them.
+    pub(crate) fn count_all(&self, inputs: &[Input], taken: &Taken) {
+        let mut told = taken.outboxes.iter();
+        for (place, input) in inputs.iter().enumerate() {
+            match taken.refusals.get(place) {
+                Some(Some(_)) => self.count_refused(1),
+                _ => match told.next() {
+                    Some(out) => self.count_taken(input, out.as_slice()),
+                    None => {}
+                },
+            }
+        }
+        for out in told {
+            self.count_due(out.as_slice());
+        }
     }
 
-    /// Counts an advance: up to which timestamp views are served then, if it was not refused.
-    pub(crate) fn count_advance(&self, served: Option<u64>, versions: u64, has_stopped: bool) {
+    // Counts what was due: a wait that was granted, or a transaction that was settled, which tells its session that it committed.
+    fn count_due(&self, out: &[Envelope]) {
+        more(&self.taken, 1);
+        if tells_commit(out) {
+            more(&self.commits, 1);
+        }
+        more(&self.aborts, aborts_in(out));
+    }
+
+    /// Counts so many inputs that were refused.
+    pub(crate) fn count_refused(&self, count: u64) {
+        more(&self.refused, count);
+    }
+
+    /// Counts that a board shows new things: up to which timestamp views are served then, if it was not refused.
+    pub(crate) fn count_shown(&self, served: Option<u64>, versions: u64, has_stopped: bool) {
         match served {
             Some(served) => {
                 more(&self.advances, 1);
@@ -127,6 +154,23 @@ fn aborts_in(out: &[Envelope]) -> u64 {
         }
     }
     count
+}
+
+// Tells whether a session is told that its transaction committed.
+fn tells_commit(out: &[Envelope]) -> bool {
+    for envelope in out {
+        if is_committed(&envelope.message) {
+            return true;
+        }
+    }
+    false
+}
+
+fn is_committed(message: &Message) -> bool {
+    match message {
+        Message::Done(done) => done.outcome().is_some(),
+        _ => false,
+    }
 }
 
 fn is_abort(message: &Message) -> bool {
