@@ -249,7 +249,7 @@ fn lives<R: Wait + time::Clock>(alloc: Global, clients: Vec<Client<'_, R>>, life
 }
 
 // A store of four shards in the folder, made when it is opened first.
-fn opened<'r, R: Files<File = File> + RandomSource + Threads + Wait + Sync + Abort>(
+fn opened<'r, R: Files<File = File> + RandomSource + Threads + Wait + time::Clock + Sync + Abort>(
     rt: &'r R,
     alloc: Global,
     folder: &str,
