@@ -1,5 +1,5 @@
 //! What the words of `make` and `serve` ask for.
-use service_words::{Asked, Choices, service_asked};
+use service_words::{Asked, Choices, explanation, service_asked};
 use std::alloc::Global;
 use units::{Fault, Reason};
 
@@ -95,5 +95,99 @@ static REFUSED: [(&[&str], Fault); 8] = [
 fn other_words_are_refused(rt: HostRuntime) {
     for (words, fault) in &REFUSED {
         assert!(rt; matches!(service_asked(rt.alloc(), *words), Err(found) if found == *fault));
+    }
+}
+
+/// Words that are refused, and what is told of them.
+type Told = (&'static [&'static str], &'static str);
+
+static WRONG_MAKES: [Told; 7] = [
+    (&["make"], "DIR is missing"),
+    (
+        &["make", "d", "--clients", "3"],
+        "'--clients' is no option of this command",
+    ),
+    (&["make", "d", ""], "SPLIT has 1 to 64 bytes, and not 0"),
+    (
+        &["make", "d", "g", "m", "g"],
+        "'g' is not above the SPLIT before it",
+    ),
+    (
+        &["make", "d", "m", "\\x6d"],
+        "'\\x6d' is not above the SPLIT before it",
+    ),
+    (
+        &["make", "d", "a\\b"],
+        "SPLIT has a backslash that spells no byte: write '\\x5c' for a backslash",
+    ),
+    (
+        &[
+            "make", "d", "a", "b", "c", "d", "e", "f", "g", "h", "i", "j", "k", "l", "m", "n", "o",
+            "p",
+        ],
+        "there are more than 15 of SPLIT",
+    ),
+];
+
+static WRONG_SERVES: [Told; 11] = [
+    (&["serve"], "DIR is missing"),
+    (&["serve", "--clients", "3"], "DIR is missing"),
+    (&["serve", "d", "e"], "'e' is one word too many"),
+    (
+        &["serve", "d", "--client", "3"],
+        "'--client' is no option of this command",
+    ),
+    (
+        &["serve", "d", "--clients"],
+        "the number of '--clients' is missing",
+    ),
+    (
+        &["serve", "d", "--clients", "x"],
+        "'--clients' takes a whole number from 1 to 64, and not 'x'",
+    ),
+    (
+        &["serve", "d", "--clients=65"],
+        "'--clients' takes a whole number from 1 to 64, and not '65'",
+    ),
+    (
+        &["serve", "--idle", "999", "d"],
+        "'--idle' takes a whole number from 1000 to 3600000, and not '999'",
+    ),
+    (
+        &["serve", "d", "--stride", "10000001"],
+        "'--stride' takes a whole number from 0 to 10000000, and not '10000001'",
+    ),
+    (
+        &["serve", "d", "--keep", "-1"],
+        "'--keep' takes a whole number, and not '-1'",
+    ),
+    (
+        &["serve", "d", "--clients", "1", "--clients", "2"],
+        "'--clients' stands twice",
+    ),
+];
+
+// Whether words are refused, and this is told of them, with how their command is called.
+fn are_told(alloc: Global, words: &[&str], what: &str, synopsis: &str) -> bool {
+    let Err(fault) = service_asked(alloc, words) else {
+        return false;
+    };
+    let Ok(right) = format!(in alloc; "--> {what}\nusage: shards {synopsis}") else {
+        return false;
+    };
+    match explanation(alloc, words, fault) {
+        Ok(text) => text == right,
+        Err(_) => false,
+    }
+}
+
+// Fails if anything else is told of wrong words than what is wrong with them.
+#[test]
+fn wrong_words_are_explained(rt: HostRuntime) {
+    for (words, what) in &WRONG_MAKES {
+        assert!(rt; are_told(rt.alloc(), *words, *what, "make DIR [SPLIT..]"));
+    }
+    for (words, what) in &WRONG_SERVES {
+        assert!(rt; are_told(rt.alloc(), *words, *what, "serve DIR [OPTION..]"));
     }
 }
