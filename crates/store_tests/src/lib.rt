@@ -26,6 +26,8 @@ mod machine_clocks;
 #[cfg(test)]
 mod made_folders;
 #[cfg(test)]
+mod outcomes;
+#[cfg(test)]
 mod past_views;
 #[cfg(test)]
 mod renewing;
@@ -39,6 +41,8 @@ mod stopped_views;
 mod stops;
 #[cfg(test)]
 mod store_folders;
+#[cfg(test)]
+mod typed_values;
 #[cfg(test)]
 mod under_load;
 #[cfg(test)]

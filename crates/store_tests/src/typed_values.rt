@@ -1,0 +1,104 @@
+//! Values that are written and read by type.
+use crate::clients::{disks_of, of_two_shards, store_of};
+use crate::verdict::end;
+use made::WrongRows;
+use std::alloc::Global;
+use std::process::Abort;
+use std::sync::Wait;
+use std::time;
+use store::{Client, Halt, Transaction};
+use units::{Fault, Key, Reason};
+
+const NO_VALUE: Fault = Fault::BadRequest(Reason::Value);
+
+// What a transaction reads of what it has written by type.
+#[derive(Clone, Copy)]
+struct Read {
+    number: bool,
+    text: bool,
+    bytes: bool,
+    none: bool,
+    sum: bool,
+    too_small: bool,
+    other: bool,
+    view: bool,
+}
+
+const NOTHING: Read = Read {
+    number: false,
+    text: false,
+    bytes: false,
+    none: false,
+    sum: false,
+    too_small: false,
+    other: false,
+    view: false,
+};
+
+// Writes by type, and reads that.
+fn write_and_read<R: Wait + time::Clock>(
+    alloc: Global,
+    tx: &mut Transaction<'_, R>,
+) -> Result<Read, Halt> {
+    let (a, b, z) = (Key::new(b"a")?, Key::new(b"b")?, Key::new(b"z")?);
+    tx.put_as(&a, &7_u64)?;
+    let text = String::from_str(alloc, "gr\u{fc}n")?;
+    tx.put_as(&z, &text)?;
+    drop(text);
+    let mut read = NOTHING;
+    read.number = tx.get_as::<u64>(&a)? == Some(7);
+    let found = tx.get_as::<String>(&z)?;
+    read.text = matches!(&found, Some(text) if text.as_str() == "gr\u{fc}n");
+    drop(found);
+    let found = tx.get_as::<Vec<u8>>(&a)?;
+    read.bytes =
+        matches!(&found, Some(bytes) if bytes.as_slice() == [0, 0, 0, 0, 0, 0, 0, 7].as_slice());
+    drop(found);
+    read.none = tx.get_as::<u64>(&b)?.is_none();
+    read.sum = tx.add(&a, -3)? == 4 && tx.add(&b, 5)? == 5;
+    read.too_small = tx.add(&a, -5) == Err(Halt::Refused(NO_VALUE));
+    read.other = tx.get_as::<u64>(&z) == Err(Halt::Refused(NO_VALUE));
+    Ok(read)
+}
+
+// What a transaction and a view read.
+fn work<R: Wait + time::Clock>(alloc: Global, clients: Vec<Client<'_, R>>) -> Result<Read, Fault> {
+    let mut clients = clients;
+    let Some(mut client) = clients.pop() else {
+        return Err(Fault::Room);
+    };
+    drop(clients);
+    let mut read = NOTHING;
+    client.transact(5, |tx: &mut Transaction<'_, R>| -> Result<(), Halt> {
+        read = write_and_read(alloc, tx)?;
+        Ok(())
+    })?;
+    let Some(mut view) = client.view() else {
+        return Err(Fault::TimeSpent);
+    };
+    let (a, b) = (Key::new(b"a")?, Key::new(b"b")?);
+    read.view = view.get_as::<u64>(&a)? == Some(4) && view.get_as::<u64>(&b)? == Some(5);
+    Ok(read)
+}
+
+// Fails if what was written by type is read otherwise.
+#[test]
+fn values_have_types(rt: HostRuntime) {
+    let alloc = rt.alloc();
+    let options = of_two_shards(&rt, alloc, 100_000);
+    let store = store_of(&rt, alloc, disks_of(&rt, alloc, 2), options);
+    let served = store.serve(|clients: Vec<Client<'_, HostRuntime>>| work(alloc, clients));
+    let (read, disks) = served.ok().expect(&rt, "a service");
+    drop(disks);
+    let read = read.ok().expect(&rt, "values");
+    let mut wrong = WrongRows::none(alloc);
+    wrong.unless(read.number, "a number");
+    wrong.unless(read.text, "a text");
+    wrong.unless(read.bytes, "bytes");
+    wrong.unless(read.none, "a key without a value");
+    wrong.unless(read.sum, "a sum");
+    wrong.unless(read.too_small, "a sum below 0");
+    wrong.unless(read.other, "a value of another type");
+    wrong.unless(read.view, "in a view");
+    end(&rt, wrong);
+}
