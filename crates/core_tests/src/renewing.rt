@@ -2,7 +2,7 @@
 use crate::answers::Told;
 use crate::given::Given;
 use crate::logs::Line;
-use crate::turned_rows::{COMMIT, LEFT, OLD, SAID, SECOND, SETTLE, SETTLE_SECOND, TURN};
+use crate::turned_rows::{COMMIT, LEFT, NEW, OLD, SAID, SECOND, SETTLE, SETTLE_SECOND, TURN};
 use crate::turning::{Ask, Row};
 use units::Fault;
 
@@ -35,7 +35,7 @@ const KEPT: Row = Row {
 };
 
 // A log of one opening ends at 9,238. A commit takes 42 bytes, its outcome 31, a ceiling 14. In a renewed log a base takes 30, a version
-// of one letter 20, and what is settled 32. It begins after the old gate.
+// of one letter 20, and what is settled 32. It begins after the old gate. A log that was not renewed has grown since its opening began.
 const GROWN: &[Line] = &[
     Line::Base(1, 300, 0),
     Line::Version(111, b'a', b'1'),
@@ -61,20 +61,33 @@ const NOT_TURNED: &[Line] = &[
 ];
 
 // When a log is turned over, and what its viewer sees.
-static RENEWED: [Row; 2] = [
+static RENEWED: [Row; 3] = [
     KEPT,
+    // A renewed log has 82 bytes, from 9,312 to 9,394, and the opening 14.
+    Row {
+        name: "what was held when a log was renewed has not grown since, also for an opening",
+        asks: &[COMMIT, SETTLE, TURN],
+        size: Some(9_395),
+        log: NEW,
+        again: &[
+            (230, 240, Ask::Gate(9_408)),
+            (230, 240, Ask::Renew(1_000_000, 0, Ok(()))),
+            (230, 240, Ask::Gate(9_408)),
+        ],
+        ..KEPT
+    },
     Row {
         name: "a log is turned over once it has grown by so much, and is twice as long",
         asks: &[
             (112, 121, Ask::Gate(9_238)),
-            (112, 121, Ask::Renew(1_000_000, 0, Ok(()))),
+            (112, 121, Ask::Renew(1_000_000, 15, Ok(()))),
             (112, 121, Ask::Gate(9_238)),
             COMMIT,
             SETTLE,
             (112, 121, Ask::Gate(9_311)),
-            (112, 121, Ask::Renew(1_000_000, 74, Ok(()))),
+            (112, 121, Ask::Renew(1_000_000, 88, Ok(()))),
             (112, 121, Ask::Gate(9_311)),
-            (112, 121, Ask::Renew(1_000_000, 73, Ok(()))),
+            (112, 121, Ask::Renew(1_000_000, 87, Ok(()))),
             (112, 121, Ask::Gate(9_394)),
             (112, 121, Ask::Renew(1_000_000, 0, Ok(()))),
             (112, 121, Ask::Gate(9_394)),

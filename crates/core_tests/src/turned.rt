@@ -124,6 +124,14 @@ const SPENT_DESK: &[Asked] = &[
     (112, 121, Ask::Gate(10_377)),
 ];
 
+// The log has grown by 143 bytes since its first opening began.
+const SPENT_AGAIN: &[Asked] = &[
+    (112, 121, Ask::Gate(10_391)),
+    (112, 121, Ask::Renew(1_000_000, 144, Ok(()))),
+    (112, 121, Ask::Renew(1_000_000, 143, Err(Fault::TimeSpent))),
+    (112, 121, Ask::Renew(1_000_000, 0, Ok(()))),
+];
+
 const SPENT_LOG: &[Line] = &[
     Line::Opened(1),
     Line::Decided(1, 111),
@@ -143,13 +151,13 @@ static SPENT_ROWS: [Row; 2] = [
         ..LEFT
     },
     Row {
-        name: "no slot is left to a desk",
+        name: "no slot is left to a desk, nor once it is opened again",
         asks: SPENT_DESK,
         is_spent: true,
         size: Some(10_378),
         fate: None,
         log: SPENT_LOG,
-        again: &[],
+        again: SPENT_AGAIN,
         ..LEFT
     },
 ];

@@ -139,7 +139,7 @@ static TURNING: [Story; 4] = [
         ],
         ..FAILING
     },
-    // It has grown by 100 bytes: 41 of the promise, 31 of its outcome, 14 of the ceiling, and 14 of the horizon.
+    // It has grown by 114 bytes: 14 of the opening, 41 of the promise, 31 of its outcome, 14 of the ceiling, and 14 of the horizon.
     Story {
         fails: None,
         room: 0,
@@ -148,7 +148,7 @@ static TURNING: [Story; 4] = [
             CLOSE,
             SERVE,
             (210, 220, Ask::Renew(10, 115, Ok(()))),
-            (210, 220, Ask::Renew(10, 100, Ok(()))),
+            (210, 220, Ask::Renew(10, 114, Ok(()))),
             SEES,
         ],
         moments: &[
