@@ -1,11 +1,9 @@
 -- What the commands print, and their status.
 use Rattle.std.specs.Prelude.{◌≡◌, ◌⊎◌, ◌++◌, ◌∷◌, ℕ, zero, suc, Bool, List, [], Option, Some, None, true, false, Result, Ok, Err, codes}
 use Rattle.std.specs.Fmt.{decimal}
-use Rattle.units.specs.Keys.{Bytes, shard_of}
+use Rattle.units.specs.Keys.{Bytes}
 use Rattle.units.specs.declared.fault.Fault.{Fault}
 use Rattle.units.specs.declared.line.Verdict.{Verdict}
-use Rattle.units.specs.declared.setup.Setup.{Setup}
-use Rattle.disk.specs.File.{File, surface}
 use Rattle.command_line.specs.Commands.{Asked, command_of, told_asked, once_asked, format_asked, play_asked, inspect_asked, drive_asked, dump_asked}
 use Rattle.command_line.specs.Commands.{history_asked, get_asked, put_asked, stats_asked, migrate_asked, compact_asked}
 use Rattle.command_line.specs.Lines.{Word}
@@ -119,11 +117,3 @@ Tells drives puts (compact_asked old new) status text = (status ≡ 0) × (text 
 abbrev pub TellsTo : Driving → Said → Result Asked Fault → ℕ → List ℕ → Type 0
 TellsTo drives puts (Ok asked) status text = Tells drives puts asked status text
 TellsTo drives puts (Err fault) status text = ⊥
-
--- ---- of disks that were opened
-
--- the log of a key's shard in a folder was opened, for some shards, and on disks that keep the model this holds of it
-abbrev pub IsOfKey : {D : Type 0} → Type 0 → (D → File) → (List ℕ → D → Type 0) → Word → Bytes → (Setup → List ℕ → Type 0) → Type 0
-IsOfKey {D} keeps file named folder k P =
-    (setup : Setup) × (disk : D) × (shard_of setup.splits k ≡ setup.shard) × named (log_name folder setup.shard) disk
-    × (keeps → P setup (surface (file disk)).seen)

@@ -1,17 +1,14 @@
 //! The commands `history` and `get`: what the log of a store says of a key.
-ghost use Rattle.std.specs.Prelude.{◌≡◌, ◌⊎◌, ◌<◌, List, ℕ, false, None, Ok, Err, IfOk, IfErr, string_bytes};
+ghost use Rattle.std.specs.Prelude.{◌≡◌, ◌⊎◌, ◌<◌, List, ℕ, None, Err, IfOk, IfErr, string_bytes};
 ghost use Rattle.std.specs.Io.KnownBytes.{Appends};
-ghost use Rattle.disk.specs.File.{surface};
 ghost use Rattle.units.specs.declared.fault.Fault.{Fault};
 ghost use Rattle.commands.specs.Faults.{FailsAs};
-ghost use Rattle.commands.specs.Replies.{IsHistoryAs, IsOfKey, IsToldOf};
+ghost use Rattle.commands.specs.Replies.{IsHistoryAs, IsToldOf};
 ghost use Rattle.output.specs.Failures.{FailsFor};
 ghost use Rattle.output.specs.Streams.{failures_of, writer_of};
 ghost use Rattle.output.specs.declared.failure.Failure.TheVariants.{Refused};
-ghost use Rattle.showing.specs.Histories.{value_in};
-ghost use Rattle.showing.specs.HistoryTexts.{IsAValue, IsHistoryIn, IsNotTold, IsValueIn};
+ghost use Rattle.showing.specs.HistoryTexts.{IsAValue, IsNotTold};
 ghost use Rattle.showing.specs.Json.{IsAJsonValue};
-ghost use Rattle.showing.specs.declared.shard_log.Found.{Found};
 
 use crate::printing::{print_text, print_value};
 use crate::store_folder::open_of_key;
@@ -33,10 +30,6 @@ pub fn history<F: Files>(
     files: &F,
 ) -> Result<String, Fault>
     ensures text { IfOk result (λ text. IsHistoryAs json (string_bytes text)) }
-    // As lines it is that of the log of the key's shard.
-    ensures told { json ≡ false → IfOk result (λ text. IsOfKey F.Log.keeps_model F.Log.file
-        (F.is_named files.now) dir.now key.now
-        (λ setup image. IsHistoryIn setup key.now image (string_bytes text))) }
     ensures refused { IfErr result IsNotTold }
 {
     let (setup, log) = open_of_key(alloc, files, dir, key)?;
@@ -54,8 +47,6 @@ fn history_in<D: Disk + Drop>(
     json: bool,
 ) -> Result<String, Fault>
     ensures text { IfOk result (λ text. IsHistoryAs json (string_bytes text)) }
-    ensures told { json ≡ false → D.keeps_model → IfOk result (λ text. IsHistoryIn setup.now
-        key.now (surface (D.file disk)).seen (string_bytes text)) }
     ensures refused { IfErr result IsNotTold }
 {
     if json {
@@ -79,11 +70,6 @@ pub fn run_get<F: Files, O: Write>(
     ensures status { IfOk result (λ status. (status ≡ 0) ⊎ (status ≡ 1)) }
     ensures printed { IfOk result (λ status. (text : List ℕ) × IsToldOf form status text
         × Appends (O.contents (writer_of out.old)) (O.contents (writer_of out.new)) text) }
-    // As a line it is that of the log of the key's shard.
-    ensures of_key { form ≡ Form.Line → IfOk result (λ status. (text : List ℕ)
-        × IsOfKey F.Log.keeps_model F.Log.file (F.is_named files.now) dir.now key.now
-        (λ setup image. IsValueIn setup key.now at image text)
-        × Appends (O.contents (writer_of out.old)) (O.contents (writer_of out.new)) text) }
     ensures failures { IfErr result
         (λ failure. FailsFor (failures_of out.old < failures_of out.new) failure None) }
     ensures numbered { IfErr result (FailsAs IsNotTold) }
@@ -106,9 +92,6 @@ fn get<F: Files>(
     files: &F,
 ) -> Result<String, Fault>
     ensures text { IfOk result (λ text. IsAValue (string_bytes text)) }
-    ensures told { IfOk result (λ text. IsOfKey F.Log.keeps_model F.Log.file
-        (F.is_named files.now) dir.now key.now
-        (λ setup image. IsValueIn setup key.now at image (string_bytes text))) }
     ensures refused { IfErr result IsNotTold }
 {
     let (setup, log) = open_of_key(alloc, files, dir, key)?;
@@ -142,9 +125,6 @@ fn get_raw<F: Files>(
     at: Option<Stamp>,
     files: &F,
 ) -> Result<Option<Value>, Fault>
-    ensures told { IfOk result (λ value. IsOfKey F.Log.keeps_model F.Log.file
-        (F.is_named files.now) dir.now key.now (λ setup image. (found : Found)
-        × (value_in setup key.now at image ≡ Ok found) × (found.value ≡ value))) }
     ensures refused { IfErr result IsNotTold }
 {
     let (setup, log) = open_of_key(alloc, files, dir, key)?;
@@ -161,9 +141,6 @@ fn value_alone<D: Disk + Drop>(
     key: &Key,
     at: Option<Stamp>,
 ) -> Result<Option<Value>, Fault>
-    ensures told { D.keeps_model → IfOk result (λ value. (found : Found)
-        × (value_in setup.now key.now at (surface (D.file disk)).seen ≡ Ok found)
-        × (found.value ≡ value)) }
     ensures refused { IfErr result IsNotTold }
 {
     let Found { value, .. } = read_value(alloc, disk, setup, key, at)?;
