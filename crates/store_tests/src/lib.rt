@@ -26,8 +26,6 @@ mod machine_clocks;
 #[cfg(test)]
 mod made_folders;
 #[cfg(test)]
-mod outcomes;
-#[cfg(test)]
 mod past_views;
 #[cfg(test)]
 mod renewing;
