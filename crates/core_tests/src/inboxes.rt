@@ -25,6 +25,8 @@ struct Row {
     nodes: &'static [(u8, &'static [u8])],
     letters: u16,
     closes: bool,
+    // The letters are no reads: shard 1 asks how the transactions ended, which aborts them.
+    asks: bool,
     // The letters of shards 0 and 1 wait for each other.
     meet: bool,
     // How many answers there are.
@@ -61,10 +63,21 @@ fn is_answer(message: &Message, from: u8, key: &[u8], number: u16) -> bool {
     }
 }
 
+// Whether it tells shard 1 that 1.number was aborted.
+fn is_abort(envelope: &Envelope, number: u16) -> bool {
+    match (envelope.to, &envelope.message) {
+        (Address::Shard(to), Message::Outcome(told)) => to.number() == 1
+            && told.txn == id(number)
+            && told.outcome.is_none(),
+        _ => false,
+    }
+}
+
 impl Post for Answers<'_> {
     fn post(&mut self, envelope: Envelope) {
-        let right = is_to(envelope.to, self.next)
-            && is_answer(&envelope.message, self.from, self.key, self.next);
+        let right = is_abort(&envelope, self.next)
+            || is_to(envelope.to, self.next)
+                && is_answer(&envelope.message, self.from, self.key, self.next);
         drop(envelope);
         self.next = self.next.saturating_add(1);
         self.posted.fetch_add(1, Ordering::SeqCst);
@@ -126,7 +139,13 @@ fn inbox<R: Wait + Abort>(
 ) -> Receiver<Letter> {
     let (to, from) = unbounded(alloc).ok().expect(rt, "a channel");
     for before in 0..row.letters {
-        let message = message_of(rt, alloc, Given::Read(before.saturating_add(1), key));
+        let number = before.saturating_add(1);
+        let given = if row.asks {
+            Given::Ask(number)
+        } else {
+            Given::Read(number, key)
+        };
+        let message = message_of(rt, alloc, given);
         to.send(rt, Letter::Carry(message))
             .ok()
             .expect(rt, "a letter");
@@ -210,12 +229,23 @@ fn meet<R: Threads + Wait + time::Clock + Sync + Abort>(rt: &R, alloc: Global, r
     end(rt, wrong);
 }
 
-static LETTERS: [Row; 2] = [
+static LETTERS: [Row; 3] = [
+    // Each logs an abort. The first 64 are taken together, and so are the others.
+    Row {
+        name: "letters that are taken together",
+        nodes: &[(0, b"a")],
+        letters: 100,
+        closes: false,
+        asks: true,
+        meet: false,
+        answers: 100,
+    },
     Row {
         name: "letters",
         nodes: &[(1, b"z")],
         letters: 100,
         closes: false,
+        asks: false,
         meet: false,
         answers: 100,
     },
@@ -225,6 +255,7 @@ static LETTERS: [Row; 2] = [
         nodes: &[(1, b"z")],
         letters: 100,
         closes: true,
+        asks: false,
         meet: false,
         answers: 0,
     },
@@ -241,6 +272,7 @@ static MEETING: [Row; 1] = [Row {
     nodes: &[(0, b"a"), (1, b"z")],
     letters: 10,
     closes: false,
+    asks: false,
     meet: true,
     answers: 20,
 }];

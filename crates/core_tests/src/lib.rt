@@ -28,6 +28,8 @@ mod given;
 #[cfg(test)]
 mod grouped;
 #[cfg(test)]
+mod grouped_nodes;
+#[cfg(test)]
 mod inboxes;
 #[cfg(test)]
 mod logs;

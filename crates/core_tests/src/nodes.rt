@@ -1,9 +1,10 @@
 //! Stories of a node of fresh shard 1 with one viewer: what is asked of both, and what the log then holds.
 use crate::answers::{Told, is_told};
 use crate::cores::{Setting, core_of, formatted, plain};
-use crate::given::{Given, input_of, reading};
+use crate::given::{Given, Standing, input_of, reading};
 use crate::logs::{Line, with_log};
 use board::Viewer;
+use letters::{Serves, Taken};
 use made::{WrongRows, key, stamp};
 use node::Node;
 use simdisk::SimDisk;
@@ -12,6 +13,7 @@ use std::process::Abort;
 use std::sync::Wait;
 use std::thread;
 use std::thread::Threads;
+use truetime::Reading;
 use units::{Fault, Seen};
 
 /// A look at `z` at a timestamp, and what it sees.
@@ -22,6 +24,10 @@ pub type Look = (u32, Result<Seen, Fault>);
 #[derive(Clone, Copy)]
 pub enum Ask {
     Deliver(Given, Told),
+    // Some inputs together, what each comes to, and how many steps were due after them.
+    Together(&'static [(Given, Told)], usize),
+    // Some inputs together, which are all refused for this; or, without a fault, are to be delivered one by one.
+    Failing(&'static [Given], Option<Fault>),
     Advance(u32, Result<u64, Fault>),
     Turn(Result<(), Fault>),
     // Keeps versions for this many microseconds, and turns the log over once it has grown by this many bytes.
@@ -97,6 +103,8 @@ fn is_answered<'a, R: Threads + Wait + Sync + Abort>(
             drop(input);
             is_told(answer, wanted)
         }
+        Ask::Together(given, due) => take(rt, alloc, node, now, given, due),
+        Ask::Failing(given, fault) => fail(rt, alloc, node, now, given, fault),
         Ask::Advance(to, tells) => match node.advance(rt, &now, stamp(to)) {
             Ok(told) => tells == Ok(told.safe().micros()),
             Err(fault) => tells == Err(fault),
@@ -114,6 +122,60 @@ fn is_answered<'a, R: Threads + Wait + Sync + Abort>(
         Ask::Look(look) => is_seen(viewers, look),
         Ask::LookThere(look) => thread::join(rt, || is_seen(viewers, look), || ()).0,
     }
+}
+
+// Gives the node some inputs together, which are all refused for this, or are to be delivered one by one.
+fn fail<R: Wait + Drop>(
+    rt: &(impl Wait + Abort),
+    alloc: Global,
+    node: &Node<SimDisk, R>,
+    now: Reading,
+    given: &[Given],
+    fault: Option<Fault>,
+) -> bool {
+    let mut inputs = Vec::new(alloc);
+    for given in given {
+        let pushed = inputs.push(input_of(rt, alloc, *given));
+        assert!(rt; pushed.is_ok(), "memory");
+    }
+    match node.take_all(rt, &mut Standing { now }, &inputs) {
+        Ok(taken) => taken.is_none() && fault.is_none(),
+        Err(why) => Some(why) == fault,
+    }
+}
+
+// Gives the node some inputs together, and says whether each comes to what is expected, and so many steps were due after them.
+fn take<R: Wait + Drop>(
+    rt: &(impl Wait + Abort),
+    alloc: Global,
+    node: &Node<SimDisk, R>,
+    now: Reading,
+    given: &[(Given, Told)],
+    due: usize,
+) -> bool {
+    let mut inputs = Vec::new(alloc);
+    for (given, _) in given {
+        let pushed = inputs.push(input_of(rt, alloc, *given));
+        assert!(rt; pushed.is_ok(), "memory");
+    }
+    let taken = match node.take_all(rt, &mut Standing { now }, &inputs) {
+        Ok(Some(taken)) => taken,
+        _ => return false,
+    };
+    let Taken { refusals, outboxes } = taken;
+    let mut outboxes = outboxes.into_iter();
+    let mut right = refusals.len() == given.len();
+    for ((_, wanted), refused) in given.iter().zip(refusals.as_slice()) {
+        let answer = match *refused {
+            Some(fault) => Err(fault),
+            None => outboxes.next().ok_or(Fault::Room),
+        };
+        right &= is_told(answer, *wanted);
+    }
+    for _due in 0..due {
+        right &= outboxes.next().is_some();
+    }
+    right && outboxes.next().is_none()
 }
 
 /// Plays the stories up to each moment. The viewer is refused once the node is closed.

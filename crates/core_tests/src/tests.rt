@@ -5,7 +5,8 @@ use crate::turned_nodes::turning;
 use crate::verdict::end;
 use crate::viewed::viewed;
 use crate::{
-    damaged, grouped, nodes, one_commit, promising, reopening, restarts, served, stories, together,
+    damaged, grouped, grouped_nodes, nodes, one_commit, promising, reopening, restarts, served,
+    stories, together,
 };
 use made::WrongRows;
 
@@ -92,6 +93,14 @@ fn nodes_are_opened_again_and_turned_over(rt: HostRuntime) {
     let mut wrong = WrongRows::none(rt.alloc());
     nodes::tell(&mut wrong, &rt, rt.alloc(), restarts::nodes());
     nodes::tell(&mut wrong, &rt, rt.alloc(), turning());
+    end(&rt, wrong);
+}
+
+/// Shows that nodes take inputs together, answer each in its place, and show what they showed if the device fails in a group.
+#[test]
+fn nodes_take_groups(rt: HostRuntime) {
+    let mut wrong = WrongRows::none(rt.alloc());
+    nodes::tell(&mut wrong, &rt, rt.alloc(), grouped_nodes::together());
     end(&rt, wrong);
 }
 
