@@ -19,3 +19,7 @@ returns-in-Ok-answer-clause-clients g c =
 
 pub returns-in-Err-clause-refused : goal.returns-in-Err-clause-refused
 returns-in-Err-clause-refused g c = c.in-Err.ensures.refused c.self.invariant.0 (omega (arith, c.self.invariant.1))
+
+-- a disk of each node comes back
+pub returns-in-Ok-answer-clause-disks : goal.returns-in-Ok-answer-clause-disks
+returns-in-Ok-answer-clause-disks g c = c.closed.ensures ∙ ap (λ (s : Standing). s.shards) c.self.view_is
