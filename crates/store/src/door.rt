@@ -47,8 +47,8 @@ impl Door {
         }
     }
 
-    /// Passes the door once fewer transactions are open than may be. If none ends for a while it is passed all the same: after 100 milliseconds,
-    /// or once closings were slow, after as long as a closing may take that is not.
+    /// Passes the door once fewer transactions are open than may be. If none ends for 100 milliseconds, it is passed all the same. Once closings
+    /// were slow, that takes as long as a closing may take without being slow.
     pub fn enter<R: Wait + time::Clock>(&self, rt: &R) {
         self.await_room(rt);
         self.open.fetch_add(1, Ordering::SeqCst);
