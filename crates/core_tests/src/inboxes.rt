@@ -63,19 +63,25 @@ fn is_answer(message: &Message, from: u8, key: &[u8], number: u16) -> bool {
     }
 }
 
-// Whether it tells shard 1 that 1.number was aborted.
-fn is_abort(envelope: &Envelope, number: u16) -> bool {
-    match (envelope.to, &envelope.message) {
-        (Address::Shard(to), Message::Outcome(told)) => to.number() == 1
-            && told.txn == id(number)
-            && told.outcome.is_none(),
+// Whether it is to shard 1.
+fn is_to_one(to: Address) -> bool {
+    match to {
+        Address::Shard(shard) => shard.number() == 1,
+        Address::Session(_) => false,
+    }
+}
+
+// Whether it tells that 1.number was aborted.
+fn is_abort(message: &Message, number: u16) -> bool {
+    match message {
+        Message::Outcome(told) => told.txn == id(number) && told.outcome.is_none(),
         _ => false,
     }
 }
 
 impl Post for Answers<'_> {
     fn post(&mut self, envelope: Envelope) {
-        let right = is_abort(&envelope, self.next)
+        let right = is_to_one(envelope.to) && is_abort(&envelope.message, self.next)
             || is_to(envelope.to, self.next)
                 && is_answer(&envelope.message, self.from, self.key, self.next);
         drop(envelope);
