@@ -124,13 +124,7 @@ fn serve_folder<
     let store = match opened(rt, alloc, dir, &splits, &choices, false) {
         Ok(store) => store,
         Err(unopened) => {
-            return Err(Refusal::of_store(
-                alloc,
-                &files,
-                dir,
-                &splits,
-                unopened.fault,
-            ));
+            return Err(Refusal::of_store(alloc, &files, dir, &splits, unopened.fault));
         }
     };
     let idle = choices.idle;

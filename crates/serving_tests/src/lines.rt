@@ -13,7 +13,7 @@ type Row = (
 // Longer than any part takes.
 const NEVER: u64 = 60_000;
 
-static ROWS: [Row; 9] = [
+static ROWS: [Row; 10] = [
     (
         "each client hears its own answers",
         b"0 put a 1\n1 put b 2\n0 get a\n1 get b\n0 get b a\n1 foo\n",
