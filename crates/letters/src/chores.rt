@@ -241,10 +241,10 @@ fn go_on<N: Serves, W: Wait, P: Post, C: Clock>(
         let went = match node.take_all(rt, clock, &[]) {
             Ok(Some(taken)) => hand_out(post, taken),
             Ok(None) => go_on_singly(node, rt, post, clock),
-            Err(_) => false,
+            Err(_) => return (any, Some(moment())),
         };
         if !went {
-            return (any, Some(moment()));
+            return (any, Some(sooner(next, moment())));
         }
         any = true;
     }
