@@ -1,16 +1,21 @@
 //! One of the two copies of a board.
-ghost use Rattle.std.specs.Prelude.{◌≡◌, true, false, Some, [], ◌∷◌, ◌++◌, length, IsTrue, MatchResult, IfOk, IfErr, OnOk};
+ghost use Rattle.std.specs.Prelude.{◌≡◌, true, false, Some, [], ◌∷◌, ◌++◌, length, IsTrue, MatchResult, IfOk, IfErr, IsOk, OnOk, ◌⊎◌};
 ghost use mathlib.Core.List.{IsPrefix};
-ghost use Rattle.board.specs.Board.{safe_on, has_safe, is_board, MatchesEntries};
+ghost use Rattle.board.specs.Board.{safe_on, has_safe, is_board, shown_at, MatchesEntries};
+ghost use Rattle.std.specs.Option.{option_copied};
 ghost use Rattle.board.specs.Look.{look_answer, look_buffer};
+ghost use Rattle.board.specs.Histories.{IsHistory};
+ghost use Rattle.board.specs.Pages.{IsPage, IsServed, IsUnlisted, value_at_home};
 ghost use Rattle.board.specs.State.{AddsVersion, Forgets, Takes};
 
 use crate::change::BoardChange;
 use crate::entry::BoardEntry;
+use crate::history::{History, first_part};
 use crate::home::Home;
+use crate::pages::{KeyPage, first_page};
 use growing::{Beginning, Growing};
 use left_right::Absorb;
-use std::alloc::AllocError;
+use std::alloc::{AllocError, Global};
 use std::marker::Model;
 use units::{Fault, Install, Key, Seen, Stamp, may_look, show};
 use versions::{Versions, copy_install, forgotten_is_not_missed};
@@ -196,6 +201,53 @@ impl BoardCopy {
     {
         may_look(home.has(key), self.horizon, self.safe, at)?;
         show(self.versions.at(key, at), buffer)
+    }
+
+    /// Gives the first page of a range of keys that have a value at a timestamp. It is refused as a look for the first key of the range is, or
+    /// for want of memory.
+    pub(crate) fn keys(
+        &self,
+        alloc: Global,
+        home: &Home,
+        from: &Key,
+        to: Option<&Key>,
+        at: Stamp,
+        limit: usize,
+    ) -> Result<KeyPage, Fault>
+        requires lawful { is_board self.now.ahead ≡ true }
+        requires safe { has_safe self.now.list ≡ true }
+        ensures page { IfOk result (λ page. IsPage (value_at_home home.now self.now.list at)
+            from.now (option_copied to.entry) page.keys.items page.next) }
+        ensures served { IsOk result → IsServed home.now self.now.list from.now at }
+        ensures refused { IfErr result (IsUnlisted home.now self.now.list from.now at) }
+    {
+        may_look(home.has(from), self.horizon, self.safe, at)?;
+        Ok(first_page(alloc, &self.versions, home, from, to, at, limit)?)
+    }
+
+    /// Tells what a key has from a first time to a last. It is refused as a look for the key is at one of the two, or for want of memory.
+    pub(crate) fn history(
+        &self,
+        alloc: Global,
+        home: &Home,
+        key: &Key,
+        from: Stamp,
+        to: Stamp,
+        limit: usize,
+    ) -> Result<History, Fault>
+        requires lawful { is_board self.now.ahead ≡ true }
+        requires safe { has_safe self.now.list ≡ true }
+        ensures history { IfOk result (λ history. IsHistory (shown_at self.now.list key.now)
+            key.now from to history.versions.items history.next) }
+        ensures served { IsOk result → IsServed home.now self.now.list key.now from
+            × IsServed home.now self.now.list key.now to }
+        ensures refused { IfErr result (λ fault. IsUnlisted home.now self.now.list key.now from fault
+            ⊎ IsUnlisted home.now self.now.list key.now to fault) }
+    {
+        may_look(home.has(key), self.horizon, self.safe, from)?;
+        may_look(home.has(key), self.horizon, self.safe, to)?;
+        let history = first_part(alloc, &self.versions, key, from, to, limit)?;
+        Ok(history)
     }
 }
 

@@ -4,8 +4,10 @@
 mod board_copy;
 mod change;
 mod entry;
+mod history;
 mod home;
 mod making;
+mod pages;
 mod press;
 mod publisher;
 mod rule;
@@ -15,8 +17,10 @@ mod viewer;
 mod viewers;
 
 pub use entry::BoardEntry;
+pub use history::History;
 pub use home::Home;
 pub use making::{MOST_VIEWERS, check_viewers, start};
+pub use pages::KeyPage;
 pub use publisher::Publisher;
 pub use snapshot::Snapshot;
 pub use told::Told;

@@ -2,6 +2,9 @@
 ghost use Rattle.std.specs.Prelude.{◌≡◌, ◌≢◌, ◌≤◌, [], ◌∷◌, Err};
 ghost use mathlib.Core.List.{IsPrefix};
 ghost use Rattle.board.specs.Board.{safe_on};
+ghost use Rattle.std.specs.Option.{option_copied};
+ghost use Rattle.board.specs.Histories.{ToldBy};
+ghost use Rattle.board.specs.Pages.{ListedBy};
 ghost use Rattle.growing.specs.Owns.{longer_of};
 ghost use Rattle.board.specs.Views.{LookedBy, new_viewer};
 ghost use Rattle.std.specs.Arc.{arc_value};
@@ -9,7 +12,9 @@ ghost use Rattle.left_right.specs.Sides.{view};
 
 use crate::board_copy::BoardCopy;
 use crate::entry::BoardEntry;
+use crate::history::History;
 use crate::home::Home;
+use crate::pages::KeyPage;
 use crate::rule::{OneList, SeenStates, SeesList};
 use crate::told::Told;
 use growing::Beginning;
@@ -115,6 +120,78 @@ impl Viewer {
                 let seen = shown.look(&self.home, key, at, buffer);
                 self.reader = Some(reading.leave());
                 seen
+            }
+            Err(reader) => {
+                self.reader = Some(reader);
+                Err(Fault::Stopped)
+            }
+        }
+    }
+
+    /// Gives the keys that have a value at a timestamp, by the board's list at one step: those of this shard that are not before `from` and are
+    /// before `to`, ascending. It visits `limit` keys at most, and at least one; keys that are erased count too. Where the page ends before
+    /// the range, `next` is the first key of the next page.
+    ///
+    /// It is refused as a look for `from` is, or as `Memory`.
+    pub fn keys(
+        &mut self,
+        alloc: Global,
+        from: &Key,
+        to: Option<&Key>,
+        at: Stamp,
+        limit: usize,
+    ) -> Result<KeyPage, Fault>
+        ensures same { (self.new.board ≡ self.old.board) × (self.new.home ≡ self.old.home)
+            × (self.new.told ≡ self.old.told) }
+        ensures answer { result ≢ Err Fault.Stopped
+            → ListedBy self.old from.now (option_copied to.entry) at result self.new }
+        ensures stopped { result ≡ Err Fault.Stopped → self.new ≡ self.old }
+        ensures told { at ≤ safe_on self.old.told → result ≢ Err Fault.NotYet }
+    {
+        let reader = self.reader.take().unwrap();
+        match reader.enter_as::<SeesList>() {
+            Ok(reading) => {
+                let shown = reading.get();
+                shown.begins_with(&self.first, &self.second);
+                let page = shown.keys(alloc, &self.home, from, to, at, limit);
+                self.reader = Some(reading.leave());
+                page
+            }
+            Err(reader) => {
+                self.reader = Some(reader);
+                Err(Fault::Stopped)
+            }
+        }
+    }
+
+    /// Tells what a key has from a first time to a last, by the board's list at one step: its value at the first time, and each later version.
+    /// So many at most, and at least one. If there are more, `next` is the time of the next version.
+    ///
+    /// It is refused as a look for the key is at the first time or at the last, or as `Memory`.
+    pub fn history(
+        &mut self,
+        alloc: Global,
+        key: &Key,
+        from: Stamp,
+        to: Stamp,
+        limit: usize,
+    ) -> Result<History, Fault>
+        ensures same { (self.new.board ≡ self.old.board) × (self.new.home ≡ self.old.home)
+            × (self.new.told ≡ self.old.told) }
+        ensures answer { result ≢ Err Fault.Stopped
+            → ToldBy self.old key.now from to result self.new }
+        ensures stopped { result ≡ Err Fault.Stopped → self.new ≡ self.old }
+        ensures told { (from ≤ safe_on self.old.told) × (to ≤ safe_on self.old.told)
+            → result ≢ Err Fault.NotYet }
+    {
+        let reader = self.reader.take().unwrap();
+        match reader.enter_as::<SeesList>() {
+            Ok(reading) => {
+                let shown = reading.get();
+                shown.begins_with(&self.first, &self.second);
+                let history = shown.history(alloc, &self.home, key, from, to, limit);
+                self.reader = Some(reading.leave());
+                history
             }
             Err(reader) => {
                 self.reader = Some(reader);

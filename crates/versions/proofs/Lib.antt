@@ -16,4 +16,5 @@ pub mod Passed
 pub mod Shorter
 pub mod Gathered
 pub mod Last
+pub mod Next
 mod Examples

@@ -88,7 +88,7 @@ none_by key at (x ∷ t) after =
     rw none (none_by key at t (λ k d le lt. after (suc k) d (omega arith) (omega arith)))
 
 -- a version that is not after key and stamp is by them exactly where it is of the key
-by_is_same : (key : List ℕ) (at : ℕ) (x : Install) → is_not_after key at x ≡ true → is_by key at x ≡ same_key x.key key
+pub by_is_same : (key : List ℕ) (at : ℕ) (x : Install) → is_not_after key at x ≡ true → is_by key at x ≡ same_key x.key key
 by_is_same key at x passes = by_test (same_key x.key key) refl
   where
     by_test : (b : Bool) → same_key x.key key ≡ b → is_by key at x ≡ b

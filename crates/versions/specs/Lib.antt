@@ -9,3 +9,4 @@ pub mod Heads
 pub mod Headed
 pub mod Orders
 pub mod Gathered
+pub mod Next

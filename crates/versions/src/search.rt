@@ -5,6 +5,7 @@ ghost use Rattle.units.specs.Versions.{latest, at_time, newest, of_key};
 ghost use Rattle.versions.specs.Arranged.{arranged, no_install, AreWithin};
 ghost use Rattle.versions.specs.Halves.{AllUpTo, AllAfter};
 ghost use Rattle.versions.specs.Heads.{AreBytes, AreHeads, head};
+ghost use Rattle.versions.specs.Next.{IsNextKey, IsNextVersion};
 ghost use Rattle.versions.specs.Ordered.{is_by, is_not_after, count_not_after, installed, is_above, AscendsByVersion, IsInOrder};
 
 use crate::head::shared;
@@ -227,6 +228,43 @@ pub fn value_at<'a>(
     let at = at.micros();
     let count = among(installs, places, key, places.head_of(key), at);
     newest_in(installs, places, key, at, count)?.value.as_ref()
+}
+
+/// Gives the next key that has versions.
+pub fn next_key(installs: &[Install], places: &Places, key: &Key) -> Option<Key>
+    requires within { AreWithin places.now.places (length installs.now) }
+    requires kept { IsInOrder Stamp.MAX (arranged installs.now places.now.places) }
+    requires heads { AreHeads places.now.prefix (arranged installs.now places.now.places)
+        places.now.heads }
+    ensures { IsNextKey (arranged installs.now places.now.places) key.now result }
+{
+    let count = count(installs, places, key, Stamp::MAX);
+    if count >= places.len() {
+        return None;
+    }
+    Some(installs[places.get(count)].key)
+}
+
+/// Gives the next version of a key after a time.
+pub fn next_version<'a>(
+    installs: &'a [Install],
+    places: &Places,
+    key: &Key,
+    at: Stamp,
+) -> Option<&'a Install>
+    requires within { AreWithin places.now.places (length installs.now) }
+    requires order { AscendsByVersion (arranged installs.now places.now.places) }
+    requires heads { AreHeads places.now.prefix (arranged installs.now places.now.places)
+        places.now.heads }
+    ensures { IsNextVersion (arranged installs.now places.now.places) key.now at
+        (option_copied result) }
+{
+    let count = count(installs, places, key, at.micros());
+    if count >= places.len() {
+        return None;
+    }
+    let next = &installs[places.get(count)];
+    if next.key == *key { Some(next) } else { None }
 }
 
 /// Adds a version, and puts in its place. There is room.

@@ -5,6 +5,7 @@ ghost use Rattle.units.specs.Versions.{latest, at_time, versions, above_versions
 ghost use Rattle.units.specs.Keys.{write_before};
 ghost use Rattle.units.specs.Lists.{ascends};
 ghost use Rattle.versions.specs.Arranged.{arranged, AreWithin};
+ghost use Rattle.versions.specs.Next.{IsNextKey, IsNextVersion};
 ghost use Rattle.versions.specs.Ordered.{installed, all_installed, count_not_after, is_above, AscendsByVersion};
 ghost use Rattle.versions.specs.Orders.{Orders};
 ghost use Rattle.versions.specs.Pruned.{pruned};
@@ -195,6 +196,20 @@ impl Versions {
         ensures { option_copied result ≡ at_time self.now.installs key.now at }
     {
         search::value_at(&self.installs, &self.places, key, at)
+    }
+
+    /// Gives the next key that has versions: `None` if there is none. No key between the two has a value at any time.
+    pub fn next_key(&self, key: &Key) -> Option<Key>
+        ensures { IsNextKey self.now.installs key.now result }
+    {
+        search::next_key(&self.installs, &self.places, key)
+    }
+
+    /// Gives the next version of a key after a time: `None` if there is none. Between the two the key keeps the value that it has at the time.
+    pub fn next_version(&self, key: &Key, at: Stamp) -> Option<&Install>
+        ensures { IsNextVersion self.now.installs key.now at (option_copied result) }
+    {
+        search::next_version(&self.installs, &self.places, key, at)
     }
 
     /// Counts the versions that are not after a key and timestamp. Returns this, and how many were compared to find it: as many as their
