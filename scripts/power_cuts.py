@@ -4,7 +4,8 @@ of each file left and the changes since, and what the last sync of the folder le
 some of the changes, cuts them short or fills them with anything, and takes some of what was done to names: so says the disk model.
 In each image every record whose sync had come back has to stand in the log of its shard, under its name, `inspect` has to say yes, and
 some images are driven on. Drives begin in an empty folder or go on; some are killed at a call of their opening, and the next one goes
-on with what was not synced. It wants the program built and strace; without that it says so and ends well. SECONDS (120) and IMAGES (500) bound it."""
+on with what was not synced. Drives of many workers log groups of records: the sizes that were seen are told, and there has to be a group of two or
+more. It wants the program built and strace; without that it says so and ends well. SECONDS (120) and IMAGES (500) bound it."""
 import os
 import random
 import shutil
@@ -73,6 +74,7 @@ class Machine:
         self.folder = folder
         self.names, self.synced, self.done = {}, {}, []
         self.fds, self.syncs = {}, {}
+        self.groups = set()
 
     def name_of(self, path):
         path = path.decode()
@@ -126,8 +128,11 @@ class Machine:
                 self.synced = done(self.synced, deed)
             del self.done[:count]
         else:
+            before = len(traced.records(held.synced))
             held.synced = held.seen(held.changes[:count])
             del held.changes[:count]
+            # A sync after a gate was opened shows the records of one group.
+            self.groups.add(len(traced.records(held.synced)) - before)
 
     def closed(self):
         """The program has ended: what is not synced stays so."""
@@ -163,7 +168,7 @@ class Round:
         self.folder = os.path.realpath(os.path.join(room, "logs"))
         os.mkdir(self.folder)
         self.shards = MOST or random.choice([1, 2, 2, 3, 5, 16])
-        self.workers = WORKERS or random.choice([1, 2, 4, 16])
+        self.workers = WORKERS or random.choice([1, 2, 4, 16, 64])
         self.settings = os.path.join(room, "settings")
         self.no_lines = os.path.join(room, "no.lines")
         open(self.no_lines, "w").close()
@@ -231,7 +236,7 @@ class Round:
 def main():
     traced.need_tools("power_cuts")
     random.seed(SEED)
-    began, images, driven, drives, shown = time.time(), 0, 0, 0, set()
+    began, images, driven, drives, shown, groups, most = time.time(), 0, 0, 0, set(), set(), 0
     while images < IMAGES and time.time() - began < SECONDS:
         room = tempfile.mkdtemp()
         try:
@@ -243,11 +248,15 @@ def main():
                 drives += 1
             images += one.images
             driven += one.driven
+            groups |= one.machine.groups
+            most = max(most, one.workers)
         finally:
             shutil.rmtree(room)
+    if most >= 16 and max(groups) < 2:
+        fail(f"drives of up to {most} workers have logged no group of two records")
     print(
-        f"power_cuts: {images} images of {drives} drives over {min(shown)} to {max(shown)} shards, {driven} driven on: "
-        "each synced record stands, and each verdict is yes"
+        f"power_cuts: {images} images of {drives} drives over {min(shown)} to {max(shown)} shards, {driven} driven on, groups of up to "
+        f"{max(groups)} records: each synced record stands, and each verdict is yes"
     )
 
 

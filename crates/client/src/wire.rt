@@ -130,12 +130,17 @@ impl<'r, 's, R> Wire<'r, 's, R> {
         self.patience.decided
     }
 
+    // Whether it counts silences, and memory was refused in the network: what it waits for may be lost. By progress it asks again.
+    fn is_in_want(&self) -> bool {
+        self.patience.give_up.is_none() && self.network.has_lacked_memory()
+    }
+
     // Nothing was heard.
     fn silence(&mut self, stops: bool) -> Hearing
         ensures wire { self.new ≡ self.old }
         ensures end { end_heard result ≡ [] }
     {
-        if self.patience.is_over() || stops {
+        if self.patience.is_over() || stops || self.is_in_want() {
             Hearing::Enough
         } else {
             Hearing::Silence

@@ -24,13 +24,19 @@ struct Row {
     name: &'static str,
     nodes: &'static [(u8, &'static [u8])],
     letters: u16,
+    // So often each of them is sent again.
+    again: u16,
     closes: bool,
+    // It is the last reader that closes, and not one more transaction.
+    own: bool,
     // The letters are no reads: shard 1 asks how the transactions ended, which aborts them.
     asks: bool,
     // The letters of shards 0 and 1 wait for each other.
     meet: bool,
     // How many answers there are.
     answers: u64,
+    // How many letters are taken, the end with them.
+    taken: u64,
 }
 
 // Counts the messages that are posted, and each answer that comes in its turn.
@@ -107,6 +113,12 @@ struct Meeting<'a, R> {
 }
 
 impl<R: time::Clock> Meeting<'_, R> {
+    // How many letters the nodes have taken.
+    fn taken(&self) -> u64 {
+        let first = self.first.load(Ordering::SeqCst);
+        first.saturating_add(self.second.load(Ordering::SeqCst))
+    }
+
     // Whether the letter after the first n comes in time.
     fn has_come(&self, letters: &AtomicU64, n: u64) -> bool {
         for _turn in 0..10_000 {
@@ -155,9 +167,15 @@ fn inbox<R: Wait + Abort>(
         to.send(rt, Letter::Carry(message))
             .ok()
             .expect(rt, "a letter");
+        for _again in 0..row.again {
+            let message = message_of(rt, alloc, given);
+            to.send(rt, Letter::Again(message, 1))
+                .ok()
+                .expect(rt, "a letter again");
+        }
     }
     if row.closes {
-        let number = row.letters.saturating_add(1);
+        let number = row.letters.saturating_add(u16::from(!row.own));
         let message = message_of(rt, alloc, Given::Commit(number, shard, key, b"1"));
         to.send(rt, Letter::Carry(message))
             .ok()
@@ -228,46 +246,83 @@ fn meet<R: Threads + Wait + time::Clock + Sync + Abort>(rt: &R, alloc: Global, r
         let missed = gate.missed.load(Ordering::SeqCst);
         let posted = gate.posted.load(Ordering::SeqCst);
         let right = gate.right.load(Ordering::SeqCst);
+        let taken = gate.taken();
         drop(gate);
-        let answered = posted == row.answers && right == row.answers;
+        let answered = posted == row.answers && right == row.answers && taken == row.taken;
         wrong.unless_at(answered && missed == 0, row.name, right);
     }
     end(rt, wrong);
 }
 
-static LETTERS: [Row; 3] = [
+static LETTERS: [Row; 5] = [
     // Each logs an abort. The first 64 are taken together, and so are the others.
     Row {
         name: "letters that are taken together",
         nodes: &[(0, b"a")],
         letters: 100,
+        again: 0,
         closes: false,
+        own: false,
         asks: true,
         meet: false,
         answers: 100,
+        taken: 101,
     },
     Row {
         name: "letters",
         nodes: &[(1, b"z")],
         letters: 100,
+        again: 0,
         closes: false,
+        own: false,
         asks: false,
         meet: false,
         answers: 100,
+        taken: 101,
     },
     // The commit is taken first, and decided at a time that does not pass, so each read waits for its lock.
     Row {
         name: "reads that came beside a commit",
         nodes: &[(1, b"z")],
         letters: 100,
+        again: 0,
         closes: true,
+        own: false,
         asks: false,
         meet: false,
         answers: 0,
+        taken: 102,
+    },
+    // Each waits once, and is taken once.
+    Row {
+        name: "reads that are sent again while they wait",
+        nodes: &[(1, b"z")],
+        letters: 10,
+        again: 2,
+        closes: false,
+        own: false,
+        asks: false,
+        meet: false,
+        answers: 10,
+        taken: 11,
+    },
+    // The commit is taken first, so nobody waits for the read of its transaction any more. The other two wait for its lock.
+    Row {
+        name: "a read of a transaction that closes",
+        nodes: &[(1, b"z")],
+        letters: 3,
+        again: 1,
+        closes: true,
+        own: true,
+        asks: false,
+        meet: false,
+        answers: 0,
+        taken: 4,
     },
 ];
 
-/// Shows that serving loses no letter and no answer, and that reads are taken after the letters that came with them.
+/// Shows that serving loses no letter and no answer, and that reads are taken after the letters that came with them. A read that is sent again
+/// is taken once, and not at all once its transaction has closed.
 #[test]
 fn lose_letters(rt: HostRuntime) {
     meet(&rt, rt.alloc(), &LETTERS);
@@ -277,10 +332,13 @@ static MEETING: [Row; 1] = [Row {
     name: "letters of two nodes",
     nodes: &[(0, b"a"), (1, b"z")],
     letters: 10,
+    again: 0,
     closes: false,
+    own: false,
     asks: false,
     meet: true,
     answers: 20,
+    taken: 22,
 }];
 
 /// Shows that nodes are served at the same time, and not one letter at a time over both.

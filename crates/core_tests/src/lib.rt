@@ -30,6 +30,8 @@ mod grouped;
 #[cfg(test)]
 mod grouped_nodes;
 #[cfg(test)]
+mod in_want;
+#[cfg(test)]
 mod inboxes;
 #[cfg(test)]
 mod logs;

@@ -67,10 +67,19 @@ pub fn hand_on<N: Serves, W: Wait, P: Post>(
     keeps
 }
 
-/// Tells the session whose letter an input is that a shard has refused it. An input that is no session's is passed over.
+/// Tells the session whose letter an input is that a shard has refused it. Of an input that is no session's the post is told only if there was
+/// no memory for it.
 pub fn refuse<P: Post>(post: &mut P, shard: ShardNo, input: &Input, fault: Fault) {
-    if let Some(txn) = session_of(input) {
-        post.refuse(Refused { txn, shard, fault });
+    match session_of(input) {
+        Some(txn) => post.refuse(Refused { txn, shard, fault }),
+        None => note_lack(post, fault),
+    }
+}
+
+/// Tells the post of a fault that is want of memory, and of no other.
+pub fn note_lack<P: Post>(post: &mut P, fault: Fault) {
+    if fault == Fault::Memory {
+        post.lack_memory();
     }
 }
 

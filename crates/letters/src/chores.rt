@@ -1,5 +1,5 @@
 //! What a node does besides its letters.
-use crate::acts::{act, post_all};
+use crate::acts::{act, note_lack, post_all};
 use crate::bell::left;
 use crate::letter::Post;
 use crate::serves::{Due, Serves, Taken};
@@ -234,14 +234,17 @@ fn go_on<N: Serves, W: Wait, P: Post, C: Clock>(
 ) -> (bool, Option<Duration>) {
     let mut any = false;
     for _round in 0..MOST_ROWS {
-        let next = until_settled(node, rt, clock);
-        if next != Some(Duration::ZERO) && !node.is_ready(rt) {
+        let (has_passed, next) = until_settled(node, rt, clock);
+        if !has_passed && !node.is_ready(rt) {
             return (any, next);
         }
         let went = match node.take_all(rt, clock, &[]) {
             Ok(Some(taken)) => hand_out(post, taken),
             Ok(None) => go_on_singly(node, rt, post, clock),
-            Err(_) => return (any, Some(moment())),
+            Err(fault) => {
+                note_lack(post, fault);
+                return (any, Some(moment()));
+            }
         };
         if !went {
             return (any, Some(sooner(next, moment())));
@@ -251,17 +254,19 @@ fn go_on<N: Serves, W: Wait, P: Post, C: Clock>(
     (any, Some(Duration::ZERO))
 }
 
-// When the next of what is decided will have passed; a moment if the clock has no reading.
+// Whether the next of what is decided has passed, and else in how long the node looks again: a moment if the clock has no reading.
 fn until_settled<N: Serves, W: Wait, C: Clock>(
     node: &N,
     rt: &W,
     clock: &mut C,
-) -> Option<Duration> {
-    let (_, at) = node.earliest_decided(rt)?;
+) -> (bool, Option<Duration>) {
+    let Some((_, at)) = node.earliest_decided(rt) else {
+        return (false, None);
+    };
     match clock.now() {
-        None => Some(moment()),
-        Some(now) if now.after(at) => Some(Duration::ZERO),
-        Some(now) => Some(until_after(&now, at)),
+        None => (false, Some(moment())),
+        Some(now) if now.after(at) => (true, Some(Duration::ZERO)),
+        Some(now) => (false, Some(until_after(&now, at))),
     }
 }
 

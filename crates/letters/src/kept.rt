@@ -207,6 +207,10 @@ impl<P: Post> Post for Watched<'_, P> {
         self.post.refuse(refused);
     }
 
+    fn lack_memory(&mut self) {
+        self.post.lack_memory();
+    }
+
     fn assure(&mut self, under_way: UnderWay) {
         self.post.assure(under_way);
     }

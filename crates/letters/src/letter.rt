@@ -58,6 +58,9 @@ pub trait Post {
     /// Tells a session that a letter of it was refused.
     fn refuse(&mut self, _refused: Refused) {}
 
+    /// Notes that the node was refused memory for something that is due and that nobody waits for a word of.
+    fn lack_memory(&mut self) {}
+
     /// Tells a session that what it has sent again is under way.
     fn assure(&mut self, _under_way: UnderWay) {}
 

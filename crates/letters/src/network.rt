@@ -5,10 +5,10 @@ use crate::bell::Bell;
 use crate::gate::Gate;
 use crate::letter::{Letter, Post, Refused, Reply, UnderWay};
 use crate::sessions::Sessions;
-use crossbeam_channel::{Receiver, Sender, unbounded};
+use crossbeam_channel::{Receiver, SendError, Sender, unbounded};
 use message::{Address, Envelope};
 use std::alloc::Global;
-use std::sync::atomic::{AtomicU64, Ordering};
+use std::sync::atomic::{AtomicBool, AtomicU64, Ordering};
 use std::sync::{Mutex, Wait};
 use std::time::Duration;
 use std::{thread, time};
@@ -16,13 +16,14 @@ use units::{Fault, ShardNo, Stamp, TxnId};
 
 /// What carries letters to nodes and answers to workers. It has the inboxes and bells of all nodes, by shard, and the inboxes of all workers.
 /// It knows who runs which transaction, and which shards have stopped. A letter to nobody, to one who is gone, or for which there is no
-/// memory, is lost.
+/// memory, is lost. It notes the last of these, and also that a node was refused memory (`has_lacked_memory`).
 pub struct Network {
     nodes: Vec<Sender<Letter>>,
     bells: Vec<Bell>,
     workers: Vec<Sender<Reply>>,
     sessions: Mutex<Sessions>,
     stopped: AtomicU64,
+    lacked: AtomicBool,
 }
 
 impl Drop for Network {
@@ -33,6 +34,7 @@ impl Drop for Network {
             workers: _,
             sessions: _,
             stopped: _,
+            lacked: _,
         } = self;
     }
 }
@@ -63,6 +65,7 @@ impl Network {
             workers: Vec::new(alloc),
             sessions,
             stopped: AtomicU64::new(0),
+            lacked: AtomicBool::new(false),
         };
         let mut inboxes = Inboxes {
             nodes: Vec::new(alloc),
@@ -89,7 +92,7 @@ impl Network {
         match to {
             Address::Shard(shard) => self.send_to(rt, shard, Letter::Carry(message)),
             Address::Session(txn) => match self.inbox_of(rt, txn) {
-                Some(inbox) => drop(inbox.send(rt, Reply::Carry(message))),
+                Some(inbox) => self.note(inbox.send(rt, Reply::Carry(message))),
                 None => drop(message),
             },
         }
@@ -107,23 +110,45 @@ impl Network {
     // Sends a letter to a shard's node.
     fn send_to<R: Wait>(&self, rt: &R, shard: ShardNo, letter: Letter) {
         match self.nodes.get(usize::from(shard.number())) {
-            Some(inbox) => drop(inbox.send(rt, letter)),
+            Some(inbox) => self.note(inbox.send(rt, letter)),
             None => drop(letter),
         }
     }
 
     /// Tells the worker that runs the transaction that a letter of it was refused.
     pub fn refuse<R: Wait>(&self, rt: &R, refused: Refused) {
+        if refused.fault == Fault::Memory {
+            self.lack_memory();
+        }
         if let Some(inbox) = self.inbox_of(rt, refused.txn) {
-            drop(inbox.send(rt, Reply::Refused(refused)));
+            self.note(inbox.send(rt, Reply::Refused(refused)));
         }
     }
 
     /// Tells the worker that runs the transaction that what it has sent again is under way.
     pub fn assure<R: Wait>(&self, rt: &R, under_way: UnderWay) {
         if let Some(inbox) = self.inbox_of(rt, under_way.txn) {
-            drop(inbox.send(rt, Reply::UnderWay(under_way)));
+            self.note(inbox.send(rt, Reply::UnderWay(under_way)));
         }
+    }
+
+    // Notes it if what was sent is lost for want of memory.
+    fn note<T: Drop>(&self, sent: Result<(), SendError<T>>) {
+        if let Err(SendError::OutOfMemory(_)) = &sent {
+            self.lack_memory();
+        }
+        drop(sent);
+    }
+
+    /// Notes that memory was refused to a node, or to a letter.
+    pub fn lack_memory(&self) {
+        self.lacked.store(true, Ordering::SeqCst);
+    }
+
+    /// Tells whether memory was refused since the network was made: to a letter, which is lost then, or to a node, for a letter or for what it
+    /// does by itself. What was to be answered may never be.
+    pub fn has_lacked_memory(&self) -> bool {
+        self.lacked.load(Ordering::SeqCst)
     }
 
     /// Tells whether the shard has stopped, as its gate was told.
@@ -165,7 +190,7 @@ impl Network {
         match (self.bells.get(number), self.nodes.get(number)) {
             (Some(bell), Some(inbox)) => {
                 if bell.ring() {
-                    drop(inbox.send(rt, Letter::Look));
+                    self.note(inbox.send(rt, Letter::Look));
                 }
                 bell.wait(rt, at, longest);
             }
@@ -287,6 +312,10 @@ impl<R: Wait> Post for Mail<'_, '_, R> {
 
     fn refuse(&mut self, refused: Refused) {
         self.network.refuse(self.rt, refused);
+    }
+
+    fn lack_memory(&mut self) {
+        self.network.lack_memory();
     }
 
     fn assure(&mut self, under_way: UnderWay) {

@@ -129,8 +129,9 @@ pub fn serve<N: Serves, W: Wait + time::Clock, P: Post, C: Clock, G: Gate>(
         stopped: false,
     };
     for _letter in rt.forever() {
-        let is_idle = round.reads.is_none() && inbox.is_empty();
-        let is_due = is_idle || round.in_a_row >= LETTERS_IN_A_ROW || round.chores.are_late(rt);
+        let is_due = inbox.is_empty()
+            || round.in_a_row >= LETTERS_IN_A_ROW
+            || round.chores.are_late(rt);
         let pause = if is_due {
             tend(node, rt, post, clock, gate, &mut round)
         } else {
@@ -252,7 +253,7 @@ fn take_together<N: Serves, W: Wait + time::Clock, P: Post, C: Clock, G: Gate>(
     };
     let start = Instant::now(rt).ok();
     batch.fill(rt, &mut round.reads, inbox, letter);
-    batch.end_turns(&mut round.turns);
+    batch.end_turns(&mut round.turns, &mut round.reads);
     let first = round.n;
     round.n = take_all(node, rt, post, clock, gate, &mut round.kept, first, batch);
     round.in_a_row = round.in_a_row.saturating_add(round.n.saturating_sub(first));

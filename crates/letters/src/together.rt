@@ -1,5 +1,5 @@
 //! Letters that are taken together.
-use crate::acts::{post_all, refuse};
+use crate::acts::{post_all, refuse, session_of};
 use crate::gate::Gate;
 use crate::kept::{Kept, Watched};
 use crate::letter::{Letter, Post};
@@ -63,9 +63,12 @@ impl Batch {
         }
     }
 
-    /// Tells of the transactions that close by it.
-    pub fn end_turns(&self, turns: &mut Turns) {
+    /// Tells of the transactions that close by it: their reads wait no more, and keep nobody waiting.
+    pub fn end_turns(&self, turns: &mut Turns, reads: &mut Waiting) {
         for input in &self.inputs {
+            if let Some(txn) = session_of(input) {
+                reads.forget(txn);
+            }
             if let Input::Deliver(message) = input {
                 turns.end(message);
             }

@@ -19,8 +19,15 @@ use std::{thread, time};
 use truetime::Clock;
 use units::Fault;
 
-// So often a worker waits 20 milliseconds in silence before it gives a transaction up: two seconds.
-const PATIENCE: u32 = 100;
+// So many rounds of 20 milliseconds a worker waits, the first silence counted as one, while all shards that it asked say that the transaction
+// waits for others. Then it gives the transaction up.
+const PATIENCE: u32 = 5;
+
+// Workers that wait for one another are not to give up at the same time: so their patience differs, by their numbers.
+const APART: usize = 4;
+
+// For so many milliseconds a worker waits for a shard that says nothing.
+const GIVE_UP: u64 = 2_000;
 
 /// What the workers are made of, one of each for each worker.
 #[derive(Drop)]
@@ -57,8 +64,9 @@ impl Staff {
             &shared.stop,
             inbox,
             number,
-            PATIENCE,
-        );
+            PATIENCE.saturating_add((number % APART) as u32),
+        )
+        .by_progress(GIVE_UP);
         Worker {
             rt,
             wire,

@@ -84,6 +84,10 @@ impl<R: Wait + time::Clock, C: Clock + Drop, W: Watch> Worker<'_, '_, R, C, W> {
     {
         let stopwatch = Stopwatch::start(self.rt);
         let ended = self.transact(keys, lines)?;
+        if self.shared.network.has_lacked_memory() {
+            // Letters are lost then, or a node puts off what is due: the drive would wait for them.
+            return Err(Fault::Memory);
+        }
         self.watch.turned(Turn {
             ended,
             micros: stopwatch.micros(self.rt),
