@@ -1,6 +1,7 @@
 //! The command `inspect`: the verdict on logs in files.
-ghost use Rattle.std.specs.Prelude.{◌≡◌, ◌++◌, IfOk, IfErr, codes, string_bytes};
+ghost use Rattle.std.specs.Prelude.{◌≡◌, ◌++◌, IfOk, IfErr, codes, map, string_bytes};
 ghost use Rattle.units.specs.declared.line.Verdict.{Verdict};
+ghost use Rattle.commands.specs.OnDisks.{IsVerdictOf};
 ghost use Rattle.showing.specs.Files.{IsNotJudged};
 ghost use Rattle.output.specs.Verdicts.{exit_status, text_of};
 
@@ -20,6 +21,9 @@ pub fn inspect<F: Files>(
 ) -> Result<(String, u8), Fault>
     ensures line { IfOk result (λ told. (verdict : Verdict) × (told.1 ≡ exit_status verdict)
         × (string_bytes told.0 ≡ text_of verdict ++ codes "\n")) }
+    // The verdict is that on the logs that were opened under these names.
+    ensures named { IfOk result (λ told. IsVerdictOf F.Log.keeps_model F.Log.file
+        (F.is_named files.now) (map (λ log. log.now) logs.now) told.1 (string_bytes told.0)) }
     ensures refused { IfErr result IsNotJudged }
 {
     let verdict = inspect_files(alloc, files, lines, logs)?;

@@ -1,13 +1,15 @@
 //! The commands `history` and `get`: what the log of a store says of a key.
-ghost use Rattle.std.specs.Prelude.{◌≡◌, ◌⊎◌, ◌<◌, List, ℕ, None, Err, IfOk, IfErr, string_bytes};
+ghost use Rattle.std.specs.Prelude.{◌≡◌, ◌⊎◌, ◌<◌, List, ℕ, false, None, Err, IfOk, IfErr, string_bytes};
 ghost use Rattle.std.specs.Io.KnownBytes.{Appends};
+ghost use Rattle.disk.specs.File.{surface};
 ghost use Rattle.units.specs.declared.fault.Fault.{Fault};
 ghost use Rattle.commands.specs.Faults.{FailsAs};
+ghost use Rattle.commands.specs.OnDisks.{IsOfKey, IsRawIn};
 ghost use Rattle.commands.specs.Replies.{IsHistoryAs, IsToldOf};
 ghost use Rattle.output.specs.Failures.{FailsFor};
 ghost use Rattle.output.specs.Streams.{failures_of, writer_of};
 ghost use Rattle.output.specs.declared.failure.Failure.TheVariants.{Refused};
-ghost use Rattle.showing.specs.HistoryTexts.{IsAValue, IsNotTold};
+ghost use Rattle.showing.specs.HistoryTexts.{IsAValue, IsHistoryIn, IsNotTold, IsValueIn};
 ghost use Rattle.showing.specs.Json.{IsAJsonValue};
 
 use crate::printing::{print_text, print_value};
@@ -30,6 +32,10 @@ pub fn history<F: Files>(
     files: &F,
 ) -> Result<String, Fault>
     ensures text { IfOk result (λ text. IsHistoryAs json (string_bytes text)) }
+    // As lines it is that of the log of the key's shard.
+    ensures told { json ≡ false → IfOk result (λ text. IsOfKey F.Log.keeps_model F.Log.file
+        (F.is_named files.now) dir.now key.now
+        (λ setup image. IsHistoryIn setup key.now image (string_bytes text))) }
     ensures refused { IfErr result IsNotTold }
 {
     let (setup, log) = open_of_key(alloc, files, dir, key)?;
@@ -47,6 +53,8 @@ fn history_in<D: Disk + Drop>(
     json: bool,
 ) -> Result<String, Fault>
     ensures text { IfOk result (λ text. IsHistoryAs json (string_bytes text)) }
+    ensures told { json ≡ false → D.keeps_model → IfOk result (λ text. IsHistoryIn setup.now
+        key.now (surface (D.file disk)).seen (string_bytes text)) }
     ensures refused { IfErr result IsNotTold }
 {
     if json {
@@ -92,6 +100,9 @@ fn get<F: Files>(
     files: &F,
 ) -> Result<String, Fault>
     ensures text { IfOk result (λ text. IsAValue (string_bytes text)) }
+    ensures told { IfOk result (λ text. IsOfKey F.Log.keeps_model F.Log.file
+        (F.is_named files.now) dir.now key.now
+        (λ setup image. IsValueIn setup key.now at image (string_bytes text))) }
     ensures refused { IfErr result IsNotTold }
 {
     let (setup, log) = open_of_key(alloc, files, dir, key)?;
@@ -125,6 +136,9 @@ fn get_raw<F: Files>(
     at: Option<Stamp>,
     files: &F,
 ) -> Result<Option<Value>, Fault>
+    ensures told { IfOk result (λ value. IsOfKey F.Log.keeps_model F.Log.file
+        (F.is_named files.now) dir.now key.now
+        (λ setup image. IsRawIn setup key.now at image value)) }
     ensures refused { IfErr result IsNotTold }
 {
     let (setup, log) = open_of_key(alloc, files, dir, key)?;
@@ -141,6 +155,8 @@ fn value_alone<D: Disk + Drop>(
     key: &Key,
     at: Option<Stamp>,
 ) -> Result<Option<Value>, Fault>
+    ensures told { D.keeps_model → IfOk result (λ value. IsRawIn setup.now key.now at
+        (surface (D.file disk)).seen value) }
     ensures refused { IfErr result IsNotTold }
 {
     let Found { value, .. } = read_value(alloc, disk, setup, key, at)?;

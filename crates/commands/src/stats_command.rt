@@ -1,8 +1,8 @@
 //! The commands `stats` and `dump`: what logs hold.
-ghost use Rattle.std.specs.Prelude.{◌≡◌, IfErr, IfOk, IfSome, map, string_bytes};
+ghost use Rattle.std.specs.Prelude.{◌≡◌, IfErr, IfOk, IfSome, false, map, string_bytes};
 ghost use Rattle.commands.specs.Faults.{IsNotCounted, IsUnreadStore};
 ghost use Rattle.commands.specs.Replies.{AreLogsOf, AreStatsAs, AreStatsIn, IsDumpAs, log_name, log_names};
-ghost use Rattle.showing.specs.Dumps.{IsNotShown};
+ghost use Rattle.showing.specs.Dumps.{IsDumpOf, IsNotShown};
 
 use crate::store_folder::splits_of;
 use showing::{dump_file, dump_file_json, stats_files, stats_files_json};
@@ -13,6 +13,9 @@ use units::Fault;
 /// What the log in a file holds, as text or as JSON.
 pub fn dump<F: Files>(alloc: Global, file: &str, json: bool, files: &F) -> Result<String, Fault>
     ensures text { IfOk result (λ text. IsDumpAs json (string_bytes text)) }
+    // As lines it is that of the file of this name.
+    ensures named { json ≡ false → IfOk result (λ text. IsDumpOf F.Log.keeps_model F.Log.file
+        (F.is_named files.now) file.now (string_bytes text)) }
     ensures refused { IfErr result IsNotShown }
 {
     if json {

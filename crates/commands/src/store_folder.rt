@@ -1,6 +1,7 @@
 //! The log of a store that a key is in, to be read alone.
 ghost use Rattle.std.specs.Prelude.{◌≡◌, ◌⊎◌, IfOk, IfErr};
 ghost use Rattle.commands.specs.Faults.{IsNoManifest, IsUnreadStore};
+ghost use Rattle.commands.specs.Replies.{log_name};
 ghost use Rattle.units.specs.Keys.{shard_of};
 
 use host_files::manifest_text;
@@ -24,6 +25,8 @@ pub fn open_of_key<F: Files>(
     key: &Key,
 ) -> Result<(Setup, F::Log), Fault>
     ensures owned { IfOk result (λ opened. shard_of opened.0.splits key.now ≡ opened.0.shard) }
+    ensures named { IfOk result (λ opened.
+        F.is_named files.now (log_name folder.now opened.0.shard) opened.1) }
     ensures refused { IfErr result IsUnreadStore }
 {
     let setup = setup_of(splits_of(alloc, files, folder)?, key)?;
@@ -68,7 +71,9 @@ fn open_log<F: Files>(
     folder: &str,
     setup: &Setup,
 ) -> Result<F::Log, Fault>
-    ensures { IfErr result IsUnreadStore }
+    ensures named { IfOk result (λ log.
+        F.is_named files.now (log_name folder.now setup.now.shard) log) }
+    ensures refused { IfErr result IsUnreadStore }
 {
     let shard = setup.shard;
     let path = format!(in alloc; "{folder}/shard-{shard}.log")?;
