@@ -55,6 +55,7 @@ fn main(rt: HostRuntime) -> ExitCode {
 fn tell(rt: &HostRuntime, did: Did) -> ExitCode {
     let Did {
         moved,
+        refused,
         dropped,
         unknown,
         audits,
@@ -62,7 +63,7 @@ fn tell(rt: &HostRuntime, did: Did) -> ExitCode {
     } = did;
     let _ = writeln!(
         rt.stderr(),
-        "moved {moved} dropped {dropped} unknown {unknown}"
+        "moved {moved} refused {refused} dropped {dropped} unknown {unknown}"
     );
     let printed = println!(rt; "audits {audits} wrong {wrong}");
     if printed.is_ok() && wrong == 0 {
@@ -121,7 +122,9 @@ fn work<R: Threads + Wait + time::Clock + Sync>(
     let Some(mut first) = clients.pop() else {
         return Ok(Did::nothing());
     };
-    open_accounts(alloc, &mut first)?;
+    if !open_accounts(&mut first)? {
+        return Ok(Did::nothing().with_audit(0));
+    }
     let mut jobs = Vec::new(alloc);
     for client in clients {
         jobs.push((jobs.len() as u64 + 1, client))?;
@@ -137,7 +140,7 @@ fn work<R: Threads + Wait + time::Clock + Sync>(
             if seed == 0 {
                 audit(&mut client, transfers)
             } else {
-                move_money(alloc, &mut client, seed, transfers)
+                move_money(&mut client, seed, transfers)
             }
         },
     )?;

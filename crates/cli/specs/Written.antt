@@ -9,13 +9,33 @@ use Rattle.session.specs.Sessions.{Client, Goes, begun, buffers}
 use Rattle.session.specs.Shown.{IsDenied}
 use Rattle.client.specs.Ends.{halt_for}
 use Rattle.client.specs.declared.ended.Ended.{Ended}
-use Rattle.client.specs.declared.ended.Ended.TheVariants.{Aborted}
-use Rattle.client.specs.declared.ended.Halt.{Halt}
-use Rattle.client.specs.declared.ended.Halt.TheVariants as halt
-use Rattle.store.specs.Attempts.{Attempt, Doing, IsAttempt, id_in}
+use Rattle.client.specs.declared.ended.Ended.TheVariants.{Aborted, Committed, Unknown}
+use Rattle.client.specs.declared.ended.Halt.{Halt as Halted}
+use Rattle.store.specs.Attempts.{Attempt as AttemptOf, Doing, IsAttempt, id_in, widened}
+use Rattle.store.specs.declared.ended.Ended.{Ended as EndedOf}
+use Rattle.store.specs.declared.ended.Ended.TheVariants as ended
+use Rattle.store.specs.declared.ended.Halt.{Halt as HaltOf}
+use Rattle.store.specs.declared.ended.Halt.TheVariants as halt
 use Rattle.store.specs.Unopened.{IsUnmade}
 use Rattle.host_files.specs.Folders.{IsFolderFault}
 use Rattle.commands.specs.Puts.{Said}
+
+-- the code of a put gives no value, and abandons for no reason of its own
+abbrev pub Halt : Type 0
+Halt = HaltOf (Unit {0})
+
+abbrev pub Attempt : Type 0
+Attempt = AttemptOf (Unit {0}) (Unit {0})
+
+-- how the store tells the end of a put, and what is printed of it
+abbrev pub Told : Type 0
+Told = EndedOf (Unit {0}) (Unit {0})
+
+abbrev pub end_told : Told → Ended
+end_told (ended.Committed at id value) = Committed at
+end_told (ended.Abandoned why) = Aborted
+end_told (ended.Aborted tries) = Aborted
+end_told (ended.Unknown id) = Unknown id
 
 -- what the code of a put does to its transaction: it writes this value to this key; or it changes nothing, for want of memory or as the
 -- session refuses the write
@@ -23,7 +43,7 @@ abbrev pub Puts : Bytes → Bytes → Doing → Result (Unit {0}) Halt → Doing
 Puts key value old result new =
     MatchResult result (λ _. buffers (record { key = key; value = Some value }) old.session.client ≡ Goes new.session.client [])
     (λ why. (new ≡ old) × ((why ≡ halt.Refused Memory)
-    ⊎ ((fault : Fault) × (why ≡ halt_for fault) × IsDenied (buffers (record { key = key; value = Some value }) old.session.client) fault)))
+    ⊎ ((call : Halted) × (why ≡ widened call) × ((fault : Fault) × (call ≡ halt_for fault) × IsDenied (buffers (record { key = key; value = Some value }) old.session.client) fault))))
 
 -- a session with one write, of this value to this key, and without a read
 abbrev pub one_write : Bytes → Bytes → Id → Client

@@ -1,15 +1,15 @@
 //! A write to a store in a folder of the machine, on its threads.
 ghost use Rattle.std.specs.Prelude.{◌≡◌, None, IfErr, IfOk, MatchResult};
-ghost use Rattle.cli.specs.Written.{IsPut, IsUnwritten, IsWritten, Puts};
+ghost use Rattle.cli.specs.Written.{IsPut, IsUnwritten, IsWritten, Puts, end_told};
 
-use commands::Put;
+use commands::{Ended, Put};
 use std::alloc::Global;
 use std::fs::File;
 use std::random::RandomSource;
 use std::sync::Wait;
 use std::thread::Threads;
 use std::{rt, time};
-use store::{Client, Ended, Halt, Limit, Options, Store, Transaction, default_limit};
+use store::{Client, Halt, Limit, Options, Store, Transaction, default_limit};
 use units::{Fault, Key, Reason, Splits, Value};
 
 // How often the write is tried. No other client is there, but what the store was in the midst of when it was closed may abort it.
@@ -80,10 +80,28 @@ fn commit<R: Wait + time::Clock>(
     let Some(mut client) = clients.pop() else {
         return Err(Fault::BadRequest(Reason::Settings));
     };
-    client.transact(
+    let told = client.transact(
         TRIES,
         |tx: &mut Transaction<'_, R>| -> Result<(), Halt>
             ensures { Puts key.entry.now value.entry.now tx.old result tx.new }
-        { tx.put(key, value.copy()?) },
-    )
+        {
+            tx.put(key, value.copy()?)?;
+            Ok(())
+        },
+    );
+    match told {
+        Ok(told) => Ok(end_told(told)),
+        Err(fault) => Err(fault),
+    }
+}
+
+// How a put ended. Its code never abandons it.
+fn end_told(told: store::Ended<()>) -> Ended
+    ensures { result ≡ end_told told }
+{
+    match told {
+        store::Ended::Committed { at, .. } => Ended::Committed(at),
+        store::Ended::Abandoned(()) | store::Ended::Aborted { .. } => Ended::Aborted,
+        store::Ended::Unknown { id } => Ended::Unknown(id),
+    }
 }

@@ -146,7 +146,7 @@ fn writes<R: Wait + time::Clock>(alloc: Global, client: &mut Client<'_, R>, roun
         }
         Ok(())
     });
-    matches!(ended, Ok(Ended::Committed(_)))
+    matches!(ended, Ok(Ended::Committed { .. }))
 }
 
 // Whether one transaction reads what the round gave each key.
@@ -160,17 +160,17 @@ fn reads<R: Wait + time::Clock>(
         let mut number = 0u64;
         for found in tx.get_all(keys)? {
             if !is_of_round(alloc, number, round, &found)? {
-                return Err(Halt::Abandon);
+                return Err(Halt::Abandon(()));
             }
             number = number.saturating_add(1);
         }
         if number == KEYS {
             Ok(())
         } else {
-            Err(Halt::Abandon)
+            Err(Halt::Abandon(()))
         }
     });
-    matches!(ended, Ok(Ended::Committed(_)))
+    matches!(ended, Ok(Ended::Committed { .. }))
 }
 
 // Whether a view does.
@@ -208,9 +208,10 @@ fn shows<R: Wait + time::Clock>(
 fn heats<R: Wait + time::Clock>(alloc: Global, client: &mut Client<'_, R>, versions: u64) -> bool {
     for number in 0..versions {
         let ended = client.transact(20, |tx: &mut Transaction<'_, R>| -> Result<(), Halt> {
-            tx.put(&Key::new(b"b-hot")?, hot_value(alloc, number)?)
+            tx.put(&Key::new(b"b-hot")?, hot_value(alloc, number)?)?;
+            Ok(())
         });
-        if !matches!(ended, Ok(Ended::Committed(_))) {
+        if !matches!(ended, Ok(Ended::Committed { .. })) {
             return false;
         }
     }

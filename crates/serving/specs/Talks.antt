@@ -1,6 +1,5 @@
 -- What a client is asked over lines and answers, and the session that these alone lead.
-use Rattle.std.specs.Prelude.{◌≡◌, ◌⊎◌, ℕ, List, [], ◌∷◌, ◌++◌, Option, Some, None, Result, Ok, Err, map, IfSome}
-use Rattle.units.specs.Ids.{Id}
+use Rattle.std.specs.Prelude.{◌≡◌, ◌⊎◌, Bool, true, false, List, [], ◌∷◌, ◌++◌, Option, Some, None, Result, Ok, Err, map, IfSome}
 use Rattle.units.specs.Keys.{Bytes}
 use Rattle.units.specs.declared.fault.Fault.{Fault}
 use Rattle.units.specs.declared.fault.Fault.TheVariants.{Memory}
@@ -9,11 +8,13 @@ use Rattle.session.specs.Sessions.{Client, Goes, buffers}
 use Rattle.session.specs.Shown.{IsDenied}
 use Rattle.client.specs.Ends.{halt_for}
 use Rattle.client.specs.Readings.{HasRead, seen}
-use Rattle.client.specs.declared.ended.Ended.{Ended}
-use Rattle.client.specs.declared.ended.Ended.TheVariants as ended
-use Rattle.client.specs.declared.ended.Halt.{Halt}
-use Rattle.client.specs.declared.ended.Halt.TheVariants as halt
-use Rattle.store.specs.Attempts.{AreAttempts, Attempt, ComesTo, Worker, worked_all}
+use Rattle.client.specs.declared.ended.Halt.{Halt as Halted}
+use Rattle.client.specs.declared.ended.Halt.TheVariants as halted
+use Rattle.store.specs.Attempts.{AreAttempts, Attempt, ComesTo, Worker, widened, worked_all}
+use Rattle.store.specs.declared.ended.Ended.{Ended}
+use Rattle.store.specs.declared.ended.Ended.TheVariants as ended
+use Rattle.store.specs.declared.ended.Halt.{Halt}
+use Rattle.store.specs.declared.ended.Halt.TheVariants as halt
 use Rattle.requests.specs.declared.asked.Request.{Request}
 use Rattle.requests.specs.declared.asked.Request.TheVariants as request
 use Rattle.requests.specs.declared.answered.Answer.{Answer}
@@ -23,6 +24,13 @@ use Rattle.serving.specs.declared.acts.End.TheVariants.{Stays, Ends}
 use Rattle.serving.specs.declared.asks.Exchange.{Exchange}
 use Rattle.serving.specs.declared.conversation.Last.{Last}
 use Rattle.serving.specs.declared.conversation.Last.TheVariants as last
+
+-- what the code of a transaction over lines comes to, and how it ends: it gives no value, and abandons for no reason of its own
+abbrev pub Ran : Type 0
+Ran = Result (Unit {0}) (Halt (Unit {0}))
+
+abbrev pub Told : Type 0
+Told = Result (Ended (Unit {0}) (Unit {0})) Fault
 
 -- ---- one line
 
@@ -35,14 +43,14 @@ IsRead splits keys (Ends (Err why)) c d = HasRead splits c d
 IsRead splits keys _ c d = ⊥
 
 -- the session refuses a write, for its own reason or for want of memory
-abbrev pub WasDenied : Write → Halt → Client → Type 0
+abbrev pub WasDenied : Write → Halted → Client → Type 0
 WasDenied w why c = (fault : Fault) × (why ≡ halt_for fault) × IsDenied (buffers w c) fault
 
 -- what a write comes to: the session buffers this write; or it is as it was, and refuses it
 abbrev pub IsWrote : Write → End → Client → Client → Type 0
 IsWrote w (Stays answer.Done) c d = buffers w c ≡ Goes d []
-IsWrote w (Stays (answer.Refused fault)) c d = (d ≡ c) × ((fault ≡ Memory) ⊎ WasDenied w (halt.Refused fault) c)
-IsWrote w (Ends (Err why)) c d = (d ≡ c) × WasDenied w why c
+IsWrote w (Stays (answer.Refused fault)) c d = (d ≡ c) × ((fault ≡ Memory) ⊎ WasDenied w (halted.Refused fault) c)
+IsWrote w (Ends (Err why)) c d = (d ≡ c) × ((call : Halted) × (why ≡ widened call) × WasDenied w call c)
 IsWrote w _ c d = ⊥
 
 -- what a line makes of a transaction's session: it stays open, and this is answered; or it is to end so. It closes only where that is asked
@@ -51,7 +59,7 @@ IsActed splits (Ok (request.Get keys)) end c d = IsRead splits keys.items end c 
 IsActed splits (Ok (request.Put key value)) end c d = IsWrote (record { key = key; value = Some value }) end c d
 IsActed splits (Ok (request.Erase key)) end c d = IsWrote (record { key = key; value = None }) end c d
 IsActed splits (Ok request.Commit) (Ends (Ok closes)) c d = d ≡ c
-IsActed splits (Ok request.Abort) (Ends (Err halt.Abandon)) c d = d ≡ c
+IsActed splits (Ok request.Abort) (Ends (Err (halt.Abandon why))) c d = d ≡ c
 IsActed splits (Ok request.Help) (Stays answer.Help) c d = d ≡ c
 IsActed splits (Ok request.Begin) (Stays answer.Misplaced) c d = d ≡ c
 IsActed splits (Ok request.View) (Stays answer.Misplaced) c d = d ≡ c
@@ -82,15 +90,15 @@ pub record IsTalk (splits : List Bytes) (before now : List Exchange) (c d : Clie
 
 -- why no more is taken, and what the code of the transaction comes to then: the last line asks for it, or is what the store ended it at; or
 -- none came, and it is given up, as it is where an answer could not be told
-abbrev pub IsOver : List Bytes → Last → Result (Unit {0}) Halt → Client → Client → Type 0
+abbrev pub IsOver : List Bytes → Last → Ran → Client → Client → Type 0
 IsOver splits (last.Asked asked) ran c d = IsActed splits asked (Ends ran) c d
-IsOver splits last.Silence (Err halt.Abandon) c d = d ≡ c
-IsOver splits last.Nothing (Err halt.Abandon) c d = d ≡ c
-IsOver splits (last.Failed fault) (Err halt.Abandon) c d = (asked : Result Request Fault) × ((told : Answer) × IsActed splits asked (Stays told) c d)
+IsOver splits last.Silence (Err (halt.Abandon why)) c d = d ≡ c
+IsOver splits last.Nothing (Err (halt.Abandon why)) c d = d ≡ c
+IsOver splits (last.Failed fault) (Err (halt.Abandon why)) c d = (asked : Result Request Fault) × ((told : Answer) × IsActed splits asked (Stays told) c d)
 IsOver splits _ _ c d = ⊥
 
 -- the lines of a transaction: what was said led its session, and then it was over
-pub record IsSpoken (splits : List Bytes) (before now : List Exchange) (why : Last) (ran : Result (Unit {0}) Halt) (c d : Client) : Type 0 where
+pub record IsSpoken (splits : List Bytes) (before now : List Exchange) (why : Last) (ran : Ran) (c d : Client) : Type 0 where
   pub between : Client
   pub talk : IsTalk splits before now c between
   pub over : IsOver splits why ran between d
@@ -103,30 +111,31 @@ IsLate before now =
 -- ---- how a transaction ended
 
 -- what its last line is answered
-abbrev pub answer_of_last : Id → Result Ended Fault → Answer
-answer_of_last t (Ok (ended.Committed s)) = answer.Committed s t
-answer_of_last t (Ok ended.Aborted) = answer.Aborted
-answer_of_last t (Ok (ended.Unknown u)) = answer.Unknown u
-answer_of_last t (Err fault) = answer.Over fault
+abbrev pub answer_of_last : Told → Answer
+answer_of_last (Ok (ended.Committed at id value)) = answer.Committed at id
+answer_of_last (Ok (ended.Abandoned why)) = answer.Aborted
+answer_of_last (Ok (ended.Aborted tries)) = answer.Aborted
+answer_of_last (Ok (ended.Unknown id)) = answer.Unknown id
+answer_of_last (Err fault) = answer.Over fault
 
 -- the same; where none began, that is refused
-abbrev pub answer_of_end : Option Id → Result Ended Fault → Answer
-answer_of_end (Some t) e = answer_of_last t e
-answer_of_end None (Ok e) = answer.Aborted
-answer_of_end None (Err fault) = answer.Refused fault
+abbrev pub answer_of_end : Bool → Told → Answer
+answer_of_end true told = answer_of_last told
+answer_of_end false (Ok end) = answer.Aborted
+answer_of_end false (Err fault) = answer.Refused fault
 
 -- what a write by a transaction of its own is answered: the same, but that nothing was open which a refusal could end
-abbrev pub answer_of_write : Id → Result Ended Fault → Answer
-answer_of_write t (Err fault) = answer.Refused fault
-answer_of_write t e = answer_of_last t e
+abbrev pub answer_of_write : Told → Answer
+answer_of_write (Err fault) = answer.Refused fault
+answer_of_write told = answer_of_last told
 
 -- A transaction over lines: the client has made one attempt at most, which is a session of the definitions. Where a line of it is still to be
 -- answered, that is by what the one try came to.
 pub record IsTried (old new : Worker) (last : Option Exchange) : Type 0 where
-  pub made : List Attempt
+  pub made : List (Attempt (Unit {0}) (Unit {0}))
   pub attempts : AreAttempts old.run made
   pub whole : new ≡ worked_all old made
-  pub id : Option Id
-  pub ended : Result Ended Fault
+  pub began : Bool
+  pub ended : Told
   pub comes : ComesTo 1 new made ended
-  pub told : IfSome last (λ e. e.answer ≡ answer_of_end id ended)
+  pub told : IfSome last (λ e. e.answer ≡ answer_of_end began ended)

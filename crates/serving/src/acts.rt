@@ -7,7 +7,7 @@ use std::alloc::Global;
 use std::sync::Wait;
 use std::time;
 use std::time::{Duration, Instant};
-use store::{Client, Ended, Halt, Key, Transaction, TxnId, Value, View};
+use store::{Client, Ended, Halt, Halted, Key, Transaction, Value, View};
 use units::Fault;
 
 /// What a line makes of an open transaction: it is answered, and the transaction stays open; or the transaction is to end so.
@@ -31,7 +31,7 @@ pub fn act<R: Wait + time::Clock>(
         Ok(Request::Put(key, value)) => put(tx, key, value),
         Ok(Request::Erase(key)) => erase(tx, key),
         Ok(Request::Commit) => End::Ends(Ok(())),
-        Ok(Request::Abort) => End::Ends(Err(Halt::Abandon)),
+        Ok(Request::Abort) => End::Ends(Err(Halt::Abandon(()))),
         Ok(Request::Help) => End::Stays(Answer::Help),
         Ok(Request::Begin) => End::Stays(Answer::Misplaced),
         Ok(Request::View) => End::Stays(Answer::Misplaced),
@@ -50,8 +50,8 @@ fn read<R: Wait + time::Clock>(tx: &mut Transaction<'_, R>, keys: &[Key]) -> End
 {
     match tx.get_all(keys) {
         Ok(values) => End::Stays(Answer::Values(values)),
-        Err(Halt::Refused(fault)) => End::Stays(Answer::Refused(fault)),
-        Err(halt) => End::Ends(Err(halt)),
+        Err(Halted::Refused(fault)) => End::Stays(Answer::Refused(fault)),
+        Err(halted) => End::Ends(Err(Halt::from(halted))),
     }
 }
 
@@ -66,8 +66,8 @@ fn put<R: Wait + time::Clock>(tx: &mut Transaction<'_, R>, key: &Key, value: &Va
     };
     match tx.put(key, value) {
         Ok(()) => End::Stays(Answer::Done),
-        Err(Halt::Refused(fault)) => End::Stays(Answer::Refused(fault)),
-        Err(halt) => End::Ends(Err(halt)),
+        Err(Halted::Refused(fault)) => End::Stays(Answer::Refused(fault)),
+        Err(halted) => End::Ends(Err(Halt::from(halted))),
     }
 }
 
@@ -79,41 +79,41 @@ fn erase<R: Wait + time::Clock>(tx: &mut Transaction<'_, R>, key: &Key) -> End
 {
     match tx.erase(key) {
         Ok(()) => End::Stays(Answer::Done),
-        Err(Halt::Refused(fault)) => End::Stays(Answer::Refused(fault)),
-        Err(halt) => End::Ends(Err(halt)),
+        Err(Halted::Refused(fault)) => End::Stays(Answer::Refused(fault)),
+        Err(halted) => End::Ends(Err(Halt::from(halted))),
     }
 }
 
 /// What the last line of a transaction is answered: how that ended, or if none began, why.
-pub fn answer_of_end(id: Option<TxnId>, ended: Result<Ended, Fault>) -> Answer
-    ensures { result ≡ answer_of_end id ended }
+pub fn answer_of_end(began: bool, ended: Result<Ended<()>, Fault>) -> Answer
+    ensures { result ≡ answer_of_end began ended }
 {
-    match id {
-        Some(id) => answer_of_last(id, ended),
-        None => match ended {
-            Ok(_) => Answer::Aborted,
-            Err(fault) => Answer::Refused(fault),
-        },
+    if began {
+        return answer_of_last(ended);
+    }
+    match ended {
+        Ok(_) => Answer::Aborted,
+        Err(fault) => Answer::Refused(fault),
     }
 }
 
-// What the last line of the transaction with this id is answered.
-fn answer_of_last(id: TxnId, ended: Result<Ended, Fault>) -> Answer
-    ensures { result ≡ answer_of_last id ended }
+// What the last line of a transaction is answered that began.
+fn answer_of_last(ended: Result<Ended<()>, Fault>) -> Answer
+    ensures { result ≡ answer_of_last ended }
 {
     match ended {
-        Ok(ended) => answer_of(id, ended),
+        Ok(ended) => answer_of(ended),
         Err(fault) => Answer::Over(fault),
     }
 }
 
-fn answer_of(id: TxnId, ended: Ended) -> Answer
-    ensures { result ≡ answer_of_last id (Ok ended) }
+fn answer_of(ended: Ended<()>) -> Answer
+    ensures { result ≡ answer_of_last (Ok ended) }
 {
     match ended {
-        Ended::Committed(at) => committed(at, id),
-        Ended::Aborted => Answer::Aborted,
-        Ended::Unknown(id) => Answer::Unknown(id),
+        Ended::Committed { at, id, value: () } => committed(at, id),
+        Ended::Abandoned(()) | Ended::Aborted { .. } => Answer::Aborted,
+        Ended::Unknown { id } => Answer::Unknown(id),
     }
 }
 
@@ -221,26 +221,22 @@ fn write_once<R: Wait + time::Clock>(
     key: &Key,
     value: Option<&Value>,
 ) -> Answer {
-    let mut id: Option<TxnId> = None;
     let ended = client.transact(1, |tx: &mut Transaction<'_, R>| -> Result<(), Halt> {
-        id = Some(tx.id());
         match value {
-            Some(value) => tx.put(key, value.copy()?),
-            None => tx.erase(key),
+            Some(value) => tx.put(key, value.copy()?)?,
+            None => tx.erase(key)?,
         }
+        Ok(())
     });
-    match id {
-        Some(id) => answer_of_write(id, ended),
-        None => answer_of_end(None, ended),
-    }
+    answer_of_write(ended)
 }
 
-// What a write by a transaction of its own, with this id, is answered.
-fn answer_of_write(id: TxnId, ended: Result<Ended, Fault>) -> Answer
-    ensures { result ≡ answer_of_write id ended }
+// What a write by a transaction of its own is answered.
+fn answer_of_write(ended: Result<Ended<()>, Fault>) -> Answer
+    ensures { result ≡ answer_of_write ended }
 {
     match ended {
         Err(fault) => Answer::Refused(fault),
-        ended => answer_of_last(id, ended),
+        ended => answer_of_last(ended),
     }
 }

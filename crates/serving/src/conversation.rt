@@ -8,7 +8,7 @@ use requests::{Answer, Request};
 use std::alloc::Global;
 use std::sync::Wait;
 use std::time;
-use store::{Client, Halt, Transaction, TxnId, View};
+use store::{Client, Halt, Transaction, View};
 use units::Fault;
 
 /// Why no more lines of a transaction are taken.
@@ -65,15 +65,13 @@ fn within<A: Asks, R: Wait + time::Clock>(
     ensures { IfOk result (IsTried client.old client.new) }
 {
     let mut begin = Some(begin);
-    let mut id: Option<TxnId> = None;
     let mut last = Last::Nothing;
     let ended = client.transact(1, |tx: &mut Transaction<'_, R>| -> Result<(), Halt> {
-        id = Some(tx.id());
         let (why, ran) = open(rt, asks, tx, begin.take());
         last = why;
         ran
     });
-    let answer = answer_of_end(id, ended);
+    let answer = answer_of_end(begin.is_none(), ended);
     if let Some(asked) = begin {
         drop(last);
         return Ok(Some(Exchange { asked, answer }));
@@ -110,12 +108,12 @@ fn open<A: Asks, R: Wait + time::Clock>(
     begin: Option<Result<Request, Fault>>,
 ) -> (Last, Result<(), Halt>) {
     let Some(asked) = begin else {
-        return (Last::Nothing, Err(Halt::Abandon));
+        return (Last::Nothing, Err(Halt::Abandon(())));
     };
     let answer = Answer::Begun(tx.id());
     match asks.answer(Exchange { asked, answer }) {
         Ok(()) => talk_in(rt, asks, tx),
-        Err(fault) => (Last::Failed(fault), Err(Halt::Abandon)),
+        Err(fault) => (Last::Failed(fault), Err(Halt::Abandon(()))),
     }
 }
 
@@ -153,8 +151,8 @@ fn take_line<A: Asks, R: Wait + time::Clock>(
 {
     match asks.next_of_open() {
         Heard::Asked(asked) => take(asks, tx, asked),
-        Heard::Silence => Some((Last::Silence, Err(Halt::Abandon))),
-        Heard::Nothing => Some((Last::Nothing, Err(Halt::Abandon))),
+        Heard::Silence => Some((Last::Silence, Err(Halt::Abandon(())))),
+        Heard::Nothing => Some((Last::Nothing, Err(Halt::Abandon(())))),
     }
 }
 
@@ -175,7 +173,7 @@ fn take<A: Asks, R: Wait + time::Clock>(
     match act(tx, &asked) {
         End::Stays(answer) => match asks.answer(Exchange { asked, answer }) {
             Ok(()) => None,
-            Err(fault) => Some((Last::Failed(fault), Err(Halt::Abandon))),
+            Err(fault) => Some((Last::Failed(fault), Err(Halt::Abandon(())))),
         },
         End::Ends(ran) => Some((Last::Asked(asked), ran)),
     }

@@ -15,7 +15,7 @@ use std::sync::Wait;
 use std::thread::{Scope, Threads};
 use std::time::Duration;
 use std::{thread, time};
-use store::{Client, Fault, Halt, Reason, Transaction};
+use store::{Client, Ended, Fault, Halt, Reason, Transaction};
 
 // 64 lines of a client wait at most, then no more is read until one is answered: the one that its thread is at, so many after it, and the
 // one for which there is no room.
@@ -76,14 +76,16 @@ pub fn serve<
 
 // The run of the clients' ids: that of a transaction which does nothing.
 fn run_of<R: Wait + time::Clock>(clients: &mut [Client<'_, R>]) -> u64 {
-    let mut run = 0;
-    if let Some(client) = clients.first_mut() {
-        let _ = client.transact(1, |tx: &mut Transaction<'_, R>| -> Result<(), Halt> {
-            run = tx.id().run();
-            Err(Halt::Abandon)
-        });
+    let Some(client) = clients.first_mut() else {
+        return 0;
+    };
+    let ended = client.transact(1, |tx: &mut Transaction<'_, R>| -> Result<(), Halt<u64>> {
+        Err(Halt::Abandon(tx.id().run()))
+    });
+    match ended {
+        Ok(Ended::Abandoned(run)) => run,
+        _ => 0,
     }
-    run
 }
 
 // Starts a thread for each client.

@@ -19,12 +19,14 @@ use Rattle.session.specs.Sessions.{Client, Moved, Denies, Goes, begun, buffers, 
 use Rattle.session.specs.Shown.{Session, is_made}
 use Rattle.client.specs.Readings.{AreReads, HasRead, is_read}
 use Rattle.client.specs.Traffic.{Traffic}
-use Rattle.client.specs.declared.ended.Ended.{Ended}
-use Rattle.client.specs.declared.ended.Halt.{Halt}
-use Rattle.client.specs.declared.ended.Halt.TheVariants as halt
+use Rattle.client.specs.declared.ended.Ended.{Ended as Finish}
+use Rattle.client.specs.declared.ended.Halt.{Halt as Halted}
+use Rattle.store.specs.declared.ended.Ended.{Ended}
+use Rattle.store.specs.declared.ended.Halt.{Halt}
+use Rattle.store.specs.declared.ended.Halt.TheVariants as halt
 use Rattle.store.specs.Attempts.{AreAborted, Act, Reads, Writes, IsAct, AreActs, HasDone, Doing, IsAtWork, Attempt, Worker, AreAttempts, HasTried}
 use Rattle.store.specs.Attempts.{IsAttempt, Runs}
-use Rattle.store.specs.Attempts.{Ends, beginning, drew, id_in, kept, runs_again, traffic_of, worked, worked_all}
+use Rattle.store.specs.Attempts.{Ends, IsToldAs, beginning, drew, id_in, kept, ran_of, runs_again, traffic_of, worked, worked_all}
 
 -- a step that is made leaves the session that it says
 client_after : Moved → Client → Client
@@ -91,15 +93,15 @@ wrote_on old new w is splits step traffic =
 
 -- ---- attempts, one behind the other
 
-pub worked_on : (w : Worker) (xs : List Attempt) (a : Attempt) → worked_all w (xs ++ a ∷ []) ≡ worked (worked_all w xs) a
+pub worked_on : {T E : Type 0} (w : Worker) (xs : List (Attempt T E)) (a : Attempt T E) → worked_all w (xs ++ a ∷ []) ≡ worked (worked_all w xs) a
 worked_on w [] a = refl
 worked_on w (x ∷ xs) a = worked_on (worked w x) xs a
 
-pub same_run : (w : Worker) (xs : List Attempt) → (worked_all w xs).run ≡ w.run
+pub same_run : {T E : Type 0} (w : Worker) (xs : List (Attempt T E)) → (worked_all w xs).run ≡ w.run
 same_run w [] = refl
 same_run w (x ∷ xs) = same_run (worked w x) xs
 
-pub same_splits : (w : Worker) (xs : List Attempt) → (worked_all w xs).splits ≡ w.splits
+pub same_splits : {T E : Type 0} (w : Worker) (xs : List (Attempt T E)) → (worked_all w xs).splits ≡ w.splits
 same_splits w [] = refl
 same_splits w (x ∷ xs) = same_splits (worked w x) xs
 
@@ -107,22 +109,22 @@ pub folds_on : {P A : Type 0} (R : P → A → P → Type 0) (p q r : P) (xs : L
 folds_on {P} R p q r [] x same is = (r, subst (λ (s : P). R s x r) (sym same) is, refl)
 folds_on R p q r (y ∷ ys) x folds is = (folds.0, folds.1, folds_on R folds.0 q r ys x folds.2 is)
 
-pub attempts_on : (run : ℕ) (xs : List Attempt) (a : Attempt) → AreAttempts run xs → IsAttempt run a → AreAttempts run (xs ++ a ∷ [])
+pub attempts_on : {T E : Type 0} (run : ℕ) (xs : List (Attempt T E)) (a : Attempt T E) → AreAttempts run xs → IsAttempt run a → AreAttempts run (xs ++ a ∷ [])
 attempts_on run [] a are is = (is, tt)
 attempts_on run (x ∷ xs) a are is = (are.0, attempts_on run xs a are.1 is)
 
-module _ {F : Type 0} (g : Mut F (MutBor Doing × Unit {0}) (Result (Unit {0}) Halt × (MutBor Doing × Unit {0}))) where
+module _ {F T E : Type 0} (g : Mut F (MutBor Doing × Unit {0}) (Result T (Halt E) × (MutBor Doing × Unit {0}))) where
   -- nothing was tried yet
   pub untried : (w : Worker) (f : F) → HasTried g w f [] w f
   untried w f = record { whole = refl; attempts = tt; ran = refl }
 
-  runs_of : (w v : Worker) (f f' : F) (a : Attempt) → w.run ≡ v.run → w.splits ≡ v.splits → Runs g w f a f' → Runs g v f a f'
+  runs_of : (w v : Worker) (f f' : F) (a : Attempt T E) → w.run ≡ v.run → w.splits ≡ v.splits → Runs g w f a f' → Runs g v f a f'
   runs_of w v f f' a run splits is =
       subst (λ (n : ℕ). Runs g (record v { run = n }) f a f') run
       (subst (λ (s : List Bytes). Runs g (record v { run = w.run; splits = s }) f a f') splits is)
 
   -- one attempt more
-  pub tried_on : (old m new : Worker) (f f' f'' : F) (made : List Attempt) (a : Attempt) → HasTried g old f made m f'
+  pub tried_on : (old m new : Worker) (f f' f'' : F) (made : List (Attempt T E)) (a : Attempt T E) → HasTried g old f made m f'
       → new ≡ worked m a → IsAttempt m.run a → Runs g m f' a f'' → HasTried g old f (made ++ a ∷ []) new f''
   tried_on old m new f f' f'' made a tried one is ran =
       let run : m.run ≡ old.run = ap (λ (w : Worker). w.run) tried.whole ∙ same_run old made in
@@ -134,48 +136,63 @@ module _ {F : Type 0} (g : Mut F (MutBor Doing × Unit {0}) (Result (Unit {0}) H
       }
 
   -- what one attempt came to
-  pub record Attempted (m new : Worker) (f f' : F) (ran : Result (Unit {0}) Halt) (ended : Result Ended Fault) : Type 0 where
-    pub attempt : Attempt
+  pub record Attempted (m new : Worker) (f f' : F) (own : Id) (ran : Result T (Halt E)) (ended : Result Finish Fault) : Type 0 where
+    pub attempt : Attempt T E
     pub whole : new ≡ worked m attempt
     pub is : IsAttempt m.run attempt
     pub runs : Runs g m f attempt f'
+    pub id_is : own ≡ id_in m.run attempt
     pub ran_is : attempt.ran ≡ ran
     pub ended_is : attempt.ended ≡ ended
 
-  pub attempted : (m mid new : Worker) (t left : Doing) (f f' : F) (r ran : Result (Unit {0}) Halt) (own last : Id) (b : Bool) (ended : Result Ended Fault)
+  pub attempted : (m mid new : Worker) (t left : Doing) (f f' : F) (r ran : Result T (Halt E)) (came : Result (Unit {0}) Halted)
+      (own last : Id) (b : Bool) (ended : Result Finish Fault)
       → ((n : ℕ) × (t ≡ beginning m.splits (record { run = m.run; number = n })) × (mid ≡ drew m n))
       → CalledAtMut g f t r f' left
-      → own ≡ t.session.client.txn → last ≡ left.session.client.txn → b ≡ same_id own last → ran ≡ kept b r
+      → own ≡ t.session.client.txn → last ≡ left.session.client.txn → b ≡ same_id own last → ran ≡ kept b r → came ≡ ran_of ran
       → IsAtWork left
       → ((sent : List Envelope) × (heard : List End)
       × (new ≡ record mid { traffics = mid.traffics ++ (record { sent = left.traffic.sent ++ sent; heard = left.traffic.heard ++ heard }) ∷ [] })
-      × Ends left.session ran sent heard ended)
-      → Attempted m new f f' ran ended
-  attempted m mid new t left f f' r ran own last b ended begins called own_is last_is same ran_is work ends =
-      let a : Attempt = record { number = begins.0; left = left; ran = ran; sent = ends.0; heard = ends.1; ended = ended } in
+      × Ends left.session came sent heard ended)
+      → Attempted m new f f' own ran ended
+  attempted m mid new t left f f' r ran came own last b ended begins called own_is last_is same ran_is came_is work ends =
+      let a : Attempt T E = record { number = begins.0; left = left; ran = ran; sent = ends.0; heard = ends.1; ended = ended } in
       let its : own ≡ id_in m.run a = own_is ∙ ap (λ (d : Doing). d.session.client.txn) begins.1 in
       let test : b ≡ same_id (id_in m.run a) left.session.client.txn = same ∙ (λ i. same_id (its i) (last_is i)) in
       record {
         attempt = a;
         whole = ends.2 ∙ ap (λ (w : Worker). record w { traffics = w.traffics ++ traffic_of a ∷ [] }) begins.2;
-        is = record { work = work; own = by_own a b test ran_is; ends = ends.3 };
+        is = record {
+          work = work;
+          own = by_own a b test ran_is;
+          ends = subst (λ (c : Result (Unit {0}) Halted). Ends left.session c ends.0 ends.1 ended) came_is ends.3;
+        };
         runs = (r, subst (λ (d : Doing). CalledAtMut g f d r f' left) begins.1 called, ran_is ∙ ap (λ x. kept x r) test);
+        id_is = its;
         ran_is = refl;
         ended_is = refl;
       }
     where
-      by_own : (a : Attempt) (x : Bool) → x ≡ same_id (id_in m.run a) a.left.session.client.txn → a.ran ≡ kept x r
+      by_own : (a : Attempt T E) (x : Bool) → x ≡ same_id (id_in m.run a) a.left.session.client.txn → a.ran ≡ kept x r
           → (same_id (id_in m.run a) a.left.session.client.txn ≡ true) ⊎ (a.ran ≡ Err (halt.Refused Stranger))
       by_own a true test ran = inl (sym test)
       by_own a false test ran = inr ran
 
-pub one_longer : (made : List Attempt) (a : Attempt) (k : ℕ) → length made ≡ k → length (made ++ a ∷ []) ≡ k + 1
+-- what is told of what an attempt came to is told of the attempt
+pub told_on : {T E : Type 0} (own id : Id) (ran of : Result T (Halt E)) (ended as_of : Result Finish Fault) (told : Result (Ended T E) Fault)
+    → own ≡ id → of ≡ ran → as_of ≡ ended → IsToldAs own ran ended told → IsToldAs id of as_of told
+told_on {T} {E} own id ran of ended as_of told same ran_is ended_is is =
+    subst (λ (t : Id). IsToldAs t of as_of told) same
+    (subst (λ (r : Result T (Halt E)). IsToldAs own r as_of told) (sym ran_is)
+    (subst (λ (e : Result Finish Fault). IsToldAs own ran e told) (sym ended_is) is))
+
+pub one_longer : {T E : Type 0} (made : List (Attempt T E)) (a : Attempt T E) (k : ℕ) → length made ≡ k → length (made ++ a ∷ []) ≡ k + 1
 one_longer made a k is = length-append made (a ∷ []) ∙ ap (λ (n : ℕ). n + 1) is
 
-pub one_more : (made : List Attempt) (a : Attempt) (k n : ℕ) → length made ≡ k → k < n → length (made ++ a ∷ []) ≤ n
+pub one_more : {T E : Type 0} (made : List (Attempt T E)) (a : Attempt T E) (k n : ℕ) → length made ≡ k → k < n → length (made ++ a ∷ []) ≤ n
 one_more made a k n is below = let longer = one_longer made a k is in omega (arith, longer, below)
 
-pub one_at_least : (made : List Attempt) (a : Attempt) (k : ℕ) → length made ≡ k → 0 < length (made ++ a ∷ [])
+pub one_at_least : {T E : Type 0} (made : List (Attempt T E)) (a : Attempt T E) (k : ℕ) → length made ≡ k → 0 < length (made ++ a ∷ [])
 one_at_least made a k is = let longer = one_longer made a k is in omega (arith, longer)
 
 -- with no deadline they are not cut short
@@ -188,8 +205,8 @@ pub may_be_cut : {X A B : Type 0} (d : Option X) → A ⊎ (IsSome d × B) → A
 may_be_cut d (inl came) = inl came
 may_be_cut d (inr cut) = inr cut.1
 
-pub aborted_on : (made : List Attempt) (a : Attempt) → AreAborted made → runs_again a.ran a.ended ≡ true → AreAborted (made ++ a ∷ [])
-aborted_on made a were is = all_both (λ (b : Attempt). runs_again b.ran b.ended) made (a ∷ []) were (and_true (runs_again a.ran a.ended) is)
+pub aborted_on : {T E : Type 0} (made : List (Attempt T E)) (a : Attempt T E) → AreAborted made → runs_again a.ran a.ended ≡ true → AreAborted (made ++ a ∷ [])
+aborted_on {T} {E} made a were is = all_both (λ (b : Attempt T E). runs_again b.ran b.ended) made (a ∷ []) were (and_true (runs_again a.ran a.ended) is)
   where
     and_true : (b : Bool) → b ≡ true → (b && true) ≡ true
     and_true true e = refl

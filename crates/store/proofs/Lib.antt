@@ -1,3 +1,6 @@
 mod Attempts
+mod Across
+mod Ends
 mod Shown
+mod Waiting
 mod Written

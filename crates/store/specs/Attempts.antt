@@ -18,10 +18,14 @@ use Rattle.session.specs.Shown.{Session}
 use Rattle.client.specs.Ends.{IsEnded, IsGivenUp, IsRefused, left}
 use Rattle.client.specs.Readings.{AreReads, HasRead}
 use Rattle.client.specs.Traffic.{Traffic}
-use Rattle.client.specs.declared.ended.Ended.{Ended}
-use Rattle.client.specs.declared.ended.Ended.TheVariants as ended
-use Rattle.client.specs.declared.ended.Halt.{Halt}
-use Rattle.client.specs.declared.ended.Halt.TheVariants as halt
+use Rattle.client.specs.declared.ended.Ended.{Ended as Finish}
+use Rattle.client.specs.declared.ended.Ended.TheVariants as finish
+use Rattle.client.specs.declared.ended.Halt.{Halt as Halted}
+use Rattle.client.specs.declared.ended.Halt.TheVariants as halted
+use Rattle.store.specs.declared.ended.Ended.{Ended}
+use Rattle.store.specs.declared.ended.Ended.TheVariants as ended
+use Rattle.store.specs.declared.ended.Halt.{Halt}
+use Rattle.store.specs.declared.ended.Halt.TheVariants as halt
 
 -- ---- a transaction while its code runs
 
@@ -56,54 +60,83 @@ pub record IsAtWork (d : Doing) : Type 0 where
 abbrev pub beginning : List Bytes → Id → Doing
 beginning splits t = record { session = record { splits = splits; client = begun t }; traffic = record { sent = []; heard = [] } }
 
+-- ---- why code goes no further
+
+-- what a call that goes no further is to the code of a transaction: no call abandons one
+abbrev pub widened : {E : Type 0} → Halted → Halt E
+widened halted.Again = halt.Again
+widened halted.Abandon = halt.Again
+widened (halted.Refused fault) = halt.Refused fault
+widened (halted.Unserved shard fault) = halt.Unserved shard fault
+
+-- what the code of a transaction came to, as its client ends it: the value and the reason are the code's own
+abbrev pub narrowed : {E : Type 0} → Halt E → Halted
+narrowed halt.Again = halted.Again
+narrowed (halt.Abandon why) = halted.Abandon
+narrowed (halt.Refused fault) = halted.Refused fault
+narrowed (halt.Unserved shard fault) = halted.Unserved shard fault
+
+abbrev pub ran_of : {T E : Type 0} → Result T (Halt E) → Result (Unit {0}) Halted
+ran_of (Ok value) = Ok tt
+ran_of (Err why) = Err (narrowed why)
+
 -- ---- an attempt
 
 -- an attempt of a transaction: the number that was drawn for it, its session when its code had run, what that came to, what was put out and
 -- heard till then, what behind it, and how it ended
-pub record Attempt : Type 0 where
+pub record Attempt (T E : Type 0) : Type 0 where
   pub number : ℕ
   pub left : Doing
-  pub ran : Result (Unit {0}) Halt
+  pub ran : Result T (Halt E)
   pub sent : List Envelope
   pub heard : List End
-  pub ended : Result Ended Fault
+  pub ended : Result Finish Fault
 
 -- all that was put out and heard of it
-abbrev pub traffic_of : Attempt → Traffic
+abbrev pub traffic_of : {T E : Type 0} → Attempt T E → Traffic
 traffic_of a = record { sent = a.left.traffic.sent ++ a.sent; heard = a.left.traffic.heard ++ a.heard }
 
 -- how a transaction ends whose code has run, by what was put out and heard behind that: where its code went to its end, as a session of the
 -- definitions that closes or may not; and else it is given up, and nothing is put out that closes it
-abbrev pub Ends : Session → Result (Unit {0}) Halt → List Envelope → List End → Result Ended Fault → Type 0
+abbrev pub Ends : Session → Result (Unit {0}) Halted → List Envelope → List End → Result Finish Fault → Type 0
 Ends s ran sent heard ended =
     MatchResult ran (λ _. MatchResult ended (λ e. IsEnded s.splits s.client e sent heard) (λ fault. IsRefused s.splits s.client fault sent))
     (λ h. IsGivenUp s.client.txn sent × ((ended ≡ left h) ⊎ (ended ≡ Err Memory)))
 
 -- the id of an attempt, in a run
-abbrev pub id_in : ℕ → Attempt → Id
+abbrev pub id_in : {T E : Type 0} → ℕ → Attempt T E → Id
 id_in run a = record { run = run; number = a.number }
 
 -- What each attempt is: a session of the definitions, under the id that was drawn for it, and ended so. Code that has put another transaction
 -- in the place of its own is refused as a stranger, and what it left is given up.
-pub record IsAttempt (run : ℕ) (a : Attempt) : Type 0 where
+pub record IsAttempt {T E : Type 0} (run : ℕ) (a : Attempt T E) : Type 0 where
   pub work : IsAtWork a.left
   pub own : (same_id (id_in run a) a.left.session.client.txn ≡ true) ⊎ (a.ran ≡ Err (halt.Refused Stranger))
-  pub ends : Ends a.left.session a.ran a.sent a.heard a.ended
+  pub ends : Ends a.left.session (ran_of a.ran) a.sent a.heard a.ended
 
-abbrev pub AreAttempts : ℕ → List Attempt → Type 0
+abbrev pub AreAttempts : {T E : Type 0} → ℕ → List (Attempt T E) → Type 0
 AreAttempts run [] = Unit {0}
 AreAttempts run (a ∷ rest) = IsAttempt run a × AreAttempts run rest
 
 -- what the code of a transaction comes to, by whether what it left is its own
-abbrev pub kept : Bool → Result (Unit {0}) Halt → Result (Unit {0}) Halt
+abbrev pub kept : {T E : Type 0} → Bool → Result T (Halt E) → Result T (Halt E)
 kept true ran = ran
 kept false ran = Err (halt.Refused Stranger)
 
 -- the code runs again behind an attempt that was aborted, unless it asked for that
-abbrev pub runs_again : Result (Unit {0}) Halt → Result Ended Fault → Bool
-runs_again (Err halt.Abandon) ended = false
-runs_again ran (Ok ended.Aborted) = true
+abbrev pub runs_again : {T E : Type 0} → Result T (Halt E) → Result Finish Fault → Bool
+runs_again (Err (halt.Abandon why)) ended = false
+runs_again ran (Ok finish.Aborted) = true
 runs_again ran ended = false
+
+-- What is told of the last attempt, which had this id: it is committed under this id, with the value that its code gave; abandoned, for the
+-- reason that its code gave; unknown; or a fault. No attempt is the last that ended otherwise.
+abbrev pub IsToldAs : {T E : Type 0} → Id → Result T (Halt E) → Result Finish Fault → Result (Ended T E) Fault → Type 0
+IsToldAs id ran (Err fault) told = told ≡ Err fault
+IsToldAs id (Ok value) (Ok (finish.Committed at)) told = told ≡ Ok (ended.Committed at id value)
+IsToldAs id (Ok value) (Ok (finish.Unknown txn)) told = told ≡ Ok (ended.Unknown txn)
+IsToldAs id (Err (halt.Abandon why)) (Ok end) told = told ≡ Ok (ended.Abandoned why)
+IsToldAs id ran end told = ⊥
 
 -- ---- a client
 
@@ -129,23 +162,23 @@ abbrev pub drew : Worker → ℕ → Worker
 drew w number = record w { drawing = record w.drawing { drawn = w.drawing.drawn ++ number ∷ [] } }
 
 -- a client behind one attempt more
-abbrev pub worked : Worker → Attempt → Worker
+abbrev pub worked : {T E : Type 0} → Worker → Attempt T E → Worker
 worked w a = record (drew w a.number) { traffics = w.traffics ++ traffic_of a ∷ [] }
 
 -- a client behind some attempts
-abbrev pub worked_all : Worker → List Attempt → Worker
+abbrev pub worked_all : {T E : Type 0} → Worker → List (Attempt T E) → Worker
 worked_all w [] = w
 worked_all w (a ∷ rest) = worked_all (worked w a) rest
 
-module _ {F : Type 0} (g : Mut F (MutBor Doing × Unit {0}) (Result (Unit {0}) Halt × (MutBor Doing × Unit {0}))) where
+module _ {F T E : Type 0} (g : Mut F (MutBor Doing × Unit {0}) (Result T (Halt E) × (MutBor Doing × Unit {0}))) where
   -- an attempt ran the code on a new transaction of its id over the store's splits, and that left what it did
-  abbrev pub Runs : Worker → F → Attempt → F → Type 0
+  abbrev pub Runs : Worker → F → Attempt T E → F → Type 0
   Runs w f a f' =
-      (ran : Result (Unit {0}) Halt) × CalledAtMut g f (beginning w.splits (id_in w.run a)) ran f' a.left
+      (ran : Result T (Halt E)) × CalledAtMut g f (beginning w.splits (id_in w.run a)) ran f' a.left
       × (a.ran ≡ kept (same_id (id_in w.run a) a.left.session.client.txn) ran)
 
   -- a client behind some attempts, each of which ran the code, one behind the other
-  pub record HasTried (old : Worker) (f : F) (made : List Attempt) (new : Worker) (f' : F) : Type 0 where
+  pub record HasTried (old : Worker) (f : F) (made : List (Attempt T E)) (new : Worker) (f' : F) : Type 0 where
     pub whole : new ≡ worked_all old made
     pub attempts : AreAttempts old.run made
     pub ran : FoldsTo (Runs old) f made f'
@@ -154,31 +187,32 @@ module _ {F : Type 0} (g : Mut F (MutBor Doing × Unit {0}) (Result (Unit {0}) H
 abbrev pub CannotBegin : Worker → Fault → Type 0
 CannotBegin w fault = (fault ≡ Memory) ⊎ ((fault ≡ TimeSpent) × (length w.drawing.drawn ≡ 2 ^ 40))
 
--- each of some attempts was aborted, and its code did not ask for that
-abbrev pub AreAborted : List Attempt → Type 0
+-- each of some attempts was aborted, and its code did not abandon it
+abbrev pub AreAborted : {T E : Type 0} → List (Attempt T E) → Type 0
 AreAborted made = list_all (λ a. runs_again a.ran a.ended) made ≡ true
 
--- the last of some attempts is over
-pub record IsOver (made : List Attempt) (result : Result Ended Fault) : Type 0 where
-  pub before : List Attempt
-  pub last : Attempt
+-- the last of some attempts of a run is over, and told so
+pub record IsOver {T E : Type 0} (run : ℕ) (made : List (Attempt T E)) (result : Result (Ended T E) Fault) : Type 0 where
+  pub before : List (Attempt T E)
+  pub last : Attempt T E
   pub whole : made ≡ before ++ last ∷ []
   pub aborted : AreAborted before
   pub over : runs_again last.ran last.ended ≡ false
-  pub told : result ≡ last.ended
+  pub told : IsToldAs (id_in run last) last.ran last.ended result
 
--- What some attempts come to. All were aborted, as many as might be made; or no further one could be begun; or the last is over, and
--- that is answered.
-abbrev pub ComesTo : ℕ → Worker → List Attempt → Result Ended Fault → Type 0
+-- What some attempts come to. All were aborted, as many as might be made, and their number is told; or no further one could be begun; or the
+-- last is over, and that is answered.
+abbrev pub ComesTo : {T E : Type 0} → ℕ → Worker → List (Attempt T E) → Result (Ended T E) Fault → Type 0
 ComesTo tries w made result =
-    (AreAborted made × (length made ≡ tries) × (result ≡ Ok ended.Aborted))
+    (AreAborted made × (length made ≡ tries) × (result ≡ Ok (ended.Aborted tries)))
     ⊎ ((AreAborted made × (length made < tries) × ((fault : Fault) × (result ≡ Err fault) × CannotBegin w fault))
-    ⊎ (IsOver made result × (length made ≤ tries)))
+    ⊎ (IsOver w.run made result × (length made ≤ tries)))
 
--- some attempts were all aborted, one at least and no more than might be made, and that is answered
-abbrev pub IsCutShort : ℕ → List Attempt → Result Ended Fault → Type 0
-IsCutShort tries made result = AreAborted made × (0 < length made) × (length made ≤ tries) × (result ≡ Ok ended.Aborted)
+-- some attempts were all aborted, one at least and no more than might be made, and their number is told
+abbrev pub IsCutShort : {T E : Type 0} → ℕ → List (Attempt T E) → Result (Ended T E) Fault → Type 0
+IsCutShort tries made result =
+    AreAborted made × (0 < length made) × (length made ≤ tries) × (result ≡ Ok (ended.Aborted (length made)))
 
 -- what some attempts come to before a deadline: the same, or they end sooner, and then each was aborted
-abbrev pub ComesWithin : ℕ → Worker → List Attempt → Result Ended Fault → Type 0
+abbrev pub ComesWithin : {T E : Type 0} → ℕ → Worker → List (Attempt T E) → Result (Ended T E) Fault → Type 0
 ComesWithin tries w made result = ComesTo tries w made result ⊎ IsCutShort tries made result

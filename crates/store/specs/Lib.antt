@@ -1,5 +1,6 @@
 pub mod Attempts
 pub mod Numbers
+pub mod Ranges
 pub mod Standing
 pub mod Typed
 pub mod Views

@@ -3,16 +3,17 @@ ghost use Rattle.std.specs.Prelude.{◌≡◌, ◌⊎◌, ℕ, List, [], ◌∷�
 ghost use Rattle.message.specs.Ends.{End};
 ghost use Rattle.message.specs.declared.message.Envelope.{Envelope};
 ghost use Rattle.client.specs.Outcomes.{IsFound};
-ghost use Rattle.store.specs.Attempts.{Attempt, CannotBegin, ComesTo, ComesWithin, Ends, HasTried, IsAtWork, IsCutShort, beginning, drew, kept, runs_again};
+ghost use Rattle.store.specs.Attempts.{Attempt, CannotBegin, ComesTo, ComesWithin, Ends, HasTried, IsAtWork, IsCutShort, beginning, drew};
 ghost use Rattle.store.specs.Views.{IsPresent};
 
+use crate::ended::{kept, ran_of, runs_again, told_of};
 use crate::numbers::Numbers;
 use crate::shared::Shared;
 use crate::steady::ClientClock;
 use crate::view::{MOST_BYTES, TRIES};
 use crate::{Ended, Halt, Transaction, View};
 use board::Viewer;
-use client::{InDoubt, Outcome, Wire, Wires};
+use client::{Halt as Halted, InDoubt, Outcome, Wire, Wires};
 use crossbeam_channel::Receiver;
 use letters::Reply;
 use std::marker::Model;
@@ -76,17 +77,18 @@ const REST_MILLIS: u64 = 2;
 
 impl<'s, R: Wait + time::Clock> Client<'s, R> {
     /// Runs the code of a transaction and commits it. After each abort the code is run again, as a new transaction, so often in all as
-    /// `tries` says. If the code asks for `Halt::Abandon` it is aborted at once, and a refusal that the code hands on is answered.
+    /// `tries` says: then it is `Aborted`, with that number. If the code gives `Ok`, its value comes with `Committed`. If it gives
+    /// `Halt::Abandon` the transaction is given up at once, and its reason comes with `Abandoned`. A refusal that the code hands on is answered.
     ///
     /// Each attempt is a session of its own, which is closed only if its code gave `Ok`, and the answer is that of the last. Code that
     /// puts the transaction of another client in the place of its own is refused as a `Stranger`, and what it left is given up.
-    pub fn transact<F: FnMut(&mut Transaction<'s, R>) -> Result<(), Halt>>(
+    pub fn transact<T: Drop, E: Drop, F: FnMut(&mut Transaction<'s, R>) -> Result<T, Halt<E>>>(
         &mut self,
         tries: u32,
         code: F,
-    ) -> Result<Ended, Fault>
+    ) -> Result<Ended<T, E>, Fault>
         requires { F.IsAlwaysCallable code }
-        ensures { (made : List Attempt)
+        ensures { (made : List (Attempt T E))
             × ((last : F) × HasTried F.FnMut self.old code made self.new last)
             × ComesTo tries self.new made result }
     {
@@ -95,14 +97,13 @@ impl<'s, R: Wait + time::Clock> Client<'s, R> {
 
     /// `transact`, but no attempt is begun once so much time has passed: then it is `Aborted`, as after the last of `tries`. The first attempt
     /// is made in any case. None is cut off: one that closes is waited for, and is never told as aborted for want of time.
-    pub fn transact_within<F: FnMut(&mut Transaction<'s, R>) -> Result<(), Halt>>(
-        &mut self,
-        tries: u32,
-        within: Duration,
-        code: F,
-    ) -> Result<Ended, Fault>
+    pub fn transact_within<
+        T: Drop,
+        E: Drop,
+        F: FnMut(&mut Transaction<'s, R>) -> Result<T, Halt<E>>,
+    >(&mut self, tries: u32, within: Duration, code: F) -> Result<Ended<T, E>, Fault>
         requires { F.IsAlwaysCallable code }
-        ensures { (made : List Attempt)
+        ensures { (made : List (Attempt T E))
             × ((last : F) × HasTried F.FnMut self.old code made self.new last)
             × ComesWithin tries self.new made result }
     {
@@ -111,20 +112,20 @@ impl<'s, R: Wait + time::Clock> Client<'s, R> {
     }
 
     // The attempts of a transaction, until a deadline has passed, if there is one.
-    fn attempts<F: FnMut(&mut Transaction<'s, R>) -> Result<(), Halt>>(
+    fn attempts<T: Drop, E: Drop, F: FnMut(&mut Transaction<'s, R>) -> Result<T, Halt<E>>>(
         &mut self,
         tries: u32,
         deadline: Option<Deadline>,
         mut code: F,
-    ) -> Result<Ended, Fault>
+    ) -> Result<Ended<T, E>, Fault>
         requires { F.IsAlwaysCallable code }
-        ensures { (made : List Attempt)
+        ensures { (made : List (Attempt T E))
             × ((last : F) × HasTried F.FnMut self.old code made self.new last)
             × (ComesTo tries self.new made result
             ⊎ (IsSome deadline × IsCutShort tries made result)) }
     {
         let mut patience = self.patience.saturating_add((self.number % APART) as u32);
-        for _try in 0..tries {
+        for before in 0..tries {
             let mut transaction = match self.begin(patience) {
                 Ok(transaction) => transaction,
                 Err(fault) => return Err(fault),
@@ -132,17 +133,18 @@ impl<'s, R: Wait + time::Clock> Client<'s, R> {
             let own = transaction.id();
             let ran = code(&mut transaction);
             let ran = kept(own == transaction.id(), ran);
-            let ended = self.finish(transaction, ran);
+            let ended = self.finish(transaction, ran_of(&ran));
             if !runs_again(&ran, &ended) {
-                return ended;
+                return told_of(own, ran, ended);
             }
+            drop(ran);
             if is_over(self.rt, &deadline) {
-                return Ok(Ended::Aborted);
+                return Ok(Ended::Aborted { tries: before + 1 });
             }
             patience = self.next_patience(patience);
             thread::sleep(self.rt, Duration::from_millis(REST_MILLIS));
         }
-        Ok(Ended::Aborted)
+        Ok(Ended::Aborted { tries })
     }
 
     // How many rounds the next attempt waits: one more. If a shard has stopped it is one, since that may have left in doubt what it waits for.
@@ -191,8 +193,8 @@ impl<'s, R: Wait + time::Clock> Client<'s, R> {
     fn finish(
         &mut self,
         transaction: Transaction<'s, R>,
-        ran: Result<(), Halt>,
-    ) -> Result<Ended, Fault>
+        ran: Result<(), Halted>,
+    ) -> Result<client::Ended, Fault>
         ensures work { IsAtWork transaction.entry }
         ensures ended { (sent : List Envelope) × (heard : List End)
             × (self.new ≡ record self.old {
@@ -213,8 +215,8 @@ impl<'s, R: Wait + time::Clock> Client<'s, R> {
     fn end(
         &mut self,
         transaction: Transaction<'s, R>,
-        ran: Result<(), Halt>,
-    ) -> Result<Ended, Fault>
+        ran: Result<(), Halted>,
+    ) -> Result<client::Ended, Fault>
         ensures work { IsAtWork transaction.entry }
         ensures ended { (sent : List Envelope) × (heard : List End)
             × (self.new ≡ record self.old {
@@ -378,27 +380,5 @@ fn since<R: time::Clock>(rt: &R, start: Option<Instant>) -> Option<Duration> {
     match start {
         Some(start) => start.elapsed(rt).ok(),
         None => None,
-    }
-}
-
-// What the code of a transaction comes to, by whether what it left is its own.
-fn kept(own: bool, ran: Result<(), Halt>) -> Result<(), Halt>
-    ensures { result ≡ kept own ran }
-{
-    if own {
-        ran
-    } else {
-        Err(Halt::Refused(Fault::Stranger))
-    }
-}
-
-// Whether the code runs again behind an attempt: one that was aborted, unless it asked for that.
-fn runs_again(ran: &Result<(), Halt>, ended: &Result<Ended, Fault>) -> bool
-    ensures { result ≡ runs_again ran.now ended.now }
-{
-    match (ran, ended) {
-        (Err(Halt::Abandon), _) => false,
-        (_, Ok(Ended::Aborted)) => true,
-        _ => false,
     }
 }

@@ -11,7 +11,7 @@ ghost use Rattle.store.specs.Writing.{WritesAreSeen};
 
 use crate::Typed;
 use crate::typed::read_as;
-use client::{Halt, Wire};
+use client::{Halt as Halted, Wire};
 use session::{Open, Tx};
 use std::alloc::Global;
 use std::marker::Model;
@@ -45,7 +45,7 @@ impl<R: Wait + time::Clock> Transaction<'_, R> {
     }
 
     /// The value of a key, under a shared lock: what this transaction has put there, or else what its shard holds, the same each time.
-    pub fn get(&mut self, key: &Key) -> Result<Option<Value>, Halt>
+    pub fn get(&mut self, key: &Key) -> Result<Option<Value>, Halted>
         ensures splits { self.new.session.splits ≡ self.old.session.splits }
         ensures txn { self.new.session.client.txn ≡ self.old.session.client.txn }
         ensures read { HasRead self.old.session.splits self.old.session.client
@@ -56,7 +56,7 @@ impl<R: Wait + time::Clock> Transaction<'_, R> {
     }
 
     /// The values of some keys, which are asked for together.
-    pub fn get_all(&mut self, keys: &[Key]) -> Result<Vec<Option<Value>>, Halt>
+    pub fn get_all(&mut self, keys: &[Key]) -> Result<Vec<Option<Value>>, Halted>
         ensures splits { self.new.session.splits ≡ self.old.session.splits }
         ensures txn { self.new.session.client.txn ≡ self.old.session.client.txn }
         ensures read { HasRead self.old.session.splits self.old.session.client
@@ -68,7 +68,7 @@ impl<R: Wait + time::Clock> Transaction<'_, R> {
     }
 
     /// Writes a value to a key, once the transaction commits. A later one takes its place. More than 128 keys are refused as `many`.
-    pub fn put(&mut self, key: &Key, value: Value) -> Result<(), Halt>
+    pub fn put(&mut self, key: &Key, value: Value) -> Result<(), Halted>
         ensures splits { self.new.session.splits ≡ self.old.session.splits }
         ensures step { MatchResult result
             (λ _. buffers (record { key = key.now; value = Some value }) self.old.session.client ≡
@@ -82,7 +82,7 @@ impl<R: Wait + time::Clock> Transaction<'_, R> {
     }
 
     /// Erases a key, once the transaction commits.
-    pub fn erase(&mut self, key: &Key) -> Result<(), Halt>
+    pub fn erase(&mut self, key: &Key) -> Result<(), Halted>
         ensures splits { self.new.session.splits ≡ self.old.session.splits }
         ensures step { MatchResult result
             (λ _. buffers (record { key = key.now; value = None }) self.old.session.client ≡
@@ -97,7 +97,7 @@ impl<R: Wait + time::Clock> Transaction<'_, R> {
 
     /// Gives the value of a key as a type: none if the key has no value. One that spells no value of the type is refused as
     /// `BadRequest(Value)`, and then the code should not go on. Else it is refused as `get` is.
-    pub fn get_as<T: Typed>(&mut self, key: &Key) -> Result<Option<T>, Halt>
+    pub fn get_as<T: Typed>(&mut self, key: &Key) -> Result<Option<T>, Halted>
         ensures splits { self.new.session.splits ≡ self.old.session.splits }
         ensures txn { self.new.session.client.txn ≡ self.old.session.client.txn }
         ensures read { HasRead self.old.session.splits self.old.session.client
@@ -112,7 +112,7 @@ impl<R: Wait + time::Clock> Transaction<'_, R> {
 
     /// Writes a value of a type to a key, once the transaction commits. It is refused as `put` is, and as `BadRequest(Value)` if it takes more
     /// than 4,096 bytes.
-    pub fn put_as<T: Typed>(&mut self, key: &Key, value: &T) -> Result<(), Halt>
+    pub fn put_as<T: Typed>(&mut self, key: &Key, value: &T) -> Result<(), Halted>
         ensures splits { self.new.session.splits ≡ self.old.session.splits }
         ensures step { MatchResult result
             (λ _. buffers (record { key = key.now; value = Some (T.spelled value.now) })
@@ -125,7 +125,7 @@ impl<R: Wait + time::Clock> Transaction<'_, R> {
 
     /// Adds an amount, which may be below 0, to the number of a key, and gives the sum. A key without a value counts as 0. A sum below 0 or
     /// from 2^64 on is refused as `BadRequest(Value)`, and nothing is written; else it is refused as `get_as` and `put_as` are.
-    pub fn add(&mut self, key: &Key, amount: i64) -> Result<u64, Halt>
+    pub fn add(&mut self, key: &Key, amount: i64) -> Result<u64, Halted>
         ensures splits { self.new.session.splits ≡ self.old.session.splits }
         ensures added { IfOk result (λ sum. (between : Client) × (value : Option (List ℕ))
             × (had : ℕ) × HasRead self.old.session.splits self.old.session.client between
@@ -137,7 +137,7 @@ impl<R: Wait + time::Clock> Transaction<'_, R> {
     {
         let had = self.get_as::<u64>(key)?.unwrap_or(0);
         let Some(sum) = had.checked_add_signed(amount) else {
-            return Err(Halt::Refused(Fault::BadRequest(Reason::Value)));
+            return Err(Halted::Refused(Fault::BadRequest(Reason::Value)));
         };
         self.put_as(key, &sum)?;
         Ok(sum)

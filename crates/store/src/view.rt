@@ -1,13 +1,16 @@
 //! A view of the whole store at one timestamp.
 ghost use Rattle.std.specs.Prelude.{◌≡◌, ◌⊎◌, ◌<◌, ◌≤◌, ℕ, List, Option, None, length, slice_get, IfErr, IfOk, IsSome};
 ghost use Rattle.units.specs.Keys.{shard_of};
+ghost use Rattle.std.specs.Option.{option_copied};
+ghost use Rattle.store.specs.Ranges.{IsListedBy, IsUnlistedBy};
 ghost use Rattle.store.specs.Typed.{IsReadAs};
 ghost use Rattle.store.specs.Views.{IsShown, IsUnseenBy, LookedAt, seen_in};
 
 use crate::Typed;
+use crate::ranges::page_of;
 use crate::shared::Shared;
 use crate::typed::read_as;
-use board::Viewer;
+use board::{KeyPage, Viewer};
 use counts::Past;
 use std::alloc::Global;
 use std::sync::Wait;
@@ -23,7 +26,7 @@ pub(crate) const MOST_BYTES: usize = 4_096;
 // in between.
 pub(crate) const TRIES: u32 = 3_000;
 
-const PAUSE: u64 = 1;
+pub(crate) const PAUSE: u64 = 1;
 
 /// What stands at a timestamp, and nothing in part. One that `Client::view` opens has all that was acknowledged before. It takes no locks.
 #[derive(Drop)]
@@ -98,6 +101,44 @@ impl<R: Wait + time::Clock> View<'_, '_, R> {
     {
         let value = self.get(key)?;
         read_as(self.shared.alloc, value)
+    }
+
+    /// Lists the keys of a range that have a value, ascending: those from the first key on and before the end, if there is one. The least key
+    /// is the byte 0. A page visits so many keys of one shard at most, and at least one. So it may have fewer than that, or none, if keys were
+    /// erased or the shard has no more. `KeyPage::next` is where the next page begins: call again from there, until it is `None`. Each page
+    /// is right for good, as a `get` is. A transaction has no such call, and locks no keys that have no value.
+    ///
+    /// It waits and is refused as a `get` of the first key would be, and as `Memory` if there is none for the page.
+    pub fn keys(&mut self, from: &Key, to: Option<&Key>, limit: usize) -> Result<KeyPage, Fault>
+        ensures at { self.new.at ≡ self.old.at }
+        ensures splits { self.new.shared.now.splits ≡ self.old.shared.now.splits }
+        ensures listed { IfOk result (λ page. LookedAt self.old.viewers.now.items
+            self.new.viewers.now.items (shard_of self.old.shared.now.splits from.now)
+            (λ viewer after. IsListedBy self.old.shared.now.splits viewer after from.now
+            (option_copied to.entry) self.old.at page.keys.items page.next)) }
+        ensures refused { IfErr result (λ fault. ((fault ≡ Fault.Stranger)
+            × (slice_get self.old.viewers.now.items
+            (shard_of self.old.shared.now.splits from.now) ≡ None))
+            ⊎ LookedAt self.old.viewers.now.items
+            self.new.viewers.now.items (shard_of self.old.shared.now.splits from.now)
+            (λ viewer after. IsUnlistedBy viewer after from.now self.old.at fault)) }
+    {
+        let shard = self.shared.splits.shard_of(from);
+        match self.viewers.get_mut(usize::from(shard.number())) {
+            Some(viewer) => {
+                page_of(
+                    self.rt,
+                    self.shared,
+                    viewer,
+                    from,
+                    to,
+                    self.at,
+                    limit,
+                    self.tries,
+                )
+            }
+            None => Err(Fault::Stranger),
+        }
     }
 
     /// Sets for how long each further `get` waits until its shard serves the timestamp, in whole milliseconds; 0 does not wait. A view of the

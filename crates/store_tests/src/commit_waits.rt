@@ -53,7 +53,7 @@ fn took<R: Wait + time::Clock>(
 ) -> Option<Duration> {
     let start = Instant::now(rt).ok()?;
     match write(alloc, client, 1, &[b"a"], b"1") {
-        Ok(Ended::Committed(_)) => start.elapsed(rt).ok(),
+        Ok(Ended::Committed { .. }) => start.elapsed(rt).ok(),
         _ => None,
     }
 }

@@ -59,8 +59,8 @@ fn goes<R: Wait + time::Clock>(
         },
     );
     let ends = match ended {
-        Ok(Ended::Committed(_)) => !row.again,
-        Ok(Ended::Aborted) => row.again,
+        Ok(Ended::Committed { .. }) => !row.again,
+        Ok(Ended::Aborted { tries }) => row.again && tries == runs,
         _ => false,
     };
     let counted = if row.millis == 0 {

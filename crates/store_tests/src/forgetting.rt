@@ -62,7 +62,7 @@ struct Seen {
 fn commits<R: Wait + time::Clock>(alloc: Global, writer: &mut Client<'_, R>, value: &[u8]) -> bool {
     matches!(
         write(alloc, writer, 5, &[b"a"], value),
-        Ok(Ended::Committed(_))
+        Ok(Ended::Committed { .. })
     )
 }
 

@@ -2,13 +2,19 @@
 #![tactic(auto)]
 
 #[cfg(test)]
+mod ceilings;
+#[cfg(test)]
 mod clients;
 #[cfg(test)]
 mod commit_waits;
 #[cfg(test)]
+mod counted;
+#[cfg(test)]
 mod deadlines;
 #[cfg(test)]
 mod disks;
+#[cfg(test)]
+mod doors;
 #[cfg(test)]
 mod drives;
 #[cfg(test)]
@@ -18,7 +24,11 @@ mod forgetting;
 #[cfg(test)]
 mod gates;
 #[cfg(test)]
+mod hot_keys;
+#[cfg(test)]
 mod kept;
+#[cfg(test)]
+mod key_pages;
 #[cfg(test)]
 mod lost_logs;
 #[cfg(test)]
@@ -26,11 +36,17 @@ mod machine_clocks;
 #[cfg(test)]
 mod made_folders;
 #[cfg(test)]
+mod outcomes;
+#[cfg(test)]
 mod past_views;
+#[cfg(test)]
+mod reasons;
 #[cfg(test)]
 mod renewing;
 #[cfg(test)]
 mod services;
+#[cfg(test)]
+mod set_back;
 #[cfg(test)]
 mod slow;
 #[cfg(test)]

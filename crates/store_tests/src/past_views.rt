@@ -30,7 +30,7 @@ fn committed<R: Wait + time::Clock>(
 ) -> Option<u64> {
     let ended = write(alloc, client, 5, &KEYS, value);
     match &ended {
-        Ok(Ended::Committed(at)) => Some(at.micros()),
+        Ok(Ended::Committed { at, .. }) => Some(at.micros()),
         _ => None,
     }
 }

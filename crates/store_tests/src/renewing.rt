@@ -66,7 +66,7 @@ fn write_all<R: Wait + time::Clock>(rt: &R, alloc: Global, clients: Vec<Client<'
     let mut wrote = true;
     for _commit in 0..COMMITS {
         let ended = write(alloc, &mut client, 5, &[b"a"], b"1");
-        wrote = wrote && matches!(ended, Ok(Ended::Committed(_)));
+        wrote = wrote && matches!(ended, Ok(Ended::Committed { .. }));
         thread::sleep(rt, Duration::from_millis(PAUSE));
     }
     drop(client);

@@ -88,14 +88,14 @@ fn goes_on<R: Wait + time::Clock>(
     };
     let mut last = write_soon(rt, alloc, &mut client, &KEYS);
     for _transaction in 0..100 {
-        if !matches!(last, Some(Ended::Committed(_))) {
+        if !matches!(last, Some(Ended::Committed { .. })) {
             break;
         }
         last = write_soon(rt, alloc, &mut client, &KEYS);
     }
     let ended = match last {
-        Some(Ended::Aborted) => row.commits,
-        Some(Ended::Unknown(_)) => !row.commits,
+        Some(Ended::Aborted { .. }) => row.commits,
+        Some(Ended::Unknown { .. }) => !row.commits,
         _ => false,
     };
     let (failed, other, running) = if row.shard == 0 {
@@ -106,7 +106,7 @@ fn goes_on<R: Wait + time::Clock>(
     let refused = is_refused(rt, &mut client, failed);
     let commits = matches!(
         write_soon(rt, alloc, &mut client, &[other]),
-        Some(Ended::Committed(_))
+        Some(Ended::Committed { .. })
     );
     let told = has_stopped(&client, row.shard) && !has_stopped(&client, running);
     drop(client);
@@ -154,7 +154,7 @@ fn is_left_in_doubt<R: Wait + time::Clock>(
     };
     for _transaction in 0..100 {
         let ended = write_soon(rt, alloc, &mut client, &KEYS);
-        if !matches!(ended, Some(Ended::Committed(_))) {
+        if !matches!(ended, Some(Ended::Committed { .. })) {
             break;
         }
     }
@@ -213,10 +213,8 @@ fn answers<R: Wait + time::Clock>(view: &mut View<'_, '_, R>, keys: &[&[u8]]) ->
 fn seen<R: Wait + time::Clock>(clients: Vec<Client<'_, R>>, keys: &[&[u8]]) -> Option<(u64, u64)> {
     let mut clients = clients;
     let mut client = clients.pop()?;
-    let mut run = 0;
-    let ended = client.transact(1, |tx: &mut Transaction<'_, R>| -> Result<(), Halt> {
-        run = tx.id().run();
-        Err(Halt::Abandon)
+    let ended = client.transact(1, |tx: &mut Transaction<'_, R>| -> Result<(), Halt<u64>> {
+        Err(Halt::Abandon(tx.id().run()))
     });
     let mut at = 0;
     if let Some(mut view) = client.view() {
@@ -227,7 +225,7 @@ fn seen<R: Wait + time::Clock>(clients: Vec<Client<'_, R>>, keys: &[&[u8]]) -> O
     drop(client);
     drop(clients);
     match ended {
-        Ok(Ended::Aborted) => Some((run, at)),
+        Ok(Ended::Abandoned(run)) => Some((run, at)),
         _ => None,
     }
 }

@@ -22,7 +22,7 @@ struct Told {
 fn write_till_stopped<R: Wait + time::Clock>(alloc: Global, client: &mut Client<'_, R>) {
     for _transaction in 0..100 {
         let ended = write(alloc, client, 1, &KEYS[1..], b"2");
-        if !matches!(ended, Ok(Ended::Committed(_))) {
+        if !matches!(ended, Ok(Ended::Committed { .. })) {
             return;
         }
     }

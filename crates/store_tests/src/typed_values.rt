@@ -6,7 +6,7 @@ use std::alloc::Global;
 use std::process::Abort;
 use std::sync::Wait;
 use std::time;
-use store::{Client, Halt, Transaction};
+use store::{Client, Ended, Halt, Halted, Transaction};
 use units::{Fault, Key, Reason};
 
 const NO_VALUE: Fault = Fault::BadRequest(Reason::Value);
@@ -56,8 +56,8 @@ fn write_and_read<R: Wait + time::Clock>(
     drop(found);
     read.none = tx.get_as::<u64>(&b)?.is_none();
     read.sum = tx.add(&a, -3)? == 4 && tx.add(&b, 5)? == 5;
-    read.too_small = tx.add(&a, -5) == Err(Halt::Refused(NO_VALUE));
-    read.other = tx.get_as::<u64>(&z) == Err(Halt::Refused(NO_VALUE));
+    read.too_small = tx.add(&a, -5) == Err(Halted::Refused(NO_VALUE));
+    read.other = tx.get_as::<u64>(&z) == Err(Halted::Refused(NO_VALUE));
     Ok(read)
 }
 
@@ -68,11 +68,13 @@ fn work<R: Wait + time::Clock>(alloc: Global, clients: Vec<Client<'_, R>>) -> Re
         return Err(Fault::Room);
     };
     drop(clients);
-    let mut read = NOTHING;
-    client.transact(5, |tx: &mut Transaction<'_, R>| -> Result<(), Halt> {
-        read = write_and_read(alloc, tx)?;
-        Ok(())
+    let ended = client.transact(5, |tx: &mut Transaction<'_, R>| -> Result<Read, Halt> {
+        write_and_read(alloc, tx)
     })?;
+    let Ended::Committed { value, .. } = ended else {
+        return Err(Fault::TimeSpent);
+    };
+    let mut read = value;
     let Some(mut view) = client.view() else {
         return Err(Fault::TimeSpent);
     };

@@ -73,7 +73,7 @@ fn commits_at_once<R: Wait + time::Clock>(
         }
         Ok(())
     });
-    attempts == 1 && matches!(ended, Ok(Ended::Committed(_)))
+    attempts == 1 && matches!(ended, Ok(Ended::Committed { .. }))
 }
 
 // How many transactions of all clients commit at once.
@@ -147,7 +147,7 @@ fn add<R: Wait + time::Clock>(
         tx.put(&Key::new(b"z")?, Value::new(alloc, b"1")?)?;
         Ok(())
     });
-    matches!(ended, Ok(Ended::Committed(_)))
+    matches!(ended, Ok(Ended::Committed { .. }))
 }
 
 // Writes both keys, once the other client has read the first: shard 1 promises that, and shard 0 waits for who has read there, which is older.
@@ -169,7 +169,7 @@ fn write_both<R: Wait + time::Clock>(
         }
         Ok(())
     });
-    matches!(ended, Ok(Ended::Committed(_)))
+    matches!(ended, Ok(Ended::Committed { .. }))
 }
 
 // Whether two clients that wait for each other both commit.

@@ -42,7 +42,7 @@ fn options(rt: &impl Abort, alloc: Global) -> Options {
 fn committed<R: Wait + time::Clock>(alloc: Global, client: &mut Client<'_, R>) -> Option<u64> {
     let ended = write(alloc, client, 5, &KEYS, b"1");
     match &ended {
-        Ok(Ended::Committed(at)) => Some(at.micros()),
+        Ok(Ended::Committed { at, .. }) => Some(at.micros()),
         _ => None,
     }
 }

@@ -51,12 +51,12 @@ fn hold<R: Wait + time::Clock>(
         if row.commits {
             Ok(())
         } else {
-            Err(Halt::Abandon)
+            Err(Halt::Abandon(()))
         }
     });
     match ended {
-        Ok(Ended::Committed(_)) => row.commits,
-        Ok(Ended::Aborted) => !row.commits,
+        Ok(Ended::Committed { .. }) => row.commits,
+        Ok(Ended::Abandoned(())) => !row.commits,
         _ => false,
     }
 }
@@ -76,7 +76,7 @@ fn write_behind<R: Wait + time::Clock>(
     }
     matches!(
         write_soon(rt, alloc, client, &[b"a"]),
-        Some(Ended::Committed(_))
+        Some(Ended::Committed { .. })
     )
 }
 
@@ -179,7 +179,7 @@ fn commits<R: Wait + time::Clock>(rt: &R, alloc: Global, clients: Vec<Client<'_,
     let committed = match clients.pop() {
         Some(mut client) => matches!(
             write_soon(rt, alloc, &mut client, &[b"z"]),
-            Some(Ended::Committed(_))
+            Some(Ended::Committed { .. })
         ),
         None => false,
     };

@@ -1,0 +1,125 @@
+//! The numbers of a store that is served.
+use crate::clients::{KEYS, disks_of, of_two_shards, sees, store_of, write};
+use crate::verdict::end;
+use made::WrongRows;
+use std::alloc::Global;
+use std::process::Abort;
+use std::sync::Wait;
+use std::time;
+use store::{Client, Ended, Halt, Key, ShardNumbers, Transaction, Value};
+
+// So many transactions write to shard 0 alone, and so many to both shards, which shard 0 decides.
+const ALONE: u64 = 3;
+
+const BOTH: u64 = 2;
+
+// So many are abandoned after they have read and written at shard 0.
+const ABANDONED: u64 = 4;
+
+// What the numbers tell of each shard, and as a text.
+#[derive(Clone, Copy)]
+struct Told {
+    first: ShardNumbers,
+    second: ShardNumbers,
+    shards: usize,
+    third: bool,
+    text: bool,
+    at: u64,
+}
+
+fn is_committed(ended: Result<Ended, store::Fault>) -> bool {
+    matches!(ended, Ok(Ended::Committed { .. }))
+}
+
+// Whether a transaction that reads and writes a key of shard 0 is abandoned.
+fn is_abandoned<R: Wait + time::Clock>(alloc: Global, client: &mut Client<'_, R>) -> bool {
+    let ended = client.transact(1, |tx: &mut Transaction<'_, R>| -> Result<(), Halt> {
+        drop(tx.get(&Key::new(b"a")?)?);
+        tx.put(&Key::new(b"a")?, Value::new(alloc, b"3")?)?;
+        Err(Halt::Abandon(()))
+    });
+    ended == Ok(Ended::Abandoned(()))
+}
+
+// The lines that a text has to have: a kind, and a number of each shard.
+static LINES: [&str; 6] = [
+    "# TYPE spanner_shards_commits counter\n",
+    "spanner_shards_commits{shard=\"0\"} 5\n",
+    "spanner_shards_commits{shard=\"1\"} 0\n",
+    "# TYPE spanner_shards_versions gauge\n",
+    "spanner_shards_versions{shard=\"1\"} 2\n",
+    "spanner_shards_stopped{shard=\"1\"} 0\n",
+];
+
+fn has_lines(text: &str) -> bool {
+    for line in &LINES {
+        if !text.contains(*line) {
+            return false;
+        }
+    }
+    true
+}
+
+// What is told after these transactions, once a view has seen what the last one wrote.
+fn work<R: Wait + time::Clock>(alloc: Global, clients: Vec<Client<'_, R>>) -> Option<Told> {
+    let mut clients = clients;
+    let mut client = clients.pop()?;
+    drop(clients);
+    let mut right = true;
+    for _alone in 0..ALONE {
+        right = right && is_committed(write(alloc, &mut client, 5, &KEYS[..1], b"1"));
+    }
+    for _abandoned in 0..ABANDONED {
+        right = right && is_abandoned(alloc, &mut client);
+    }
+    for _both in 0..BOTH {
+        right = right && is_committed(write(alloc, &mut client, 5, &KEYS, b"2"));
+    }
+    let at = client.view()?.at().micros();
+    if !right || sees(&mut client, &KEYS, b"2").is_err() {
+        return None;
+    }
+    let numbers = client.numbers();
+    let text = numbers.text().ok()?;
+    let told = Told {
+        first: numbers.of(0)?,
+        second: numbers.of(1)?,
+        shards: numbers.shards(),
+        third: numbers.of(2).is_some(),
+        text: has_lines(text.as_str()),
+        at,
+    };
+    drop(text);
+    drop(client);
+    Some(told)
+}
+
+// Fails if a number counts something else: an abandoned transaction as a commit, say, or a commit at two shards.
+#[test]
+fn numbers_are_counted(rt: HostRuntime) {
+    let alloc = rt.alloc();
+    let options = of_two_shards(&rt, alloc, 100_000);
+    let store = store_of(&rt, alloc, disks_of(&rt, alloc, 2), options);
+    let served = store.serve(|clients: Vec<Client<'_, HostRuntime>>| work(alloc, clients));
+    let (told, disks) = served.ok().expect(&rt, "a service");
+    drop(disks);
+    let told = told.expect(&rt, "numbers");
+    let (first, second) = (told.first, told.second);
+    let mut wrong = WrongRows::none(alloc);
+    wrong.unless(told.shards == 2 && !told.third, "the shards");
+    wrong.unless(first.commits == ALONE + BOTH, "commits of shard 0");
+    wrong.unless(second.commits == 0, "commits of shard 1");
+    wrong.unless(first.aborts == 0 && second.aborts == 0, "aborts");
+    wrong.unless(first.versions == ALONE + BOTH, "versions of shard 0");
+    wrong.unless(second.versions == BOTH, "versions of shard 1");
+    let served = first.served >= told.at && second.served >= told.at;
+    wrong.unless(served, "what is served");
+    wrong.unless(first.taken > ALONE + BOTH + ABANDONED, "letters of shard 0");
+    wrong.unless(first.advances > 0, "advances");
+    wrong.unless(
+        !first.has_stopped && !second.has_stopped,
+        "none has stopped",
+    );
+    wrong.unless(told.text, "the text");
+    end(&rt, wrong);
+}
