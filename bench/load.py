@@ -1,8 +1,8 @@
 #!/usr/bin/env python3
-"""Clients of a store under load, now and at other revisions, in turn: bench/load.py [REVISION..] [--disks D,..] [--shards N,..] [--clients N,..]
+"""Clients of a store under load, now and at other revisions, in turn: bench/load.py [REVISION..] [--disks D,..] [--shards N,..] [--clients N,..] [--keys N]
 
-A row is a disk, how many shards and how many clients. Each client runs transactions that read and write two of 1,000 keys, one behind the
-other. It tells how many commit a second, within how many microseconds half and 99 of 100 do, the slowest, and how many were aborted after 50
+A row is a disk, how many shards and how many clients. Each client runs transactions that read and write two of 1,000 keys, or of KEYS, one
+after the other; of 8 keys or fewer each transaction takes one. It tells how many commit a second, within how many microseconds half and 99 of 100 do, the slowest, and how many were aborted after 50
 attempts, unknown or refused. Disks: `memory`; `files` under TMPDIR; `5` and `15`, files in /dev/shm each sync of which takes so many milliseconds
 more. The programs are built without a proof (serving.sh); a load beside them shows."""
 import argparse
@@ -33,7 +33,7 @@ def turns(disk, clients):
     return max(per_client * clients, per_client * 4)
 
 
-def row(program, slow, disk, shards, clients):
+def row(program, slow, disk, shards, clients, keys):
     """What the program tells of a row."""
     env = dict(os.environ)
     place, root = disk, os.environ.get("TMPDIR", "/tmp")
@@ -41,7 +41,7 @@ def row(program, slow, disk, shards, clients):
         place, root = "files", "/dev/shm"
         env.update(LD_PRELOAD=str(slow), SLOW_SYNC=str(int(disk) * 1000))
     with tempfile.TemporaryDirectory(dir=root) as folder:
-        words = [place, shards, clients, turns(disk, clients), 1000, 100, folder]
+        words = [place, shards, clients, turns(disk, clients), keys, 100, folder]
         try:
             told = subprocess.run([program, *map(str, words)], env=env, stdout=subprocess.PIPE, text=True, timeout=120, check=False)
         except subprocess.TimeoutExpired:
@@ -59,6 +59,7 @@ def main():
     words.add_argument("--disks", type=numbers, default=["memory", "files", "5", "15"])
     words.add_argument("--shards", type=numbers, default=["1", "2", "4"])
     words.add_argument("--clients", type=numbers, default=["1", "4", "16", "64"])
+    words.add_argument("--keys", type=int, default=1000)
     asked = words.parse_args()
     made = pathlib.Path(tempfile.mkdtemp(prefix="load."))
     print(made)
@@ -69,7 +70,7 @@ def main():
         for shards in asked.shards:
             for clients in map(int, asked.clients):
                 for name, program in programs.items():
-                    print(f"{disk} {shards} {clients} {name}: {row(program, slow, disk, shards, clients)}", flush=True)
+                    print(f"{disk} {shards} {clients} {name}: {row(program, slow, disk, shards, clients, asked.keys)}", flush=True)
 
 
 if __name__ == "__main__":

@@ -139,9 +139,9 @@ fn work(client: &mut Client<'_, Waiting>, number: usize, turns: usize, keys: usi
         told.slowest = told.slowest.max(took);
         told.attempts += attempts;
         match ended {
-            Ok(Ended::Committed(_)) => told.committed.push(took),
-            Ok(Ended::Aborted) => told.aborted += 1,
-            Ok(Ended::Unknown(_)) => told.unknown += 1,
+            Ok(Ended::Committed { .. }) => told.committed.push(took),
+            Ok(Ended::Abandoned(()) | Ended::Aborted { .. }) => told.aborted += 1,
+            Ok(Ended::Unknown { .. }) => told.unknown += 1,
             Err(_) => told.refused += 1,
         }
     }

@@ -1,5 +1,5 @@
 //! What the crates use of their library, over Rust's own.
-pub use std::{cmp, fmt, hash, marker, mem, ops, option, result, slice};
+pub use std::{cmp, fmt, hash, marker, mem, ops, option, result, slice, str};
 
 pub mod alloc {
     #[derive(Clone, Copy, Debug)]

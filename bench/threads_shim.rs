@@ -173,10 +173,13 @@ pub mod crossbeam_channel {
     }
     pub struct Sender<T>(Arc<Channel<T>>);
     pub struct Receiver<T>(Arc<Channel<T>>);
-    pub struct SendError<T>(pub T);
+    pub enum SendError<T> {
+        Disconnected(T),
+        OutOfMemory(T),
+    }
     impl<T> SendError<T> {
         pub fn is_disconnected(&self) -> bool {
-            true
+            matches!(self, SendError::Disconnected(_))
         }
     }
     pub enum RecvTimeoutError {
@@ -194,7 +197,7 @@ pub mod crossbeam_channel {
         pub fn send<R>(&self, _: &R, x: T) -> Result<(), SendError<T>> {
             let mut line = self.0.line.lock().unwrap();
             if line.receivers == 0 {
-                return Err(SendError(x));
+                return Err(SendError::Disconnected(x));
             }
             line.waiting.push_back(x);
             let wakes = std::mem::replace(&mut line.sleeps, false);

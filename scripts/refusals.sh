@@ -9,6 +9,7 @@ if [ ! -x "$program" ]; then
     exit
 fi
 room=$(mktemp -d)
+chmod 711 "$room"
 server=
 trap '[ -z "$server" ] || kill "$server" 2>/dev/null; rm -rf "$room"' EXIT
 mkdir "$room/here"
@@ -29,6 +30,12 @@ settings() {
 "$program" put logs z 1 >committed
 for name in foreign held hurt linked lost older swapped unnamed; do cp -r logs $name; done
 rm lost/shard-1.log
+cp -r logs closed
+chmod 0 closed
+mkdir room
+# Root has rights to all, so it becomes somebody else.
+nobody=
+[ "$(id -u)" != 0 ] || nobody="setpriv --reuid=65534 --regid=65534 --clear-groups"
 printf '%s\n' begin 'put a 2' 'put z 2' commit | "$program" serve older >committed
 cp logs/shard-1.log older
 mv swapped/shard-0.log kept
@@ -66,9 +73,18 @@ for _ in 1 2 3 4 5 6 7 8 9 10; do
     sleep 1
 done
 sums() {
-    find . -type f ! -path './held/*' -exec cksum {} + | sort
+    find . -type f ! -path './held/*' ! -path './room/*' -exec cksum {} + | sort
 }
 sums >../before
+
+# Runs the program: as somebody without rights, or if files may have at most 512 bytes, or as it is.
+run() {
+    case $who in
+    @nobody) timeout 60 $nobody "$program" "$@" ;;
+    @full) (trap '' XFSZ && ulimit -f 1 && exec timeout 60 "$program" "$@") ;;
+    *) timeout 60 "$program" "$@" ;;
+    esac
+}
 
 # The words of a line, one a line: spelled and long ones are told in full.
 words_of() {
@@ -88,12 +104,20 @@ words_of() {
 # Tries one line.
 try() {
     set -f
-    words_of "$3" >../words
+    words=$3
+    who=
+    case $words in
+    '@'*)
+        who=${words%% *}
+        words=${words#* }
+        ;;
+    esac
+    words_of "$words" >../words
     set --
     while IFS= read -r word; do set -- "$@" "$word"; done <../words
     set +f
     status=0
-    timeout 60 "$program" "$@" </dev/null >../out 2>../err || status=$?
+    run "$@" </dev/null >../out 2>../err || status=$?
     tried=$((tried + 1))
     told=$(sed -n 1p ../err | sed 's/ at [0-9]*$/ at */')
     if [ "$status" != 2 ] || [ -s ../out ] || [ "$told" != "fault: $fault" ] || [ "$(sed -n 2p ../err)" != "--> $place" ]; then

@@ -1,7 +1,8 @@
 #!/bin/sh
 # Checks the page of rules, docs/RULES.md: that each definition, function and wrong body that it names exists; that the wrong bodies exist
 # which docs/CHEATS.md names with their crates; and that no document has the marks of a merge that was not ended. And that no other files
-# than these make an end of a transaction for which nothing was waited: of what a log tells, of the messages of a model, and of tests.
+# than these make an end of a transaction for which nothing was waited: of what a log tells, of the messages of a model, and of tests; or an
+# aborted end.
 set -eu
 cd "$(dirname "$(dirname "$(readlink -f "$0")")")"
 missing=0
@@ -42,6 +43,13 @@ for file in $(grep -rlE '::said\b' crates/*/src | sort); do
     case $file in
     crates/message/src/message.rt | crates/memory/src/standing.rt | crates/world/src/begun.rt | crates/*_tests/src/*) ;;
     *) say "an end that is only said: $file" ;;
+    esac
+done
+# An aborted end is made by the two planners that log it or find it logged; a client hears ends, and makes none.
+for file in $(grep -rlE 'Done::aborted\b' crates/*/src | sort); do
+    case $file in
+    crates/coordinator/src/commits.rt | crates/memory/src/planning.rt | crates/*_tests/src/*) ;;
+    *) say "an aborted end that no shard told: $file" ;;
     esac
 done
 [ "$missing" = 0 ] && echo "rules: $(wc -l <"$rows") stand"
