@@ -46,8 +46,6 @@ mod renewing;
 #[cfg(test)]
 mod services;
 #[cfg(test)]
-mod set_back;
-#[cfg(test)]
 mod slow;
 #[cfg(test)]
 mod stopped_views;
