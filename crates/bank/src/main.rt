@@ -16,7 +16,7 @@ use std::random::RandomSource;
 use std::sync::Wait;
 use std::thread::Threads;
 use std::{env, rt, thread, time};
-use store::{Client, Fault, Options, Reason, Splits, Store, Unopened, UnopenedIn};
+use store::{Client, Fault, Options, Reason, Refused, RefusedIn, Splits, Store};
 
 /// How many tellers there are, besides one auditor.
 const TELLERS: u64 = 3;
@@ -39,11 +39,12 @@ fn main(rt: HostRuntime) -> ExitCode {
     };
     let done = serve(&rt, rt.alloc(), folder.as_str(), todo);
     let status = match done {
-        Ok(did) => tell(&rt, did),
-        Err(unopened) => {
+        Ok(done) => tell(&rt, done),
+        Err(refused) => {
             let folder = folder.as_str();
-            let refused = UnopenedIn { folder, unopened };
-            let _ = writeln!(rt.stderr(), "bank: {refused}");
+            let fault = refused.fault;
+            let told = RefusedIn { folder, refused };
+            let _ = writeln!(rt.stderr(), "bank: {fault} --> {told}");
             ExitCode::from(2)
         }
     };
@@ -51,8 +52,18 @@ fn main(rt: HostRuntime) -> ExitCode {
     status
 }
 
+/// What was done, and the numbers of the store after it.
+#[derive(Drop)]
+struct Done {
+    did: Did,
+    numbers: String,
+}
+
 // Says what was done, and whether it was right.
-fn tell(rt: &HostRuntime, did: Did) -> ExitCode {
+fn tell(rt: &HostRuntime, done: Done) -> ExitCode {
+    let Done { did, numbers } = done;
+    let _ = write!(rt.stderr(), "{numbers}");
+    drop(numbers);
     let Did {
         moved,
         refused,
@@ -93,7 +104,7 @@ fn serve<R: rt::Files<File = File> + RandomSource + Threads + Wait + time::Clock
     alloc: Global,
     folder: &str,
     todo: Todo,
-) -> Result<Did, Unopened> {
+) -> Result<Done, Refused> {
     let splits = Splits::new(alloc, &[key_of(ACCOUNTS / 2)?])?;
     let mut options = Options::new(splits, TELLERS + 1);
     options.make = true;
@@ -102,14 +113,14 @@ fn serve<R: rt::Files<File = File> + RandomSource + Threads + Wait + time::Clock
         options.renew = todo.renew;
     }
     let store = Store::open_folder(rt, alloc, folder, options)?;
-    let (did, disks) = store.serve(|clients: Vec<Client<'_, R>>| work(
+    let (done, disks) = store.serve(|clients: Vec<Client<'_, R>>| work(
         rt,
         alloc,
         clients,
         todo.transfers,
     ))?;
     drop(disks);
-    Ok(did?)
+    Ok(done?)
 }
 
 // Opens the accounts, and lets the last client audit while the others move money.
@@ -118,13 +129,14 @@ fn work<R: Threads + Wait + time::Clock + Sync>(
     alloc: Global,
     mut clients: Vec<Client<'_, R>>,
     transfers: u32,
-) -> Result<Did, Fault> {
+) -> Result<Done, Fault> {
     let Some(mut first) = clients.pop() else {
-        return Ok(Did::nothing());
+        return Ok(done_by(alloc, Did::nothing()));
     };
     if !open_accounts(&mut first)? {
-        return Ok(Did::nothing().with_audit(0));
+        return Ok(done_by(alloc, Did::nothing().with_audit(0)));
     }
+    let numbers = first.numbers();
     let mut jobs = Vec::new(alloc);
     for client in clients {
         jobs.push((jobs.len() as u64 + 1, client))?;
@@ -148,5 +160,12 @@ fn work<R: Threads + Wait + time::Clock + Sync>(
     for did in done {
         all = all.and(did?);
     }
-    Ok(all)
+    let numbers = numbers.text()?;
+    Ok(Done { did: all, numbers })
+}
+
+// What was done before a number was counted.
+fn done_by(alloc: Global, did: Did) -> Done {
+    let numbers = String::new(alloc);
+    Done { did, numbers }
 }

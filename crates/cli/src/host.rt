@@ -19,7 +19,7 @@ ghost use Rattle.output.specs.Streams.{failures_of, fault_line, writer_of};
 use crate::host_put::{put_in_store, put_limit};
 use commands::{Drive, Driven, Ended, Engine, Hints, NoVerdict, Put, Stream, System, answer};
 use drive::drive_shards;
-use host_files::HostFiles;
+use host_files::{HostFiles, Noted};
 use simdisk::SimDisk;
 use std::alloc::Global;
 use std::fs::File;
@@ -101,7 +101,8 @@ pub fn program<
         ensures refused { IfErr result (λ none. HasNoVerdict none.fault) }
     {
         let writer = writer_of(&shown, drive.table);
-        drive_shards(rt, alloc, drive.settings, writer, is_running(&shown))
+        let is_shown = is_running(&shown);
+        drive_shards(rt, alloc, drive.settings, writer, is_shown, &Noted::none())
     };
     let mut files = HostFiles::new(rt, is_running(&shown));
     files.limit = put_limit(rt);

@@ -10,7 +10,8 @@ ghost use Rattle.drive.specs.Told.{AreCounts, HasNoVerdict, IsTold, IsToldOf, Is
 
 use crate::engine::{self, clock_of, drive_wide};
 use disk::Disk;
-use host_files::{Expected, logs_in, logs_in_memory};
+use filedisk::FileDisk;
+use host_files::{Causes, Expected, Noted, logs_in, logs_in_memory};
 use letters::Gate;
 use progress::{NoWatch, Terminal, Watch};
 use settings::Settings;
@@ -27,7 +28,7 @@ use workers::Summary;
 
 /// Runs shards and workers by some settings. The logs lie in the folder of the settings, if they name one, and else on disks in memory. If
 /// there is a terminal, it shows how far the drive is, and each shard whose device fails. After such a failure the drive ends soon, and is
-/// refused as `Device`, with its counts.
+/// refused as `Device`, with its counts. A refusal of a folder is noted, with the first log that is refused or has failed, and the reason.
 pub fn drive_shards<
     R: rt::Files<File = File> + RandomSource + Threads + Wait + time::Clock + Sync,
     W: Write + Drop + Send,
@@ -37,6 +38,7 @@ pub fn drive_shards<
     settings: &Settings,
     writer: Option<W>,
     is_running: bool,
+    noted: &Noted,
 ) -> Result<Driven, NoVerdict>
     ensures told { IfOk result (λ driven. IsTold
         (settings.now.workers * settings.now.transactions)
@@ -59,7 +61,7 @@ pub fn drive_shards<
         Some(writer) => Some(terminal(rt, alloc, writer, turns, is_running)),
         None => None,
     };
-    let driven = drive_watched(rt, alloc, settings, &Open, &watch);
+    let driven = drive_watched(rt, alloc, settings, &Open, &watch, noted);
     if let Some(terminal) = watch {
         terminal.finish();
     }
@@ -98,7 +100,7 @@ pub fn run<
     ensures limits { IsOk result
         → IsDrivable settings.now.workers settings.now.transactions settings.now.keys }
 {
-    match drive_watched(rt, alloc, settings, gate, &NoWatch) {
+    match drive_watched(rt, alloc, settings, gate, &NoWatch, &Noted::none()) {
         Ok(driven) => Ok(driven.text),
         Err(none) => Err(none.fault),
     }
@@ -108,7 +110,14 @@ fn drive_watched<
     R: rt::Files<File = File> + RandomSource + Threads + Wait + time::Clock + Sync,
     G: Gate + Sync,
     W: Watch + Sync,
->(rt: &R, alloc: Global, settings: &Settings, gate: &G, watch: &W) -> Result<Driven, NoVerdict>
+>(
+    rt: &R,
+    alloc: Global,
+    settings: &Settings,
+    gate: &G,
+    watch: &W,
+    noted: &Noted,
+) -> Result<Driven, NoVerdict>
     ensures told { IfOk result (λ driven. IsTold
         (settings.now.workers * settings.now.transactions)
         (string_bytes driven.text) driven.verdict) }
@@ -128,8 +137,12 @@ fn drive_watched<
     match &settings.dir {
         Some(folder) => {
             match logs_in(rt, alloc, folder, &settings.splits, Expected::Either) {
-                Ok(logs) => drive_over(rt, alloc, settings, logs, gate, watch),
-                Err(refused) => Err(NoVerdict::from(refused.fault)),
+                Ok(logs) => drive_files(rt, alloc, settings, logs, gate, watch, noted),
+                Err(refused) => {
+                    let fault = refused.fault;
+                    noted.note(refused);
+                    Err(NoVerdict::from(fault))
+                }
             }
         }
         None => {
@@ -137,6 +150,40 @@ fn drive_watched<
             drive_over(rt, alloc, settings, logs, gate, watch)
         }
     }
+}
+
+// Drives over the logs of a folder. If that is refused, the first log that has failed is noted, and why.
+fn drive_files<R: Threads + Wait + time::Clock + Sync, G: Gate + Sync, W: Watch + Sync>(
+    rt: &R,
+    alloc: Global,
+    settings: &Settings,
+    logs: Vec<FileDisk>,
+    gate: &G,
+    watch: &W,
+    noted: &Noted,
+) -> Result<Driven, NoVerdict>
+    ensures told { IfOk result (λ driven. IsTold
+        (settings.now.workers * settings.now.transactions)
+        (string_bytes driven.text) driven.verdict) }
+    ensures counted { IfErr result (λ none. IfSome none.text (λ text.
+        AreCounts (settings.now.workers * settings.now.transactions) (string_bytes text))) }
+    ensures unjudged { IfErr result (λ none. IfSome none.text (λ text.
+        IsUnjudged none.fault)) }
+    ensures undriven { IfErr result (λ none. IsUndriven none.fault) }
+    ensures limits { IsOk result
+        → IsDrivable settings.now.workers settings.now.transactions settings.now.keys }
+{
+    let mut logs = logs;
+    let Ok(causes) = Causes::of(alloc, &mut logs) else {
+        drop(logs);
+        return Err(NoVerdict::from(Fault::Memory));
+    };
+    let driven = drive_over(rt, alloc, settings, logs, gate, watch);
+    if let Err(none) = &driven {
+        noted.note(causes.refuse(none.fault, None));
+    }
+    drop(causes);
+    driven
 }
 
 fn drive_over<

@@ -33,6 +33,24 @@ pub enum Cause {
     Failed,
 }
 
+impl Cause {
+    /// All causes.
+    pub const ALL: [Cause; 12] = [
+        Cause::NoFile,
+        Cause::Folder,
+        Cause::NoFolder,
+        Cause::NoPlainFile,
+        Cause::Link,
+        Cause::NoRights,
+        Cause::InUse,
+        Cause::Exists,
+        Cause::Lost,
+        Cause::NoRoom,
+        Cause::Rewritten,
+        Cause::Failed,
+    ];
+}
+
 impl fmt::Display for Cause {
     fn fmt<W: fmt::Write>(&self, f: &mut fmt::Formatter<W>) -> fmt::Result {
         f.write_str(match self {

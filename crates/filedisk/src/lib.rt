@@ -4,12 +4,15 @@
 ghost use Rattle.std.specs.Prelude.{◌≡◌, ◌+◌, IfOk, IfErr, OnOk, IsTrue, false, length, max};
 
 mod cause;
+mod last_cause;
 mod names;
 
 pub use cause::{Cause, cause_in, cause_of};
 use counts::Count;
 use disk::Disk;
+pub use last_cause::LastCause;
 use names::{is_same, locked, or_cause, plain, sync_folder};
+use std::alloc::{AllocError, Global};
 use std::fs::{self, File, OpenOptions};
 use std::os::unix::fs::FileExt;
 use std::rt::Files;
@@ -33,6 +36,8 @@ pub struct FileDisk {
     failures: Count,
     // Why the last call that failed did so.
     cause: Option<Cause>,
+    // The same for others, if anybody asked for it.
+    told: Option<LastCause>,
 }
 
 impl FileDisk {
@@ -104,6 +109,22 @@ impl FileDisk {
         self.cause
     }
 
+    /// Gives why the last of its calls that failed did so, in a form that outlives it: from now on each failure is told there too. Whoever
+    /// asked before hears of no more.
+    pub fn share_cause(&mut self, alloc: Global) -> Result<LastCause, AllocError>
+        ensures length { file_length self.new ≡ file_length self.old }
+        ensures failures { file_failures self.new ≡ file_failures self.old }
+        ensures torn { file_is_torn self.new ≡ file_is_torn self.old }
+        ensures changed { file_is_changed self.new ≡ file_is_changed self.old }
+    {
+        let told = LastCause::none(alloc)?;
+        if let Some(cause) = self.cause {
+            told.note(cause);
+        }
+        self.told = Some(told.share()?);
+        Ok(told)
+    }
+
     /// Tells whether a name, or the link of that name, leads to this file.
     pub fn has_name<R: Files>(&self, rt: &R, path: &str) -> bool {
         is_same(&self.file, fs::metadata(rt, path))
@@ -124,6 +145,7 @@ impl FileDisk {
             changed: false,
             failures: Count::none(),
             cause: None,
+            told: None,
         }
     }
 
@@ -137,6 +159,9 @@ impl FileDisk {
     {
         self.failures.rise();
         self.cause = Some(cause);
+        if let Some(told) = &self.told {
+            told.note(cause);
+        }
         if let Ok(metadata) = self.file.metadata() {
             self.len = metadata.len();
         }

@@ -1,5 +1,5 @@
 //! A folder that has no manifest yet.
-ghost use Rattle.std.specs.Prelude.{◌≤◌, IfErr, OnOk, IsTrue};
+ghost use Rattle.std.specs.Prelude.{◌≡◌, ◌≤◌, IfErr, OnOk, IsTrue};
 ghost use Rattle.host_files.specs.Folders.{IsFolderRefusal, IsSystemRefusal, names_are_synced};
 
 use crate::manifest::manifest_text;
@@ -120,8 +120,9 @@ fn draft<R: Files<File = File>>(
             Ok(())
         }
         Err((fault, file)) => {
+            let refused = Refused::of_file(fault, &file, draft);
             drop(file);
-            Err(Refused::from(fault).of(draft))
+            Err(refused)
         }
     }
 }
@@ -218,7 +219,15 @@ fn draft_manifest<R: Files<File = File>>(
 fn write(file: &mut FileDisk, text: &str) -> Result<(), Refused>
     ensures { IfErr result IsFolderRefusal }
 {
+    match written(file, text) {
+        Ok(()) => Ok(()),
+        Err(fault) => Err(Refused::of_file(fault, file, Name::ManifestDraft)),
+    }
+}
+
+fn written(file: &mut FileDisk, text: &str) -> Result<(), Fault>
+    ensures { IfErr result (λ fault. fault ≡ Fault.Device) }
+{
     file.write_at(0, text.as_bytes())?;
-    file.sync()?;
-    Ok(())
+    file.sync()
 }

@@ -1,8 +1,10 @@
 //! The machine's files, as commands ask for them.
+use crate::causes::Noted;
 use crate::folder::{Expected, refusal_at};
 use crate::log_file::{LogFile, at_one_moment};
 use crate::names::read_front;
 use crate::newest::Limit;
+use crate::refused::{Refused, RefusedIn};
 use filedisk::Cause;
 use std::alloc::Global;
 use std::cell::Cell;
@@ -21,6 +23,8 @@ pub struct HostFiles<'r, R> {
     pub is_watched: bool,
     /// How far the logs of a store may be ahead of the clock, if that is limited: a store that is farther ahead is told as refused.
     pub limit: Option<Limit>,
+    /// Why the store that a command was over was refused, if that was noted.
+    pub noted: Option<&'r Noted>,
     /// Why the last file that was to be made was not.
     unmade: Cell<Option<Cause>>,
 }
@@ -32,8 +36,13 @@ impl<'r, R> HostFiles<'r, R> {
             rt,
             is_watched,
             limit: None,
+            noted: None,
             unmade: Cell::new(None),
         }
+    }
+
+    fn last_noted(&self) -> Option<Refused> {
+        self.noted?.last()
     }
 }
 
@@ -74,13 +83,15 @@ impl<R: rt::Files<File = File> + Eprint> Files for HostFiles<'_, R> {
     }
 
     fn why_unopened(&self, alloc: Global, folder: &str, splits: &Splits) -> Option<String> {
-        let refused = refusal_at(self.rt, alloc, folder, splits, Expected::Either, self.limit)?;
-        match (refused.file, refused.why) {
-            (Some(file), Some(why)) => format!(in alloc; "{folder}/{file}: {why}").ok(),
-            (Some(file), None) => format!(in alloc; "{folder}/{file}").ok(),
-            (None, Some(why)) => format!(in alloc; "{folder}: {why}").ok(),
-            (None, None) => None,
+        let refused = match self.last_noted() {
+            Some(refused) if refused.is_explained() => refused,
+            _ => refusal_at(self.rt, alloc, folder, splits, Expected::Either, self.limit)?,
+        };
+        if !refused.is_explained() {
+            return None;
         }
+        let told = RefusedIn { folder, refused };
+        format!(in alloc; "{told}").ok()
     }
 
     fn why_unmade(&self, alloc: Global) -> Option<String> {

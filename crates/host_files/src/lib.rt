@@ -3,6 +3,7 @@
 
 mod agreeing;
 mod beginning;
+mod causes;
 mod copying;
 mod files;
 mod folder;
@@ -16,6 +17,7 @@ mod shards;
 mod walking;
 
 pub use agreeing::{Known, check_agreement, known_on};
+pub use causes::{Causes, Noted};
 pub use copying::Copying;
 pub use files::HostFiles;
 pub use folder::{Expected, FoundLogs, found_in, logs_in, logs_in_memory, refusal_at, refusal_in};
@@ -23,4 +25,4 @@ pub use log_file::{LogFile, at_one_moment};
 pub use manifest::manifest_text;
 pub use names::Name;
 pub use newest::{Limit, Newest};
-pub use refused::{Refused, Why};
+pub use refused::{Refused, RefusedIn, Why};

@@ -1,5 +1,5 @@
 //! How far the logs of a store are ahead of a clock.
-ghost use Rattle.std.specs.Prelude.{◌≡◌, ◌-◌, ◌<◌, ◌≤◌, Some, IfErr, OnOk};
+ghost use Rattle.std.specs.Prelude.{◌≡◌, ◌-◌, ◌<◌, ◌≤◌, Some, IfErr, IfNone, OnOk};
 ghost use Rattle.host_files.specs.declared.refused.Why.TheVariants as why;
 
 use crate::refused::Refused;
@@ -31,6 +31,7 @@ impl Limit {
         ensures refused { IfErr result (λ refused. (refused.fault ≡ Fault.Future)
             × (self.now.ahead < newest.at - self.now.present)
             × (refused.why ≡ Some (why.Ahead (newest.at - self.now.present)))) }
+        ensures named { IfErr result (λ refused. IfNone refused.file ⊥) }
     {
         let lead = newest.at.micros().saturating_sub(self.present.micros());
         if lead <= self.ahead {

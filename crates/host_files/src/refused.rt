@@ -1,8 +1,8 @@
 //! Why the files of a store are refused.
-ghost use Rattle.std.specs.Prelude.{◌≡◌, Some};
+ghost use Rattle.std.specs.Prelude.{◌≡◌, IfNone, Some};
 
 use crate::names::Name;
-use filedisk::Cause;
+use filedisk::{Cause, FileDisk};
 use std::alloc::{AllocError, AllocFailed};
 use std::fmt;
 use units::{Fault, ShardNo};
@@ -49,6 +49,26 @@ impl Refused {
         }
     }
 
+    /// Refuses a file as the fault of its last call: as `Device` it tells why the system refused that.
+    pub fn of_file(fault: Fault, file: &FileDisk, name: Name) -> Refused
+        ensures { result.fault ≡ fault }
+    {
+        let why = match fault {
+            Fault::Device => file.cause().map(Why::System),
+            _ => None,
+        };
+        Refused {
+            fault,
+            file: Some(name),
+            why,
+        }
+    }
+
+    /// Tells whether the file or the reason is known.
+    pub fn is_explained(&self) -> bool {
+        self.file.is_some() || self.why.is_some()
+    }
+
     /// Tells whose log the file is, if it is a log or the draft of one.
     pub fn shard(&self) -> Option<ShardNo> {
         match self.file {
@@ -93,6 +113,7 @@ impl Refused {
     pub fn ahead(shard: ShardNo, micros: u64) -> Refused
         ensures fault { result.fault ≡ Fault.Future }
         ensures why { result.why ≡ Some (Why.Ahead micros) }
+        ensures named { IfNone result.file ⊥ }
     {
         Refused {
             fault: Fault::Future,
@@ -150,6 +171,29 @@ impl<T: Drop> From<AllocFailed<T>> for Refused {
 
     fn from(_error: AllocFailed<T>) -> Refused {
         Refused::from(Fault::Memory)
+    }
+}
+
+/// A store that is refused, to be printed in its folder: the file that is refused, or the folder, and what is wrong with it, if that is known.
+#[derive(Clone, Copy)]
+pub struct RefusedIn<'a> {
+    /// The folder of the store.
+    pub folder: &'a str,
+    /// Why it is refused.
+    pub refused: Refused,
+}
+
+impl fmt::Display for RefusedIn<'_> {
+    fn fmt<W: fmt::Write>(&self, f: &mut fmt::Formatter<W>) -> fmt::Result {
+        let RefusedIn { folder, refused } = *self;
+        match refused.file {
+            Some(file) => write!(f, "{folder}/{file}")?,
+            None => f.write_str(folder)?,
+        }
+        match refused.why {
+            Some(why) => write!(f, ": {why}"),
+            None => Ok(()),
+        }
     }
 }
 

@@ -5,10 +5,10 @@ use crate::letter::Post;
 use crate::serves::{Due, Serves, Taken};
 use message::Input;
 use std::sync::Wait;
-use std::time;
 use std::time::{Duration, Instant};
+use std::{slice, time};
 use truetime::{Clock, Reading};
-use units::{MOST_ROWS, Stamp};
+use units::{Fault, MOST_ROWS, Stamp};
 
 // A millisecond: a node goes without chores no longer than that. It also waits that long after its last letter before it advances, and
 // between two advances if nothing else happens.
@@ -25,6 +25,7 @@ fn long() -> Duration {
 const MANY_VERSIONS: usize = 256;
 
 // An advance for who looks may log, and wait for a device. While letters go on, the next one comes only after so many times as long as it took.
+// One of many logs: so the shorter of the last two counts.
 const SHARE_OF_ADVANCES: u32 = 4;
 
 // A thread that sleeps wakes some 50 microseconds late, or a little more.
@@ -38,7 +39,8 @@ const LAST_ASK: u64 = 640;
 /// When a node last did its chores, and what it needs for the next ones:
 ///
 /// - when it last took a letter or settled;
-/// - when it last advanced, how long that took, and how many versions it showed then;
+/// - when it last advanced, how long that took and the advance before it, and how many versions it showed then;
+/// - whether it took a group when it last did its chores, and whether somebody has looked since it last settled;
 /// - when it last tidied, and how long that took;
 /// - when it last asked for what is prepared, and how many milliseconds it waits before it asks again.
 #[derive(Clone, Copy)]
@@ -47,6 +49,9 @@ pub struct Chores {
     busy: Option<Instant>,
     advanced: Option<Instant>,
     took: Duration,
+    before: Duration,
+    grouped: bool,
+    looked: bool,
     shown: usize,
     tidied: Option<Instant>,
     tidying: Duration,
@@ -62,6 +67,9 @@ impl Chores {
             busy: None,
             advanced: None,
             took: Duration::ZERO,
+            before: Duration::ZERO,
+            grouped: false,
+            looked: false,
             shown: node.versions(rt),
             tidied: None,
             tidying: Duration::ZERO,
@@ -80,7 +88,8 @@ impl Chores {
         self.busy = Instant::now(rt).ok();
     }
 
-    /// Does what is due, and returns for how long nothing more is due if no letter comes:
+    /// Does what is due, and returns for how long nothing more is due if no letter comes. Waits and settlings are held for `hold`. If
+    /// groups are slow and somebody has looked, the node advances with the settlings too.
     ///
     /// - waits that can be granted go on;
     /// - what is decided is settled once its timestamp has passed;
@@ -92,11 +101,19 @@ impl Chores {
         rt: &W,
         post: &mut P,
         clock: &mut C,
+        slow: bool,
+        hold: Duration,
     ) -> Duration {
         self.done = Instant::now(rt).ok();
-        let (settled, next) = go_on(node, rt, post, clock);
+        let (settled, next) = if hold > Duration::ZERO {
+            (false, Some(hold))
+        } else {
+            go_on(node, rt, post, clock, slow && self.looked)
+        };
+        self.grouped = settled;
         if settled {
             self.busy = Instant::now(rt).ok();
+            self.looked = false;
         }
         self.ask_in_turn(node, rt, post, clock);
         let ask = left(rt, self.asked, Duration::from_millis(self.patience));
@@ -115,6 +132,11 @@ impl Chores {
         }
     }
 
+    /// Tells whether a group was taken when it last did what is due.
+    pub fn took_group(&self) -> bool {
+        self.grouped
+    }
+
     // How long it is until the node advances: if somebody got `NotYet`, or if it has versions that it did not show. After it tidied it does
     // not for as long as that took.
     fn until_advance<N: Serves, W: Wait + time::Clock, P: Post>(
@@ -123,7 +145,7 @@ impl Chores {
         rt: &W,
         post: &P,
     ) -> Option<Duration> {
-        let share = self.took.saturating_mul(SHARE_OF_ADVANCES);
+        let share = self.took.min(self.before).saturating_mul(SHARE_OF_ADVANCES);
         let versions = node.versions(rt);
         let rest = if versions >= self.shown.saturating_add(MANY_VERSIONS) {
             moment()
@@ -171,6 +193,7 @@ impl Chores {
         let versions = node.versions(rt);
         let served = if post.is_looked_for(node.shard()) {
             post.silence(node.shard());
+            self.looked = true;
             node.keep_up(rt, clock)
         } else {
             node.publish(rt, clock)
@@ -180,6 +203,7 @@ impl Chores {
             post.tell(node.shard(), served);
         }
         self.advanced = Instant::now(rt).ok();
+        self.before = self.took;
         self.took = between(start, self.advanced);
     }
 
@@ -231,6 +255,7 @@ fn go_on<N: Serves, W: Wait, P: Post, C: Clock>(
     rt: &W,
     post: &mut P,
     clock: &mut C,
+    advances: bool,
 ) -> (bool, Option<Duration>) {
     let mut any = false;
     for _round in 0..MOST_ROWS {
@@ -238,7 +263,7 @@ fn go_on<N: Serves, W: Wait, P: Post, C: Clock>(
         if !has_passed && !node.is_ready(rt) {
             return (any, next);
         }
-        let went = match node.take_all(rt, clock, &[]) {
+        let went = match take_due(node, rt, clock, advances && !any) {
             Ok(Some(taken)) => hand_out(post, taken),
             Ok(None) => go_on_singly(node, rt, post, clock),
             Err(fault) => {
@@ -270,11 +295,36 @@ fn until_settled<N: Serves, W: Wait, C: Clock>(
     }
 }
 
+// Takes what is due. If the node advances, it does that first: a ceiling is then logged with the other records, and looks need none soon after.
+fn take_due<N: Serves, W: Wait, C: Clock>(
+    node: &N,
+    rt: &W,
+    clock: &mut C,
+    advances: bool,
+) -> Result<Option<Taken>, Fault> {
+    if !advances {
+        return node.take_all(rt, clock, &[]);
+    }
+    let Some(now) = clock.now() else {
+        return Err(Fault::TimeSpent);
+    };
+    let input = Input::Advance(now.latest());
+    let taken = node.take_all(rt, clock, slice::from_ref(&input));
+    drop(input);
+    taken
+}
+
 // Posts what the steps that were due have put out. It says whether there was any such step.
 fn hand_out<P: Post>(post: &mut P, taken: Taken) -> bool {
     let Taken { refusals, outboxes } = taken;
+    let mut inputs = 0_usize;
+    for refusal in &refusals {
+        if refusal.is_none() {
+            inputs = inputs.saturating_add(1);
+        }
+    }
     drop(refusals);
-    let any = !outboxes.is_empty();
+    let any = outboxes.len() > inputs;
     for outbox in outboxes {
         post_all(post, outbox);
     }

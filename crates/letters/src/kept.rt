@@ -2,6 +2,7 @@
 use crate::acts::{deliver, hand_on};
 use crate::bell::left;
 use crate::letter::{Post, Refused, UnderWay};
+use crate::pace::Pace;
 use crate::serves::Serves;
 use message::{Envelope, Input, Message, Outbox, Read};
 use std::alloc::Global;
@@ -29,6 +30,8 @@ pub struct Kept {
     reads: Vec<Read>,
     disturbed: bool,
     looked: Option<Instant>,
+    /// How long groups take, and whom the node has answered.
+    pub pace: Pace,
 }
 
 impl Kept {
@@ -38,6 +41,7 @@ impl Kept {
             reads: Vec::new(alloc),
             disturbed: false,
             looked: None,
+            pace: Pace::none(alloc),
         }
     }
 
@@ -195,6 +199,7 @@ pub struct Watched<'p, P> {
 
 impl<P: Post> Post for Watched<'_, P> {
     fn post(&mut self, envelope: Envelope) {
+        self.kept.pace.answered(&envelope);
         match &envelope.message {
             Message::ReadAnswer(answer) => self.kept.forget(answer.txn, Some(answer.key)),
             Message::Done(done) => self.kept.forget(done.txn(), None),

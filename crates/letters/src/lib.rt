@@ -8,6 +8,7 @@ mod gate;
 mod kept;
 mod letter;
 mod network;
+mod pace;
 mod put_off;
 mod serves;
 mod sessions;

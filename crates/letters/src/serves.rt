@@ -106,11 +106,15 @@ const READS_AT_MOST: usize = 1_024;
 /// - **Chores**: the node does them whenever no letter is there, and then waits for a letter until more are due. While letters come, it does
 ///   them after 64 letters, or after the first letter that ends more than a millisecond after the last chores. After them the gate is told if
 ///   the node has stopped.
-/// - **Letters that are no reads** are taken together if they are there at the same time: 64 at most, and no more once they are to write a
-///   megabyte. Their records are logged together, and each is answered after that, in order.
-/// - **Reads** are taken once no other letter is there: each by itself, 64 in a row. After each 64 letters up to 64 reads are taken, also if
-///   other letters never cease. Reads of a key that is read to be written take turns: one waits until the transaction that has read
-///   the key before it has closed, for 4 ms at most, or 100 ms if letters take long.
+/// - **Letters that are no reads** are taken together if they are there at the same time: 64 at most, besides those that a session has sent
+///   again, and no more once they are to write a megabyte. Their records are logged together, and each is answered after that, in order. One
+///   that a session has sent again takes the place of the one that waits. If the last groups took 2 ms or more, they wait for others, for
+///   half of that time at most. They wait until what is decided is settled. Then they wait until those whom the node has answered have
+///   closed, or no letter has come for a while.
+/// - **Reads** are taken once no other letter is in the inbox: each by itself, 64 in a row. After each 64 letters up to 64 reads are taken,
+///   also if other letters never cease. Reads of a key that is read to be written take turns: one waits until the transaction that has read
+///   the key before it has closed, for 4 ms at most, or 100 ms if letters take long. While a commit waits for others, reads of the keys that
+///   it writes wait for it in the same way.
 pub fn serve<N: Serves, W: Wait + time::Clock, P: Post, C: Clock, G: Gate>(
     node: &N,
     rt: &W,
@@ -119,15 +123,7 @@ pub fn serve<N: Serves, W: Wait + time::Clock, P: Post, C: Clock, G: Gate>(
     clock: &mut C,
     gate: &G,
 ) {
-    let mut round = Round {
-        chores: Chores::new(node, rt),
-        reads: Waiting::none(node.alloc(), READS_AT_MOST),
-        kept: Kept::none(node.alloc()),
-        turns: Turns::none(node.alloc()),
-        n: 0,
-        in_a_row: 0,
-        stopped: false,
-    };
+    let mut round = round_of(node, rt);
     for _letter in rt.forever() {
         let is_due = inbox.is_empty()
             || round.in_a_row >= LETTERS_IN_A_ROW
@@ -144,10 +140,44 @@ pub fn serve<N: Serves, W: Wait + time::Clock, P: Post, C: Clock, G: Gate>(
                 }
             }
             Next::Nothing => {}
-            Next::Gone => return,
+            Next::Gone => {
+                take_gathered(node, rt, post, clock, gate, &mut round);
+                return;
+            }
+        }
+        if is_gathered(node, rt, &round) {
+            take_gathered(node, rt, post, clock, gate, &mut round);
         }
     }
     unreachable!()
+}
+
+// Whether letters were gathered, and are to be taken: there are enough, or they wait for nothing more.
+fn is_gathered<N: Serves, W: Wait + time::Clock>(node: &N, rt: &W, round: &Round) -> bool {
+    match &round.gathered {
+        Some(batch) => batch.is_full() || waits(node, rt, round) == Duration::ZERO,
+        None => false,
+    }
+}
+
+// For how long letters that were gathered wait: for what is decided to be settled, or else for other letters.
+fn waits<N: Serves, W: Wait + time::Clock>(node: &N, rt: &W, round: &Round) -> Duration {
+    let settles = round.kept.pace.lets_settle(rt);
+    if settles > Duration::ZERO && node.earliest_decided(rt).is_some() {
+        settles
+    } else {
+        round.kept.pace.gathers(rt)
+    }
+}
+
+// For how long what is due waits for letters: not at all if it is decided.
+fn holds<N: Serves, W: Wait + time::Clock>(node: &N, rt: &W, round: &Round) -> Duration {
+    let gathers = round.kept.pace.gathers(rt);
+    if gathers > Duration::ZERO && node.earliest_decided(rt).is_some() {
+        Duration::ZERO
+    } else {
+        gathers
+    }
 }
 
 // What a node is in the midst of: its chores, the reads that wait to be taken, those that wait for a lock, and whose turn it is to read. It
@@ -158,9 +188,24 @@ struct Round {
     reads: Waiting,
     kept: Kept,
     turns: Turns,
+    gathered: Option<Batch>,
     n: u64,
     in_a_row: u64,
     stopped: bool,
+}
+
+// Begins with nothing taken, and nothing that waits.
+fn round_of<N: Serves, W: Wait>(node: &N, rt: &W) -> Round {
+    Round {
+        chores: Chores::new(node, rt),
+        reads: Waiting::none(node.alloc(), READS_AT_MOST),
+        kept: Kept::none(node.alloc()),
+        turns: Turns::none(node.alloc()),
+        gathered: None,
+        n: 0,
+        in_a_row: 0,
+        stopped: false,
+    }
 }
 
 // Does the chores, and tells the gate if the node has stopped. After many letters, reads that wait are taken first: chores that were late
@@ -178,21 +223,44 @@ fn tend<N: Serves, W: Wait + time::Clock, P: Post, C: Clock, G: Gate>(
         round.in_a_row = 0;
     }
     round.kept.look_after(node, rt, post, clock);
-    let pause = round.chores.tend(
-        node,
-        rt,
-        &mut Watched {
-            post,
-            kept: &mut round.kept,
-        },
-        clock,
-    );
+    let pause = do_chores(node, rt, post, clock, round);
     let stopped = node.is_stopped(rt);
     if stopped && !round.stopped {
         gate.stopped(node.shard());
     }
     round.stopped = stopped;
     round.kept.pause(rt, pause)
+}
+
+// Does what is due. Returns for how long nothing more is due.
+fn do_chores<N: Serves, W: Wait + time::Clock, P: Post, C: Clock>(
+    node: &N,
+    rt: &W,
+    post: &mut P,
+    clock: &mut C,
+    round: &mut Round,
+) -> Duration {
+    let hold = holds(node, rt, round);
+    if hold == Duration::ZERO {
+        round.kept.pace.begin_group();
+    }
+    let slow = round.kept.pace.is_slow();
+    let start = Instant::now(rt).ok();
+    let mut post = Watched {
+        post,
+        kept: &mut round.kept,
+    };
+    let pause = round.chores.tend(node, rt, &mut post, clock, slow, hold);
+    if round.chores.took_group() {
+        round.kept.pace.end_group(rt, start);
+    } else {
+        round.kept.pace.end_other(rt, start);
+    }
+    if round.gathered.is_some() {
+        pause.min(waits(node, rt, round))
+    } else {
+        pause
+    }
 }
 
 // Takes the reads that wait, in the order in which they came.
@@ -224,21 +292,27 @@ fn take_next<N: Serves, W: Wait + time::Clock, P: Post, C: Clock, G: Gate>(
     round: &mut Round,
     letter: Letter,
 ) -> bool {
+    round.kept.pace.hear(rt);
     match &letter {
-        Letter::Look | Letter::Close => take(node, rt, post, clock, gate, round, letter),
+        Letter::Look => take(node, rt, post, clock, gate, round, letter),
+        Letter::Close => {
+            take_gathered(node, rt, post, clock, gate, round);
+            take(node, rt, post, clock, gate, round, letter)
+        }
         Letter::Carry(Message::Read(_)) | Letter::Again(Message::Read(_), _) => {
             take(node, rt, post, clock, gate, round, letter);
             take_reads(node, rt, post, clock, gate, round);
             true
         }
         Letter::Carry(_) | Letter::Again(_, _) => {
-            take_together(node, rt, inbox, post, clock, gate, round, letter)
+            gather(node, rt, inbox, post, clock, gate, round, letter)
         }
     }
 }
 
-// Takes a message that is no read, together with those that are there besides. Returns whether more are taken.
-fn take_together<N: Serves, W: Wait + time::Clock, P: Post, C: Clock, G: Gate>(
+// Gathers a message that is no read, and those that are there besides. If there is no memory for that, it is taken by itself. Returns whether
+// more are taken.
+fn gather<N: Serves, W: Wait + time::Clock, P: Post, C: Clock, G: Gate>(
     node: &N,
     rt: &W,
     inbox: &Receiver<Letter>,
@@ -248,20 +322,44 @@ fn take_together<N: Serves, W: Wait + time::Clock, P: Post, C: Clock, G: Gate>(
     round: &mut Round,
     letter: Letter,
 ) -> bool {
-    let Some(mut batch) = Batch::none(node.alloc()) else {
+    let gathered = match round.gathered.take() {
+        Some(batch) => Some(batch),
+        None => Batch::none(node.alloc()),
+    };
+    let Some(mut batch) = gathered else {
         return take(node, rt, post, clock, gate, round, letter);
     };
+    batch.fill(rt, &mut round.reads, inbox, &mut round.kept.pace, letter);
+    if waits(node, rt, round) > Duration::ZERO {
+        batch.hold_turns(rt, &mut round.turns);
+    }
+    round.gathered = Some(batch);
+    true
+}
+
+// Takes the letters that were gathered, if there are any.
+fn take_gathered<N: Serves, W: Wait + time::Clock, P: Post, C: Clock, G: Gate>(
+    node: &N,
+    rt: &W,
+    post: &mut P,
+    clock: &mut C,
+    gate: &G,
+    round: &mut Round,
+) {
+    let Some(batch) = round.gathered.take() else {
+        return;
+    };
     let start = Instant::now(rt).ok();
-    batch.fill(rt, &mut round.reads, inbox, letter);
     batch.end_turns(&mut round.turns, &mut round.reads);
+    round.kept.pace.begin_group();
     let first = round.n;
     round.n = take_all(node, rt, post, clock, gate, &mut round.kept, first, batch);
     round.in_a_row = round.in_a_row.saturating_add(round.n.saturating_sub(first));
     round.chores.took_letter(rt);
+    round.kept.pace.end_group(rt, start);
     if let (Some(start), Ok(end)) = (start, Instant::now(rt)) {
         round.turns.note_pace(end.duration_since(start));
     }
-    true
 }
 
 // Takes a letter by itself, which is the next one of the gate. Returns whether more are taken. The word that a reader got `NotYet` only
@@ -308,6 +406,7 @@ fn take_message<N: Serves, W: Wait + time::Clock, P: Post, C: Clock>(
 ) {
     if let Message::Read(read) = &message {
         round.turns.begin(rt, read);
+        round.kept.pace.begins(read.txn);
     }
     let input = Input::Deliver(message);
     round.kept.take(node, rt, post, clock, &input, asked);

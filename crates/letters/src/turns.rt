@@ -90,6 +90,26 @@ impl Turns {
         }
     }
 
+    /// Notes that a transaction is about to close, if a message says so: reads of keys that it writes wait until then.
+    pub fn hold<W: time::Clock>(&mut self, rt: &W, message: &Message) {
+        match message {
+            Message::Prepare(prepare) => self.claim(rt, prepare.txn, &prepare.writes),
+            Message::Commit(commit) => self.claim(rt, commit.txn, &commit.writes),
+            _ => {}
+        }
+    }
+
+    // The transaction is about to write these keys.
+    fn claim<W: time::Clock>(&mut self, rt: &W, txn: TxnId, writes: &Writes) {
+        for write in writes.as_slice() {
+            if let Some(slot) = self.slots.get_mut(place_of(&write.key)) {
+                slot.reader = Some(txn);
+                slot.since = Instant::now(rt).ok();
+                slot.written = true;
+            }
+        }
+    }
+
     /// Notes that a transaction closes, if a message says so.
     pub fn end(&mut self, message: &Message) {
         match message {
@@ -107,6 +127,13 @@ impl Turns {
         for key in keys.as_slice() {
             if let Some(slot) = self.slots.get_mut(place_of(key)) {
                 slot.written = writes.writes_key(key);
+                if slot.reader == Some(txn) {
+                    slot.reader = None;
+                }
+            }
+        }
+        for write in writes.as_slice() {
+            if let Some(slot) = self.slots.get_mut(place_of(&write.key)) {
                 if slot.reader == Some(txn) {
                     slot.reader = None;
                 }

@@ -1,7 +1,7 @@
 -- Lists of the same length, index by index, and a list that is passed from its front on.
 use Rattle.std.proofs.Common.{◌≡◌, ◌<◌, ℕ, zero, suc, List, [], ◌∷◌, ◌++◌, length, slice_index_or, All, take, drop, sym, subst, ap, ◌∙◌, refl, arith}
 use Rattle.std.proofs.Math.Seq.{take-append_seam}
-use Rattle.std.specs.List.{AllZip}
+use Rattle.std.specs.List.{AllZip, remove}
 
 -- what holds at each index of two lists holds of them as they are zipped
 pub zipped : {A : Type 0} (R : A → A → Type 0) (xs ys : List A) → length ys ≡ length xs
@@ -77,3 +77,15 @@ holds_of_next P xs ys y zs all whole next holds =
     let here = ap (λ l. xs ++ l) (sym next) ∙ whole in
     subst P (ap (λ l. slice_index_or l (length xs) y) (sym here) ∙ at_next xs y zs)
     (holds (length xs) y (is_before_end xs ys y zs all whole next))
+
+-- a list that is not empty, with its first taken away
+pub front_of : {A : Type 0} (before rest : List A) (x : A) (all : List A) → all ≡ before ++ x ∷ rest → all ≡ (before ++ x ∷ []) ++ rest
+front_of {A = A} before rest x all is = is ∙ turned before
+  where
+    turned : (xs : List A) → xs ++ x ∷ rest ≡ (xs ++ x ∷ []) ++ rest
+    turned [] = refl
+    turned (y ∷ ys) = ap (λ l. y ∷ l) (turned ys)
+
+pub taken_front : {A : Type 0} (xs ys : List A) (x : A) → 0 < length xs → x ≡ slice_index_or xs 0 x → ys ≡ remove xs 0 → xs ≡ x ∷ ys
+taken_front [] ys x some first rest = absurd (omega (arith, some))
+taken_front (y ∷ zs) ys x some first rest = λ i. sym first i ∷ sym rest i

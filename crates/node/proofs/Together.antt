@@ -1,4 +1,4 @@
--- The openings of some disks, one behind the other.
+-- The nodes over some disks, one behind the other.
 use Rattle.std.proofs.Common.{◌≡◌, ◌⊎◌, ⊎_elim, inl, inr, ℕ, suc, ◌+◌, ◌<◌, ◌≤◌, max, List, [], ◌∷◌, ◌++◌, length, map, Option, Some, Result, Ok, Err}
 use Rattle.std.proofs.Common.{refl, sym, ap, subst, ◌∙◌, append-nil, length-append, slice_index_or, arith}
 use Rattle.std.specs.Prelude.{IsOk, IfSome, IfNone}
@@ -17,15 +17,15 @@ use Rattle.record.specs.Facts.{Facts, facts_of}
 use Rattle.record.specs.Records.{as_opened, epoch_of, floor_of, stamp_in}
 use Rattle.record.specs.declared.record.Record.{Record}
 use Rattle.protocol.specs.Rows.{rebuilt}
-use Rattle.shard.specs.declared.shard_core.Core.{Core}
-use Rattle.shard.specs.Core.{seen}
 use Rattle.shard.specs.Logs.{records_in}
 use Rattle.shard.specs.Opened.{IsTaken, IsToldReason, next_opening}
-use Rattle.node.specs.Openings.{IsOpening}
-use Rattle.node.specs.Together.{AreOpened, AreSetups, IsCauseOf, IsFirstOf, IsOpenedOver, epoch_in, last_in}
+use Rattle.node.specs.Openings.{IsMade}
+use Rattle.node.specs.Together.{AreMade, AreSetups, IsCauseOf, IsFirstOf, IsOpenedOver, epoch_in, last_in}
 use Rattle.node.specs.Setups.{IsSetupOf}
 use Rattle.node.specs.Unopened.{HoldLogs, IsFirst, IsLastIn, IsRefusedFirst, IsRunOver, floor_in, next_in}
+use Rattle.node.specs.declared.fleet.Made.{Made}
 use Rattle.node.specs.declared.unopened.Unopened.{Unopened}
+use Rattle.node.proofs.Lists.{all_passed, front_of}
 
 -- ---- lists
 
@@ -49,27 +49,6 @@ greatest_on f xs x =
 max_again : (a b c : ℕ) → max (max a b) c ≡ max a (max b c)
 max_again a b c = grind arith
 
--- a list that is not empty, with its first taken away
-pub front_of : {A : Type 0} (before rest : List A) (x : A) (all : List A) → all ≡ before ++ x ∷ rest → all ≡ (before ++ x ∷ []) ++ rest
-front_of {A = A} before rest x all is = is ∙ turned before
-  where
-    turned : (xs : List A) → xs ++ x ∷ rest ≡ (xs ++ x ∷ []) ++ rest
-    turned [] = refl
-    turned (y ∷ ys) = ap (λ l. y ∷ l) (turned ys)
-
-no_items : {A : Type 0} (xs : List A) → length xs ≡ 0 → xs ≡ []
-no_items [] none = refl
-no_items (x ∷ xs) none = absurd (omega (arith, none))
-
-pub taken_front : {A : Type 0} (xs ys : List A) (x : A) → 0 < length xs → x ≡ slice_index_or xs 0 x → ys ≡ remove xs 0 → xs ≡ x ∷ ys
-taken_front [] ys x some first rest = absurd (omega (arith, some))
-taken_front (y ∷ zs) ys x some first rest = λ i. sym first i ∷ sym rest i
-
-pub below_all : {A : Type 0} (all before rest : List A) (x : A) (n : ℕ) → all ≡ before ++ x ∷ rest → length all ≤ n → length before < n
-below_all all before rest x n whole few =
-    let long : length all ≡ length before + length (x ∷ rest) = ap length whole ∙ length-append before (x ∷ rest) in
-    omega (arith, long, few)
-
 pub told_on : {D : Type 0} (told more : List (D × Setup)) (one : D × Setup) (rest left disks : List D) → more ≡ told ++ one ∷ [] → rest ≡ one.0 ∷ left
     → map (λ (t : D × Setup). t.0) told ++ rest ≡ disks → map (λ (t : D × Setup). t.0) more ++ left ≡ disks
 told_on {D = D} told more one rest left disks is next was =
@@ -77,40 +56,36 @@ told_on {D = D} told more one rest left disks is next was =
     ∙ sym (front_of (map (λ (t : D × Setup). t.0) told) left one.0 (map (λ (t : D × Setup). t.0) told ++ one.0 ∷ left) refl)
     ∙ ap (λ (l : List D). map (λ (t : D × Setup). t.0) told ++ l) (sym next) ∙ was
 
--- ---- nodes over cores
+-- ---- nodes, one behind the other
 
-module _ {D : Type 0} {g : _} where
-  opened_on : (cores : List (Result (Core D g) (Fault × D))) (core : Result (Core D g) (Fault × D)) → AreOpened cores → IsOk core
-      → AreOpened (cores ++ core ∷ [])
-  opened_on [] core are is = (is, tt)
-  opened_on (c ∷ cs) core are is = (are.0, opened_on cs core are.1 is)
+module _ {N : Type 0} where
+  made_on : (all : List (Result (Made N) Fault)) (one : Result (Made N) Fault) → AreMade all → IsOk one → AreMade (all ++ one ∷ [])
+  made_on [] one are is = (is, tt)
+  made_on (m ∷ ms) one are is = (are.0, made_on ms one are.1 is)
 
-  pub none_opened : (none : List (Result (Core D g) (Fault × D))) (n e l : ℕ) → none ≡ [] → n ≡ 0 → e ≡ 1 → l ≡ 0 → IsOpenedOver none n e l
-  none_opened none n e l empty nodes epoch last =
-      subst (λ (cores : List (Result (Core D g) (Fault × D))). IsOpenedOver cores n e l) (sym empty)
-      (record { all = tt; nodes = nodes; epoch = epoch; last = last })
-
-  -- all of them
-  pub all_opened : (all done rest : List (Result (Core D g) (Fault × D))) (n e l : ℕ) → all ≡ done ++ rest → length rest ≡ 0 → IsOpenedOver done n e l
-      → IsOpenedOver all n e l
-  all_opened all done rest n e l whole none is =
-      subst (λ (cores : List (Result (Core D g) (Fault × D))). IsOpenedOver cores n e l)
-      (sym (whole ∙ ap (λ (cores : List (Result (Core D g) (Fault × D))). done ++ cores) (no_items rest none) ∙ append-nil done)) is
+  pub none_opened : (n e l : ℕ) → n ≡ 0 → e ≡ 1 → l ≡ 0 → IsOpenedOver {N = N} [] n e l
+  none_opened n e l nodes epoch last = record { made = tt; nodes = nodes; epoch = epoch; last = last }
 
   -- one node more
-  pub one_opened : (done : List (Result (Core D g) (Fault × D))) (core : Result (Core D g) (Fault × D)) (n m e f l k : ℕ) → IsOpenedOver done n e l
-      → m ≡ n + 1 → IsOk core → f ≡ max e (epoch_in core) → k ≡ max l (last_in core) → IsOpenedOver (done ++ core ∷ []) m f k
-  one_opened done core n m e f l k is more opened epoch last = record {
-    all = opened_on done core is.all opened;
+  pub one_opened : (done : List (Result (Made N) Fault)) (one : Result (Made N) Fault) (n m e f l k : ℕ) → IsOpenedOver done n e l
+      → m ≡ n + 1 → IsOk one → f ≡ max e (epoch_in one) → k ≡ max l (last_in one) → IsOpenedOver (done ++ one ∷ []) m f k
+  one_opened done one n m e f l k is more opened epoch last = record {
+    made = made_on done one is.made opened;
     nodes = more ∙ ap (λ (x : ℕ). x + 1) is.nodes ∙ sym (longer done);
-    epoch = epoch ∙ ap (λ (x : ℕ). max x (epoch_in core)) is.epoch ∙ max_again 1 (greatest (map epoch_in done)) (epoch_in core)
-        ∙ ap (λ (x : ℕ). max 1 x) (sym (greatest_on epoch_in done core));
-    last = last ∙ ap (λ (x : ℕ). max x (last_in core)) is.last ∙ sym (greatest_on last_in done core);
+    epoch = epoch ∙ ap (λ (x : ℕ). max x (epoch_in one)) is.epoch ∙ max_again 1 (greatest (map epoch_in done)) (epoch_in one)
+        ∙ ap (λ (x : ℕ). max 1 x) (sym (greatest_on epoch_in done one));
+    last = last ∙ ap (λ (x : ℕ). max x (last_in one)) is.last ∙ sym (greatest_on last_in done one);
   }
     where
-      longer : (xs : List (Result (Core D g) (Fault × D))) → length (xs ++ core ∷ []) ≡ length xs + 1
+      longer : (xs : List (Result (Made N) Fault)) → length (xs ++ one ∷ []) ≡ length xs + 1
       longer [] = refl
       longer (x ∷ xs) = let e = longer xs in omega (arith, e)
+
+  -- all of them
+  pub all_passed_over : (all done rest : List (Result (Made N) Fault)) (n e l : ℕ) → done ++ rest ≡ all → length rest ≡ 0 → IsOpenedOver done n e l
+      → IsOpenedOver all n e l
+  all_passed_over all done rest n e l whole none is =
+      subst (λ (them : List (Result (Made N) Fault)). IsOpenedOver them n e l) (all_passed done rest all whole none) is
 
 -- ---- what a log tells
 
@@ -192,111 +167,117 @@ refused_first {D = D} keeps file splits stride told disks k fault same is = reco
       × IsToldReason keeps setup (surface (file is.one.0)) fault))) (omega arith) is.cause;
 }
 
-module _ {D : Type 0} (keeps obeys : Type 0) (file : D → File) (clock : D → ℕ) (since : D → ℕ → List ℕ → Type 0) (failures : D → ℕ)
-    (plan : D → FailurePlan) {g : _} where
-  epochs : (told : List (D × Setup)) (cores : List (Result (Core D g) (Fault × D)))
-      → AllZip (IsOpening keeps obeys file clock since failures plan) told cores → AreOpened cores → keeps
-      → map epoch_in cores ≡ map (λ disk. next_in (records_in (surface (file disk)).seen)) (map (λ one. one.0) told)
-  epochs [] [] each all k = refl
-  epochs [] (core ∷ cores) each all k = absurd each
-  epochs (t ∷ ts) [] each all k = absurd each
-  epochs (t ∷ ts) (Err refused ∷ cores) each all k = absurd (false≢true all.0)
-  epochs (t ∷ ts) (Ok core ∷ cores) each all k =
-      let here : (seen core).facts.epoch ≡ next_in (records_in (surface (file t.0)).seen) = taken_epoch t.1 _ (seen core).facts (each.0.0.taken k) in
-      let rest = epochs ts cores each.1 all.1 k in
+module _ {D N : Type 0} (keeps obeys : Type 0) (file : D → File) (clock : D → ℕ) (since : D → ℕ → List ℕ → Type 0) (failures : D → ℕ)
+    (plan : D → FailurePlan) (n : ℕ) where
+  epochs : (told : List (D × Setup)) (all : List (Result (Made N) Fault))
+      → AllZip (IsMade keeps obeys file clock since failures plan n) told all → AreMade all → keeps
+      → map epoch_in all ≡ map (λ disk. next_in (records_in (surface (file disk)).seen)) (map (λ one. one.0) told)
+  epochs [] [] each made k = refl
+  epochs [] (one ∷ all) each made k = absurd each
+  epochs (t ∷ ts) [] each made k = absurd each
+  epochs (t ∷ ts) (Err fault ∷ all) each made k = absurd (false≢true made.0)
+  epochs (t ∷ ts) (Ok one ∷ all) each made k =
+      let is = each.0 in
+      let here : one.epoch ≡ next_in (records_in (surface (file t.0)).seen) =
+      is.epoch_is ∙ taken_epoch t.1 _ is.core.facts (is.opened.taken k) in
+      let rest = epochs ts all each.1 made.1 k in
       λ i. here i ∷ rest i
 
-  lasts : (told : List (D × Setup)) (cores : List (Result (Core D g) (Fault × D)))
-      → AllZip (IsOpening keeps obeys file clock since failures plan) told cores → AreOpened cores → keeps
-      → map last_in cores ≡ map (λ disk. floor_in (records_in (surface (file disk)).seen)) (map (λ one. one.0) told)
+  lasts : (told : List (D × Setup)) (all : List (Result (Made N) Fault))
+      → AllZip (IsMade keeps obeys file clock since failures plan n) told all → AreMade all → keeps
+      → map last_in all ≡ map (λ disk. floor_in (records_in (surface (file disk)).seen)) (map (λ one. one.0) told)
   unfolding rebuilt
-  lasts [] [] each all k = refl
-  lasts [] (core ∷ cores) each all k = absurd each
-  lasts (t ∷ ts) [] each all k = absurd each
-  lasts (t ∷ ts) (Err refused ∷ cores) each all k = absurd (false≢true all.0)
-  lasts (t ∷ ts) (Ok core ∷ cores) each all k =
-      let here : (seen core).memory.last ≡ floor_in (records_in (surface (file t.0)).seen) =
-      ap (λ m. m.last) each.0.0.memory ∙ taken_floor t.1 _ (seen core).facts (each.0.0.taken k) in
-      let rest = lasts ts cores each.1 all.1 k in
+  lasts [] [] each made k = refl
+  lasts [] (one ∷ all) each made k = absurd each
+  lasts (t ∷ ts) [] each made k = absurd each
+  lasts (t ∷ ts) (Err fault ∷ all) each made k = absurd (false≢true made.0)
+  lasts (t ∷ ts) (Ok one ∷ all) each made k =
+      let is = each.0 in
+      let here : one.last ≡ floor_in (records_in (surface (file t.0)).seen) =
+      is.last_is ∙ ap (λ m. m.last) is.opened.memory ∙ taken_floor t.1 _ is.core.facts (is.opened.taken k) in
+      let rest = lasts ts all each.1 made.1 k in
       λ i. here i ∷ rest i
 
   -- where there is a disk, the greatest of the next epochs is at least 1
-  some_next : (told : List (D × Setup)) (cores : List (Result (Core D g) (Fault × D)))
-      → AllZip (IsOpening keeps obeys file clock since failures plan) told cores → AreOpened cores → keeps → 0 < length told
+  some_next : (told : List (D × Setup)) (all : List (Result (Made N) Fault))
+      → AllZip (IsMade keeps obeys file clock since failures plan n) told all → AreMade all → keeps → 0 < length told
       → max 1 (greatest (map (λ disk. next_in (records_in (surface (file disk)).seen)) (map (λ one. one.0) told)))
       ≡ greatest (map (λ disk. next_in (records_in (surface (file disk)).seen)) (map (λ one. one.0) told))
-  some_next [] cores each all k some = absurd (omega (arith, some))
-  some_next (t ∷ ts) [] each all k some = absurd each
-  some_next (t ∷ ts) (Err refused ∷ cores) each all k some = absurd (false≢true all.0)
-  some_next (t ∷ ts) (Ok core ∷ cores) each all k some =
+  some_next [] all each made k some = absurd (omega (arith, some))
+  some_next (t ∷ ts) [] each made k some = absurd each
+  some_next (t ∷ ts) (Err fault ∷ all) each made k some = absurd (false≢true made.0)
+  some_next (t ∷ ts) (Ok one ∷ all) each made k some =
       above (next_in (records_in (surface (file t.0)).seen)) (greatest (map (λ disk. next_in (records_in (surface (file disk)).seen)) (map (λ one. one.0) ts)))
-      (least_next _ (taken_log t.1 _ (seen core).facts (each.0.0.taken k)))
+      (least_next _ (taken_log t.1 _ each.0.core.facts (each.0.opened.taken k)))
     where
       above : (a b : ℕ) → 1 ≤ a → max 1 (max a b) ≡ max a b
       above a b least = grind (arith, least)
 
-  pub run_over : (told : List (D × Setup)) (disks : List D) (cores : List (Result (Core D g) (Fault × D))) (n epoch last : ℕ)
-      → AllZip (IsOpening keeps obeys file clock since failures plan) told cores → map (λ one. one.0) told ≡ disks → 0 < length told
-      → IsOpenedOver cores n epoch last → IsRunOver keeps file disks epoch
-  run_over told disks cores n epoch last each same some is = λ k.
-      is.epoch ∙ ap (λ ns. max 1 (greatest ns)) (epochs told cores each is.all k) ∙ some_next told cores each is.all k some
+  pub run_over : (told : List (D × Setup)) (disks : List D) (all : List (Result (Made N) Fault)) (count epoch last : ℕ)
+      → AllZip (IsMade keeps obeys file clock since failures plan n) told all → map (λ one. one.0) told ≡ disks → 0 < length told
+      → IsOpenedOver all count epoch last → IsRunOver keeps file disks epoch
+  run_over told disks all count epoch last each same some is = λ k.
+      is.epoch ∙ ap (λ ns. max 1 (greatest ns)) (epochs told all each is.made k) ∙ some_next told all each is.made k some
       ∙ ap (λ (ds : List D). greatest (map (λ disk. next_in (records_in (surface (file disk)).seen)) ds)) same
 
-  pub last_over : (told : List (D × Setup)) (disks : List D) (cores : List (Result (Core D g) (Fault × D))) (n epoch last : ℕ)
-      → AllZip (IsOpening keeps obeys file clock since failures plan) told cores → map (λ one. one.0) told ≡ disks
-      → IsOpenedOver cores n epoch last → IsLastIn keeps file disks last
-  last_over told disks cores n epoch last each same is = λ k.
-      is.last ∙ ap greatest (lasts told cores each is.all k)
+  pub last_over : (told : List (D × Setup)) (disks : List D) (all : List (Result (Made N) Fault)) (count epoch last : ℕ)
+      → AllZip (IsMade keeps obeys file clock since failures plan n) told all → map (λ one. one.0) told ≡ disks
+      → IsOpenedOver all count epoch last → IsLastIn keeps file disks last
+  last_over told disks all count epoch last each same is = λ k.
+      is.last ∙ ap greatest (lasts told all each is.made k)
       ∙ ap (λ (ds : List D). greatest (map (λ disk. floor_in (records_in (surface (file disk)).seen)) ds)) same
 
-  cause_of : (splits : List Bytes) (stride number : ℕ) (t : D × Setup) (core : Result (Core D g) (Fault × D)) (fault : Fault)
-      → IsOpening keeps obeys file clock since failures plan t core → IsSetupOf splits stride number t.1 → IsCauseOf core fault
+  cause_of : (splits : List Bytes) (stride number : ℕ) (t : D × Setup) (one : Result (Made N) Fault) (fault : Fault) → 0 < n → n ≤ 64
+      → IsMade keeps obeys file clock since failures plan n t one → IsSetupOf splits stride number t.1 → IsCauseOf one fault
       → Cause keeps file splits stride number t.0 fault
   unfolding Cause
-  cause_of splits stride number t (Ok core) fault is setup cause = inl cause
-  cause_of splits stride number t (Err refused) fault is setup cause =
+  cause_of splits stride number t (Ok one) fault some few is setup cause = inl cause
+  cause_of splits stride number t (Err why) fault some few is setup cause =
       subst (λ (f : Fault). (f ≡ Memory) ⊎ ((f ≡ Device) ⊎ ((told : Setup) × IsSetupOf splits stride number told
       × IsToldReason keeps told (surface (file t.0)) f))) (sym cause)
-      (⊎_elim (λ memory. inl memory) (λ else. ⊎_elim (λ failed. inr (inl failed.0)) (λ why. inr (inr (t.1, setup, why))) else) is.cause)
+      (⊎_elim (λ memory. inl memory)
+      (λ refused. ⊎_elim (λ memory. inl memory) (λ else. ⊎_elim (λ failed. inr (inl failed.0)) (λ reason. inr (inr (t.1, setup, reason))) else)
+      refused.1.cause) (is some few))
 
-  found : (splits : List Bytes) (stride n : ℕ) (told : List (D × Setup)) (before : List (Result (Core D g) (Fault × D)))
-      (core : Result (Core D g) (Fault × D)) (behind : List (Result (Core D g) (Fault × D))) (fault : Fault)
-      → AllZip (IsOpening keeps obeys file clock since failures plan) told (before ++ core ∷ behind) → AreSetups splits stride n told
-      → AreOpened before → IsCauseOf core fault → Found keeps file splits stride n (length before) told fault
-  found splits stride n [] [] core behind fault each setups all cause = absurd each
-  found splits stride n (t ∷ ts) [] core behind fault each setups all cause = record {
+  found : (splits : List Bytes) (stride m : ℕ) (told : List (D × Setup)) (before : List (Result (Made N) Fault))
+      (one : Result (Made N) Fault) (behind : List (Result (Made N) Fault)) (fault : Fault) → 0 < n → n ≤ 64
+      → AllZip (IsMade keeps obeys file clock since failures plan n) told (before ++ one ∷ behind) → AreSetups splits stride m told
+      → AreMade before → IsCauseOf one fault → Found keeps file splits stride m (length before) told fault
+  found splits stride m [] [] one behind fault some few each setups made cause = absurd each
+  found splits stride m (t ∷ ts) [] one behind fault some few each setups made cause = record {
     before = [];
     one = t;
     behind = ts;
     whole = refl;
     place = refl;
     opened = tt;
-    cause = subst (λ (m : ℕ). Cause keeps file splits stride m t.0 fault) (omega arith) (cause_of splits stride n t core fault each.0 setups.0 cause);
+    cause = subst (λ (k : ℕ). Cause keeps file splits stride k t.0 fault) (omega arith) (cause_of splits stride m t one fault some few each.0 setups.0 cause);
   }
-  found splits stride n [] (b ∷ bs) core behind fault each setups all cause = absurd each
-  found splits stride n (t ∷ ts) (Err refused ∷ bs) core behind fault each setups all cause = absurd (false≢true all.0)
-  found splits stride n (t ∷ ts) (Ok own ∷ bs) core behind fault each setups all cause =
-      let rest = found splits stride (suc n) ts bs core behind fault each.1 setups.1 all.1 cause in
+  found splits stride m [] (b ∷ bs) one behind fault some few each setups made cause = absurd each
+  found splits stride m (t ∷ ts) (Err refused ∷ bs) one behind fault some few each setups made cause = absurd (false≢true made.0)
+  found splits stride m (t ∷ ts) (Ok own ∷ bs) one behind fault some few each setups made cause =
+      let rest = found splits stride (suc m) ts bs one behind fault some few each.1 setups.1 made.1 cause in
       record {
         before = t ∷ rest.before;
         one = rest.one;
         behind = rest.behind;
         whole = ap (λ (l : List (D × Setup)). t ∷ l) rest.whole;
         place = ap suc rest.place;
-        opened = (λ k. taken_log t.1 _ (seen own).facts (each.0.0.taken k), rest.opened);
-        cause = subst (λ (m : ℕ). Cause keeps file splits stride m rest.one.0 fault) (omega arith) rest.cause;
+        opened = (λ k. taken_log t.1 _ each.0.core.facts (each.0.opened.taken k), rest.opened);
+        cause = subst (λ (k : ℕ). Cause keeps file splits stride k rest.one.0 fault) (omega arith) rest.cause;
       }
 
-  pub first_over : (splits : List Bytes) (stride : ℕ) (told : List (D × Setup)) (disks : List D) (cores : List (Result (Core D g) (Fault × D))) (u : Unopened)
-      → AllZip (IsOpening keeps obeys file clock since failures plan) told cores → map (λ (one : D × Setup). one.0) told ≡ disks
-      → AreSetups splits stride 0 told → IsFirstOf cores u → IsFirst keeps file splits stride disks u
-  first_over splits stride told disks cores u each same setups is = by_shard u.shard is.place
+  pub first_over : (splits : List Bytes) (stride : ℕ) (told : List (D × Setup)) (disks : List D) (all : List (Result (Made N) Fault)) (u : Unopened)
+      → 0 < n → n ≤ 64
+      → AllZip (IsMade keeps obeys file clock since failures plan n) told all → map (λ (one : D × Setup). one.0) told ≡ disks
+      → AreSetups splits stride 0 told → IsFirstOf all u → IsFirst keeps file splits stride disks u
+  first_over splits stride told disks all u some few each same setups is = by_shard u.shard is.place
     where
       at : IsRefusedFirst keeps file splits stride disks (length is.before) u.fault
       at =
           refused_first keeps file splits stride told disks (length is.before) u.fault same
-          (found splits stride 0 told is.before is.core is.behind u.fault
-          (subst (AllZip (IsOpening keeps obeys file clock since failures plan) told) is.whole each) setups is.all is.cause)
+          (found splits stride 0 told is.before is.one is.behind u.fault some few
+          (subst (AllZip (IsMade keeps obeys file clock since failures plan n) told) is.whole each) setups is.made is.cause)
 
       by_shard : (o : Option ℕ) → o ≡ Some (length is.before)
           → IfSome o (λ number. IsRefusedFirst keeps file splits stride disks number u.fault) × IfNone o ((u.fault ≡ BadRequest Settings) ⊎ (u.fault ≡ Memory))

@@ -1,4 +1,4 @@
--- What the openings of some disks come to, one behind the other.
+-- What the nodes over some disks come to, one behind the other.
 use Rattle.std.specs.Prelude.{◌≡◌, ◌⊎◌, ℕ, suc, List, [], ◌∷◌, ◌++◌, length, map, max, Some, Result, Ok, Err, IsOk}
 use Rattle.units.specs.Keys.{Bytes}
 use Rattle.units.specs.Lists.{greatest}
@@ -6,9 +6,8 @@ use Rattle.units.specs.declared.fault.Fault.{Fault}
 use Rattle.units.specs.declared.fault.Fault.TheVariants.{BadRequest, Memory}
 use Rattle.units.specs.declared.fault.Reason.TheVariants.{Settings}
 use Rattle.units.specs.declared.setup.Setup.{Setup}
-use Rattle.shard.specs.declared.shard_core.Core.{Core}
-use Rattle.shard.specs.Core.{seen}
 use Rattle.node.specs.Setups.{IsSetupOf}
+use Rattle.node.specs.declared.fleet.Made.{Made}
 use Rattle.node.specs.declared.unopened.Unopened.{Unopened}
 
 -- each of some disks has the setup of its place, from a number on
@@ -20,38 +19,38 @@ AreSetups splits stride n (one ∷ rest) = IsSetupOf splits stride n one.1 × Ar
 abbrev pub IsEarly : Fault → Type 0
 IsEarly fault = (fault ≡ BadRequest Settings) ⊎ (fault ≡ Memory)
 
--- none of some openings was refused
-abbrev pub AreOpened : {D : Type 0} {g : _} → List (Result (Core D g) (Fault × D)) → Type 0
-AreOpened [] = Unit {0}
-AreOpened (core ∷ rest) = IsOk core × AreOpened rest
+-- none of some nodes was refused
+abbrev pub AreMade : {N : Type 0} → List (Result (Made N) Fault) → Type 0
+AreMade [] = Unit {0}
+AreMade (one ∷ rest) = IsOk one × AreMade rest
 
--- the epoch of a core that was opened, and its greatest timestamp
-abbrev pub epoch_in : {D : Type 0} {g : _} → Result (Core D g) (Fault × D) → ℕ
-epoch_in (Ok core) = (seen core).facts.epoch
-epoch_in (Err refused) = 0
+-- the epoch of the opening of a node that was made, and the greatest timestamp of its log
+abbrev pub epoch_in : {N : Type 0} → Result (Made N) Fault → ℕ
+epoch_in (Ok made) = made.epoch
+epoch_in (Err fault) = 0
 
-abbrev pub last_in : {D : Type 0} {g : _} → Result (Core D g) (Fault × D) → ℕ
-last_in (Ok core) = (seen core).memory.last
-last_in (Err refused) = 0
+abbrev pub last_in : {N : Type 0} → Result (Made N) Fault → ℕ
+last_in (Ok made) = made.last
+last_in (Err fault) = 0
 
--- why there is no node over what an opening came to: what it was refused for, or memory is wanting
-abbrev pub IsCauseOf : {D : Type 0} {g : _} → Result (Core D g) (Fault × D) → Fault → Type 0
-IsCauseOf (Ok core) fault = fault ≡ Memory
-IsCauseOf (Err refused) fault = fault ≡ refused.0
+-- why a node does not stand beside the others: what it was refused for, or memory is wanting
+abbrev pub IsCauseOf : {N : Type 0} → Result (Made N) Fault → Fault → Type 0
+IsCauseOf (Ok made) fault = fault ≡ Memory
+IsCauseOf (Err why) fault = fault ≡ why
 
--- so many nodes are over some openings, none of which was refused; with their greatest epoch, and their greatest timestamp
-pub record IsOpenedOver {D : Type 0} {g : _} (cores : List (Result (Core D g) (Fault × D))) (n e l : ℕ) : Type 0 where
-  pub all : AreOpened cores
-  pub nodes : n ≡ length cores
-  pub epoch : e ≡ max 1 (greatest (map epoch_in cores))
-  pub last : l ≡ greatest (map last_in cores)
+-- so many nodes, none of which was refused; with the greatest epoch of their openings, and the greatest timestamp of their logs
+pub record IsOpenedOver {N : Type 0} (all : List (Result (Made N) Fault)) (n e l : ℕ) : Type 0 where
+  pub made : AreMade all
+  pub nodes : n ≡ length all
+  pub epoch : e ≡ max 1 (greatest (map epoch_in all))
+  pub last : l ≡ greatest (map last_in all)
 
--- the first of some openings over which there is no node
-pub record IsFirstOf {D : Type 0} {g : _} (cores : List (Result (Core D g) (Fault × D))) (u : Unopened) : Type 0 where
-  pub before : List (Result (Core D g) (Fault × D))
-  pub core : Result (Core D g) (Fault × D)
-  pub behind : List (Result (Core D g) (Fault × D))
-  pub whole : cores ≡ before ++ core ∷ behind
-  pub all : AreOpened before
+-- the first of some nodes that is refused
+pub record IsFirstOf {N : Type 0} (all : List (Result (Made N) Fault)) (u : Unopened) : Type 0 where
+  pub before : List (Result (Made N) Fault)
+  pub one : Result (Made N) Fault
+  pub behind : List (Result (Made N) Fault)
+  pub whole : all ≡ before ++ one ∷ behind
+  pub made : AreMade before
   pub place : u.shard ≡ Some (length before)
-  pub cause : IsCauseOf core u.fault
+  pub cause : IsCauseOf one u.fault

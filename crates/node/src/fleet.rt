@@ -1,11 +1,13 @@
 //! Nodes over the disks of all shards.
 ghost use Rattle.std.specs.Prelude.{◌≡◌, ◌≢◌, ◌⊎◌, ◌≤◌, ◌+◌, ◌<◌, length, map, max, Err, Some, IfErr, IfOk, IsOk, OnOk};
+ghost use Rattle.std.specs.List.{AllZip};
+ghost use Rattle.node.specs.Openings.{IsMade};
 ghost use Rattle.node.specs.Together.{AreSetups, IsCauseOf, IsEarly, IsFirstOf, IsOpenedOver, epoch_in, last_in};
 ghost use Rattle.node.specs.Setups.{IsSetupOf};
 ghost use Rattle.node.specs.Unopened.{IsFirst, IsLastIn, IsRunOver, IsUnmade, unopened_for};
 
 use crate::node::Node;
-use crate::opening::open_all;
+use crate::side_by_side::side_by_side;
 use crate::unopened::Unopened;
 use board::{Viewer, Viewers};
 use disk::Disk;
@@ -40,17 +42,35 @@ pub struct Opened<N> {
     pub last: Stamp,
 }
 
+// The node of a shard that was opened, with the viewers of its board.
+#[derive(Drop)]
+struct Made<N> {
+    node: N,
+    viewers: Vec<Viewer>,
+    // The epoch of its opening.
+    epoch: Epoch,
+    // The greatest timestamp of its log.
+    last: Stamp,
+}
+
 impl<N: Drop> Opened<N> {
-    // One node more, of an opening of this epoch, over a log with this greatest timestamp. Its viewers are dealt out.
-    fn add(&mut self, node: N, viewers: Vec<Viewer>, epoch: Epoch, last: Stamp) -> Result<(), Fault>
+    // One node more, if it was made. Its viewers are dealt out.
+    fn add(&mut self, made: Result<Made<N>, Fault>) -> Result<(), Fault>
         ensures viewers { length self.new.viewers.by_worker.items
             ≡ length self.old.viewers.by_worker.items }
         ensures nodes { OnOk result
             (length self.new.nodes.items ≡ length self.old.nodes.items + 1) }
-        ensures epoch { self.new.epoch ≡ max self.old.epoch epoch }
-        ensures last { self.new.last ≡ max self.old.last last }
-        ensures memory { IfErr result (λ fault. fault ≡ Fault.Memory) }
+        ensures made { IsOk result → IsOk made }
+        ensures epoch { IsOk result → self.new.epoch ≡ max self.old.epoch (epoch_in made) }
+        ensures last { IsOk result → self.new.last ≡ max self.old.last (last_in made) }
+        ensures refused { IfErr result (IsCauseOf made) }
     {
+        let Made {
+            node,
+            viewers,
+            epoch,
+            last,
+        } = made?;
         self.epoch = later(self.epoch, epoch);
         self.last = self.last.later(last);
         self.nodes.push(node)?;
@@ -88,6 +108,31 @@ pub fn open_shards<'r, R: Threads + Wait + Sync, D: Disk + Drop + Send>(
         drop(disks);
         return Err(Unopened::from(Fault::BadRequest(Reason::Settings)));
     }
+    open_counted(rt, alloc, splits, stride, disks, workers)
+}
+
+// The same, of as many disks as shards.
+fn open_counted<'r, R: Threads + Wait + Sync, D: Disk + Drop + Send>(
+    rt: &'r R,
+    alloc: Global,
+    splits: &Splits,
+    stride: Stride,
+    disks: Vec<D>,
+    workers: usize,
+) -> Result<Opened<Node<D, &'r R>>, Unopened>
+    requires { length disks.items ≡ length splits.now + 1 }
+    ensures viewers { IfOk result (λ opened.
+        length opened.viewers.by_worker.items ≡ workers) }
+    ensures nodes { IfOk result (λ opened. length opened.nodes.items ≡ length disks.items) }
+    ensures run { IfOk result (λ opened.
+        IsRunOver D.keeps_model D.file disks.items opened.epoch) }
+    ensures last { IfOk result (λ opened.
+        IsLastIn D.keeps_model D.file disks.items opened.last) }
+    ensures unmade { 0 < workers → workers ≤ 64
+        → IfErr result (λ unopened. IsUnmade unopened.fault) }
+    ensures first { 0 < workers → workers ≤ 64 → IfErr result
+        (IsFirst D.keeps_model D.file splits.now stride disks.items) }
+{
     let told = told(alloc, splits, stride, disks)?;
     let viewers = match Viewers::none(alloc, workers) {
         Ok(viewers) => viewers,
@@ -96,12 +141,12 @@ pub fn open_shards<'r, R: Threads + Wait + Sync, D: Disk + Drop + Send>(
             return Err(Unopened::from(fault));
         }
     };
-    match open_all(rt, alloc, told) {
-        Ok(cores) => nodes_over(rt, alloc, cores, viewers),
-        Err((fault, disks)) => {
+    match open_nodes(rt, alloc, told, workers) {
+        Ok(made) => all_opened(alloc, made, viewers),
+        Err(disks) => {
             drop(disks);
             drop(viewers);
-            Err(Unopened::from(fault))
+            Err(Unopened::from(Fault::Memory))
         }
     }
 }
@@ -127,39 +172,85 @@ fn told<D: Drop>(
     Ok(told)
 }
 
-// The nodes over what the openings of some disks came to, in their order. The first that is refused counts; the cores that are left
-// are stopped then.
-fn nodes_over<D: Disk + Drop, H: Wait + Copy>(
+// Opens each disk, and makes its node with a viewer for each worker, all at once.
+fn open_nodes<'r, R: Threads + Wait + Sync, D: Disk + Drop + Send>(
+    rt: &'r R,
+    alloc: Global,
+    told: Vec<(D, Setup)>,
+    workers: usize,
+) -> Result<Vec<Result<Made<Node<D, &'r R>>, Fault>>, Vec<(D, Setup)>>
+    ensures { IfOk result (λ made. AllZip
+        (IsMade D.keeps_model D.obeys D.file D.clock D.since D.failures D.plan workers)
+        told.items made.items) }
+{
+    let open = |given: (D, Setup)|
+        ensures { IsMade D.keeps_model D.obeys D.file D.clock D.since D.failures D.plan
+            workers given result }
+    { open_node(rt, alloc, given, workers) };
+    side_by_side(rt, alloc, told, &open)
+}
+
+// Opens the log of a disk, and makes the node of its shard with so many viewers. If that is refused, the disk is let go.
+#[tactic(auto, using(crate::proofs::Refusals::no_desk))]
+fn open_node<D: Disk + Drop, H: Wait + Copy>(
     rt: H,
     alloc: Global,
-    cores: Vec<Result<Core<D>, (Fault, D)>>,
+    given: (D, Setup),
+    n: usize,
+) -> Result<Made<Node<D, H>>, Fault>
+    ensures { IsMade D.keeps_model D.obeys D.file D.clock D.since D.failures D.plan
+        n given result }
+{
+    let (disk, setup) = given;
+    let core = match Core::open(alloc, disk, setup) {
+        Ok(core) => core,
+        Err((fault, disk)) => {
+            drop(disk);
+            return Err(fault);
+        }
+    };
+    let epoch = core.epoch();
+    let last = core.last();
+    match Node::new(rt, alloc, core, n) {
+        Ok((node, viewers)) => Ok(Made {
+            node,
+            viewers,
+            epoch,
+            last,
+        }),
+        Err((fault, core)) => {
+            drop(core.stop());
+            Err(fault)
+        }
+    }
+}
+
+// All nodes, in their order, if each was made. The first that is refused counts.
+fn all_opened<N: Drop>(
+    alloc: Global,
+    made: Vec<Result<Made<N>, Fault>>,
     viewers: Viewers,
-) -> Result<Opened<Node<D, H>>, Unopened>
-    requires { length cores.items ≤ 16 }
+) -> Result<Opened<N>, Unopened>
+    requires { length made.items ≤ 16 }
     ensures viewers { IfOk result (λ opened.
         length opened.viewers.by_worker.items ≡ length viewers.by_worker.items) }
     ensures opened { IfOk result (λ opened.
-        IsOpenedOver cores.items (length opened.nodes.items) opened.epoch opened.last) }
-    ensures first { 0 < length viewers.by_worker.items
-        → length viewers.by_worker.items ≤ 64
-        → IfErr result (IsFirstOf cores.items) }
+        IsOpenedOver made.items (length opened.nodes.items) opened.epoch opened.last) }
+    ensures first { IfErr result (IsFirstOf made.items) }
 {
-    let mut cores = cores;
     let mut opened = Opened {
         nodes: Vec::new(alloc),
         viewers,
         epoch: Epoch::first(),
         last: Stamp::zero(),
     };
-    while !cores.is_empty() {
+    for one in made {
         let shard = shard_at(opened.nodes.len());
-        if let Err(fault) = add_node(&mut opened, rt, alloc, cores.remove(0)) {
+        if let Err(fault) = opened.add(one) {
             drop(opened);
-            stop_all(cores);
             return Err(Unopened { shard, fault });
         }
     }
-    cores.destroy_empty();
     Ok(opened)
 }
 
@@ -172,56 +263,6 @@ fn shard_at(number: usize) -> Option<ShardNo>
     } else {
         None
     }
-}
-
-// The next node, over what the opening of its disk came to.
-#[tactic(auto, using(crate::proofs::Refusals::no_desk))]
-fn add_node<D: Disk + Drop, H: Wait + Copy>(
-    opened: &mut Opened<Node<D, H>>,
-    rt: H,
-    alloc: Global,
-    core: Result<Core<D>, (Fault, D)>,
-) -> Result<(), Fault>
-    ensures viewers { length opened.new.viewers.by_worker.items
-        ≡ length opened.old.viewers.by_worker.items }
-    ensures nodes { OnOk result
-        (length opened.new.nodes.items ≡ length opened.old.nodes.items + 1) }
-    ensures core { IsOk result → IsOk core }
-    ensures epoch { IsOk result → opened.new.epoch ≡ max opened.old.epoch (epoch_in core) }
-    ensures last { IsOk result → opened.new.last ≡ max opened.old.last (last_in core) }
-    ensures refused { 0 < length opened.old.viewers.by_worker.items
-        → length opened.old.viewers.by_worker.items ≤ 64
-        → IfErr result (IsCauseOf core) }
-{
-    let core = match core {
-        Ok(core) => core,
-        Err((fault, disk)) => {
-            drop(disk);
-            return Err(fault);
-        }
-    };
-    let epoch = core.epoch();
-    let last = core.last();
-    match Node::new(rt, alloc, core, opened.viewers.by_worker.len()) {
-        Ok((node, viewers)) => opened.add(node, viewers, epoch, last),
-        Err((fault, core)) => {
-            drop(core.stop());
-            Err(fault)
-        }
-    }
-}
-
-// Stops the cores, and lets all disks go.
-fn stop_all<D: Disk + Drop>(cores: Vec<Result<Core<D>, (Fault, D)>>) {
-    let mut cores = cores;
-    for _ in 0..cores.len() {
-        match cores.pop() {
-            Some(Ok(core)) => drop(core.stop()),
-            Some(Err(refused)) => drop(refused),
-            None => {}
-        }
-    }
-    cores.destroy_empty();
 }
 
 // What the shard of this number is told.

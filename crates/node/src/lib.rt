@@ -14,6 +14,7 @@ mod place;
 mod renewing;
 mod rest;
 mod serves;
+mod side_by_side;
 mod steady;
 mod unopened;
 

@@ -33,7 +33,7 @@ no_number word no_text = go (is_decimal word) refl
     go true is = absurd (no_text (IsUtf8-from_ascii word (digits_below word (decimal_digits word is))))
     go false is = rw is refl
 
--- the first place that has a blank, or the end
-pub first_is : (line : List ℕ) (at : ℕ) → at ≤ length line → ((k : ℕ) → k < at → (get_or line k 0 == 32) ≡ false)
-    → (at < length line → (get_or line at 0 == 32) ≡ true) → position_or_len (λ c. c == 32) line ≡ at
-first_is line at within before is = position_or_len_is (λ c. c == 32) line at 0 within before is
+-- the first place that has such a byte, or the end
+pub first_is : (mark : ℕ) (line : List ℕ) (at : ℕ) → at ≤ length line → ((k : ℕ) → k < at → (get_or line k 0 == mark) ≡ false)
+    → (at < length line → (get_or line at 0 == mark) ≡ true) → position_or_len (λ c. c == mark) line ≡ at
+first_is mark line at within before is = position_or_len_is (λ c. c == mark) line at 0 within before is

@@ -14,8 +14,9 @@ pub no_verb : (verb : Word) (rest : List Word)
     → (verb ≡ codes "begin" → ⊥) → (verb ≡ codes "get" → ⊥) → (verb ≡ codes "put" → ⊥) → (verb ≡ codes "erase" → ⊥)
     → (verb ≡ codes "commit" → ⊥) → (verb ≡ codes "abort" → ⊥) → (verb ≡ codes "view" → ⊥) → (verb ≡ codes "end" → ⊥)
     → (verb ≡ codes "help" → ⊥) → (verb ≡ codes "quit" → ⊥)
+    → (verb ≡ codes "keys" → ⊥) → (verb ≡ codes "outcome" → ⊥) → (verb ≡ codes "stats" → ⊥)
     → asked_by verb rest ≡ Err (BadRequest reason.Command)
-no_verb verb rest a b c d e f g h i j =
+no_verb verb rest a b c d e f g h i j k l m =
     rw (
       is_other (codes "begin") verb a,
       is_other (codes "get") verb b,
@@ -24,7 +25,10 @@ no_verb verb rest a b c d e f g h i j =
       is_other (codes "commit") verb e,
       is_other (codes "abort") verb f,
       is_other (codes "view") verb g,
+      is_other (codes "keys") verb k,
       is_other (codes "end") verb h,
+      is_other (codes "outcome") verb l,
+      is_other (codes "stats") verb m,
       is_other (codes "help") verb i,
       is_other (codes "quit") verb j,
     ) refl

@@ -1,5 +1,5 @@
 //! What a line asks for.
-use units::{Key, Stamp, Value};
+use units::{Key, Stamp, TxnId, Value};
 
 /// A request.
 #[derive(Drop)]
@@ -20,8 +20,14 @@ pub enum Request {
     View,
     /// A view of this time is opened.
     ViewAt(Stamp),
+    /// So many keys are listed at most that have a value in the view: from a key on and, if there is an end, before that one.
+    Keys(Key, Option<Key>, u64),
     /// The view ends.
     End,
+    /// How a transaction of the client ended is told.
+    Outcome(TxnId),
+    /// The numbers of the store are told.
+    Stats,
     /// What may be asked is told.
     Help,
     /// All that was asked is answered, and the store is closed.

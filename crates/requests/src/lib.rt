@@ -7,7 +7,7 @@ mod reading;
 mod spelled;
 mod words;
 
-pub use answered::{Answer, VERBS, answer_line, committed};
+pub use answered::{Answer, Found, VERBS, answer_line, committed};
 pub use asked::Request;
 pub use reading::request;
 pub use spelled::{push_spelled, spelled_is_read, unspelled};

@@ -1,17 +1,21 @@
 //! What the words of a line ask for.
 ghost use Rattle.std.specs.Prelude.{◌≡◌, ◌⊎◌, Ok, Err, List, MatchResult, map};
-ghost use Rattle.requests.specs.Requests.{Asked, alone, asked_as, asked_by, asked_of, erase_of, get_of, key_of, keys_of, put_of, put_of_words, value_of, view_of};
+ghost use Rattle.requests.specs.Requests.{Asked, alone, asked_as, asked_by, asked_of, end_of, erase_of, get_of, key_of, keys_of, limit_of, list_from, list_of, list_of_words, list_to, outcome_of, put_of, put_of_words, value_of, view_of};
 
 use crate::Request;
 use crate::spelled::unspelled;
+use crate::words::id_of;
 use std::alloc::Global;
-use texts::stamp;
+use texts::{number, stamp};
 use units::{Fault, Key, Reason, Value};
 
 const NO_REQUEST: Fault = Fault::BadRequest(Reason::Command);
 
+// So many keys a page has at most.
+const MOST: u64 = 1_000;
+
 /// The request that some words are. The first bad word counts: a key or a value out of its limits is refused by its name, more
-/// than 128 keys as `many`, and all else as `command`.
+/// than 128 keys as `many`, and so is a limit beyond 1 to 1,000; all else is `command`.
 pub fn request(alloc: Global, words: &[&str]) -> Result<Request, Fault>
     ensures { MatchResult result (λ asked. asked_of (map (λ w. w.now) words.now) ≡ Ok (asked_as asked))
         (λ fault. (fault ≡ Fault.Memory) ⊎ (asked_of (map (λ w. w.now) words.now) ≡ Err fault)) }
@@ -36,7 +40,10 @@ fn by_verb(alloc: Global, verb: &str, rest: &[&str]) -> Result<Request, Fault>
         "commit" => alone(Request::Commit, rest),
         "abort" => alone(Request::Abort, rest),
         "view" => views(rest),
+        "keys" => lists(alloc, rest),
         "end" => alone(Request::End, rest),
+        "outcome" => outcomes(rest),
+        "stats" => alone(Request::Stats, rest),
         "help" => alone(Request::Help, rest),
         "quit" => alone(Request::Quit, rest),
         _ => Err(NO_REQUEST),
@@ -65,6 +72,94 @@ fn views(words: &[&str]) -> Result<Request, Fault>
     match words {
         [] => Ok(Request::View),
         [at] => Ok(Request::ViewAt(stamp(at)?)),
+        _ => Err(NO_REQUEST),
+    }
+}
+
+// FROM TO LIMIT
+fn lists(alloc: Global, words: &[&str]) -> Result<Request, Fault>
+    ensures { MatchResult result (λ asked. list_of (map (λ w. w.now) words.now) ≡ Ok (asked_as asked))
+        (λ fault. (fault ≡ Fault.Memory) ⊎ (list_of (map (λ w. w.now) words.now) ≡ Err fault)) }
+{
+    let [from, rest @ ..] = words else {
+        return Err(NO_REQUEST);
+    };
+    list_from(alloc, from, rest)
+}
+
+// The keys from one on, with the words behind it.
+fn list_from(alloc: Global, from: &str, rest: &[&str]) -> Result<Request, Fault>
+    ensures { MatchResult result
+        (λ asked. list_from from.now (map (λ w. w.now) rest.now) ≡ Ok (asked_as asked))
+        (λ fault. (fault ≡ Fault.Memory) ⊎ (list_from from.now (map (λ w. w.now) rest.now) ≡ Err fault)) }
+{
+    let [to, rest @ ..] = rest else {
+        return Err(NO_REQUEST);
+    };
+    list_to(alloc, from, to, rest)
+}
+
+// The keys of a range, with the words behind its end.
+fn list_to(alloc: Global, from: &str, to: &str, rest: &[&str]) -> Result<Request, Fault>
+    ensures { MatchResult result
+        (λ asked. list_to from.now to.now (map (λ w. w.now) rest.now) ≡ Ok (asked_as asked))
+        (λ fault. (fault ≡ Fault.Memory) ⊎ (list_to from.now to.now (map (λ w. w.now) rest.now) ≡ Err fault)) }
+{
+    let [limit, rest @ ..] = rest else {
+        return Err(NO_REQUEST);
+    };
+    if rest.is_empty() {
+        list(alloc, from, to, limit)
+    } else {
+        Err(NO_REQUEST)
+    }
+}
+
+// The keys of a range.
+fn list(alloc: Global, from: &str, to: &str, limit: &str) -> Result<Request, Fault>
+    ensures { MatchResult result
+        (λ asked. list_of_words from.now to.now limit.now ≡ Ok (asked_as asked))
+        (λ fault. (fault ≡ Fault.Memory) ⊎ (list_of_words from.now to.now limit.now ≡ Err fault)) }
+{
+    let from = key_of(alloc, from)?;
+    let to = end_of(alloc, to)?;
+    let limit = limit_of(limit)?;
+    Ok(Request::Keys(from, to, limit))
+}
+
+// The end of a range. The empty word is none.
+fn end_of(alloc: Global, word: &str) -> Result<Option<Key>, Fault>
+    ensures { MatchResult result (λ end. end_of word.now ≡ Ok end)
+        (λ fault. (fault ≡ Fault.Memory) ⊎ (end_of word.now ≡ Err fault)) }
+{
+    if word.is_empty() {
+        return Ok(None);
+    }
+    Ok(Some(key_of(alloc, word)?))
+}
+
+// How many keys a page has at most.
+fn limit_of(word: &str) -> Result<u64, Fault>
+    ensures { result ≡ limit_of word.now }
+{
+    let limit = number(word)?;
+    if limit < 1 || limit > MOST {
+        return Err(Fault::BadRequest(Reason::Many));
+    }
+    Ok(limit)
+}
+
+// ID
+fn outcomes(words: &[&str]) -> Result<Request, Fault>
+    ensures { MatchResult result
+        (λ asked. outcome_of (map (λ w. w.now) words.now) ≡ Ok (asked_as asked))
+        (λ fault. outcome_of (map (λ w. w.now) words.now) ≡ Err fault) }
+{
+    match words {
+        [id] => match id_of(id) {
+            Some(id) => Ok(Request::Outcome(id)),
+            None => Err(NO_REQUEST),
+        },
         _ => Err(NO_REQUEST),
     }
 }

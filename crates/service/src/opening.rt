@@ -10,7 +10,7 @@ use std::sync::Wait;
 use std::thread::Threads;
 use std::time::Duration;
 use std::{thread, time};
-use store::{Store, Unopened};
+use store::{Refused, Store};
 use units::{Fault, Splits};
 
 // How often the folder is tried where it is locked, or its device fails, and how long in between, in milliseconds: a second.
@@ -26,13 +26,13 @@ pub fn opened<'r, R: Files<File = File> + RandomSource + Threads + Wait + time::
     splits: &Splits,
     choices: &Choices,
     is_new: bool,
-) -> Result<Store<'r, R, FileDisk>, Unopened> {
+) -> Result<Store<'r, R, FileDisk>, Refused> {
     for _try in 0..TRIES {
         match open_once(rt, alloc, dir, splits, choices, is_new) {
             Ok(store) => return Ok(store),
-            Err(unopened) => {
-                if unopened.fault != Fault::Device {
-                    return Err(unopened);
+            Err(refused) => {
+                if refused.fault != Fault::Device {
+                    return Err(refused);
                 }
             }
         }
@@ -48,7 +48,7 @@ fn open_once<'r, R: Files<File = File> + RandomSource + Threads + Wait + time::C
     splits: &Splits,
     choices: &Choices,
     is_new: bool,
-) -> Result<Store<'r, R, FileDisk>, Unopened> {
+) -> Result<Store<'r, R, FileDisk>, Refused> {
     match options_of(alloc, splits, choices) {
         Ok(options) => {
             if is_new {
@@ -57,6 +57,6 @@ fn open_once<'r, R: Files<File = File> + RandomSource + Threads + Wait + time::C
                 Store::open_folder(rt, alloc, dir, options)
             }
         }
-        Err(fault) => Err(Unopened::from(fault)),
+        Err(fault) => Err(Refused::from(fault)),
     }
 }

@@ -1,16 +1,25 @@
 -- What a client is asked over lines and answers, and the session that these alone lead.
-use Rattle.std.specs.Prelude.{◌≡◌, ◌⊎◌, Bool, true, false, List, [], ◌∷◌, ◌++◌, Option, Some, None, Result, Ok, Err, map, IfSome}
-use Rattle.units.specs.Keys.{Bytes}
+use Rattle.std.specs.Prelude.{◌≡◌, ◌⊎◌, Bool, true, false, List, [], ◌∷◌, ◌++◌, ℕ, Option, Some, None, Result, Ok, Err, map, slice_get, IfSome}
+use Rattle.units.specs.Ids.{Id}
+use Rattle.units.specs.Keys.{Bytes, shard_of}
 use Rattle.units.specs.declared.fault.Fault.{Fault}
-use Rattle.units.specs.declared.fault.Fault.TheVariants.{Memory}
+use Rattle.units.specs.declared.fault.Fault.TheVariants.{Memory, Stranger}
 use Rattle.units.specs.declared.writes.Write.{Write}
 use Rattle.session.specs.Sessions.{Client, Goes, buffers}
 use Rattle.session.specs.Shown.{IsDenied}
+use Rattle.message.specs.Ends.{End as Said}
+use Rattle.message.specs.declared.message.Envelope.{Envelope}
+use Rattle.board.specs.Views.{Viewing}
+use Rattle.client.specs.Outcomes.{IsFound}
+use Rattle.client.specs.declared.asking.Outcome.{Outcome}
+use Rattle.client.specs.declared.asking.Outcome.TheVariants as outcome
 use Rattle.client.specs.Ends.{halt_for}
 use Rattle.client.specs.Readings.{HasRead, seen}
 use Rattle.client.specs.declared.ended.Halt.{Halt as Halted}
 use Rattle.client.specs.declared.ended.Halt.TheVariants as halted
 use Rattle.store.specs.Attempts.{AreAttempts, Attempt, ComesTo, Worker, widened, worked_all}
+use Rattle.store.specs.Ranges.{IsListedBy, IsUnlistedBy}
+use Rattle.store.specs.Views.{LookedAt}
 use Rattle.store.specs.declared.ended.Ended.{Ended}
 use Rattle.store.specs.declared.ended.Ended.TheVariants as ended
 use Rattle.store.specs.declared.ended.Halt.{Halt}
@@ -19,6 +28,7 @@ use Rattle.requests.specs.declared.asked.Request.{Request}
 use Rattle.requests.specs.declared.asked.Request.TheVariants as request
 use Rattle.requests.specs.declared.answered.Answer.{Answer}
 use Rattle.requests.specs.declared.answered.Answer.TheVariants as answer
+use Rattle.requests.specs.declared.answered.Found.TheVariants as found
 use Rattle.serving.specs.declared.acts.End.{End}
 use Rattle.serving.specs.declared.acts.End.TheVariants.{Stays, Ends}
 use Rattle.serving.specs.declared.asks.Exchange.{Exchange}
@@ -46,11 +56,18 @@ IsRead splits keys _ c d = ⊥
 abbrev pub WasDenied : Write → Halted → Client → Type 0
 WasDenied w why c = (fault : Fault) × (why ≡ halt_for fault) × IsDenied (buffers w c) fault
 
--- what a write comes to: the session buffers this write; or it is as it was, and refuses it
+-- what is made of what the session answers to a write
+abbrev pub end_of_write : Result (Unit {0}) Halted → End
+end_of_write (Ok done) = Stays answer.Done
+end_of_write (Err (halted.Refused Memory)) = Ends (Err (halt.Refused Memory))
+end_of_write (Err (halted.Refused fault)) = Stays (answer.Refused fault)
+end_of_write (Err why) = Ends (Err (widened why))
+
+-- What a write comes to: the session buffers this write; or it is as it was, and refuses it. For want of memory the transaction ends.
 abbrev pub IsWrote : Write → End → Client → Client → Type 0
 IsWrote w (Stays answer.Done) c d = buffers w c ≡ Goes d []
-IsWrote w (Stays (answer.Refused fault)) c d = (d ≡ c) × ((fault ≡ Memory) ⊎ WasDenied w (halted.Refused fault) c)
-IsWrote w (Ends (Err why)) c d = (d ≡ c) × ((call : Halted) × (why ≡ widened call) × WasDenied w call c)
+IsWrote w (Stays (answer.Refused fault)) c d = (d ≡ c) × (fault ≡ Memory → ⊥) × WasDenied w (halted.Refused fault) c
+IsWrote w (Ends (Err why)) c d = (d ≡ c) × ((why ≡ halt.Refused Memory) ⊎ ((call : Halted) × (why ≡ widened call) × WasDenied w call c))
 IsWrote w _ c d = ⊥
 
 -- what a line makes of a transaction's session: it stays open, and this is answered; or it is to end so. It closes only where that is asked
@@ -64,10 +81,50 @@ IsActed splits (Ok request.Help) (Stays answer.Help) c d = d ≡ c
 IsActed splits (Ok request.Begin) (Stays answer.Misplaced) c d = d ≡ c
 IsActed splits (Ok request.View) (Stays answer.Misplaced) c d = d ≡ c
 IsActed splits (Ok (request.ViewAt at)) (Stays answer.Misplaced) c d = d ≡ c
+IsActed splits (Ok (request.Keys from to limit)) (Stays answer.Misplaced) c d = d ≡ c
 IsActed splits (Ok request.End) (Stays answer.Misplaced) c d = d ≡ c
+IsActed splits (Ok (request.Outcome id)) (Stays answer.Misplaced) c d = d ≡ c
+IsActed splits (Ok request.Stats) (Stays answer.Misplaced) c d = d ≡ c
 IsActed splits (Ok request.Quit) (Stays answer.Misplaced) c d = d ≡ c
-IsActed splits (Err fault) (Stays (answer.Refused told)) c d = (told ≡ fault) × (d ≡ c)
+IsActed splits (Err Memory) (Ends (Err (halt.Refused told))) c d = (told ≡ Memory) × (d ≡ c)
+IsActed splits (Err fault) (Stays (answer.Refused told)) c d = (told ≡ fault) × (d ≡ c) × (fault ≡ Memory → ⊥)
 IsActed splits _ _ c d = ⊥
+
+-- ---- one line of a view, or of neither
+
+-- What a page of keys comes to, of a view at a time: by a look at the board of the first key's shard, these keys of the range are those that have
+-- a value then, up to where the next page begins; or it is refused as that look is.
+abbrev pub IsPaged : List Bytes → List Viewing → List Viewing → Bytes → Option Bytes → ℕ → Answer → Type 0
+IsPaged splits old new from to at (answer.Page keys next) =
+    LookedAt old new (shard_of splits from) (λ viewer after. IsListedBy splits viewer after from to at keys.items next)
+IsPaged splits old new from to at (answer.Refused fault) =
+    ((fault ≡ Stranger) × (slice_get old (shard_of splits from) ≡ None))
+    ⊎ LookedAt old new (shard_of splits from) (λ viewer after. IsUnlistedBy viewer after from at fault)
+IsPaged splits old new from to at _ = ⊥
+
+-- what a line makes of a view at a time, if it asks for keys, or for what a view does not tell
+abbrev pub IsLooked : List Bytes → List Viewing → List Viewing → ℕ → Result Request Fault → Answer → Type 0
+IsLooked splits old new at (Ok (request.Keys from to limit)) told = IsPaged splits old new from to at told
+IsLooked splits old new at (Ok (request.Outcome id)) told = told ≡ answer.Misplaced
+IsLooked splits old new at (Ok request.Stats) told = told ≡ answer.Misplaced
+IsLooked splits old new at asked told = Unit {0}
+
+-- what is answered of how a transaction ended
+abbrev pub answer_of_outcome : Result Outcome Fault → Answer
+answer_of_outcome (Ok (outcome.Committed at)) = answer.Found (found.Committed at)
+answer_of_outcome (Ok outcome.Aborted) = answer.Found found.Aborted
+answer_of_outcome (Ok outcome.Open) = answer.Found found.Open
+answer_of_outcome (Ok outcome.Unknown) = answer.Found found.Unknown
+answer_of_outcome (Err fault) = answer.Refused fault
+
+-- How a transaction ended is asked of its shards, and answered by what these said; or nobody is asked, and nobody knows, or there is no memory.
+abbrev pub IsAsked : Worker → Worker → Id → Answer → Type 0
+IsAsked old new id told =
+    ((told ≡ answer.Found found.Unknown) × (new ≡ old))
+    ⊎ (((told ≡ answer.Refused Memory) × (new ≡ old))
+    ⊎ ((sent : List Envelope) × (heard : List Said) × (how : Outcome)
+    × (new ≡ record old { traffics = old.traffics ++ (record { sent = sent; heard = heard }) ∷ [] })
+    × IsFound id how heard × (told ≡ answer_of_outcome (Ok how))))
 
 -- ---- the lines of a transaction
 

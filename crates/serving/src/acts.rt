@@ -1,13 +1,15 @@
 //! What one line makes of a transaction, of a view and of the store.
 ghost use Rattle.std.specs.Prelude.{◌≡◌, None, Ok, Some};
-ghost use Rattle.serving.specs.Talks.{IsActed, IsRead, IsWrote, answer_of_end, answer_of_last, answer_of_write};
+ghost use Rattle.std.specs.Option.{option_copied};
+ghost use Rattle.serving.specs.Talks.{IsActed, IsAsked, IsLooked, IsPaged, IsRead, IsWrote, answer_of_end, answer_of_last, answer_of_outcome, answer_of_write, end_of_write};
 
-use requests::{Answer, Request, committed};
+use requests::{Answer, Found, Request, committed};
 use std::alloc::Global;
+use std::mem::replace;
 use std::sync::Wait;
 use std::time;
 use std::time::{Duration, Instant};
-use store::{Client, Ended, Halt, Halted, Key, Transaction, Value, View};
+use store::{Client, Ended, Halt, Halted, Key, Outcome, Stamp, Transaction, TxnId, Value, View};
 use units::Fault;
 
 /// What a line makes of an open transaction: it is answered, and the transaction stays open; or the transaction is to end so.
@@ -17,7 +19,8 @@ pub enum End {
     Ends(Result<(), Halt>),
 }
 
-/// Carries out one line of a transaction.
+/// Carries out one line of a transaction. For want of memory the transaction ends: so a `commit` that was sent along does not commit without
+/// a write of it.
 pub fn act<R: Wait + time::Clock>(
     tx: &mut Transaction<'_, R>,
     asked: &Result<Request, Fault>,
@@ -36,8 +39,12 @@ pub fn act<R: Wait + time::Clock>(
         Ok(Request::Begin) => End::Stays(Answer::Misplaced),
         Ok(Request::View) => End::Stays(Answer::Misplaced),
         Ok(Request::ViewAt(_)) => End::Stays(Answer::Misplaced),
+        Ok(Request::Keys(_, _, _)) => End::Stays(Answer::Misplaced),
         Ok(Request::End) => End::Stays(Answer::Misplaced),
+        Ok(Request::Outcome(_)) => End::Stays(Answer::Misplaced),
+        Ok(Request::Stats) => End::Stays(Answer::Misplaced),
         Ok(Request::Quit) => End::Stays(Answer::Misplaced),
+        Err(Fault::Memory) => End::Ends(Err(Halt::Refused(Fault::Memory))),
         Err(fault) => End::Stays(Answer::Refused(*fault)),
     }
 }
@@ -61,14 +68,18 @@ fn put<R: Wait + time::Clock>(tx: &mut Transaction<'_, R>, key: &Key, value: &Va
     ensures wrote { IsWrote (record { key = key.now; value = Some value.now }) result
         tx.old.session.client tx.new.session.client }
 {
-    let Ok(value) = value.copy() else {
-        return End::Stays(Answer::Refused(Fault::Memory));
-    };
-    match tx.put(key, value) {
-        Ok(()) => End::Stays(Answer::Done),
-        Err(Halted::Refused(fault)) => End::Stays(Answer::Refused(fault)),
-        Err(halted) => End::Ends(Err(Halt::from(halted))),
+    match value.copy() {
+        Ok(value) => put_copy(tx, key, value),
+        Err(_) => End::Ends(Err(Halt::Refused(Fault::Memory))),
     }
+}
+
+fn put_copy<R: Wait + time::Clock>(tx: &mut Transaction<'_, R>, key: &Key, value: Value) -> End
+    ensures splits { tx.new.session.splits ≡ tx.old.session.splits }
+    ensures wrote { IsWrote (record { key = key.now; value = Some value }) result
+        tx.old.session.client tx.new.session.client }
+{
+    wrote(tx.put(key, value))
 }
 
 // An erasure of a key.
@@ -77,8 +88,16 @@ fn erase<R: Wait + time::Clock>(tx: &mut Transaction<'_, R>, key: &Key) -> End
     ensures wrote { IsWrote (record { key = key.now; value = None }) result
         tx.old.session.client tx.new.session.client }
 {
-    match tx.erase(key) {
+    wrote(tx.erase(key))
+}
+
+// What a write comes to: it is answered, or the transaction is to end.
+fn wrote(written: Result<(), Halted>) -> End
+    ensures { result ≡ end_of_write written }
+{
+    match written {
         Ok(()) => End::Stays(Answer::Done),
+        Err(Halted::Refused(Fault::Memory)) => End::Ends(Err(Halt::Refused(Fault::Memory))),
         Err(Halted::Refused(fault)) => End::Stays(Answer::Refused(fault)),
         Err(halted) => End::Ends(Err(Halt::from(halted))),
     }
@@ -122,9 +141,13 @@ pub fn look<R: Wait + time::Clock>(
     alloc: Global,
     view: &mut View<'_, '_, R>,
     asked: &Result<Request, Fault>,
-) -> Answer {
+) -> Answer
+    ensures { IsLooked view.old.shared.now.splits view.old.viewers.now.items
+        view.new.viewers.now.items view.old.at asked.now result }
+{
     match asked {
         Ok(Request::Get(keys)) => values(seen(alloc, view, keys.as_slice())),
+        Ok(Request::Keys(from, to, limit)) => page(alloc, view, from, to.as_ref(), *limit),
         Ok(Request::Help) => Answer::Help,
         Ok(_) => Answer::Misplaced,
         Err(fault) => Answer::Refused(*fault),
@@ -144,6 +167,8 @@ pub fn carry_out<R: Wait + time::Clock>(
         Ok(Request::Erase(key)) => write(rt, client, key, None),
         Ok(Request::Abort) => Answer::Aborted,
         Ok(Request::End) => Answer::Ended,
+        Ok(Request::Outcome(id)) => outcome(client, *id),
+        Ok(Request::Stats) => stats(client),
         Ok(Request::Help) => Answer::Help,
         Ok(_) => Answer::Misplaced,
         Err(fault) => Answer::Refused(*fault),
@@ -159,6 +184,71 @@ fn look_once<R: Wait + time::Clock>(
     match client.view() {
         Some(mut view) => values(seen(alloc, &mut view, keys)),
         None => Answer::Refused(Fault::Early),
+    }
+}
+
+// How a transaction of the client ended.
+fn outcome<R: Wait + time::Clock>(client: &mut Client<'_, R>, id: TxnId) -> Answer
+    ensures { IsAsked client.old client.new id result }
+{
+    answer_of_outcome(client.outcome(id))
+}
+
+// What is answered of how a transaction ended.
+fn answer_of_outcome(told: Result<Outcome, Fault>) -> Answer
+    ensures { result ≡ answer_of_outcome told }
+{
+    match told {
+        Ok(outcome) => Answer::Found(found(outcome)),
+        Err(fault) => Answer::Refused(fault),
+    }
+}
+
+fn found(outcome: Outcome) -> Found
+    ensures { Answer.Found result ≡ answer_of_outcome (Ok outcome) }
+{
+    match outcome {
+        Outcome::Committed(at) => found_at(at),
+        Outcome::Aborted => Found::Aborted,
+        Outcome::Open => Found::Open,
+        Outcome::Unknown => Found::Unknown,
+    }
+}
+
+fn found_at(at: Stamp) -> Found
+    ensures { result ≡ Found.Committed at }
+{
+    Found::Committed(at)
+}
+
+// The numbers of the store.
+fn stats<R: Wait + time::Clock>(client: &Client<'_, R>) -> Answer {
+    match client.numbers().text() {
+        Ok(text) => Answer::Text(text),
+        Err(fault) => Answer::Refused(fault),
+    }
+}
+
+// A page of the keys of a range that have a value in the view.
+fn page<R: Wait + time::Clock>(
+    alloc: Global,
+    view: &mut View<'_, '_, R>,
+    from: &Key,
+    to: Option<&Key>,
+    limit: u64,
+) -> Answer
+    ensures at { view.new.at ≡ view.old.at }
+    ensures splits { view.new.shared.now.splits ≡ view.old.shared.now.splits }
+    ensures listed { IsPaged view.old.shared.now.splits view.old.viewers.now.items
+        view.new.viewers.now.items from.now (option_copied to.entry) view.old.at result }
+{
+    match view.keys(from, to, limit as usize) {
+        Ok(page) => {
+            let mut page = page;
+            let keys = replace(&mut page.keys, Vec::new(alloc));
+            Answer::Page(keys, page.next)
+        }
+        Err(fault) => Answer::Refused(fault),
     }
 }
 

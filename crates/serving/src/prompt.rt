@@ -21,6 +21,9 @@ impl Open {
             Answer::At(_) => Open::View,
             Answer::Done
             | Answer::Values(_)
+            | Answer::Page(_, _)
+            | Answer::Found(_)
+            | Answer::Text(_)
             | Answer::Help
             | Answer::Refused(_)
             | Answer::Misplaced => self,
@@ -33,29 +36,29 @@ impl Open {
 const HELP: &str = "\
 A line is a client's number, below the number of clients, and what it asks;
 without a number it is client 0's. Words are parted by one blank.
-
-begin              opens a transaction
-get KEY..          values of up to 128 keys, as '=VALUE' or 'none'
-put KEY VALUE      writes a value
-erase KEY          erases a key
-commit             closes the transaction, and tells its timestamp and its id
-abort              gives the transaction up
-view [AT]          opens a view of the present, or of that time: then 'get' tells of it
-end                ends the view
-help               these lines
-quit               closes the store
-
+begin               opens a transaction
+get KEY..           values of up to 128 keys, as '=VALUE' or 'none'
+put KEY VALUE       writes a value
+erase KEY           erases a key
+commit              closes the transaction, and tells its timestamp and its id
+abort               gives the transaction up
+view [AT]           opens a view of the present, or of that time: 'get' tells of it
+keys FROM TO LIMIT  keys of a view from FROM on, before TO if it is not empty
+end                 ends the view
+outcome ID          how a transaction ended that was answered 'unknown'
+stats               the numbers of the store, as Prometheus reads them
+help                these lines
+quit                closes the store
 In a transaction 'get' reads under locks, and 'put' and 'erase' wait for 'commit'.
 Outside of it 'get' is a view, and 'put' and 'erase' are transactions of their own.
 A transaction that no line comes for is given up after a while: its next line is
 answered 'aborted'.
-
 Answers: begun ID, =VALUE or none for each key, ok, committed AT ID, aborted,
-unknown ID, at AT, ended, closed. AT is in microseconds.
+unknown ID, at AT, page NEXT KEY.., ended, outcome END, closed. The next page of
+keys begins at NEXT, unless that is 'none'. AT is in microseconds.
 'unknown' says that nobody told in time whether the transaction stands.
 'fault: N WORDS' refuses a line, and what was open stays open;
 'ended: fault: N WORDS' says that it has ended too.
-
 A blank in a key or a value is written \\x20, a backslash \\x5c, and each byte
 that is no printable ASCII by its two hexadecimal digits, as \\x0a.
 'put KEY ' with a blank at its end writes the empty value.
@@ -65,6 +68,7 @@ that is no printable ASCII by its two hexadecimal digits, as \\x0a.
 pub fn push_prompted(line: &mut String, answer: &Answer, open: Open) -> Result<(), Fault> {
     match answer {
         Answer::Help => line.push_str(HELP)?,
+        Answer::Text(text) => line.push_str(text.as_str())?,
         Answer::Committed(at, _) | Answer::At(at) => push_date(line, at.micros())?,
         Answer::Closed => return Ok(()),
         _ => {}

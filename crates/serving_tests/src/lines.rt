@@ -1,6 +1,7 @@
 //! What clients are answered.
 use crate::streams::{answers, are_answers};
 use serving::Served;
+use std::str;
 
 /// A name, the lines, and what clients 0 and 1 are answered.
 type Row = (
@@ -145,4 +146,55 @@ fn clients_are_answered(rt: HostRuntime) {
         assert!(rt; are_answers(&told, b'0', *zero));
         assert!(rt; are_answers(&told, b'1', *one));
     }
+}
+
+// Fails if a client's keys are those of another client's view.
+#[test]
+fn keys_are_of_the_own_view(rt: HostRuntime) {
+    let parts: [(u64, &[u8]); 3] = [
+        (0, b"put a 1\nput b 1\nview\nkeys a  9\n"),
+        (600, b"1 put c 1\n1 erase a\n1 view\n1 keys a  9\n"),
+        (600, b"keys a  9\n1 keys a  9\nend\nview\nkeys a  9\n"),
+    ];
+    let (served, told) = answers(&rt, rt.alloc(), &parts, NEVER, false);
+    assert!(rt; served == Served::All);
+    let zero: [&[u8]; 8] = [
+        b"committed *",
+        b"committed *",
+        b"at *",
+        b"page =m =a =b",
+        b"page =m =a =b",
+        b"ended",
+        b"at *",
+        b"page =m =b =c",
+    ];
+    let one: [&[u8]; 5] = [
+        b"committed *",
+        b"committed *",
+        b"at *",
+        b"page =m =b =c",
+        b"page =m =b =c",
+    ];
+    assert!(rt; are_answers(&told, b'0', &zero));
+    assert!(rt; are_answers(&told, b'1', &one));
+}
+
+// What `stats` tells of a number of a shard, behind its name, or nothing.
+fn told_of<'t>(told: &'t [u8], name: &str, shard: &str) -> Option<&'t str> {
+    let text = str::from_utf8(told).ok()?;
+    let (_, behind) = text.split_once(name)?;
+    let (_, behind) = behind.split_once(shard)?;
+    let (number, _) = behind.split_once("\\x0a")?;
+    Some(number)
+}
+
+// Fails if the numbers of a shard are told of another one, or are not of this store: two commits of shard 0, and one of shard 1.
+#[test]
+fn stats_tell_each_shard(rt: HostRuntime) {
+    let lines = b"put a 1\nput b 1\nput z 1\nstats\n";
+    let (served, told) = answers(&rt, rt.alloc(), &[(0, lines.as_slice())], NEVER, false);
+    assert!(rt; served == Served::All);
+    let commits = "spanner_shards_commits{shard=";
+    assert!(rt; told_of(&told, commits, "\"0\"}\\x20") == Some("2"));
+    assert!(rt; told_of(&told, commits, "\"1\"}\\x20") == Some("1"));
 }

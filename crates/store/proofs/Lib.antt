@@ -2,5 +2,6 @@ mod Attempts
 mod Across
 mod Ends
 mod Shown
+mod Telling
 mod Waiting
 mod Written

@@ -40,11 +40,11 @@ listed_by old now after first to at page later same listed = record {
   stays = listed.stays refl;
 }
 
-abbrev is_stopped : Fault → Bool
+abbrev pub is_stopped : Fault → Bool
 is_stopped Stopped = true
 is_stopped _ = false
 
-stopped_is : (fault : Fault) → is_stopped fault ≡ true → fault ≡ Stopped
+pub stopped_is : (fault : Fault) → is_stopped fault ≡ true → fault ≡ Stopped
 stopped_is Stopped is = refl
 stopped_is _ is = absurd (true≢false (sym is))
 

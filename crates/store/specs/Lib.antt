@@ -1,4 +1,5 @@
 pub mod Attempts
+pub mod Histories
 pub mod Numbers
 pub mod Ranges
 pub mod Standing

@@ -92,6 +92,7 @@ impl<'s, R: Wait + time::Clock> Client<'s, R> {
             × ((last : F) × HasTried F.FnMut self.old code made self.new last)
             × ComesTo tries self.new made result }
     {
+        self.count_call();
         self.attempts(tries, None, code)
     }
 
@@ -108,7 +109,22 @@ impl<'s, R: Wait + time::Clock> Client<'s, R> {
             × ComesWithin tries self.new made result }
     {
         let deadline = Deadline::after(self.rt, within);
+        self.count_call();
         self.attempts(tries, deadline, code)
+    }
+
+    // Counts a call that runs a transaction.
+    fn count_call(&self) {
+        if let Some(counts) = self.shared.numbers.counts_of_client(self.number) {
+            counts.count_call();
+        }
+    }
+
+    // Counts an attempt that has ended, and how long it took to close, if it was closed.
+    fn count_attempt(&self, ended: &Result<client::Ended, Fault>, took: Option<Duration>) {
+        if let Some(counts) = self.shared.numbers.counts_of_client(self.number) {
+            counts.count_attempt(ended, took);
+        }
     }
 
     // The attempts of a transaction, until a deadline has passed, if there is one.
@@ -207,7 +223,9 @@ impl<'s, R: Wait + time::Clock> Client<'s, R> {
     {
         let start = closing_from(self.rt, ran.is_ok());
         let ended = self.end(transaction, ran);
-        self.shared.door.leave(since(self.rt, start));
+        let took = since(self.rt, start);
+        self.count_attempt(&ended, took);
+        self.shared.door.leave(took);
         ended
     }
 

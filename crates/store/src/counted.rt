@@ -5,17 +5,25 @@ use crate::numbers::{Numbers, ShardCounts};
 use letters::{Due, Serves, Taken};
 use message::{Input, Outbox};
 use std::alloc::Global;
+use std::sync::atomic::{AtomicU64, Ordering};
 use std::sync::{Arc, Wait};
 use truetime::Clock;
 use units::{Fault, ShardNo, Stamp, TxnId};
 
-/// A node that is served as it is, and whose work is counted.
+/// A node that is served as it is, and whose work is counted. It keeps up to which timestamp its transactions in doubt are not counted again.
 #[derive(Drop)]
 pub struct Counted<'k, N> {
     node: &'k N,
     numbers: Arc<Numbers, Global>,
     place: usize,
+    again: AtomicU64,
 }
+
+// So many transactions in doubt are counted at most: more than a store has clients only if sessions were left.
+const MOST_IN_DOUBT: usize = 64;
+
+// For so many microseconds of what is served they are not counted again.
+const COUNT_PAUSE: u64 = 100_000;
 
 impl<N> Counted<'_, N> {
     fn counts(&self) -> Option<&ShardCounts> {
@@ -31,7 +39,27 @@ impl<N: Serves> Counted<'_, N> {
         let has_stopped = self.node.is_stopped(rt);
         if let Some(counts) = self.counts() {
             counts.count_shown(micros, versions, has_stopped);
+            self.count_doubts(rt, counts, micros.unwrap_or(0));
         }
+    }
+
+    // Counts what is in doubt, unless it was counted a short time ago.
+    fn count_doubts<W: Wait>(&self, rt: &W, counts: &ShardCounts, served: u64) {
+        if served < self.again.load(Ordering::SeqCst) {
+            return;
+        }
+        self.again
+            .store(served.saturating_add(COUNT_PAUSE), Ordering::SeqCst);
+        let mut count = 0_u64;
+        let mut since = u64::MAX;
+        for n in 0..MOST_IN_DOUBT {
+            let Some((_, at)) = self.node.due(rt, Due::Prepared, n) else {
+                break;
+            };
+            since = since.min(at.micros());
+            count = count.saturating_add(1);
+        }
+        counts.set_in_doubt(count, if count == 0 { 0 } else { since });
     }
 }
 
@@ -135,6 +163,7 @@ pub fn counted_nodes<'k, N>(
             node,
             numbers: Arc::try_clone(numbers)?,
             place,
+            again: AtomicU64::new(0),
         })?;
     }
     Ok(counted)

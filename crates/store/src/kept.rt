@@ -1,18 +1,19 @@
 //! Nodes whose shards keep the past for a while, and their logs short.
 ghost use Rattle.std.specs.Prelude.{◌≡◌, IfErr};
 
+use crate::numbers::{Numbers, ShardCounts};
 use disk::Disk;
 use letters::{Due, Serves, Taken};
 use message::{Input, Outbox};
 use node::Node;
 use std::alloc::Global;
-use std::sync::Wait;
 use std::sync::atomic::{AtomicBool, AtomicU64, Ordering};
+use std::sync::{Arc, Wait};
 use truetime::Clock;
 use units::{Fault, ShardNo, Stamp, TxnId};
 
 /// A node that is served as it is. Before it advances it forgets what is older than so many microseconds, and it renews its log once that has
-/// grown by so many bytes. It also keeps when it may forget again, and whether its log is looked at next.
+/// grown by so many bytes. It also keeps when it may forget again, whether its log is looked at next, and where its requests are counted.
 #[derive(Drop)]
 pub struct Kept<'n, D: Disk + Drop, H: Wait + Drop> {
     node: &'n Node<D, H>,
@@ -20,6 +21,8 @@ pub struct Kept<'n, D: Disk + Drop, H: Wait + Drop> {
     renew: Option<u64>,
     again: AtomicU64,
     renews: AtomicBool,
+    numbers: Arc<Numbers, Global>,
+    place: usize,
 }
 
 // To forget costs a record of the log, and a look at each version. So it is done no more than ten times a second, and once an eighth of
@@ -32,6 +35,10 @@ const SHARE_OF_PAUSE: u64 = 8;
 const SHARE_OF_TIME: u64 = 16;
 
 impl<D: Disk + Drop, H: Wait + Drop> Kept<'_, D, H> {
+    fn counts(&self) -> Option<&ShardCounts> {
+        self.numbers.counts(self.place)
+    }
+
     // How long it is asked no more, after this took so many microseconds. Where nothing is forgotten, it is asked as often as may be.
     fn pause(&self, took: u64) -> u64 {
         let pause = match self.keep {
@@ -51,7 +58,10 @@ impl<D: Disk + Drop, H: Wait + Drop> Kept<'_, D, H> {
             return false;
         }
         if let Some(keep) = self.keep {
-            drop(self.node.keep_by(rt, clock, keep));
+            let asked = self.node.keep_by(rt, clock, keep);
+            if let Some(counts) = self.counts() {
+                counts.count_forget(&asked);
+            }
         }
         let end = micros_of(clock).unwrap_or(start);
         let pause = self.pause(end.saturating_sub(start));
@@ -64,7 +74,10 @@ impl<D: Disk + Drop, H: Wait + Drop> Kept<'_, D, H> {
     // Renews the log if it has grown. What is kept for good goes back to the beginning, so no horizon is asked for.
     fn renew<W: Wait, C: Clock>(&self, rt: &W, clock: &mut C) {
         if let Some(least) = self.renew {
-            drop(self.node.renew_by(rt, clock, u64::MAX, least));
+            let asked = self.node.renew_by(rt, clock, u64::MAX, least);
+            if let Some(counts) = self.counts() {
+                counts.count_turnover(&asked);
+            }
         }
     }
 }
@@ -143,22 +156,26 @@ impl<D: Disk + Drop, H: Wait + Drop> Serves for Kept<'_, D, H> {
 }
 
 /// The nodes, each of which keeps the past for so many microseconds, or for good, and renews a log that has grown by so many bytes, or none.
+/// What they ask for is counted in these numbers.
 pub fn kept_nodes<'n, D: Disk + Drop, H: Wait + Drop>(
     alloc: Global,
     nodes: &'n [Node<D, H>],
     keep: Option<u64>,
     renew: Option<u64>,
+    numbers: &Arc<Numbers, Global>,
 ) -> Result<Vec<Kept<'n, D, H>>, Fault>
     ensures { IfErr result (λ fault. fault ≡ Fault.Memory) }
 {
     let mut kept = Vec::new(alloc);
-    for node in nodes {
+    for (place, node) in nodes.iter().enumerate() {
         kept.push(Kept {
             node,
             keep,
             renew,
             again: AtomicU64::new(0),
             renews: AtomicBool::new(false),
+            numbers: Arc::try_clone(numbers)?,
+            place,
         })?;
     }
     Ok(kept)

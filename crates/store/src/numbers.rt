@@ -2,9 +2,11 @@
 ghost use Rattle.std.specs.Prelude.{◌≡◌, IfErr};
 ghost use Rattle.store.specs.Numbers.{is_commit};
 
+use crate::client_numbers::{ClientCounts, ClientNumbers, push_clients};
 use letters::Taken;
 use message::{Envelope, Input, Message};
 use std::alloc::Global;
+use std::sync::Arc;
 use std::sync::atomic::{AtomicU64, Ordering};
 use units::Fault;
 
@@ -26,8 +28,19 @@ pub struct ShardNumbers {
     /// How often it went on in serving views, and how often that was refused.
     pub advances: u64,
     pub late: u64,
-    /// Whether it has stopped since its device failed.
+    /// Whether it has stopped. It stops for one reason: its device failed.
     pub has_stopped: bool,
+    /// Transactions that it has promised to commit and of whose end it has not heard: 64 at most. They are counted ten times a second at most,
+    /// and when it shows something.
+    pub in_doubt: u64,
+    /// The least timestamp at which it promised one of these, in microseconds; 0 if there is none.
+    pub doubt_since: u64,
+    /// How often it was asked to forget what is older than `Options::keep`, and was not refused.
+    pub forgets: u64,
+    /// How often it was asked to turn its log over if that has grown (`Options::renew`), and was refused.
+    pub turnovers_refused: u64,
+    /// The number of the fault by which that, or a request to forget, was refused last; 0 if none was.
+    pub fault: u64,
 }
 
 // The counts of a shard. Only the thread that serves the shard writes them.
@@ -42,6 +55,11 @@ pub(crate) struct ShardCounts {
     advances: AtomicU64,
     late: AtomicU64,
     stopped: AtomicU64,
+    in_doubt: AtomicU64,
+    doubt_since: AtomicU64,
+    forgets: AtomicU64,
+    turnovers_refused: AtomicU64,
+    fault: AtomicU64,
 }
 
 impl ShardCounts {
@@ -56,6 +74,11 @@ impl ShardCounts {
             advances: AtomicU64::new(0),
             late: AtomicU64::new(0),
             stopped: AtomicU64::new(0),
+            in_doubt: AtomicU64::new(0),
+            doubt_since: AtomicU64::new(0),
+            forgets: AtomicU64::new(0),
+            turnovers_refused: AtomicU64::new(0),
+            fault: AtomicU64::new(0),
         }
     }
 
@@ -112,6 +135,31 @@ impl ShardCounts {
         self.stopped.store(number_of(has_stopped), Ordering::SeqCst);
     }
 
+    /// Takes over how many transactions are in doubt, and since which timestamp.
+    pub(crate) fn set_in_doubt(&self, count: u64, since: u64) {
+        self.in_doubt.store(count, Ordering::SeqCst);
+        self.doubt_since.store(since, Ordering::SeqCst);
+    }
+
+    /// Counts a request to forget, and why it was refused, if it was.
+    pub(crate) fn count_forget(&self, asked: &Result<(), Fault>) {
+        match asked {
+            Ok(()) => more(&self.forgets, 1),
+            Err(fault) => self
+                .fault
+                .store(u64::from(fault.number()), Ordering::SeqCst),
+        }
+    }
+
+    /// Counts a request to turn the log over if it has grown, if that was refused, and why.
+    pub(crate) fn count_turnover(&self, asked: &Result<(), Fault>) {
+        if let Err(fault) = asked {
+            more(&self.turnovers_refused, 1);
+            self.fault
+                .store(u64::from(fault.number()), Ordering::SeqCst);
+        }
+    }
+
     fn read(&self) -> ShardNumbers {
         ShardNumbers {
             taken: self.taken.load(Ordering::SeqCst),
@@ -123,6 +171,11 @@ impl ShardCounts {
             advances: self.advances.load(Ordering::SeqCst),
             late: self.late.load(Ordering::SeqCst),
             has_stopped: self.stopped.load(Ordering::SeqCst) != 0,
+            in_doubt: self.in_doubt.load(Ordering::SeqCst),
+            doubt_since: self.doubt_since.load(Ordering::SeqCst),
+            forgets: self.forgets.load(Ordering::SeqCst),
+            turnovers_refused: self.turnovers_refused.load(Ordering::SeqCst),
+            fault: self.fault.load(Ordering::SeqCst),
         }
     }
 }
@@ -133,7 +186,7 @@ fn number_of(yes: bool) -> u64 {
 }
 
 // Raises a count that nobody else writes.
-fn more(count: &AtomicU64, by: u64) {
+pub(crate) fn more(count: &AtomicU64, by: u64) {
     let before = count.load(Ordering::SeqCst);
     count.store(before.saturating_add(by), Ordering::SeqCst);
 }
@@ -186,25 +239,35 @@ fn is_abort(message: &Message) -> bool {
 pub struct Numbers {
     alloc: Global,
     shards: Vec<ShardCounts>,
+    clients: Vec<ClientCounts>,
 }
 
 impl Numbers {
-    /// Nothing was counted yet, of so many shards.
-    pub(crate) fn new(alloc: Global, shards: usize) -> Result<Numbers, Fault>
+    /// Nothing was counted yet, of so many shards and clients.
+    pub(crate) fn new(alloc: Global, shards: usize, clients: usize) -> Result<Numbers, Fault>
         ensures { IfErr result (λ fault. fault ≡ Fault.Memory) }
     {
         let mut counts = Vec::new(alloc);
         for _shard in 0..shards {
             counts.push(ShardCounts::new())?;
         }
+        let mut of_clients = Vec::new(alloc);
+        for _client in 0..clients {
+            of_clients.push(ClientCounts::new())?;
+        }
         Ok(Numbers {
             alloc,
             shards: counts,
+            clients: of_clients,
         })
     }
 
     pub(crate) fn counts(&self, shard: usize) -> Option<&ShardCounts> {
         self.shards.get(shard)
+    }
+
+    pub(crate) fn counts_of_client(&self, client: usize) -> Option<&ClientCounts> {
+        self.clients.get(client)
     }
 
     /// Tells how many shards there are.
@@ -220,7 +283,21 @@ impl Numbers {
         }
     }
 
-    /// Writes all numbers as a text that Prometheus reads: for each its kind, and a line for each shard.
+    /// Tells how many clients there are.
+    pub fn clients(&self) -> usize {
+        self.clients.len()
+    }
+
+    /// Reads the numbers of a client. `None` if there is none of that number.
+    pub fn of_client(&self, client: usize) -> Option<ClientNumbers> {
+        match self.clients.get(client) {
+            Some(counts) => Some(counts.read()),
+            None => None,
+        }
+    }
+
+    /// Writes all numbers as a text that Prometheus reads: for each its kind, and a line for each shard or client. How long closings took is a
+    /// histogram for each client.
     pub fn text(&self) -> Result<String, Fault>
         ensures { IfErr result (λ fault. fault ≡ Fault.Memory) }
     {
@@ -228,6 +305,7 @@ impl Numbers {
         for name in &NAMES {
             self.push(&mut text, *name)?;
         }
+        push_clients(&mut text, &self.clients)?;
         Ok(text)
     }
 
@@ -245,14 +323,42 @@ impl Numbers {
     }
 }
 
+/// Makes the numbers of so many shards and clients, of which nothing was counted yet.
+pub(crate) fn numbers_of(
+    alloc: Global,
+    shards: usize,
+    clients: usize,
+) -> Result<Arc<Numbers, Global>, Fault>
+    ensures { IfErr result (λ fault. fault ≡ Fault.Memory) }
+{
+    let numbers = Numbers::new(alloc, shards, clients)?;
+    Ok(Arc::new(alloc, numbers)?)
+}
+
 // The names of all numbers.
-static NAMES: [&'static str; 9] = [
-    "taken", "refused", "commits", "aborts", "versions", "served", "advances", "late", "stopped",
+static NAMES: [&'static str; 14] = [
+    "taken",
+    "refused",
+    "commits",
+    "aborts",
+    "versions",
+    "served",
+    "advances",
+    "late",
+    "stopped",
+    "in_doubt",
+    "doubt_since",
+    "forgets",
+    "turnovers_refused",
+    "fault",
 ];
 
 // A number that also falls.
 fn is_gauge(name: &str) -> bool {
-    name == "versions" || name == "served" || name == "stopped"
+    match name {
+        "versions" | "served" | "stopped" | "in_doubt" | "doubt_since" | "fault" => true,
+        _ => false,
+    }
 }
 
 // The number of this name.
@@ -266,6 +372,11 @@ fn value_of(numbers: &ShardNumbers, name: &str) -> u64 {
         "served" => numbers.served,
         "advances" => numbers.advances,
         "late" => numbers.late,
+        "in_doubt" => numbers.in_doubt,
+        "doubt_since" => numbers.doubt_since,
+        "forgets" => numbers.forgets,
+        "turnovers_refused" => numbers.turnovers_refused,
+        "fault" => numbers.fault,
         _ => number_of(numbers.has_stopped),
     }
 }

@@ -43,6 +43,7 @@ pub fn serve_kept<
     last: Stamp,
     nodes: &[Node<D, H>],
     viewers: Viewers,
+    numbers: Arc<Numbers, Global>,
     work: F,
 ) -> Result<T, Fault>
     requires { F.IsAlwaysCallable work }
@@ -52,8 +53,7 @@ pub fn serve_kept<
         → length viewers.by_worker.items ≤ 256
         → IfErr result (λ fault. fault ≡ Fault.Memory) }
 {
-    let kept = kept_nodes(alloc, nodes, options.keep, options.renew)?;
-    let numbers = Arc::new(alloc, Numbers::new(alloc, nodes.len())?)?;
+    let kept = kept_nodes(alloc, nodes, options.keep, options.renew, &numbers)?;
     let counted = counted_nodes(alloc, &kept, &numbers)?;
     serve_nodes(
         rt, alloc, options, epoch, last, &counted, numbers, viewers, work,

@@ -6,18 +6,19 @@ ghost use Rattle.store.specs.Attempts.{IsFresh};
 
 use crate::Options;
 use crate::clients::Client;
+use crate::numbers::{Numbers, numbers_of};
 use crate::serving::serve_kept;
 use crate::timed::{check_time, expected_by, lead_by};
 use disk::Disk;
 use filedisk::FileDisk;
-use host_files::{Expected, FoundLogs, Refused, found_in};
+use host_files::{Causes, Expected, FoundLogs, Refused, found_in};
 use node::{Node, Opened, Unopened, open_shards};
 use std::alloc::Global;
 use std::fs::File;
 use std::marker::Model;
 use std::random::RandomSource;
 use std::rt::Files;
-use std::sync::Wait;
+use std::sync::{Arc, Wait};
 use std::thread::Threads;
 use std::time;
 use units::{Fault, Reason};
@@ -30,6 +31,7 @@ pub struct Store<'r, R: Wait, D: Disk + Drop> {
     alloc: Global,
     options: Options,
     opened: Opened<Node<D, &'r R>>,
+    numbers: Arc<Numbers, Global>,
 }
 
 impl<'r, R: Wait, D: Disk + Drop> Model for Store<'r, R, D> {
@@ -86,12 +88,20 @@ impl<'r, R: Threads + Wait + Sync, D: Disk + Drop + Send> Store<'r, R, D> {
                 return Err(Unopened::from(fault));
             }
         };
+        let numbers = match numbers_of(alloc, disks.len(), clients) {
+            Ok(numbers) => numbers,
+            Err(fault) => {
+                drop(disks);
+                return Err(Unopened::from(fault));
+            }
+        };
         let opened = open_shards(rt, alloc, &options.splits, options.stride, disks, clients)?;
         Ok(Store {
             rt,
             alloc,
             options,
             opened,
+            numbers,
         })
     }
 }
@@ -105,6 +115,14 @@ impl<'r, R: Threads + Wait + time::Clock + Sync, D: Disk + Drop + Send> Store<'r
             × (lead ≡ self.now.last - (micros + self.now.epsilon))) }
     {
         lead_by(self.rt, &self.options, self.opened.last)
+    }
+
+    /// Gives the numbers of the store, which any thread may read without a lock: before it is served, meanwhile and after that. `Memory` if there
+    /// is none for the handle; the same call may succeed later.
+    pub fn numbers(&self) -> Result<Arc<Numbers, Global>, Fault>
+        ensures { IfErr result (λ fault. fault ≡ Fault.Memory) }
+    {
+        Ok(Arc::try_clone(&self.numbers)?)
     }
 
     /// Serves the store on threads of its own while `work` goes on with its clients, and closes it after that. What `work` gave comes
@@ -126,6 +144,7 @@ impl<'r, R: Threads + Wait + time::Clock + Sync, D: Disk + Drop + Send> Store<'r
             alloc,
             options,
             opened,
+            numbers,
         } = self;
         let Opened {
             nodes,
@@ -137,10 +156,13 @@ impl<'r, R: Threads + Wait + time::Clock + Sync, D: Disk + Drop + Send> Store<'r
             drop(options);
             drop(nodes);
             drop(viewers);
+            drop(numbers);
             drop(work);
             return Err(Fault::Memory);
         };
-        let answer = serve_kept(rt, alloc, &options, epoch, last, &nodes, viewers, work);
+        let answer = serve_kept(
+            rt, alloc, &options, epoch, last, &nodes, viewers, numbers, work,
+        );
         drop(options);
         match answer {
             Ok(answer) => Ok((answer, closed(nodes, disks))),
@@ -165,7 +187,7 @@ impl<'r, R: Files<File = File> + RandomSource + Threads + Wait + time::Clock + S
         alloc: Global,
         folder: &str,
         options: Options,
-    ) -> Result<Store<'r, R, FileDisk>, Unopened>
+    ) -> Result<Store<'r, R, FileDisk>, Refused>
         ensures splits { IfOk result (λ store. store.splits ≡ options.splits) }
         ensures shards { IfOk result (λ store. store.shards ≡ length options.splits + 1) }
         ensures clients { IfOk result (λ store. store.clients ≡ options.clients) }
@@ -173,16 +195,16 @@ impl<'r, R: Files<File = File> + RandomSource + Threads + Wait + time::Clock + S
         ensures limits { (1000000 < options.epsilon)
             ⊎ ((options.clients ≡ 0) ⊎ (64 < options.clients))
             → IfOk result (λ _. ⊥) }
-        ensures refused { IfErr result (λ unopened. IsFolderFault unopened.fault
-            ⊎ (IsUnmade unopened.fault ⊎ (unopened.fault ≡ Fault.Future))) }
+        ensures refused { IfErr result (λ refused. IsFolderFault refused.fault
+            ⊎ (IsUnmade refused.fault ⊎ (refused.fault ≡ Fault.Future))) }
         ensures whole { IfErr result
-            (λ unopened. IfNone unopened.shard (IsFolderFault unopened.fault)) }
+            (λ refused. IfNone refused.file (IsFolderFault refused.fault)) }
     {
         match found_in(rt, alloc, folder, &options.splits, Expected::NoStore) {
             Ok(found) => open_found(rt, alloc, found, options),
             Err(refused) => {
                 drop(options);
-                Err(unopened_by(refused))
+                Err(refused)
             }
         }
     }
@@ -195,13 +217,14 @@ impl<'r, R: Files<File = File> + RandomSource + Threads + Wait + time::Clock + S
     /// Logs whose greatest timestamp lies farther ahead of the machine's clock than `Options::ahead` and the stride are refused as `Future`, before
     /// any of them takes a record. That heals once the clock is right, or has passed more of them.
     ///
-    /// `Device` may heal: another program may have the folder open, or the device may fail. `refusal_of` says more of why it is refused.
+    /// `Device` may heal: another program may have the folder open, or the device may fail. The refusal names the file, and says why the system
+    /// refused it.
     pub fn open_folder(
         rt: &'r R,
         alloc: Global,
         folder: &str,
         options: Options,
-    ) -> Result<Store<'r, R, FileDisk>, Unopened>
+    ) -> Result<Store<'r, R, FileDisk>, Refused>
         ensures splits { IfOk result (λ store. store.splits ≡ options.splits) }
         ensures shards { IfOk result (λ store. store.shards ≡ length options.splits + 1) }
         ensures clients { IfOk result (λ store. store.clients ≡ options.clients) }
@@ -209,16 +232,16 @@ impl<'r, R: Files<File = File> + RandomSource + Threads + Wait + time::Clock + S
         ensures limits { (1000000 < options.epsilon)
             ⊎ ((options.clients ≡ 0) ⊎ (64 < options.clients))
             → IfOk result (λ _. ⊥) }
-        ensures refused { IfErr result (λ unopened. IsFolderFault unopened.fault
-            ⊎ (IsUnmade unopened.fault ⊎ (unopened.fault ≡ Fault.Future))) }
+        ensures refused { IfErr result (λ refused. IsFolderFault refused.fault
+            ⊎ (IsUnmade refused.fault ⊎ (refused.fault ≡ Fault.Future))) }
         ensures whole { IfErr result
-            (λ unopened. IfNone unopened.shard (IsFolderFault unopened.fault)) }
+            (λ refused. IfNone refused.file (IsFolderFault refused.fault)) }
     {
         match found_in(rt, alloc, folder, &options.splits, expected_by(&options)) {
             Ok(found) => open_found(rt, alloc, found, options),
             Err(refused) => {
                 drop(options);
-                Err(unopened_by(refused))
+                Err(refused)
             }
         }
     }
@@ -230,7 +253,7 @@ fn open_found<'r, R: Threads + Wait + time::Clock + Sync>(
     alloc: Global,
     found: FoundLogs,
     options: Options,
-) -> Result<Store<'r, R, FileDisk>, Unopened>
+) -> Result<Store<'r, R, FileDisk>, Refused>
     ensures splits { IfOk result (λ store. store.splits ≡ options.splits) }
     ensures shards { IfOk result (λ store. store.shards ≡ length found.disks.items) }
     ensures clients { IfOk result (λ store. store.clients ≡ options.clients) }
@@ -238,30 +261,53 @@ fn open_found<'r, R: Threads + Wait + time::Clock + Sync>(
     ensures limits { (1000000 < options.epsilon)
         ⊎ ((options.clients ≡ 0) ⊎ (64 < options.clients))
         → IfOk result (λ _. ⊥) }
-    ensures refused { IfErr result (λ unopened. IsUnmade unopened.fault
-        ⊎ (unopened.fault ≡ Fault.Future)) }
+    ensures refused { IfErr result (λ refused. IsUnmade refused.fault
+        ⊎ (refused.fault ≡ Fault.Future)) }
     ensures whole { IfErr result
-        (λ unopened. IfNone unopened.shard (IsFolderFault unopened.fault)) }
+        (λ refused. IfNone refused.file (IsFolderFault refused.fault)) }
 {
     let FoundLogs { disks, newest } = found;
     match check_time(rt, &options, newest) {
-        Ok(()) => Store::open(rt, alloc, disks, options),
-        Err(unopened) => {
+        Ok(()) => open_told(rt, alloc, disks, options),
+        Err(refused) => {
             drop(disks);
             drop(options);
-            Err(unopened)
+            Err(refused)
         }
     }
 }
 
-// Why a store is not opened whose files are refused.
-fn unopened_by(refused: Refused) -> Unopened
-    ensures { result.fault ≡ refused.fault }
+// Opens a store over logs, and tells of the log that is refused why its device refused it.
+fn open_told<'r, R: Threads + Wait + Sync>(
+    rt: &'r R,
+    alloc: Global,
+    disks: Vec<FileDisk>,
+    options: Options,
+) -> Result<Store<'r, R, FileDisk>, Refused>
+    ensures splits { IfOk result (λ store. store.splits ≡ options.splits) }
+    ensures shards { IfOk result (λ store. store.shards ≡ length disks.items) }
+    ensures clients { IfOk result (λ store. store.clients ≡ options.clients) }
+    ensures epsilon { IfOk result (λ store. store.epsilon ≡ options.epsilon) }
+    ensures limits { (1000000 < options.epsilon)
+        ⊎ ((options.clients ≡ 0) ⊎ (64 < options.clients))
+        → IfOk result (λ _. ⊥) }
+    ensures refused { IfErr result (λ refused. IsUnmade refused.fault) }
+    ensures whole { IfErr result
+        (λ refused. IfNone refused.file (IsFolderFault refused.fault)) }
 {
-    Unopened {
-        shard: refused.shard(),
-        fault: refused.fault,
-    }
+    let mut disks = disks;
+    let Ok(causes) = Causes::of(alloc, &mut disks) else {
+        drop(disks);
+        drop(options);
+        return Err(Refused::from(Fault::Memory));
+    };
+    let opened = Store::open(rt, alloc, disks, options);
+    let told = match opened {
+        Ok(store) => Ok(store),
+        Err(unopened) => Err(causes.refuse(unopened.fault, unopened.shard)),
+    };
+    drop(causes);
+    told
 }
 
 // Closes the nodes, and adds their disks to the list, which has the room.

@@ -4,7 +4,7 @@ ghost use Rattle.std.specs.Prelude.{◌≡◌, ◌+◌, ◌-◌, ◌≤◌, ℕ,
 use crate::Options;
 use crate::options::{AHEAD, EPSILON, STRIDE};
 use host_files::{Expected, Limit, Newest, Refused, refusal_at};
-use node::{MachineClock, Unopened};
+use node::MachineClock;
 use std::alloc::Global;
 use std::fs::File;
 use std::rt::Files;
@@ -44,18 +44,14 @@ pub fn default_limit<R: time::Clock>(rt: &R) -> Option<Limit> {
     })
 }
 
-/// Refuses logs that are too far ahead of the machine's clock, as `Future`. If the clock gives no reading, none is refused.
-pub fn check_time<R: time::Clock>(rt: &R, options: &Options, newest: Newest) -> Result<(), Unopened>
-    ensures future { IfErr result (λ unopened. unopened.fault ≡ Fault.Future) }
-    ensures shard { IfErr result (λ unopened. IfNone unopened.shard ⊥) }
+/// Refuses logs that are too far ahead of the machine's clock, as `Future`, and says by how far. If the clock gives no reading, none is refused.
+pub fn check_time<R: time::Clock>(rt: &R, options: &Options, newest: Newest) -> Result<(), Refused>
+    ensures future { IfErr result (λ refused. refused.fault ≡ Fault.Future) }
+    ensures named { IfErr result (λ refused. IfNone refused.file ⊥) }
 {
-    let shard = newest.shard;
     match limit_by(rt, options) {
-        Some(limit) if limit.check(newest).is_err() => Err(Unopened {
-            shard: Some(shard),
-            fault: Fault::Future,
-        }),
-        _ => Ok(()),
+        Some(limit) => limit.check(newest),
+        None => Ok(()),
     }
 }
 

@@ -2,15 +2,17 @@
 ghost use Rattle.std.specs.Prelude.{◌≡◌, ◌⊎◌, ◌<◌, ◌≤◌, ℕ, List, Option, None, length, slice_get, IfErr, IfOk, IsSome};
 ghost use Rattle.units.specs.Keys.{shard_of};
 ghost use Rattle.std.specs.Option.{option_copied};
+ghost use Rattle.store.specs.Histories.{IsToldBy, IsUntoldBy, earlier};
 ghost use Rattle.store.specs.Ranges.{IsListedBy, IsUnlistedBy};
 ghost use Rattle.store.specs.Typed.{IsReadAs};
 ghost use Rattle.store.specs.Views.{IsShown, IsUnseenBy, LookedAt, seen_in};
 
 use crate::Typed;
+use crate::histories::told_up_to;
 use crate::ranges::page_of;
 use crate::shared::Shared;
 use crate::typed::read_as;
-use board::{KeyPage, Viewer};
+use board::{History, KeyPage, Viewer};
 use counts::Past;
 use std::alloc::Global;
 use std::sync::Wait;
@@ -130,6 +132,54 @@ impl<R: Wait + time::Clock> View<'_, '_, R> {
                     self.rt,
                     self.shared,
                     viewer,
+                    from,
+                    to,
+                    self.at,
+                    limit,
+                    self.tries,
+                )
+            }
+            None => Err(Fault::Stranger),
+        }
+    }
+
+    /// Lists what a key has had from a first time to a last, ascending. The last time is that of the view if `to` is later. The first version
+    /// says what the key had at the first time, at that time. Each later one says what it had from its own timestamp on: no value means that
+    /// it was erased. There are `limit` of them at most, and at least one. `History::next` is the timestamp of the next one: call again from
+    /// there, until it is `None`. If the last time comes before the first there is none.
+    ///
+    /// It waits and is refused as a `get` is, in a view at the first time or at the last. So all that it lists is at or above the shard's
+    /// horizon, and right for good; below it is `TooOld`, for good. `Memory` if there is none for the list: the same call may be answered later.
+    pub fn versions(
+        &mut self,
+        key: &Key,
+        from: Stamp,
+        to: Stamp,
+        limit: usize,
+    ) -> Result<History, Fault>
+        ensures at { self.new.at ≡ self.old.at }
+        ensures splits { self.new.shared.now.splits ≡ self.old.shared.now.splits }
+        ensures told { IfOk result (λ history. LookedAt self.old.viewers.now.items
+            self.new.viewers.now.items (shard_of self.old.shared.now.splits key.now)
+            (λ viewer after. IsToldBy viewer after key.now from (earlier to self.old.at)
+            history.versions.items history.next)) }
+        ensures refused { IfErr result (λ fault. ((fault ≡ Fault.Stranger)
+            × (slice_get self.old.viewers.now.items
+            (shard_of self.old.shared.now.splits key.now) ≡ None))
+            ⊎ LookedAt self.old.viewers.now.items
+            self.new.viewers.now.items (shard_of self.old.shared.now.splits key.now)
+            (λ viewer after. IsUntoldBy viewer after key.now from
+            (earlier to self.old.at) fault)) }
+    {
+        let shard = self.shared.splits.shard_of(key);
+        match self.viewers.get_mut(usize::from(shard.number())) {
+            Some(viewer) => {
+                told_up_to(
+                    self.rt,
+                    self.shared,
+                    viewer,
+                    shard,
+                    key,
                     from,
                     to,
                     self.at,

@@ -6,7 +6,7 @@ use std::alloc::Global;
 use std::process::Abort;
 use std::sync::Wait;
 use std::time;
-use store::{Client, Ended, Halt, Key, ShardNumbers, Transaction, Value};
+use store::{Client, ClientNumbers, Ended, Halt, Key, ShardNumbers, Transaction, Value};
 
 // So many transactions write to shard 0 alone, and so many to both shards, which shard 0 decides.
 const ALONE: u64 = 3;
@@ -16,11 +16,15 @@ const BOTH: u64 = 2;
 // So many are abandoned after they have read and written at shard 0.
 const ABANDONED: u64 = 4;
 
+// A commit waits for two epsilons of a millisecond, in microseconds.
+const EPSILONS: u64 = 2_000;
+
 // What the numbers tell of each shard, and as a text.
 #[derive(Clone, Copy)]
 struct Told {
     first: ShardNumbers,
     second: ShardNumbers,
+    client: ClientNumbers,
     shards: usize,
     third: bool,
     text: bool,
@@ -42,13 +46,19 @@ fn is_abandoned<R: Wait + time::Clock>(alloc: Global, client: &mut Client<'_, R>
 }
 
 // The lines that a text has to have: a kind, and a number of each shard.
-static LINES: [&str; 6] = [
+static LINES: [&str; 12] = [
     "# TYPE spanner_shards_commits counter\n",
     "spanner_shards_commits{shard=\"0\"} 5\n",
     "spanner_shards_commits{shard=\"1\"} 0\n",
     "# TYPE spanner_shards_versions gauge\n",
     "spanner_shards_versions{shard=\"1\"} 2\n",
     "spanner_shards_stopped{shard=\"1\"} 0\n",
+    "# TYPE spanner_shards_in_doubt gauge\n",
+    "spanner_shards_turnovers_refused{shard=\"0\"} 0\n",
+    "spanner_clients_attempts{client=\"0\"} 9\n",
+    "# TYPE spanner_clients_closing_micros histogram\n",
+    "spanner_clients_closing_micros_bucket{client=\"0\",le=\"+Inf\"} 5\n",
+    "spanner_clients_closing_micros_count{client=\"0\"} 5\n",
 ];
 
 fn has_lines(text: &str) -> bool {
@@ -84,6 +94,7 @@ fn work<R: Wait + time::Clock>(alloc: Global, clients: Vec<Client<'_, R>>) -> Op
     let told = Told {
         first: numbers.of(0)?,
         second: numbers.of(1)?,
+        client: numbers.of_client(0)?,
         shards: numbers.shards(),
         third: numbers.of(2).is_some(),
         text: has_lines(text.as_str()),
@@ -94,18 +105,54 @@ fn work<R: Wait + time::Clock>(alloc: Global, clients: Vec<Client<'_, R>>) -> Op
     Some(told)
 }
 
+// Whether a client has counted these transactions, each with one attempt, and closings within and beyond what a commit waits: two epsilons.
+fn is_counted(told: &ClientNumbers) -> bool {
+    let mut closings = 0_u64;
+    for count in &told.closings {
+        closings = closings.saturating_add(*count);
+    }
+    let commits = ALONE + BOTH;
+    let attempts = commits + ABANDONED;
+    let longest = told.longest;
+    told.calls == attempts
+        && told.attempts == attempts
+        && told.retries() == 0
+        && told.commits == commits
+        && told.aborts == ABANDONED
+        && told.unknown == 0
+        && closings == commits
+        && longest >= EPSILONS
+        && told.closing_micros >= commits * EPSILONS
+        && told.closing_micros <= commits.saturating_mul(longest)
+        && is_between(told.percentile(50), EPSILONS, longest.saturating_mul(4))
+        && is_between(told.percentile(100), EPSILONS, longest.saturating_mul(4))
+}
+
+fn is_between(told: Option<u64>, least: u64, most: u64) -> bool {
+    match told {
+        Some(micros) => least <= micros && micros <= most,
+        None => false,
+    }
+}
+
 // Fails if a number counts something else: an abandoned transaction as a commit, say, or a commit at two shards.
 #[test]
 fn numbers_are_counted(rt: HostRuntime) {
     let alloc = rt.alloc();
     let options = of_two_shards(&rt, alloc, 100_000);
     let store = store_of(&rt, alloc, disks_of(&rt, alloc, 2), options);
+    let numbers = store.numbers().ok().expect(&rt, "numbers");
+    let before = numbers.of(0).expect(&rt, "shard 0");
     let served = store.serve(|clients: Vec<Client<'_, HostRuntime>>| work(alloc, clients));
     let (told, disks) = served.ok().expect(&rt, "a service");
     drop(disks);
     let told = told.expect(&rt, "numbers");
     let (first, second) = (told.first, told.second);
     let mut wrong = WrongRows::none(alloc);
+    let after = numbers.of_client(0);
+    drop(numbers);
+    wrong.unless(before.taken == 0, "nothing is counted before");
+    wrong.unless(after == Some(told.client), "the same is told after");
     wrong.unless(told.shards == 2 && !told.third, "the shards");
     wrong.unless(first.commits == ALONE + BOTH, "commits of shard 0");
     wrong.unless(second.commits == 0, "commits of shard 1");
@@ -120,6 +167,7 @@ fn numbers_are_counted(rt: HostRuntime) {
         !first.has_stopped && !second.has_stopped,
         "none has stopped",
     );
+    wrong.unless(is_counted(&told.client), "the client");
     wrong.unless(told.text, "the text");
     end(&rt, wrong);
 }

@@ -30,6 +30,8 @@ mod kept;
 #[cfg(test)]
 mod key_pages;
 #[cfg(test)]
+mod key_versions;
+#[cfg(test)]
 mod lost_logs;
 #[cfg(test)]
 mod machine_clocks;
@@ -63,3 +65,5 @@ mod verdict;
 mod views;
 #[cfg(test)]
 mod waiting;
+#[cfg(test)]
+mod wrong_clocks;

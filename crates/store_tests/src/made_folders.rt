@@ -1,5 +1,6 @@
 //! Stores that are made in a folder, and opened.
-use crate::clients::of_one_shard;
+use crate::clients::{KEYS, of_one_shard};
+use crate::services::seen;
 use crate::verdict::end;
 use made::{Folder, WrongRows};
 use std::alloc::Global;
@@ -10,7 +11,7 @@ use std::rt::Files;
 use std::sync::Wait;
 use std::thread::Threads;
 use std::time::Clock;
-use store::{Expected, Name, Store, Why, refusal_in};
+use store::{Client, Expected, Name, Store, Why, refusal_in};
 use units::{Fault, Splits};
 
 // What is done in one folder, one row after the other, and how it ends.
@@ -131,6 +132,36 @@ fn stores_are_made_or_opened(rt: HostRuntime) {
         "what a store is refused for that is to be made",
     );
     drop(path);
+    wrong.unless(folder.remove(&rt), "the folder");
+    end(&rt, wrong);
+}
+
+// The run of the ids of a store in a folder, and the time of a view there.
+fn seen_in<R: Files<File = File> + RandomSource + Threads + Wait + Clock + Sync + Abort>(
+    rt: &R,
+    alloc: Global,
+    path: &str,
+) -> Option<(u64, u64)> {
+    let mut options = of_one_shard(rt, alloc, 1);
+    options.make = true;
+    let store = Store::open_folder(rt, alloc, path, options).ok()?;
+    let served = store.serve(|clients: Vec<Client<'_, R>>| seen(clients, &KEYS[..1]));
+    let (seen, disks) = served.ok()?;
+    drop(disks);
+    seen
+}
+
+// Fails if the ids of a store in a folder begin anew once it is opened again, or views go back.
+#[test]
+fn folders_go_on_from_their_logs(rt: HostRuntime) {
+    let folder = Folder::new(&rt).ok().expect(&rt, "a folder");
+    let path = folder.path(rt.alloc(), ".").ok().expect(&rt, "memory");
+    let (first, at) = seen_in(&rt, rt.alloc(), path.as_str()).expect(&rt, "a store");
+    let (second, later) = seen_in(&rt, rt.alloc(), path.as_str()).expect(&rt, "it again");
+    drop(path);
+    let mut wrong = WrongRows::none(rt.alloc());
+    wrong.unless((first, second) == (1, 2), "the runs of ids");
+    wrong.unless(at > 0 && later > at, "the times of views");
     wrong.unless(folder.remove(&rt), "the folder");
     end(&rt, wrong);
 }

@@ -57,7 +57,17 @@ fn open<'r, R: Threads + Wait + Sync + Abort>(
     store_of(rt, alloc, disks, options)
 }
 
-// Whether all commits were made.
+// Whether the numbers tell that the shard has forgotten something, and was never refused.
+fn is_counted<R: Wait + time::Clock>(client: &Client<'_, R>) -> bool {
+    match client.numbers().of(0) {
+        Some(numbers) => {
+            numbers.forgets > 0 && numbers.turnovers_refused == 0 && numbers.fault == 0
+        }
+        None => false,
+    }
+}
+
+// Whether all commits were made, and what was forgotten meanwhile is counted.
 fn write_all<R: Wait + time::Clock>(rt: &R, alloc: Global, clients: Vec<Client<'_, R>>) -> bool {
     let mut clients = clients;
     let Some(mut client) = clients.pop() else {
@@ -69,6 +79,7 @@ fn write_all<R: Wait + time::Clock>(rt: &R, alloc: Global, clients: Vec<Client<'
         wrote = wrote && matches!(ended, Ok(Ended::Committed { .. }));
         thread::sleep(rt, Duration::from_millis(PAUSE));
     }
+    wrote = wrote && is_counted(&client);
     drop(client);
     drop(clients);
     wrote

@@ -7,8 +7,8 @@ use std::alloc::Global;
 use std::process::Abort;
 use std::sync::Wait;
 use std::thread::Threads;
-use std::time;
 use std::time::{Duration, Instant};
+use std::{thread, time};
 use store::{Client, Ended, Halt, Store, Transaction, Unopened, View};
 use units::{Fault, Key, ShardNo};
 
@@ -141,16 +141,30 @@ fn services_hear_of_stopped_shards(rt: HostRuntime) {
     end(&rt, wrong);
 }
 
+// Whether the numbers tell of one transaction that shard 1 has promised and not heard the end of, within two seconds of commits there.
+fn is_counted<R: Wait + time::Clock>(rt: &R, alloc: Global, client: &mut Client<'_, R>) -> bool {
+    for _commit in 0..100 {
+        if let Some(numbers) = client.numbers().of(1) {
+            if numbers.in_doubt == 1 && numbers.doubt_since > 0 {
+                return true;
+            }
+        }
+        let _ = write_soon(rt, alloc, client, &FREE[1..]);
+        thread::sleep(rt, Duration::from_millis(20));
+    }
+    false
+}
+
 // Whether a transaction is refused as `Stopped` within two seconds, though it may be tried fifty times. It reads a key on the other shard,
-// which a stopped shard has left in doubt.
+// which a stopped shard has left in doubt. And whether that is counted.
 fn is_left_in_doubt<R: Wait + time::Clock>(
     rt: &R,
     alloc: Global,
     clients: Vec<Client<'_, R>>,
-) -> bool {
+) -> (bool, bool) {
     let mut clients = clients;
     let Some(mut client) = clients.pop() else {
-        return false;
+        return (false, false);
     };
     for _transaction in 0..100 {
         let ended = write_soon(rt, alloc, &mut client, &KEYS);
@@ -163,8 +177,6 @@ fn is_left_in_doubt<R: Wait + time::Clock>(
         drop(tx.get(&Key::new(KEYS[1])?)?);
         Ok(())
     });
-    drop(client);
-    drop(clients);
     let soon = match start {
         Some(start) => match start.elapsed(rt) {
             Ok(took) => took < Duration::from_secs(2),
@@ -172,7 +184,10 @@ fn is_left_in_doubt<R: Wait + time::Clock>(
         },
         None => false,
     };
-    soon && ended == Err(Fault::Stopped)
+    let counted = is_counted(rt, alloc, &mut client);
+    drop(client);
+    drop(clients);
+    (soon && ended == Err(Fault::Stopped), counted)
 }
 
 // Fails if a client tries on what a stopped shard has left in doubt.
@@ -189,10 +204,11 @@ fn what_is_left_in_doubt_is_not_tried_on(rt: HostRuntime) {
     let served = store.serve(|clients: Vec<Client<'_, HostRuntime>>| is_left_in_doubt(
         &rt, alloc, clients,
     ));
-    let (refused, disks) = served.ok().expect(&rt, "a service");
+    let ((refused, counted), disks) = served.ok().expect(&rt, "a service");
     drop(disks);
     let mut wrong = WrongRows::none(alloc);
     wrong.unless(refused, "a read of what is in doubt");
+    wrong.unless(counted, "the number of what is in doubt");
     end(&rt, wrong);
 }
 
@@ -210,7 +226,10 @@ fn answers<R: Wait + time::Clock>(view: &mut View<'_, '_, R>, keys: &[&[u8]]) ->
 }
 
 // The run of a transaction's id, and the timestamp of a view that was answered of these keys.
-fn seen<R: Wait + time::Clock>(clients: Vec<Client<'_, R>>, keys: &[&[u8]]) -> Option<(u64, u64)> {
+pub fn seen<R: Wait + time::Clock>(
+    clients: Vec<Client<'_, R>>,
+    keys: &[&[u8]],
+) -> Option<(u64, u64)> {
     let mut clients = clients;
     let mut client = clients.pop()?;
     let ended = client.transact(1, |tx: &mut Transaction<'_, R>| -> Result<(), Halt<u64>> {

@@ -2,7 +2,7 @@
 use crate::folder_scenes::{MADE, Named, Scene, beside, emptied, logs, stores, strange, strangers};
 use crate::verdict::end;
 use drive::drive_shards;
-use host_files::{Expected, logs_in};
+use host_files::{Expected, Noted, logs_in};
 use made::{Folder, WrongRows, with_slots};
 use settings::Settings;
 use std::alloc::Global;
@@ -305,7 +305,14 @@ fn driven<R: Files<File = File> + RandomSource + Threads + Wait + time::Clock + 
     folder: &Folder,
     settings: &Settings,
 ) -> [Vec<u8>; 2] {
-    let driven = drive_shards(test, rt.alloc(), settings, None::<Vec<u8>>, false);
+    let driven = drive_shards(
+        test,
+        rt.alloc(),
+        settings,
+        None::<Vec<u8>>,
+        false,
+        &Noted::none(),
+    );
     let driven = driven.ok().expect(test, "a drive");
     let well = went_well(&driven.text);
     drop(driven);
@@ -351,7 +358,7 @@ fn drive_refused<R: Files<File = File> + RandomSource + Threads + Wait + time::C
     alloc: Global,
     settings: &Settings,
 ) -> Option<Fault> {
-    match drive_shards(rt, alloc, settings, None::<Vec<u8>>, false) {
+    match drive_shards(rt, alloc, settings, None::<Vec<u8>>, false, &Noted::none()) {
         Ok(driven) => {
             drop(driven);
             None

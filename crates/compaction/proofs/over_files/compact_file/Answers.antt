@@ -16,8 +16,8 @@ returns-in-Ok-compact-clause-compacted g c =
       disk = disk;
       filled = λ keeps.
           subst (λ (rs : Result (List Record) Fault). WasFilled g.F.Log.Disk.file g.F.Log.Disk.clock g.F.Log.Disk.since rs c.in-Ok-create.to disk)
-          (ap items_of (c.in-Ok.ensures.log keeps)) (c.in-Ok-compact.ensures.any_moment keeps);
+          (ap items_of (c.in-Ok.ensures.log keeps)) (c.in-Ok-compact.ensures.any_moment keeps keeps);
       holds = λ keeps.
           subst (λ (rs : Result (List Record) Fault). Holds rs (g.F.Log.Disk.file disk))
-          (ap items_of (c.in-Ok.ensures.log keeps)) (c.in-Ok-compact.ensures.durable keeps);
+          (ap items_of (c.in-Ok.ensures.log keeps)) (c.in-Ok-compact.ensures.durable keeps keeps);
     }
