@@ -10,13 +10,15 @@ use std::sync::{Arc, Wait};
 use truetime::Clock;
 use units::{Fault, ShardNo, Stamp, TxnId};
 
-/// A node that is served as it is, and whose work is counted. It keeps up to which timestamp its transactions in doubt are not counted again.
+/// A node that is served as it is, and whose work is counted. It keeps up to which timestamp its transactions in doubt are not counted again,
+/// and what it served last. While one is in doubt what is served stands still, so they are counted each time that it does.
 #[derive(Drop)]
 pub struct Counted<'k, N> {
     node: &'k N,
     numbers: Arc<Numbers, Global>,
     place: usize,
     again: AtomicU64,
+    served: AtomicU64,
 }
 
 // So many transactions in doubt are counted at most: more than a store has clients only if sessions were left.
@@ -43,9 +45,10 @@ impl<N: Serves> Counted<'_, N> {
         }
     }
 
-    // Counts what is in doubt, unless it was counted a short time ago.
+    // Counts what is in doubt, unless it was counted a short time ago and what is served has gone on.
     fn count_doubts<W: Wait>(&self, rt: &W, counts: &ShardCounts, served: u64) {
-        if served < self.again.load(Ordering::SeqCst) {
+        let went_on = self.served.swap(served, Ordering::SeqCst) < served;
+        if went_on && served < self.again.load(Ordering::SeqCst) {
             return;
         }
         self.again
@@ -164,6 +167,7 @@ pub fn counted_nodes<'k, N>(
             numbers: Arc::try_clone(numbers)?,
             place,
             again: AtomicU64::new(0),
+            served: AtomicU64::new(0),
         })?;
     }
     Ok(counted)
