@@ -128,14 +128,6 @@ impl Pace {
         self.readers.retain(|reader| *reader != txn);
     }
 
-    /// Tells for how long letters may wait until what is decided is settled.
-    pub fn lets_settle<W: time::Clock>(&self, rt: &W) -> Duration {
-        if !self.is_slow() {
-            return Duration::ZERO;
-        }
-        left(rt, self.ended, self.pace() / SHARE_OF_GATHERING)
-    }
-
     /// Tells for how long the node gathers letters still.
     pub fn gathers<W: time::Clock>(&self, rt: &W) -> Duration {
         if !self.is_slow() || (self.newcomers == 0 && self.readers.is_empty()) {

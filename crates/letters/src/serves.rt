@@ -109,8 +109,8 @@ const READS_AT_MOST: usize = 1_024;
 /// - **Letters that are no reads** are taken together if they are there at the same time: 64 at most, besides those that a session has sent
 ///   again, and no more once they are to write a megabyte. Their records are logged together, and each is answered after that, in order. One
 ///   that a session has sent again takes the place of the one that waits. If the last groups took 2 ms or more, they wait for others, for
-///   half of that time at most. They wait until what is decided is settled. Then they wait until those whom the node has answered have
-///   closed, or no letter has come for a while.
+///   half of that time at most. They wait until those whom the node has answered have closed, or no letter has come for a while. What is
+///   decided waits with them, and is settled in the same group.
 /// - **Reads** are taken once no other letter is in the inbox: each by itself, 64 in a row. After each 64 letters up to 64 reads are taken,
 ///   also if other letters never cease. Reads of a key that is read to be written take turns: one waits until the transaction that has read
 ///   the key before it has closed, for 4 ms at most, or 100 ms if letters take long. While a commit waits for others, reads of the keys that
@@ -145,7 +145,7 @@ pub fn serve<N: Serves, W: Wait + time::Clock, P: Post, C: Clock, G: Gate>(
                 return;
             }
         }
-        if is_gathered(node, rt, &round) {
+        if is_gathered(rt, &round) {
             take_gathered(node, rt, post, clock, gate, &mut round);
         }
     }
@@ -153,30 +153,10 @@ pub fn serve<N: Serves, W: Wait + time::Clock, P: Post, C: Clock, G: Gate>(
 }
 
 // Whether letters were gathered, and are to be taken: there are enough, or they wait for nothing more.
-fn is_gathered<N: Serves, W: Wait + time::Clock>(node: &N, rt: &W, round: &Round) -> bool {
+fn is_gathered<W: time::Clock>(rt: &W, round: &Round) -> bool {
     match &round.gathered {
-        Some(batch) => batch.is_full() || waits(node, rt, round) == Duration::ZERO,
+        Some(batch) => batch.is_full() || round.kept.pace.gathers(rt) == Duration::ZERO,
         None => false,
-    }
-}
-
-// For how long letters that were gathered wait: for what is decided to be settled, or else for other letters.
-fn waits<N: Serves, W: Wait + time::Clock>(node: &N, rt: &W, round: &Round) -> Duration {
-    let settles = round.kept.pace.lets_settle(rt);
-    if settles > Duration::ZERO && node.earliest_decided(rt).is_some() {
-        settles
-    } else {
-        round.kept.pace.gathers(rt)
-    }
-}
-
-// For how long what is due waits for letters: not at all if it is decided.
-fn holds<N: Serves, W: Wait + time::Clock>(node: &N, rt: &W, round: &Round) -> Duration {
-    let gathers = round.kept.pace.gathers(rt);
-    if gathers > Duration::ZERO && node.earliest_decided(rt).is_some() {
-        Duration::ZERO
-    } else {
-        gathers
     }
 }
 
@@ -240,7 +220,7 @@ fn do_chores<N: Serves, W: Wait + time::Clock, P: Post, C: Clock>(
     clock: &mut C,
     round: &mut Round,
 ) -> Duration {
-    let hold = holds(node, rt, round);
+    let hold = round.kept.pace.gathers(rt);
     if hold == Duration::ZERO {
         round.kept.pace.begin_group();
     }
@@ -257,7 +237,7 @@ fn do_chores<N: Serves, W: Wait + time::Clock, P: Post, C: Clock>(
         round.kept.pace.end_other(rt, start);
     }
     if round.gathered.is_some() {
-        pause.min(waits(node, rt, round))
+        pause.min(round.kept.pace.gathers(rt))
     } else {
         pause
     }
@@ -330,7 +310,7 @@ fn gather<N: Serves, W: Wait + time::Clock, P: Post, C: Clock, G: Gate>(
         return take(node, rt, post, clock, gate, round, letter);
     };
     batch.fill(rt, &mut round.reads, inbox, &mut round.kept.pace, letter);
-    if waits(node, rt, round) > Duration::ZERO {
+    if round.kept.pace.gathers(rt) > Duration::ZERO {
         batch.hold_turns(rt, &mut round.turns);
     }
     round.gathered = Some(batch);
