@@ -33,6 +33,7 @@ rm lost/shard-1.log
 cp -r logs closed
 chmod 0 closed
 mkdir room
+cp -r logs room/tight
 # Root has rights to all, so it becomes somebody else.
 nobody=
 [ "$(id -u)" != 0 ] || nobody="setpriv --reuid=65534 --regid=65534 --clear-groups"
@@ -42,8 +43,9 @@ mv swapped/shard-0.log kept
 mv swapped/shard-1.log swapped/shard-0.log
 mv kept swapped/shard-1.log
 echo 'no manifest' >unnamed/store.toml
-mkdir bare strange
-mkfifo pipe
+mkdir bare plumbed pruned strange
+mkfifo pipe plumbed/store.toml
+ln -s nowhere dangling
 printf 'no text \377 and no log\n' >text
 head -c 9250 logs/shard-0.log >cut
 cp cut hurt/shard-0.log
@@ -52,7 +54,17 @@ mv linked/shard-0.log elsewhere
 ln -s ../elsewhere linked/shard-0.log
 cp text strange/shard-0.log
 printf 'SPNLOG01\245\000\000\000\011\001\000\000\000\000\000\000\000\001\000' >old
+# A renewed log of one shard: Base 1 200 150; versions of a at 111 and, erased, at 200.
+printf '%s\n' 'version = 1' 'shards = 1' 'splits = []' 'name = "0123456789abcdef"' >pruned/store.toml
+{
+    printf SPNLOG02
+    head -c 9216 /dev/zero
+    printf '\245\000\000\000\031\010\000\000\000\000\000\000\000\001\000\000\000\000\000\000\000\310\000\000\000\000\000\000\000\226'
+    printf '\245\000\000\000\017\011\001a\000\000\000\000\000\000\000o\001\000\0011'
+    printf '\245\000\000\000\014\011\001a\000\000\000\000\000\000\000\310\000\000'
+} >pruned/shard-0.log
 printf '%s\n' 'shards 2' 'split m' 'stride 1000' '100 begin 1.1' '50 begin 1.2' >late.schedule
+printf '%s\n' 'shards 1' 'stride 1000' '# noted' '100 begin 1.1' >noted.schedule
 settings '3s/.*/stride 1000/' 1
 settings '$a other = 1' 2
 settings '/workers/d' 3
@@ -63,7 +75,9 @@ settings '2s/.*/splits = ["g"]/' 7
 settings '2s/.*/splits = ["p", "g"]/' 8
 settings '$a dir = ""' 9
 settings '$a dir = "logs"' other
-for name in foreign held linked; do settings '1s/3/2/; 2s/.*/splits = ["m"]/; $a dir = "'$name'"' $name; done
+for name in bare/none closed foreign held hurt linked logs lost older pipe plumbed room/tight swapped text; do
+    settings '1s/3/2/; 2s/.*/splits = ["m"]/; $a dir = "'$name'"' "${name#*/}"
+done
 mkfifo ../lines
 "$program" serve held <../lines >../answers &
 server=$!
@@ -95,6 +109,7 @@ words_of() {
         K65) printf '%065d\n' 0 ;;
         V4097) printf '%04097d\n' 0 ;;
         L17) seq 17 ;;
+        X255) printf '\377\n' ;;
         S16) seq 10 25 ;;
         *) printf '%s\n' "$word" | sed 's/\\\\/\\/g' ;;
         esac
@@ -124,6 +139,16 @@ try() {
         echo "refusals: '$line': status $status, '$told', '$(sed -n 2p ../err)'; wanted 'fault: $fault', '--> $place'" >&2
         failed=$((failed + 1))
     fi
+    # After wrong words a third line says how the command is called, if they were read.
+    case "$fault $place" in
+    *' a word is no text in UTF-8') ;;
+    '7 BadRequest(command) '*)
+        [ "$(sed -n '3s/^usage: shards ..*/is told/p' ../err)" = 'is told' ] || {
+            echo "refusals: '$line': how the command is called is not told" >&2
+            failed=$((failed + 1))
+        }
+        ;;
+    esac
 }
 
 while IFS= read -r row; do

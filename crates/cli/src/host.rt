@@ -16,7 +16,7 @@ ghost use Rattle.system.specs.declared.asked.NoVerdict.{NoVerdict};
 ghost use Rattle.commands.specs.Replies.{Tells, TellsTo, reply_of, reply_to};
 ghost use Rattle.output.specs.Streams.{failures_of, fault_line, writer_of};
 
-use crate::host_put::{put_in_store, put_limit};
+use crate::host_put::put_in_store;
 use commands::{Drive, Driven, Ended, Engine, Hints, NoVerdict, Put, Stream, System, answer};
 use drive::drive_shards;
 use host_files::{HostFiles, Noted};
@@ -94,6 +94,7 @@ pub fn program<
         (fault_line fault))) }
     ensures silent { failures_of out.old < failures_of out.new → err.new ≡ err.old }
 {
+    let noted = Noted::none();
     let drive = |alloc: Global, drive: Drive<'_>| -> Result<Driven, NoVerdict>
         ensures told { IfOk result (λ driven. IsTold
             (drive.entry.settings.now.workers * drive.entry.settings.now.transactions)
@@ -102,17 +103,27 @@ pub fn program<
     {
         let writer = writer_of(&shown, drive.table);
         let is_shown = is_running(&shown);
-        drive_shards(rt, alloc, drive.settings, writer, is_shown, &Noted::none())
+        drive_shards(rt, alloc, drive.settings, writer, is_shown, &noted)
     };
-    let mut files = HostFiles::new(rt, is_running(&shown));
-    files.limit = put_limit(rt);
     let put = |alloc: Global, write: Put<'_>| -> Result<Ended, Fault>
         ensures written { IfOk result (IsWritten write.entry.folder.now write.entry.key.now
             write.entry.value.now) }
         ensures refused { IfErr result IsUnwritten }
-    { put_in_store(rt, alloc, write) };
+    { put_in_store(rt, alloc, write, &noted) };
     let engine = Engine { run: drive, put };
+    let files = files_of(rt, &noted, is_running(&shown));
     answer_by(alloc, files, engine, words, out, err)
+}
+
+// The machine's files, which know why a store was refused once that is noted.
+fn files_of<'r, R>(
+    rt: &'r R,
+    noted: &'r Noted,
+    is_watched: bool,
+) -> HostFiles<'r, R> {
+    let mut files = HostFiles::new(rt, is_watched);
+    files.noted = Some(noted);
+    files
 }
 
 // Whom a drive is shown to: while it runs, or its table alone, if that is asked for.

@@ -3,13 +3,14 @@ ghost use Rattle.std.specs.Prelude.{◌≡◌, None, IfErr, IfOk, MatchResult};
 ghost use Rattle.cli.specs.Written.{IsPut, IsUnwritten, IsWritten, Puts, end_told};
 
 use commands::{Ended, Put};
+use host_files::Noted;
 use std::alloc::Global;
 use std::fs::File;
 use std::random::RandomSource;
 use std::sync::Wait;
 use std::thread::Threads;
 use std::{rt, time};
-use store::{Client, Halt, Limit, Options, Store, Transaction, default_limit};
+use store::{Client, Halt, Options, Store, Transaction};
 use units::{Fault, Key, Reason, Splits, Value};
 
 // How often the write is tried. No other client is there, but what the store was in the midst of when it was closed may abort it.
@@ -19,11 +20,12 @@ const TRIES: u32 = 5;
 const PATIENCE: u32 = 100;
 
 /// Opens the store, commits the write as a transaction of its own, closes the store, and returns what became of the write. A refusal for want
-/// of memory may come after the commit: it does not say that the write stands nowhere.
+/// of memory may come after the commit: it does not say that the write stands nowhere. If the store is not opened, it is noted why.
 pub fn put_in_store<R: rt::Files<File = File> + RandomSource + Threads + Wait + time::Clock + Sync>(
     rt: &R,
     alloc: Global,
     write: Put<'_>,
+    noted: &Noted,
 ) -> Result<Ended, Fault>
     ensures written { IfOk result (IsWritten write.entry.folder.now write.entry.key.now
         write.entry.value.now) }
@@ -37,7 +39,11 @@ pub fn put_in_store<R: rt::Files<File = File> + RandomSource + Threads + Wait + 
     } = write;
     let store = match Store::open_folder(rt, alloc, folder, options_of(alloc, splits)?) {
         Ok(store) => store,
-        Err(unopened) => return Err(unopened.fault),
+        Err(refused) => {
+            let fault = refused.fault;
+            noted.note(refused);
+            return Err(fault);
+        }
     };
     let (ended, disks) = store.serve(
         |clients: Vec<Client<'_, R>>| -> Result<Ended, Fault>
@@ -46,11 +52,6 @@ pub fn put_in_store<R: rt::Files<File = File> + RandomSource + Threads + Wait + 
     )?;
     drop(disks);
     ended
-}
-
-/// Tells how far the logs of a store may be ahead of the machine's clock, so that `put_in_store` opens it. `None` if the clock gives no reading.
-pub fn put_limit<R: time::Clock>(rt: &R) -> Option<Limit> {
-    default_limit(rt)
 }
 
 // One client, who waits that long. Its commit waits for the epsilon of every store, and nothing is forgotten for it. A new folder gets a store.

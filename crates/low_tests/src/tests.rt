@@ -2,7 +2,7 @@
 //! function of their own.
 use crate::checks::{end, go_over};
 use crate::{
-    beside, clocks, crowd, devices, disks, documents, drawers, files, grouped, handed, horizons,
+    beside, causes, clocks, crowd, devices, disks, documents, drawers, files, grouped, handed, horizons,
     known, ledgers, left, limits, looks, messages, migrated, plain, records, refusals, renewed,
     seated, sessions, spellings, tables, turned, verdicts, versioned,
 };
@@ -59,6 +59,7 @@ fn disks_and_logs(rt: HostRuntime) {
     devices::tell_failing(&mut wrong, &rt);
     devices::tell_lives(&mut wrong, &rt);
     disks::tell_files(&mut wrong, &rt);
+    causes::tell_causes(&mut wrong, &rt);
     spellings::tell_vectors(&mut wrong, &rt);
     spellings::tell_read(&mut wrong, &rt);
     files::tell_cases(&mut wrong, &rt);

@@ -50,7 +50,7 @@ pub fn make<
             drop(store);
             Ok(())
         }
-        Err(unopened) => { Err(Refusal::of_store(alloc, &files, dir, splits, unopened.fault)) }
+        Err(refused) => Err(Refusal::of_store(alloc, dir, refused)),
     }
 }
 

@@ -1,6 +1,6 @@
 //! A store in a folder is opened.
 use crate::options::options_of;
-use filedisk::FileDisk;
+use filedisk::{Cause, FileDisk};
 use service_words::Choices;
 use std::alloc::Global;
 use std::fs::File;
@@ -10,10 +10,10 @@ use std::sync::Wait;
 use std::thread::Threads;
 use std::time::Duration;
 use std::{thread, time};
-use store::{Refused, Store};
-use units::{Fault, Splits};
+use store::{Refused, Store, Why};
+use units::Splits;
 
-// How often the folder is tried where it is locked, or its device fails, and how long in between, in milliseconds: a second.
+// How often the folder is tried while another process has it open, and how long in between, in milliseconds: a second.
 const TRIES: u32 = 50;
 
 const REST: u64 = 20;
@@ -31,7 +31,7 @@ pub fn opened<'r, R: Files<File = File> + RandomSource + Threads + Wait + time::
         match open_once(rt, alloc, dir, splits, choices, is_new) {
             Ok(store) => return Ok(store),
             Err(refused) => {
-                if refused.fault != Fault::Device {
+                if !is_in_use(refused) {
                     return Err(refused);
                 }
             }
@@ -39,6 +39,14 @@ pub fn opened<'r, R: Files<File = File> + RandomSource + Threads + Wait + time::
         thread::sleep(rt, Duration::from_millis(REST));
     }
     open_once(rt, alloc, dir, splits, choices, is_new)
+}
+
+// Whether another process has the folder or a log open.
+fn is_in_use(refused: Refused) -> bool {
+    match refused.why {
+        Some(Why::System(cause)) => cause == Cause::InUse,
+        _ => false,
+    }
 }
 
 fn open_once<'r, R: Files<File = File> + RandomSource + Threads + Wait + time::Clock + Sync>(

@@ -1,9 +1,12 @@
 //! Why `make` or `serve` is refused.
+ghost use Rattle.std.specs.Prelude.{◌≡◌};
+
 use commands::Files;
 use filedisk::Cause;
 use service_words::explanation;
 use std::alloc::{AllocError, Global};
-use units::{Fault, Splits};
+use store::{Refused, RefusedIn};
+use units::Fault;
 
 /// Why a command is refused: the fault, and what is told after it, if that is known: the file in which it lies, or what is wrong with the
 /// words.
@@ -40,17 +43,14 @@ impl Refusal {
         Refusal { fault, told }
     }
 
-    /// Refuses the store in a folder, or to make one there: tells which file is refused now, and why.
-    pub fn of_store<F: Files>(
-        alloc: Global,
-        files: &F,
-        dir: &str,
-        splits: &Splits,
-        fault: Fault,
-    ) -> Refusal {
+    /// Refuses the store in a folder, or to make one there: tells which file is refused, and why.
+    pub fn of_store(alloc: Global, dir: &str, refused: Refused) -> Refusal
+        ensures { result.fault ≡ refused.fault }
+    {
+        let fault = refused.fault;
         let told = match fault {
             Fault::Memory => None,
-            _ => in_store(alloc, files, dir, splits),
+            _ => in_store(alloc, dir, refused),
         };
         Refusal { fault, told }
     }
@@ -64,12 +64,10 @@ fn in_manifest<F: Files>(alloc: Global, files: &F, dir: &str) -> Option<String> 
     }
 }
 
-// In the first file that is refused now, else somewhere in the folder.
-fn in_store<F: Files>(alloc: Global, files: &F, dir: &str, splits: &Splits) -> Option<String> {
-    match files.why_unopened(alloc, dir, splits) {
-        Some(told) => format!(in alloc; "--> {told}").ok(),
-        None => format!(in alloc; "--> {dir}").ok(),
-    }
+// In the file that is refused, else somewhere in the folder.
+fn in_store(alloc: Global, folder: &str, refused: Refused) -> Option<String> {
+    let told = RefusedIn { folder, refused };
+    format!(in alloc; "--> {told}").ok()
 }
 
 impl From<Fault> for Refusal {

@@ -5,6 +5,7 @@ use crate::making::make;
 use crate::opening::opened;
 use crate::refusal::Refusal;
 use commands::splits_of;
+use filedisk::FileDisk;
 use host_files::HostFiles;
 use requests::Answer;
 use service_words::{Asked, Choices, service_asked};
@@ -16,7 +17,8 @@ use std::random::RandomSource;
 use std::sync::Wait;
 use std::thread::Threads;
 use std::{rt, time};
-use store::Client;
+use store::{Client, Name, Refused};
+use units::Fault;
 
 /// Whether a command line is one of `make` or `serve`, and does not ask for help.
 pub fn is_service(words: &[&str]) -> bool {
@@ -123,17 +125,29 @@ fn serve_folder<
     };
     let store = match opened(rt, alloc, dir, &splits, &choices, false) {
         Ok(store) => store,
-        Err(unopened) => {
-            return Err(Refusal::of_store(alloc, &files, dir, &splits, unopened.fault));
-        }
+        Err(refused) => return Err(Refusal::of_store(alloc, dir, refused)),
     };
     let idle = choices.idle;
     let (served, disks) = store.serve(|clients: Vec<Client<'_, R>>| serve(
         rt, alloc, clients, idle, input, desk,
     ))?;
+    let failed = failed_log(&disks);
     drop(disks);
     if let Served::Quit(client) = served? {
         desk.tell(rt, client, &Answer::Closed)?;
     }
-    Ok(!desk.is_gone(rt))
+    match failed {
+        Some(refused) => Err(Refusal::of_store(alloc, dir, refused)),
+        None => Ok(!desk.is_gone(rt)),
+    }
+}
+
+// The first log whose device failed while the store was served.
+fn failed_log(disks: &[FileDisk]) -> Option<Refused> {
+    for (shard, disk) in disks.iter().enumerate() {
+        if disk.cause().is_some() {
+            return Some(Refused::of_file(Fault::Device, disk, Name::Log(shard)));
+        }
+    }
+    None
 }
