@@ -72,6 +72,8 @@ mod turned_rows;
 #[cfg(test)]
 mod turning;
 #[cfg(test)]
+mod under_lock;
+#[cfg(test)]
 mod unserved;
 #[cfg(test)]
 mod verdict;

@@ -5,6 +5,7 @@ mod acts;
 mod bell;
 mod chores;
 mod gate;
+mod gauges;
 mod kept;
 mod letter;
 mod network;
@@ -18,6 +19,7 @@ mod turns;
 
 pub use bell::left;
 pub use gate::Gate;
+pub use gauges::Gauges;
 pub use letter::{Letter, Post, Refused, Reply, UnderWay};
 pub use network::{Inboxes, Mail, Network};
 pub use serves::{Due, Serves, Taken, serve};

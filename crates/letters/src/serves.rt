@@ -1,6 +1,7 @@
 //! How a node is served.
 use crate::chores::Chores;
 use crate::gate::Gate;
+use crate::gauges::Gauges;
 use crate::kept::{Kept, Watched};
 use crate::letter::{Letter, Post};
 use crate::put_off::{Next, Waiting};
@@ -76,6 +77,12 @@ pub trait Serves {
     /// Counts the versions of the shard.
     fn versions<W: Wait>(&self, rt: &W) -> usize;
 
+    /// Tells how the shard stands.
+    fn gauges<W: Wait>(&self, rt: &W) -> Gauges;
+
+    /// Hears how many letters wait for it, each time before its chores.
+    fn hear_waiting(&self, _letters: usize) {}
+
     /// Advances to the latest of a reading that is taken under the lock, and shows that. Returns the timestamp up to which it serves then;
     /// `None` if it was refused, or the clock has no reading.
     fn keep_up<W: Wait, C: Clock>(&self, rt: &W, clock: &mut C) -> Option<Stamp>;
@@ -129,6 +136,7 @@ pub fn serve<N: Serves, W: Wait + time::Clock, P: Post, C: Clock, G: Gate>(
             || round.in_a_row >= LETTERS_IN_A_ROW
             || round.chores.are_late(rt);
         let pause = if is_due {
+            node.hear_waiting(inbox.len());
             tend(node, rt, post, clock, gate, &mut round)
         } else {
             Duration::ZERO

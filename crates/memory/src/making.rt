@@ -1,5 +1,5 @@
 //! How a state is made and ended, and look-ups of its rows.
-ghost use Rattle.std.specs.Prelude.{◌≡◌, ◌<◌, ◌≤◌, [], ◌∷◌, IsTrue, IfOk, IfErr};
+ghost use Rattle.std.specs.Prelude.{◌≡◌, ◌<◌, ◌≤◌, [], ◌∷◌, IsTrue, IfOk, IfErr, length};
 ghost use Rattle.record.specs.Facts.{facts_of, learn};
 ghost use Rattle.facts.specs.Stages.{follows_next, stage_after, stage_of};
 ghost use Rattle.facts.specs.declared.stage.Stage.{Stage};
@@ -106,6 +106,13 @@ impl State {
         drop(ledger);
         drop(ended);
         drop(times);
+    }
+
+    /// Returns the number of rows.
+    pub fn rows(&self) -> usize
+        ensures { result ≡ length self.now.memory.rows }
+    {
+        self.rows.len()
     }
 
     /// Returns the n-th prepared transaction, from 0 by ascending id, and its prepare timestamp.

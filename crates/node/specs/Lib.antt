@@ -11,6 +11,7 @@ pub mod SeenDesk
 pub mod SeenHeld
 pub mod SeenRest
 pub mod Setups
+pub mod Standing
 pub mod Together
 pub mod Under
 pub mod Unopened

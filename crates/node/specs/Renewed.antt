@@ -15,7 +15,7 @@ use Rattle.node.specs.InStep.{DeskView, HasKept}
 
 -- a log by where it begins, and from where on it has grown
 abbrev pub found_at : Begun → Measure
-found_at begun = record { held = begun.grown - begun.at; ended = begun.grown }
+found_at begun = record { held = begun.grown - begun.at; ended = begun.grown; begins = begun.at }
 
 -- the log of a file was measured by where it begins there
 abbrev pub IsFoundIn : List ℕ → Measure → Type 0
@@ -32,8 +32,8 @@ has_grown measure gate least = nat_lt measure.held (gate - measure.ended) && nat
 -- Behind a turnover of a log that ended at a former gate. The new area has what is between that one and its own gate. Where it was refused, what
 -- the log held is not known anew.
 abbrev pub measured : Measure → ℕ → ℕ → Result (Unit {0}) Fault → Measure
-measured measure former gate (Ok done) = record { held = gate - former - 1; ended = gate }
-measured measure former gate (Err fault) = record { held = measure.held; ended = gate }
+measured measure former gate (Ok done) = record { held = gate - former - 1; ended = gate; begins = gate - (gate - former - 1) }
+measured measure former gate (Err fault) = record { held = measure.held; ended = gate; begins = measure.begins }
 
 module _ {D : Type 0} (keeps obeys : Type 0) (file : D → File) (clock : D → ℕ) (since : D → ℕ → List ℕ → Type 0) (failures : D → ℕ)
     (plan : D → FailurePlan) where

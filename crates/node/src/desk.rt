@@ -6,6 +6,7 @@ ghost use Rattle.node.specs.DeskFaults.{refuses_input, refuses_advance, refuses_
 ghost use Rattle.node.specs.InStep.{InStep, IsInStep, IsNewBoard, AreOnBoard, IsNoDesk, StillShows, ShowsAll, HasAdvanced, HasNotAdvanced, HasTaken};
 ghost use Rattle.node.specs.InStep.{HasKept, IsCount, horizon_for as horizon_kept, served_by};
 ghost use Rattle.node.specs.Opening.{HasNoDesk, IsBegun};
+ghost use Rattle.node.specs.Standing.{gauges_of};
 ghost use Rattle.node.specs.Renewed.{HasTurnedOver, HasRenewed, IsFoundIn, found_at};
 ghost use Rattle.shard.specs.Core.{seen, book_of, begun_of};
 ghost use Rattle.shard.specs.Look.{safe_at};
@@ -17,7 +18,7 @@ use crate::measure::Measure;
 use crate::rest::Rest;
 use board::{Places, Publisher, Told, Viewer, check_viewers, copy_install, start};
 use disk::Disk;
-use letters::Taken;
+use letters::{Gauges, Taken};
 use message::{Input, Outbox};
 use protocol::{own_refusals, step_keeps_showable, writes_ascend};
 use shard::Core;
@@ -333,6 +334,22 @@ impl<D: Disk + Drop, R: Wait + Drop> Desk<D, R> {
         ensures book { book_of result.now ≡ (seen_desk self.now).book }
     {
         &self.core
+    }
+
+    /// Tells how the core stands.
+    pub fn gauges(&self) -> Gauges
+        ensures { result ≡ gauges_of (seen_desk self.now) }
+    {
+        Gauges {
+            is_stopped: self.core.is_stopped(),
+            rows: self.core.rows(),
+            versions: self.core.installs().len(),
+            last: self.core.last(),
+            horizon: self.core.horizon(),
+            log_ends: self.core.gate(),
+            area_begins: self.measure.begins,
+            turnovers: self.core.turnovers(),
+        }
     }
 
     /// Ends the desk and its board, and gives the disk back as it is.

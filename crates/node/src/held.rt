@@ -7,6 +7,7 @@ ghost use Rattle.node.specs.Faults.{RefusesRestart};
 ghost use Rattle.node.specs.Grouped.{HasTakenIn, HasStoppedIn, IsOneByOneIn};
 ghost use Rattle.node.specs.Restart.{AreOnNewBoard, HasRestarted, HasNotRestarted, is_at_rest, disk_of_place, told_of};
 ghost use Rattle.node.specs.Seen.{seen_place};
+ghost use Rattle.node.specs.Standing.{gauges_in};
 ghost use Rattle.node.specs.Under.{IsDeskOf, IsUnder, IsEarliestIn, Became, HasDelivered, HasAdvancedIn, HasNotAdvancedIn, HasKeptUp, HasNotKeptUp, HasKeptIn};
 ghost use Rattle.node.specs.Under.{HasTurnedIn, HasRenewedIn, HasPublished, HasNotPublished, served_in};
 ghost use Rattle.node.specs.Under.{is_ready_in, due_in, versions_in};
@@ -17,7 +18,7 @@ use crate::desk::Desk;
 use crate::place::Place;
 use board::{Told, Viewer, check_viewers};
 use disk::Disk;
-use letters::{Due, Taken};
+use letters::{Due, Gauges, Taken};
 use message::{Input, Outbox};
 use shard::Core;
 use std::alloc::Global;
@@ -267,6 +268,16 @@ impl<D: Disk + Drop, R: Wait + Drop> Held<D, R> {
         match &self.place {
             Some(Place::Serving(desk)) => desk.core().installs().len(),
             Some(Place::Resting(_)) | None => 0,
+        }
+    }
+
+    /// Tells how the core stands. A disk alone is not served.
+    pub fn gauges(&self) -> Gauges
+        ensures { IsUnder (seen_held self.now) (λ place. result ≡ gauges_in place) }
+    {
+        match &self.place {
+            Some(Place::Serving(desk)) => desk.gauges(),
+            Some(Place::Resting(_)) | None => Gauges::none(),
         }
     }
 

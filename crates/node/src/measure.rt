@@ -13,6 +13,8 @@ pub struct Measure {
     pub held: u64,
     /// The offset at which it ended when a turnover was last tried; or, before the first try, from where on it has grown.
     pub ended: u64,
+    /// The offset at which the area begins that the log is in.
+    pub begins: u64,
 }
 
 impl Measure {
@@ -23,6 +25,7 @@ impl Measure {
         Measure {
             held: begun.grown.saturating_sub(begun.at),
             ended: begun.grown,
+            begins: begun.at,
         }
     }
 
@@ -38,10 +41,20 @@ impl Measure {
     pub fn behind(&self, former: u64, gate: u64, turned: &Result<(), Fault>) -> Measure
         ensures { result ≡ measured self.now former gate turned.now }
     {
-        let held = match turned {
-            Ok(()) => gate.saturating_sub(former).saturating_sub(1),
-            Err(_) => self.held,
-        };
-        Measure { held, ended: gate }
+        match turned {
+            Ok(()) => {
+                let held = gate.saturating_sub(former).saturating_sub(1);
+                Measure {
+                    held,
+                    ended: gate,
+                    begins: gate.saturating_sub(held),
+                }
+            }
+            Err(_) => Measure {
+                held: self.held,
+                ended: gate,
+                begins: self.begins,
+            },
+        }
     }
 }

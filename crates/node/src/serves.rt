@@ -5,7 +5,7 @@ ghost use Rattle.node.specs.DeskFaults.{refuses_horizon};
 use crate::node::Node;
 use crossbeam_channel::Receiver;
 use disk::Disk;
-use letters::{Due, Gate, Letter, Post, Serves, Taken, serve};
+use letters::{Due, Gate, Gauges, Letter, Post, Serves, Taken, serve};
 use message::{Input, Outbox};
 use std::alloc::Global;
 use std::sync::Wait;
@@ -62,6 +62,10 @@ impl<D: Disk + Drop, R: Wait + Drop> Serves for Node<D, R> {
 
     fn versions<W: Wait>(&self, rt: &W) -> usize {
         self.held.lock(rt).versions()
+    }
+
+    fn gauges<W: Wait>(&self, rt: &W) -> Gauges {
+        self.held.lock(rt).gauges()
     }
 
     fn keep_up<W: Wait, C: Clock>(&self, rt: &W, clock: &mut C) -> Option<Stamp> {

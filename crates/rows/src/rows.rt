@@ -59,6 +59,13 @@ impl Rows {
         self.rows.laws();
     }
 
+    /// Returns the number of rows.
+    pub fn len(&self) -> usize
+        ensures { result ≡ length self.now.rows }
+    {
+        self.rows.len()
+    }
+
     /// Tells whether there are 1,024 rows. A new transaction is then refused as `RowsFull`, until another one ends.
     pub fn is_full(&self) -> bool
         ensures { result ≡ nat_le MOST_ROWS (length self.now.rows) }

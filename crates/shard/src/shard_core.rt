@@ -227,6 +227,13 @@ impl<D: Disk> Core<D> {
         self.machine.state.ready()
     }
 
+    /// Returns how many transactions have a row here: 1,024 at most.
+    pub fn rows(&self) -> usize
+        ensures { result ≡ length (seen self.now).memory.rows }
+    {
+        self.machine.state.rows()
+    }
+
     /// Returns the n-th prepared transaction, from 0 by ascending id, and its prepare timestamp.
     pub fn prepared(&self, n: usize) -> Option<(TxnId, Stamp)>
         ensures { result ≡ nth_prepared (seen self.now).memory.rows n }
@@ -284,6 +291,13 @@ impl<D: Disk> Core<D> {
         ensures { result ≡ (seen self.now).gate }
     {
         self.machine.gate_log.gate()
+    }
+
+    /// Returns how often the file was turned over: 1,024 times at most.
+    pub fn turnovers(&self) -> u64
+        ensures { result ≡ (seen self.now).slot }
+    {
+        self.machine.gate_log.slot()
     }
 
     /// Tells where the log began when it was opened.

@@ -2,7 +2,7 @@
 ghost use Rattle.std.specs.Prelude.{◌≡◌, IfErr};
 
 use crate::numbers::{Numbers, ShardCounts};
-use letters::{Due, Serves, Taken};
+use letters::{Due, Gauges, Serves, Taken};
 use message::{Input, Outbox};
 use std::alloc::Global;
 use std::sync::atomic::{AtomicU64, Ordering};
@@ -37,10 +37,9 @@ impl<N: Serves> Counted<'_, N> {
     // Counts what the node shows now, or was refused.
     fn count_shown<W: Wait>(&self, rt: &W, served: &Option<Stamp>) {
         let micros = micros_of(served);
-        let versions = self.node.versions(rt) as u64;
-        let has_stopped = self.node.is_stopped(rt);
+        let gauges = self.node.gauges(rt);
         if let Some(counts) = self.counts() {
-            counts.count_shown(micros, versions, has_stopped);
+            counts.count_shown(micros, &gauges);
             self.count_doubts(rt, counts, micros.unwrap_or(0));
         }
     }
@@ -122,6 +121,16 @@ impl<N: Serves> Serves for Counted<'_, N> {
 
     fn versions<W: Wait>(&self, rt: &W) -> usize {
         self.node.versions(rt)
+    }
+
+    fn gauges<W: Wait>(&self, rt: &W) -> Gauges {
+        self.node.gauges(rt)
+    }
+
+    fn hear_waiting(&self, letters: usize) {
+        if let Some(counts) = self.counts() {
+            counts.set_waiting(letters as u64);
+        }
     }
 
     fn keep_up<W: Wait, C: Clock>(&self, rt: &W, clock: &mut C) -> Option<Stamp> {

@@ -3,7 +3,7 @@ ghost use Rattle.std.specs.Prelude.{◌≡◌, IfErr};
 
 use crate::numbers::{Numbers, ShardCounts};
 use disk::Disk;
-use letters::{Due, Serves, Taken};
+use letters::{Due, Gauges, Serves, Taken};
 use message::{Input, Outbox};
 use node::Node;
 use std::alloc::Global;
@@ -129,6 +129,10 @@ impl<D: Disk + Drop, H: Wait + Drop> Serves for Kept<'_, D, H> {
 
     fn versions<W: Wait>(&self, rt: &W) -> usize {
         self.node.versions(rt)
+    }
+
+    fn gauges<W: Wait>(&self, rt: &W) -> Gauges {
+        self.node.gauges(rt)
     }
 
     fn keep_up<W: Wait, C: Clock>(&self, rt: &W, clock: &mut C) -> Option<Stamp> {

@@ -3,12 +3,15 @@ ghost use Rattle.std.specs.Prelude.{◌≡◌, IfErr};
 ghost use Rattle.store.specs.Numbers.{is_commit};
 
 use crate::client_numbers::{ClientCounts, ClientNumbers, push_clients};
-use letters::Taken;
-use message::{Envelope, Input, Message};
+use letters::{Gauges, Taken};
+use message::{Answer, Envelope, Input, Message};
 use std::alloc::Global;
 use std::sync::Arc;
 use std::sync::atomic::{AtomicU64, Ordering};
 use units::Fault;
+
+// So often a file is turned over at most.
+const MOST_TURNOVERS: u64 = 1_024;
 
 /// What a shard has done since its store was opened, and how it stands. Counts begin at 0 with each opening.
 #[derive(Clone, Copy, PartialEq, Eq)]
@@ -21,8 +24,23 @@ pub struct ShardNumbers {
     pub commits: u64,
     /// Answers by which it told a session that its transaction was aborted.
     pub aborts: u64,
+    /// Answers by which it told a session that its transaction was ended while it read: an older one wanted a key of it (a wound).
+    pub wounds: u64,
+    /// Letters that waited for it when it was about to do its chores.
+    pub waiting: u64,
+    /// Transactions that read, wait, have promised or are decided here, when it last showed something: 1,024 at most.
+    pub rows: u64,
     /// Versions that it holds.
     pub versions: u64,
+    /// The greatest timestamp that it has assigned, applied or served, in microseconds.
+    pub last: u64,
+    /// The timestamp below which it answers no view, in microseconds; 0 if it never forgot.
+    pub horizon: u64,
+    /// The length of its log's file, in bytes, and the offset at which the present area begins.
+    pub log_bytes: u64,
+    pub area_begins: u64,
+    /// How often its file was turned over since it was made: 1,024 times at most.
+    pub turnovers: u64,
     /// The timestamp up to which it serves views, in microseconds; 0 until it first did.
     pub served: u64,
     /// How often it went on in serving views, and how often that was refused.
@@ -50,7 +68,15 @@ pub(crate) struct ShardCounts {
     refused: AtomicU64,
     commits: AtomicU64,
     aborts: AtomicU64,
+    wounds: AtomicU64,
+    waiting: AtomicU64,
+    rows: AtomicU64,
     versions: AtomicU64,
+    last: AtomicU64,
+    horizon: AtomicU64,
+    log_bytes: AtomicU64,
+    area_begins: AtomicU64,
+    turnovers: AtomicU64,
     served: AtomicU64,
     advances: AtomicU64,
     late: AtomicU64,
@@ -62,6 +88,13 @@ pub(crate) struct ShardCounts {
     fault: AtomicU64,
 }
 
+impl ShardNumbers {
+    /// Gives how many turnovers the file still takes.
+    pub fn turnovers_left(&self) -> u64 {
+        MOST_TURNOVERS.saturating_sub(self.turnovers)
+    }
+}
+
 impl ShardCounts {
     fn new() -> ShardCounts {
         ShardCounts {
@@ -69,7 +102,15 @@ impl ShardCounts {
             refused: AtomicU64::new(0),
             commits: AtomicU64::new(0),
             aborts: AtomicU64::new(0),
+            wounds: AtomicU64::new(0),
+            waiting: AtomicU64::new(0),
+            rows: AtomicU64::new(0),
             versions: AtomicU64::new(0),
+            last: AtomicU64::new(0),
+            horizon: AtomicU64::new(0),
+            log_bytes: AtomicU64::new(0),
+            area_begins: AtomicU64::new(0),
+            turnovers: AtomicU64::new(0),
             served: AtomicU64::new(0),
             advances: AtomicU64::new(0),
             late: AtomicU64::new(0),
@@ -88,7 +129,7 @@ impl ShardCounts {
         if is_commit(input) {
             more(&self.commits, 1);
         }
-        more(&self.aborts, aborts_in(out));
+        self.count_ends(out);
     }
 
     /// Counts inputs that were taken together, and what was due after them.
@@ -114,7 +155,19 @@ impl ShardCounts {
         if tells_commit(out) {
             more(&self.commits, 1);
         }
-        more(&self.aborts, aborts_in(out));
+        self.count_ends(out);
+    }
+
+    // Counts the sessions that messages tell of an abort or a wound.
+    fn count_ends(&self, out: &[Envelope]) {
+        for envelope in out {
+            if is_abort(&envelope.message) {
+                more(&self.aborts, 1);
+            }
+            if is_wound(&envelope.message) {
+                more(&self.wounds, 1);
+            }
+        }
     }
 
     /// Counts so many inputs that were refused.
@@ -122,8 +175,14 @@ impl ShardCounts {
         more(&self.refused, count);
     }
 
-    /// Counts that a board shows new things: up to which timestamp views are served then, if it was not refused.
-    pub(crate) fn count_shown(&self, served: Option<u64>, versions: u64, has_stopped: bool) {
+    /// Takes over how many letters wait.
+    pub(crate) fn set_waiting(&self, letters: u64) {
+        self.waiting.store(letters, Ordering::SeqCst);
+    }
+
+    /// Counts that a board shows new things: up to which timestamp views are served then, if it was not refused. And takes over how the shard
+    /// stands.
+    pub(crate) fn count_shown(&self, served: Option<u64>, gauges: &Gauges) {
         match served {
             Some(served) => {
                 more(&self.advances, 1);
@@ -131,8 +190,21 @@ impl ShardCounts {
             }
             None => more(&self.late, 1),
         }
-        self.versions.store(versions, Ordering::SeqCst);
-        self.stopped.store(number_of(has_stopped), Ordering::SeqCst);
+        self.take_over(gauges);
+    }
+
+    fn take_over(&self, gauges: &Gauges) {
+        self.rows.store(gauges.rows as u64, Ordering::SeqCst);
+        self.versions
+            .store(gauges.versions as u64, Ordering::SeqCst);
+        self.last.store(gauges.last.micros(), Ordering::SeqCst);
+        self.horizon
+            .store(gauges.horizon.micros(), Ordering::SeqCst);
+        self.log_bytes.store(gauges.log_ends, Ordering::SeqCst);
+        self.area_begins.store(gauges.area_begins, Ordering::SeqCst);
+        self.turnovers.store(gauges.turnovers, Ordering::SeqCst);
+        self.stopped
+            .store(number_of(gauges.is_stopped), Ordering::SeqCst);
     }
 
     /// Takes over how many transactions are in doubt, and since which timestamp.
@@ -166,7 +238,15 @@ impl ShardCounts {
             refused: self.refused.load(Ordering::SeqCst),
             commits: self.commits.load(Ordering::SeqCst),
             aborts: self.aborts.load(Ordering::SeqCst),
+            wounds: self.wounds.load(Ordering::SeqCst),
+            waiting: self.waiting.load(Ordering::SeqCst),
+            rows: self.rows.load(Ordering::SeqCst),
             versions: self.versions.load(Ordering::SeqCst),
+            last: self.last.load(Ordering::SeqCst),
+            horizon: self.horizon.load(Ordering::SeqCst),
+            log_bytes: self.log_bytes.load(Ordering::SeqCst),
+            area_begins: self.area_begins.load(Ordering::SeqCst),
+            turnovers: self.turnovers.load(Ordering::SeqCst),
             served: self.served.load(Ordering::SeqCst),
             advances: self.advances.load(Ordering::SeqCst),
             late: self.late.load(Ordering::SeqCst),
@@ -198,17 +278,6 @@ fn is_commit(input: &Input) -> bool
     matches!(input, Input::Settle(_))
 }
 
-// How many sessions some messages tell that their transactions were aborted.
-fn aborts_in(out: &[Envelope]) -> u64 {
-    let mut count: u64 = 0;
-    for envelope in out {
-        if is_abort(&envelope.message) {
-            count = count.saturating_add(1);
-        }
-    }
-    count
-}
-
 // Tells whether a session is told that its transaction committed.
 fn tells_commit(out: &[Envelope]) -> bool {
     for envelope in out {
@@ -229,6 +298,13 @@ fn is_committed(message: &Message) -> bool {
 fn is_abort(message: &Message) -> bool {
     match message {
         Message::Done(done) => done.outcome().is_none(),
+        _ => false,
+    }
+}
+
+fn is_wound(message: &Message) -> bool {
+    match message {
+        Message::ReadAnswer(answer) => matches!(answer.answer, Answer::Refused),
         _ => false,
     }
 }
@@ -302,18 +378,20 @@ impl Numbers {
         ensures { IfErr result (λ fault. fault ≡ Fault.Memory) }
     {
         let mut text = String::new(self.alloc);
-        for name in &NAMES {
-            self.push(&mut text, *name)?;
+        for name in &COUNTS {
+            self.push(&mut text, *name, "counter")?;
+        }
+        for name in &GAUGES {
+            self.push(&mut text, *name, "gauge")?;
         }
         push_clients(&mut text, &self.clients)?;
         Ok(text)
     }
 
     // Adds one number of all shards.
-    fn push(&self, text: &mut String, name: &str) -> Result<(), Fault>
+    fn push(&self, text: &mut String, name: &str, kind: &str) -> Result<(), Fault>
         ensures { IfErr result (λ fault. fault ≡ Fault.Memory) }
     {
-        let kind = if is_gauge(name) { "gauge" } else { "counter" };
         write!(text, "# TYPE spanner_shards_{name} {kind}\n")?;
         for (shard, counts) in self.shards.iter().enumerate() {
             let value = value_of(&counts.read(), name);
@@ -335,31 +413,35 @@ pub(crate) fn numbers_of(
     Ok(Arc::new(alloc, numbers)?)
 }
 
-// The names of all numbers.
-static NAMES: [&'static str; 14] = [
+// The names of the numbers that only rise.
+static COUNTS: [&'static str; 9] = [
     "taken",
     "refused",
     "commits",
     "aborts",
-    "versions",
-    "served",
+    "wounds",
     "advances",
     "late",
+    "forgets",
+    "turnovers_refused",
+];
+
+// The names of those that tell how a shard stands.
+static GAUGES: [&'static str; 13] = [
+    "waiting",
+    "rows",
+    "versions",
+    "served",
+    "last",
+    "horizon",
+    "log_bytes",
+    "area_begins",
+    "turnovers",
     "stopped",
     "in_doubt",
     "doubt_since",
-    "forgets",
-    "turnovers_refused",
     "fault",
 ];
-
-// A number that also falls.
-fn is_gauge(name: &str) -> bool {
-    match name {
-        "versions" | "served" | "stopped" | "in_doubt" | "doubt_since" | "fault" => true,
-        _ => false,
-    }
-}
 
 // The number of this name.
 fn value_of(numbers: &ShardNumbers, name: &str) -> u64 {
@@ -368,7 +450,15 @@ fn value_of(numbers: &ShardNumbers, name: &str) -> u64 {
         "refused" => numbers.refused,
         "commits" => numbers.commits,
         "aborts" => numbers.aborts,
+        "wounds" => numbers.wounds,
+        "waiting" => numbers.waiting,
+        "rows" => numbers.rows,
         "versions" => numbers.versions,
+        "last" => numbers.last,
+        "horizon" => numbers.horizon,
+        "log_bytes" => numbers.log_bytes,
+        "area_begins" => numbers.area_begins,
+        "turnovers" => numbers.turnovers,
         "served" => numbers.served,
         "advances" => numbers.advances,
         "late" => numbers.late,
