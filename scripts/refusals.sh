@@ -38,6 +38,9 @@ cp -r logs room/tight
 nobody=
 [ "$(id -u)" != 0 ] || nobody="setpriv --reuid=65534 --regid=65534 --clear-groups"
 printf '%s\n' begin 'put a 2' 'put z 2' commit | "$program" serve older >committed
+cp -r older emptied
+rm emptied/shard-1.log
+"$program" format emptied/shard-1.log
 cp logs/shard-1.log older
 mv swapped/shard-0.log kept
 mv swapped/shard-1.log swapped/shard-0.log

@@ -116,11 +116,7 @@ pub fn program<
 }
 
 // The machine's files, which know why a store was refused once that is noted.
-fn files_of<'r, R>(
-    rt: &'r R,
-    noted: &'r Noted,
-    is_watched: bool,
-) -> HostFiles<'r, R> {
+fn files_of<'r, R>(rt: &'r R, noted: &'r Noted, is_watched: bool) -> HostFiles<'r, R> {
     let mut files = HostFiles::new(rt, is_watched);
     files.noted = Some(noted);
     files

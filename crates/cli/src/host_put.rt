@@ -3,7 +3,7 @@ ghost use Rattle.std.specs.Prelude.{◌≡◌, None, IfErr, IfOk, MatchResult};
 ghost use Rattle.cli.specs.Written.{IsPut, IsUnwritten, IsWritten, Puts, end_told};
 
 use commands::{Ended, Put};
-use host_files::Noted;
+use host_files::{Noted, failed_log};
 use std::alloc::Global;
 use std::fs::File;
 use std::random::RandomSource;
@@ -20,7 +20,8 @@ const TRIES: u32 = 5;
 const PATIENCE: u32 = 100;
 
 /// Opens the store, commits the write as a transaction of its own, closes the store, and returns what became of the write. A refusal for want
-/// of memory may come after the commit: it does not say that the write stands nowhere. If the store is not opened, it is noted why.
+/// of memory may come after the commit: it does not say that the write stands nowhere. If the store is not opened, or a log
+/// fails, it is noted why.
 pub fn put_in_store<R: rt::Files<File = File> + RandomSource + Threads + Wait + time::Clock + Sync>(
     rt: &R,
     alloc: Global,
@@ -50,6 +51,9 @@ pub fn put_in_store<R: rt::Files<File = File> + RandomSource + Threads + Wait + 
             ensures { MatchResult result (IsPut key.entry.now value.entry.now) IsUnwritten }
         { commit(clients, key, value) },
     )?;
+    if let Some(refused) = failed_log(&disks) {
+        noted.note(refused);
+    }
     drop(disks);
     ended
 }

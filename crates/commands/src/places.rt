@@ -9,6 +9,9 @@ use std::alloc::Global;
 use system::{Files, read_text};
 use units::{Fault, Key, Reason, Splits};
 
+// What is said of a name under which there is nothing.
+const NO_FILE: &str = "no such file";
+
 /// Tells where the fault of a command over files lies: `--> FILE`, or `--> FILE:LINE` if it is one of a line or an event. Of settings it is also what
 /// is wrong with them. Of words it is what is wrong with these, and how their command is called. There is none of want of memory, or if nobody can
 /// say. The files are looked at once more, so what has changed meanwhile is told as it is then.
@@ -75,8 +78,13 @@ fn with_why(alloc: Global, file: &str, why: Option<String>) -> Option<String> {
     }
 }
 
-// In the store in a folder, if that is refused now.
-fn in_refused<F: Files>(alloc: Global, files: &F, dir: &str, splits: &Splits) -> Option<String> {
+/// In the store in a folder: why it was refused, or what of it has failed; else why it is refused now. `None` if nobody can say.
+pub fn in_refused<F: Files>(
+    alloc: Global,
+    files: &F,
+    dir: &str,
+    splits: &Splits,
+) -> Option<String> {
     let told = files.why_unopened(alloc, dir, splits)?;
     format!(in alloc; "--> {told}").ok()
 }
@@ -144,8 +152,22 @@ fn in_counted<F: Files>(alloc: Global, files: &F, logs: &[&str], fault: Fault) -
     };
     match logs_in(alloc, folder, files) {
         Ok(Some(names)) => in_named(alloc, files, &names, fault),
+        Ok(None) if has_manifest(alloc, files, folder) => in_manifest(alloc, files, folder),
         Ok(None) => in_logs(alloc, files, logs, fault),
         Err(_) => in_manifest(alloc, files, folder),
+    }
+}
+
+// Whether a folder has a manifest that cannot be read.
+fn has_manifest<F: Files>(alloc: Global, files: &F, folder: &str) -> bool {
+    let Ok(manifest) = format!(in alloc; "{folder}/store.toml") else {
+        return false;
+    };
+    let why = files.why(alloc, &manifest);
+    drop(manifest);
+    match why {
+        Some(why) => why.as_str() != NO_FILE,
+        None => false,
     }
 }
 

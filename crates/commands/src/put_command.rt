@@ -7,12 +7,13 @@ ghost use Rattle.client.specs.declared.ended.Ended.{Ended};
 
 use crate::engine::{Engine, Put};
 use crate::hints::Hints;
+use crate::places::in_refused;
 use crate::store_folder::splits_of;
 use client::Ended;
 use command_line::Source;
 use std::alloc::Global;
-use system::{Files, System};
-use units::{Fault, Key, Value};
+use system::System;
+use units::{Fault, Key, Splits, Value};
 
 // A byte more than a value has.
 const MOST_INPUT: u64 = 4097;
@@ -50,7 +51,7 @@ fn value_of<F: Hints>(alloc: Global, source: Source, files: &F) -> Result<Value,
 }
 
 // A value of the store in a folder.
-fn put_value<F: Files, D, P: Fn(Global, Put<'_>) -> Result<Ended, Fault>>(
+fn put_value<F: Hints, D, P: Fn(Global, Put<'_>) -> Result<Ended, Fault>>(
     alloc: Global,
     dir: &str,
     key: &Key,
@@ -68,7 +69,7 @@ fn put_value<F: Files, D, P: Fn(Global, Put<'_>) -> Result<Ended, Fault>>(
 }
 
 // What became of the write.
-fn put_in<F: Files, D, P: Fn(Global, Put<'_>) -> Result<Ended, Fault>>(
+fn put_in<F: Hints, D, P: Fn(Global, Put<'_>) -> Result<Ended, Fault>>(
     alloc: Global,
     dir: &str,
     key: &Key,
@@ -88,8 +89,24 @@ fn put_in<F: Files, D, P: Fn(Global, Put<'_>) -> Result<Ended, Fault>>(
         value,
     };
     let ended = (system.drive.put)(alloc, write);
+    tell_failure(alloc, &system.files, dir, &splits, &ended);
     drop(splits);
     ended
+}
+
+// If no shard said what became of the write, tells which log failed meanwhile, and why, if that is known.
+fn tell_failure<F: Hints>(
+    alloc: Global,
+    files: &F,
+    dir: &str,
+    splits: &Splits,
+    ended: &Result<Ended, Fault>,
+) {
+    if let Ok(Ended::Unknown(_)) = ended {
+        if let Some(place) = in_refused(alloc, files, dir, splits) {
+            files.hint(&place);
+        }
+    }
 }
 
 // What is printed of it, and the status.

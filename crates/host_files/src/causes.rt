@@ -1,5 +1,6 @@
 //! Why the logs of a store fail, once others have them.
-ghost use Rattle.std.specs.Prelude.{◌≡◌, None, IfNone, length};
+ghost use Rattle.std.specs.Prelude.{◌≡◌, None, IfNone, IfSome, length};
+ghost use Rattle.units.specs.declared.fault.Fault.TheVariants.{Device};
 
 use crate::names::Name;
 use crate::refused::{Refused, Why};
@@ -60,6 +61,23 @@ impl Causes {
     fn first(&self) -> Option<usize> {
         self.of.iter().position(|cause| cause.get().is_some())
     }
+}
+
+/// Refuses the first of the logs of a store whose device has failed, with the reason of its last failure. `None` means that none has failed.
+pub fn failed_log(logs: &[FileDisk]) -> Option<Refused>
+    ensures fault { IfSome result (λ refused. refused.fault ≡ Device) }
+    ensures named { IfSome result (λ refused. IfNone refused.file ⊥) }
+{
+    for (shard, log) in logs.iter().enumerate() {
+        if let Some(cause) = log.cause() {
+            return Some(Refused {
+                fault: Fault::Device,
+                file: Some(Name::Log(shard)),
+                why: Some(Why::System(cause)),
+            });
+        }
+    }
+    None
 }
 
 /// Why a store was refused last, noted for whoever tells of it.

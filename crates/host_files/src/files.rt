@@ -1,9 +1,8 @@
 //! The machine's files, as commands ask for them.
 use crate::causes::Noted;
-use crate::folder::{Expected, refusal_at};
+use crate::folder::{Expected, refusal_in};
 use crate::log_file::{LogFile, at_one_moment};
 use crate::names::read_front;
-use crate::newest::Limit;
 use crate::refused::{Refused, RefusedIn};
 use filedisk::Cause;
 use std::alloc::Global;
@@ -21,8 +20,6 @@ pub struct HostFiles<'r, R> {
     pub rt: &'r R,
     /// Standard error is a terminal.
     pub is_watched: bool,
-    /// How far the logs of a store may be ahead of the clock, if that is limited: a store that is farther ahead is told as refused.
-    pub limit: Option<Limit>,
     /// Why the store that a command was over was refused, if that was noted.
     pub noted: Option<&'r Noted>,
     /// Why the last file that was to be made was not.
@@ -35,7 +32,6 @@ impl<'r, R> HostFiles<'r, R> {
         HostFiles {
             rt,
             is_watched,
-            limit: None,
             noted: None,
             unmade: Cell::new(None),
         }
@@ -85,7 +81,7 @@ impl<R: rt::Files<File = File> + Eprint> Files for HostFiles<'_, R> {
     fn why_unopened(&self, alloc: Global, folder: &str, splits: &Splits) -> Option<String> {
         let refused = match self.last_noted() {
             Some(refused) if refused.is_explained() => refused,
-            _ => refusal_at(self.rt, alloc, folder, splits, Expected::Either, self.limit)?,
+            _ => refusal_in(self.rt, alloc, folder, splits, Expected::Either)?,
         };
         if !refused.is_explained() {
             return None;

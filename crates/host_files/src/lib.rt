@@ -17,7 +17,7 @@ mod shards;
 mod walking;
 
 pub use agreeing::{Known, check_agreement, known_on};
-pub use causes::{Causes, Noted};
+pub use causes::{Causes, Noted, failed_log};
 pub use copying::Copying;
 pub use files::HostFiles;
 pub use folder::{Expected, FoundLogs, found_in, logs_in, logs_in_memory, refusal_at, refusal_in};

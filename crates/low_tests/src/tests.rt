@@ -2,9 +2,9 @@
 //! function of their own.
 use crate::checks::{end, go_over};
 use crate::{
-    beside, causes, clocks, crowd, devices, disks, documents, drawers, files, grouped, handed, horizons,
-    known, ledgers, left, limits, looks, messages, migrated, plain, records, refusals, renewed,
-    seated, sessions, spellings, tables, turned, verdicts, versioned,
+    beside, causes, clocks, crowd, devices, disks, documents, drawers, files, grouped, handed,
+    horizons, known, ledgers, left, limits, looks, messages, migrated, plain, records, refusals,
+    renewed, seated, sessions, spellings, tables, turned, verdicts, versioned,
 };
 use made::{Folder, WrongRows};
 

@@ -32,13 +32,6 @@ IsUnmade fault = (fault ≡ BadRequest Settings) ⊎ IsUnopened fault
 abbrev pub unopened_text : Unopened → List ℕ
 unopened_text u = elim u.shard [ None ↦ fault_text u.fault | Some n ↦ codes "shard " ++ (decimal n ++ (codes ": " ++ fault_text u.fault)) ]
 
-abbrev pub unopened_in_text : List ℕ → Unopened → List ℕ
-unopened_in_text folder u =
-    elim u.shard [
-      | None ↦ folder ++ (codes ": " ++ fault_text u.fault)
-      | Some n ↦ folder ++ (codes "/shard-" ++ (decimal n ++ (codes ".log: " ++ fault_text u.fault)))
-    ]
-
 -- the epoch of the opening that comes next behind what a file holds, and the greatest timestamp there
 abbrev pub next_in : Result (List Record) Fault → ℕ
 next_in (Ok records) = epoch_of records + 1

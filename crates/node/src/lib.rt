@@ -27,4 +27,4 @@ pub use opening::open_all;
 pub use renewing::{Past, renew_disk};
 pub use shard::Core;
 pub use steady::{SteadyClock, steady_over};
-pub use unopened::{Unopened, UnopenedIn};
+pub use unopened::Unopened;

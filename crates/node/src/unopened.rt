@@ -38,28 +38,3 @@ impl fmt::Display for Unopened {
         }
     }
 }
-
-/// The same of a store in a folder, to be printed: the folder, or the file of the shard's log in it, and the fault.
-#[derive(Clone, Copy)]
-pub struct UnopenedIn<'a> {
-    /// The folder of the store.
-    pub folder: &'a str,
-    /// Why it is not opened.
-    pub unopened: Unopened,
-}
-
-impl fmt::Display for UnopenedIn<'_> {
-    ghost use Rattle.std.specs.Prelude.{Some};
-    ghost use Rattle.node.specs.Unopened.{unopened_in_text};
-
-    ghost output = { λ u. Some (unopened_in_text u.folder.now u.unopened) };
-
-    fn fmt<W: fmt::Write>(&self, f: &mut fmt::Formatter<W>) -> fmt::Result {
-        let UnopenedIn { folder, unopened } = *self;
-        let fault = unopened.fault;
-        match unopened.shard {
-            Some(shard) => write!(f, "{folder}/shard-{shard}.log: {fault}"),
-            None => write!(f, "{folder}: {fault}"),
-        }
-    }
-}

@@ -5,8 +5,7 @@ use crate::making::make;
 use crate::opening::opened;
 use crate::refusal::Refusal;
 use commands::splits_of;
-use filedisk::FileDisk;
-use host_files::HostFiles;
+use host_files::{HostFiles, failed_log};
 use requests::Answer;
 use service_words::{Asked, Choices, service_asked};
 use serving::{Desk, Served, serve};
@@ -17,8 +16,7 @@ use std::random::RandomSource;
 use std::sync::Wait;
 use std::thread::Threads;
 use std::{rt, time};
-use store::{Client, Name, Refused};
-use units::Fault;
+use store::Client;
 
 /// Whether a command line is one of `make` or `serve`, and does not ask for help.
 pub fn is_service(words: &[&str]) -> bool {
@@ -140,14 +138,4 @@ fn serve_folder<
         Some(refused) => Err(Refusal::of_store(alloc, dir, refused)),
         None => Ok(!desk.is_gone(rt)),
     }
-}
-
-// The first log whose device failed while the store was served.
-fn failed_log(disks: &[FileDisk]) -> Option<Refused> {
-    for (shard, disk) in disks.iter().enumerate() {
-        if disk.cause().is_some() {
-            return Some(Refused::of_file(Fault::Device, disk, Name::Log(shard)));
-        }
-    }
-    None
 }
