@@ -2,7 +2,7 @@
 use Rattle.std.specs.Prelude.{ℕ, Bool, false, ◌||◌, List, [], ◌∷◌, Option, Some, None, codes, if◌then◌else◌}
 use Rattle.std.specs.Str.{bytes_eq}
 use Rattle.command_line.specs.Lines.{Word, has_mark}
-use Rattle.command_line.specs.declared.usage.TheConstants.{PAGE, VERSION, GET, PUT, HISTORY, STATS, DUMP, INSPECT, DRIVE, FORMAT, MIGRATE, COMPACT, PLAY, ONCE, MAKE, SERVE}
+use Rattle.command_line.specs.declared.usage.TheConstants.{PAGE, VERSION, GET, PUT, HISTORY, STATS, DUMP, INSPECT, DRIVE, FORMAT, MIGRATE, COMPACT, PLAY, ONCE, MAKE, SERVE, EXPORT, IMPORT, BACKUP}
 
 -- what is told of a command, or the page where the word is none
 abbrev pub paragraph_of : Word → List ℕ
@@ -21,7 +21,10 @@ paragraph_of name =
     else (if bytes_eq name (codes "once") then ONCE.now
     else (if bytes_eq name (codes "make") then MAKE.now
     else (if bytes_eq name (codes "serve") then SERVE.now
-    else PAGE.now)))))))))))))
+    else (if bytes_eq name (codes "export") then EXPORT.now
+    else (if bytes_eq name (codes "import") then IMPORT.now
+    else (if bytes_eq name (codes "backup") then BACKUP.now
+    else PAGE.now))))))))))))))))
 
 -- one of the words, before any `--`, is `-h` or `--help`
 abbrev pub asks_help : List Word → Bool

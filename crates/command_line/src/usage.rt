@@ -19,6 +19,9 @@ the year 1970, below 2^62: 'date -d @SECONDS' reads them.
 
     make     makes an empty store in a folder
     serve    holds a store open, and answers lines of standard input
+    export   prints the keys and values of a store
+    import   puts keys and values from standard input into a store
+    backup   copies a store into another folder, beside whoever writes to it
     get      prints the value of a key
     put      commits a write of one key
     history  prints all versions of a key
@@ -173,6 +176,32 @@ serve DIR [OPTION..]
                         1000 to 3600000, and 10000 if nothing is said
 ";
 
+pub const EXPORT: &str = "\
+export [--csv] DIR [AT]
+    Prints each key that has a value, and the value, as a line: both spelled as
+    'get' prints them, with a blank between them. They are those of the present,
+    or of the timestamp AT. Standard error tells how many they are, and at which
+    timestamp: 'exported 12 at 1795909873536438'. It opens the store.
+    --csv  prints comma-separated values after the header key,value; what is no
+           text in UTF-8, or has a backslash, stands spelled
+";
+
+pub const IMPORT: &str = "\
+import [--csv] DIR
+    Puts each key and value that 'export' printed, from standard input, into the
+    store in DIR, up to 128 a transaction, and prints how many: 'imported 12'.
+    It stops at the first line that is none. What it has put by then stands; to
+    import the same lines again puts the same values.
+    --csv  reads comma-separated values after the header key,value
+";
+
+pub const BACKUP: &str = "\
+backup DIR TO
+    Copies the store in DIR as it is at one moment into the folder TO; if TO is
+    not there, it makes that too. Programs may write to the store meanwhile. If
+    TO holds a file of a store, that is refused. Prints nothing.
+";
+
 /// What is told of a command, or the page where the word is none.
 pub fn paragraph(name: &str) -> &'static str
     ensures { result.now ≡ paragraph_of name.now }
@@ -192,6 +221,9 @@ pub fn paragraph(name: &str) -> &'static str
         "once" => ONCE,
         "make" => MAKE,
         "serve" => SERVE,
+        "export" => EXPORT,
+        "import" => IMPORT,
+        "backup" => BACKUP,
         _ => PAGE,
     }
 }

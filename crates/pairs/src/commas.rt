@@ -1,12 +1,16 @@
 //! Keys and values as comma-separated values, as PostgreSQL's COPY takes them: a header, and a row for each pair.
-ghost use Rattle.std.specs.Prelude.{◌≡◌, IfOk, map};
+ghost use Rattle.std.specs.Prelude.{◌≡◌, ◌⊎◌, None, Some, IfErr, IfOk, MatchResult, map};
 ghost use Rattle.csv.specs.Writing.{row_text};
-ghost use Rattle.pairs.specs.Rows.{header, rows_of, setup};
+ghost use Rattle.requests.specs.Spelling.{unspelled};
+ghost use Rattle.pairs.specs.Rows.{FieldsAreRead, field, header, is_plain, rows_of, setup};
 
 use crate::{Pair, Pairs};
+use counts::Past;
 use csv::{ByteRecord, Error, ErrorKind, QuoteStyle, Reader, ReaderBuilder, WriterBuilder};
+use requests::{push_spelled, unspelled};
 use std::alloc::Global;
 use std::io::Read;
+use std::str;
 use units::{Fault, Key, Reason, Value};
 
 /// Writes the header: the fields `key` and `value`.
@@ -16,16 +20,47 @@ pub fn header(alloc: Global) -> Result<Vec<u8>, Fault>
     row(alloc, &[b"key", b"value"])
 }
 
-/// Writes a row for each pair. Each field stands in quotes, with its bytes as they are.
+/// Writes a row for each pair. Each field stands in quotes. Bytes that are a text in UTF-8 stand as they are; spelled, as in a line, are those with a
+/// backslash, with the byte 0, or that are no such text.
 pub fn rows_of(alloc: Global, pairs: &[Pair]) -> Result<Vec<u8>, Fault>
     ensures { IfOk result (λ text. text.items ≡ rows_of pairs.now) }
 {
     let mut text = Vec::new(alloc);
     for pair in pairs {
-        let bytes = row(alloc, &[pair.key.as_bytes(), pair.value.as_bytes()])?;
+        let key = field(alloc, pair.key.as_bytes())?;
+        let value = field(alloc, pair.value.as_bytes())?;
+        let bytes = row(alloc, &[key.as_slice(), value.as_slice()])?;
         text.extend_from_slice(&bytes)?;
     }
     Ok(text)
+}
+
+// How some bytes stand in a field.
+fn field(alloc: Global, bytes: &[u8]) -> Result<Vec<u8>, Fault>
+    ensures field { IfOk result (λ text. text.items ≡ field bytes.now) }
+    ensures memory { IfErr result (λ fault. fault ≡ Fault.Memory) }
+{
+    if is_plain(bytes) {
+        return Ok(bytes.to_vec(alloc)?);
+    }
+    let mut text = String::new(alloc);
+    push_spelled(&mut text, bytes)?;
+    Ok(text.into_bytes())
+}
+
+// The bytes are a text in UTF-8, without the byte 0 and without a backslash.
+fn is_plain(bytes: &[u8]) -> bool
+    ensures { result ≡ is_plain bytes.now }
+{
+    if str::from_utf8(bytes).is_err() {
+        return false;
+    }
+    for byte in bytes {
+        if *byte == 0 || *byte == b'\\' {
+            return false;
+        }
+    }
+    true
 }
 
 // The row of some fields.
@@ -57,6 +92,7 @@ pub struct Commas<I: Read + Drop> {
     // The line in which the last pair begins, and that of the row that was taken last.
     line: u64,
     taken: u64,
+    given: Past<Pair>,
 }
 
 impl<I: Read + Drop> Commas<I> {
@@ -71,11 +107,14 @@ impl<I: Read + Drop> Commas<I> {
             has_begun: false,
             line: 0,
             taken: 0,
+            given: Past::none(),
         }
     }
 
     // Takes the next row, if there is one.
-    fn take(&mut self) -> Result<bool, Fault> {
+    fn take(&mut self) -> Result<bool, Fault>
+        ensures { self.new.given.entries ≡ self.old.given.entries }
+    {
         self.taken = self.rows.position().line();
         match self.rows.read_byte_record(&mut self.row) {
             Ok(found) => Ok(found),
@@ -89,6 +128,10 @@ impl<I: Read + Drop> Commas<I> {
 }
 
 impl<I: Read + Drop> Pairs for Commas<I> {
+    ghost use Rattle.std.specs.Prelude.{reverse};
+
+    ghost given = { λ rows. reverse rows.given.entries };
+
     fn next(&mut self, alloc: Global) -> Result<Option<Pair>, Fault> {
         if !self.has_begun {
             self.has_begun = true;
@@ -102,6 +145,7 @@ impl<I: Read + Drop> Pairs for Commas<I> {
         match pair_of(alloc, &self.row) {
             Ok(pair) => {
                 self.line = self.taken;
+                self.given.add(&pair);
                 Ok(Some(pair))
             }
             Err(Fault::Memory) => Err(Fault::Memory),
@@ -122,13 +166,30 @@ fn is_header(row: &ByteRecord) -> bool {
 
 fn pair_of(alloc: Global, row: &ByteRecord) -> Result<Pair, Fault> {
     match (row.get(0), row.get(1)) {
-        (Some(key), Some(value)) if row.len() == 2 => Ok(Pair {
-            key: Key::new(key)?,
-            value: Value::new(alloc, value)?,
-        }),
+        (Some(key), Some(value)) if row.len() == 2 => {
+            let key = Key::new(&told_by(alloc, key)?)?;
+            let value = Value::new(alloc, &told_by(alloc, value)?)?;
+            Ok(Pair { key, value })
+        }
         _ => Err(Fault::BadRequest(Reason::Command)),
     }
 }
+
+// The bytes that a field tells: its own, but for those that it spells.
+fn told_by(alloc: Global, field: &[u8]) -> Result<Vec<u8>, Fault>
+    ensures { MatchResult result (λ bytes. unspelled field.now ≡ Some bytes.items)
+        (λ fault. (fault ≡ Fault.Memory) ⊎ (fault ≡ Fault.BadRequest Reason.Command)) }
+{
+    match str::from_utf8(field) {
+        Ok(text) => unspelled(alloc, text),
+        Err(_) => Err(Fault::BadRequest(Reason::Command)),
+    }
+}
+
+/// What is exported is read back: the field of some bytes tells these.
+pub fn fields_are_read()
+    ensures { FieldsAreRead }
+{}
 
 // Memory ran out, or the stream failed.
 fn fault_of(error: Error) -> Fault {

@@ -5,6 +5,7 @@ ghost use Rattle.pairs.specs.Lines.{LinesAreRead};
 ghost use Rattle.pairs.specs.Rows.{line_of, lines_of};
 
 use crate::{Pair, Pairs};
+use counts::Past;
 use requests::{Request, push_spelled, request, words_of};
 use std::alloc::Global;
 use std::io::{BufRead, ErrorKind};
@@ -68,6 +69,7 @@ pub struct Lines<I: BufRead + Drop> {
     stream: I,
     line: Vec<u8>,
     number: u64,
+    given: Past<Pair>,
 }
 
 impl<I: BufRead + Drop> Lines<I> {
@@ -77,11 +79,16 @@ impl<I: BufRead + Drop> Lines<I> {
             stream,
             line: Vec::new(alloc),
             number: 0,
+            given: Past::none(),
         }
     }
 }
 
 impl<I: BufRead + Drop> Pairs for Lines<I> {
+    ghost use Rattle.std.specs.Prelude.{reverse};
+
+    ghost given = { λ lines. reverse lines.given.entries };
+
     fn next(&mut self, alloc: Global) -> Result<Option<Pair>, Fault> {
         let number = self.number.saturating_add(1);
         self.line.clear();
@@ -94,6 +101,7 @@ impl<I: BufRead + Drop> Pairs for Lines<I> {
         match in_line(alloc, &self.line) {
             Ok(pair) => {
                 self.number = number;
+                self.given.add(&pair);
                 Ok(Some(pair))
             }
             Err(Fault::Memory) => Err(Fault::Memory),

@@ -1,7 +1,9 @@
-//! The commands `make` and `serve`: a store in a folder is made, and held open for lines.
+//! The commands over an open store: it is made in a folder, held open for lines, exported, imported into, and backed up.
 #![tactic(auto)]
 
+mod alone;
 mod making;
+mod moving;
 mod opening;
 mod options;
 mod refusal;

@@ -1,7 +1,8 @@
-//! The commands `make` and `serve` are carried out.
+//! The commands over an open store are carried out.
 ghost use Rattle.std.specs.Prelude.{◌≡◌, ◌⊎◌};
 
 use crate::making::make;
+use crate::moving::{backup_folder, export_folder, import_folder};
 use crate::opening::opened;
 use crate::refusal::Refusal;
 use commands::splits_of;
@@ -18,12 +19,16 @@ use std::thread::Threads;
 use std::{rt, time};
 use store::Client;
 
-/// Whether a command line is one of `make` or `serve`, and does not ask for help.
+/// Whether a command line is one of `make`, `serve`, `export`, `import` or `backup`, and does not ask for help.
 pub fn is_service(words: &[&str]) -> bool {
     match words {
-        [first, rest @ ..] => (*first == "make" || *first == "serve") && !asks_help(rest),
+        [first, rest @ ..] => is_named(*first) && !asks_help(rest),
         [] => false,
     }
+}
+
+fn is_named(word: &str) -> bool {
+    matches!(word, "make" | "serve" | "export" | "import" | "backup")
 }
 
 // Whether one of the words, before any `--`, asks for help.
@@ -39,9 +44,11 @@ fn asks_help(words: &[&str]) -> bool {
     false
 }
 
-/// Carries out a command line of `make` or `serve`. `make` prints nothing. `serve` answers the lines of `input` on `output`; on a
-/// terminal it prompts for them. Gives the status: 0, or 2 at a fault, or if nobody reads the answers. A fault is printed as a line on
-/// `errors`. A second line tells the file in which it lies, or what is wrong with the words; after words, a third tells how they are called.
+/// Carries out such a command line. `make` and `backup` print nothing. `serve` answers the lines of `input` on `output`; on a
+/// terminal it prompts for them. `export` prints keys and values on `output`, and tells their number on `errors`. `import` reads them from `input`, and
+/// prints how many it has put on `output`. Gives the status: 0, or 2 at a fault, or if nobody reads the answers, or 1 if an import was cut short by a
+/// transaction that does not surely stand. A fault is printed as a line on `errors`. A second line tells the file in which it lies, or what is wrong
+/// with the words; after words, a third tells how they are called.
 pub fn service<
     R: rt::Files<File = File> + Eprint + RandomSource + Threads + Wait + time::Clock + Sync,
     I: Read + Drop,
@@ -56,11 +63,10 @@ pub fn service<
     output: O,
     errors: &mut E,
 ) -> u8
-    ensures { (result ≡ 0) ⊎ (result ≡ 2) }
+    ensures { (result ≡ 0) ⊎ (result ≡ 1) ⊎ (result ≡ 2) }
 {
-    match carried_out(rt, alloc, words, is_terminal, input, output) {
-        Ok(true) => 0,
-        Ok(false) => 2,
+    match carried_out(rt, alloc, words, is_terminal, input, output, errors) {
+        Ok(status) => status,
         Err(refusal) => {
             let Refusal { fault, told } = refusal;
             let _ = writeln!(errors, "fault: {fault}");
@@ -72,11 +78,12 @@ pub fn service<
     }
 }
 
-// Whether all was answered.
+// The status of a command that was not refused.
 fn carried_out<
     R: rt::Files<File = File> + Eprint + RandomSource + Threads + Wait + time::Clock + Sync,
     I: Read + Drop,
     O: Write + Drop + Send,
+    E: Write,
 >(
     rt: &R,
     alloc: Global,
@@ -84,7 +91,10 @@ fn carried_out<
     is_terminal: bool,
     input: I,
     output: O,
-) -> Result<bool, Refusal> {
+    errors: &mut E,
+) -> Result<u8, Refusal>
+    ensures { IfOk result (λ status. (status ≡ 0) ⊎ (status ≡ 1) ⊎ (status ≡ 2)) }
+{
     let asked = match service_asked(alloc, words) {
         Ok(asked) => asked,
         Err(fault) => return Err(Refusal::of_words(alloc, words, fault)),
@@ -92,14 +102,17 @@ fn carried_out<
     match asked {
         Asked::Make { dir, splits } => {
             make(rt, alloc, dir, &splits)?;
-            Ok(true)
+            Ok(0)
         }
         Asked::Serve { dir, choices } => {
             let desk = Desk::new(alloc, output, is_terminal);
             let served = serve_folder(rt, alloc, dir, choices, input, &desk);
             drop(desk);
-            served
+            if served? { Ok(0) } else { Ok(2) }
         }
+        Asked::Export { dir, at, csv } => export_folder(rt, alloc, dir, at, csv, output, errors),
+        Asked::Import { dir, csv } => import_folder(rt, alloc, dir, csv, input, output),
+        Asked::Backup { dir, to } => backup_folder(rt, alloc, dir, to),
     }
 }
 

@@ -1,15 +1,19 @@
-//! What is wrong with words of `make` and `serve` that are refused.
+//! What is wrong with words that are refused.
+use crate::moving::explanation_of_text;
 use crate::options::{Numbered, OPTIONS};
 use command_line::paragraph;
 use std::alloc::{AllocError, Global};
 use texts::number;
 use units::Fault;
 
-/// Why words of `make` or `serve` were refused for this fault, as one line: what is missing, wrong or too much. A second line tells how the
+/// Why words of one of the commands were refused for this fault, as one line: what is missing, wrong or too much. A second line tells how the
 /// command is called.
 pub fn explanation(alloc: Global, words: &[&str], fault: Fault) -> Result<String, AllocError> {
     match words {
         [first, ..] if *first == "serve" => explanation_of_serve(alloc, words, fault),
+        [first, ..] if *first == "export" || *first == "import" => {
+            explanation_of_text(alloc, words, fault)
+        }
         _ => command_line::explanation(alloc, words, fault),
     }
 }

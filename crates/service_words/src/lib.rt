@@ -1,8 +1,9 @@
-//! What the words of the commands `make` and `serve` ask for.
+//! What the words of the commands over an open store ask for: `make`, `serve`, `export`, `import` and `backup`.
 #![tactic(auto)]
 
 mod choices;
 mod explaining;
+mod moving;
 mod options;
 mod words;
 

@@ -1,14 +1,15 @@
-//! What the words of `make` and `serve` ask for.
+//! What the words of the commands over an open store ask for.
 ghost use Rattle.std.specs.Prelude.{◌≡◌, ◌≤◌, IfOk};
 
 use crate::choices::Choices;
+use crate::moving::{backup, export, import, with_moving};
 use crate::options::{CLIENTS, EPSILON, IDLE, KEEP, Numbered, OPTIONS, PATIENCE, RENEW, STRIDE};
 use clap::error::ErrorKind;
 use clap::{Arg, ArgMatches, Command};
 use requests::unspelled;
 use std::alloc::{AllocError, Global};
 use texts::number;
-use units::{Fault, Key, Reason, Splits, Stride};
+use units::{Fault, Key, Reason, Splits, Stamp, Stride};
 
 const NO_COMMAND: Fault = Fault::BadRequest(Reason::Command);
 
@@ -21,18 +22,31 @@ pub enum Asked<'a> {
     Make { dir: &'a str, splits: Splits },
     /// The store in a folder is served.
     Serve { dir: &'a str, choices: Choices },
+    /// The keys and values of the store in a folder are written as lines or as comma-separated values, as they are now or were at a timestamp.
+    Export {
+        dir: &'a str,
+        at: Option<Stamp>,
+        csv: bool,
+    },
+    /// Keys and values are put into the store in a folder, from lines or from comma-separated values.
+    Import { dir: &'a str, csv: bool },
+    /// The store in a folder is copied into another folder.
+    Backup { dir: &'a str, to: &'a str },
 }
 
 // The parts in which a client's patience is counted, in milliseconds.
 const SILENCE: u64 = 20;
 
-/// Reads the words of a command line that begins with `make` or `serve`. An option out of its limits is refused as `settings`, and all
+/// Reads the words of a command line that begins with `make`, `serve`, `export`, `import` or `backup`. An option out of its limits is refused as `settings`, and all
 /// else that is no such line as `command`.
 pub fn service_asked<'a>(alloc: Global, words: &'a [&'a str]) -> Result<Asked<'a>, Fault> {
     match parser(alloc)?.try_get_matches_from(words) {
         Ok(matches) => match matches.subcommand() {
             Some(("make", given)) => make(alloc, given),
             Some(("serve", given)) => serve(given),
+            Some(("export", given)) => export(given),
+            Some(("import", given)) => import(given),
+            Some(("backup", given)) => backup(given),
             _ => Err(NO_COMMAND),
         },
         Err(error) => match error.kind() {
@@ -43,12 +57,13 @@ pub fn service_asked<'a>(alloc: Global, words: &'a [&'a str]) -> Result<Asked<'a
 }
 
 fn parser<'a>(alloc: Global) -> Result<Command<'a>, AllocError> {
-    Command::new(alloc, "shards")
+    let parser = Command::new(alloc, "shards")
         .no_binary_name(true)
         .disable_help_subcommand(true)
         .subcommand_required(true)
         .subcommand(making(alloc)?)?
-        .subcommand(serving(alloc)?)
+        .subcommand(serving(alloc)?)?;
+    with_moving(alloc, parser)
 }
 
 fn making<'a>(alloc: Global) -> Result<Command<'a>, AllocError> {

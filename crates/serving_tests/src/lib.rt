@@ -6,6 +6,8 @@ mod ends;
 #[cfg(test)]
 mod lines;
 #[cfg(test)]
+mod moved;
+#[cfg(test)]
 mod streams;
 #[cfg(test)]
 mod waiting;

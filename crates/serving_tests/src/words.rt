@@ -51,6 +51,7 @@ fn chosen(alloc: Global, words: &[&str]) -> Option<[u64; 7]> {
                 drop(splits);
                 None
             }
+            _ => None,
         },
         Err(_) => None,
     }
