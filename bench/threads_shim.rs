@@ -217,6 +217,9 @@ pub mod crossbeam_channel {
         pub fn is_empty(&self) -> bool {
             self.0.line.lock().unwrap().waiting.is_empty()
         }
+        pub fn len(&self) -> usize {
+            self.0.line.lock().unwrap().waiting.len()
+        }
         pub fn recv_timeout<R>(&self, _: &R, longest: Duration) -> Result<T, RecvTimeoutError> {
             let mut line = self.0.line.lock().unwrap();
             let until = (longest > Duration::ZERO).then(|| Instant::now() + longest);
