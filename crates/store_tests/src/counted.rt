@@ -1,7 +1,7 @@
 //! The numbers of a store that is served.
 use crate::clients::{KEYS, disks_of, of_two_shards, sees, store_of, write};
 use crate::verdict::end;
-use made::WrongRows;
+use made::{FIRST_GATE, WrongRows};
 use std::alloc::Global;
 use std::process::Abort;
 use std::sync::Wait;
@@ -135,6 +135,16 @@ fn is_between(told: Option<u64>, least: u64, most: u64) -> bool {
     }
 }
 
+// Whether a shard has forgotten nothing, and its log is in the first area of its file. No record stands before the first gate.
+fn is_not_turned(told: &ShardNumbers) -> bool {
+    told.horizon == 0
+        && told.turnovers == 0
+        && told.turnovers_left() == 1_024
+        && FIRST_GATE <= told.area_begins
+        && told.area_begins <= FIRST_GATE + 1
+        && told.area_begins < told.log_bytes
+}
+
 // Fails if a number counts something else: an abandoned transaction as a commit, say, or a commit at two shards.
 #[test]
 fn numbers_are_counted(rt: HostRuntime) {
@@ -163,6 +173,9 @@ fn numbers_are_counted(rt: HostRuntime) {
     wrong.unless(served, "what is served");
     wrong.unless(first.taken > ALONE + BOTH + ABANDONED, "letters of shard 0");
     wrong.unless(first.advances > 0, "advances");
+    let last = first.last >= told.at && second.last >= told.at;
+    wrong.unless(last, "the last timestamps");
+    wrong.unless(is_not_turned(&first) && is_not_turned(&second), "the logs");
     wrong.unless(
         !first.has_stopped && !second.has_stopped,
         "none has stopped",

@@ -50,6 +50,8 @@ mod services;
 #[cfg(test)]
 mod slow;
 #[cfg(test)]
+mod standing;
+#[cfg(test)]
 mod stopped_views;
 #[cfg(test)]
 mod stops;

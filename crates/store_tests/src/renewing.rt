@@ -2,7 +2,7 @@
 use crate::clients::{disks_of, of_one_shard, sees, store_of, write};
 use crate::verdict::end;
 use gatelog::GateLog;
-use made::WrongRows;
+use made::{FIRST_GATE, WrongRows};
 use record::Record;
 use simdisk::SimDisk;
 use std::alloc::Global;
@@ -67,8 +67,31 @@ fn is_counted<R: Wait + time::Clock>(client: &Client<'_, R>) -> bool {
     }
 }
 
-// Whether all commits were made, and what was forgotten meanwhile is counted.
-fn write_all<R: Wait + time::Clock>(rt: &R, alloc: Global, clients: Vec<Client<'_, R>>) -> bool {
+// Whether the numbers tell within ten seconds that the log was turned over, and stands in another area. The shard tells that when it shows
+// something.
+fn is_turned<R: Wait + time::Clock>(rt: &R, alloc: Global, client: &mut Client<'_, R>) -> bool {
+    for _commit in 0..500 {
+        drop(write(alloc, client, 5, &[b"a"], b"1"));
+        if let Some(told) = client.numbers().of(0) {
+            if told.turnovers > 0 {
+                return told.turnovers_left() == 1_024_u64.saturating_sub(told.turnovers)
+                    && told.horizon > 0
+                    && told.area_begins > FIRST_GATE + 1
+                    && told.log_bytes >= told.area_begins;
+            }
+        }
+        thread::sleep(rt, Duration::from_millis(20));
+    }
+    false
+}
+
+// Whether all commits were made, and what was forgotten meanwhile is counted. If the log is renewed, that is told.
+fn write_all<R: Wait + time::Clock>(
+    rt: &R,
+    alloc: Global,
+    clients: Vec<Client<'_, R>>,
+    row: &Row,
+) -> bool {
     let mut clients = clients;
     let Some(mut client) = clients.pop() else {
         return false;
@@ -80,6 +103,9 @@ fn write_all<R: Wait + time::Clock>(rt: &R, alloc: Global, clients: Vec<Client<'
         thread::sleep(rt, Duration::from_millis(PAUSE));
     }
     wrote = wrote && is_counted(&client);
+    if row.renewed {
+        wrote = wrote && is_turned(rt, alloc, &mut client);
+    }
     drop(client);
     drop(clients);
     wrote
@@ -113,7 +139,9 @@ fn is_renewed(rt: &impl Abort, alloc: Global, disks: Vec<SimDisk>) -> (bool, Vec
 // Whether a store's log is renewed as the row says, and what was written is seen over it.
 fn goes<R: Threads + Wait + time::Clock + Sync + Abort>(rt: &R, alloc: Global, row: &Row) -> bool {
     let store = open(rt, alloc, disks_of(rt, alloc, 1), row);
-    let served = store.serve(|clients: Vec<Client<'_, R>>| write_all(rt, alloc, clients));
+    let served = store.serve(|clients: Vec<Client<'_, R>>| write_all(
+        rt, alloc, clients, row
+    ));
     let Ok((wrote, disks)) = served else {
         return false;
     };
