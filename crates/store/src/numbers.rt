@@ -36,7 +36,7 @@ pub struct ShardNumbers {
     pub last: u64,
     /// The timestamp below which it answers no view, in microseconds; 0 if it never forgot.
     pub horizon: u64,
-    /// The length of its log's file, in bytes, and the offset at which the present area begins.
+    /// The offset in its file, in bytes, at which its log ends, and the one at which the present area of the log begins.
     pub log_bytes: u64,
     pub area_begins: u64,
     /// How often its file was turned over since it was made: 1,024 times at most.

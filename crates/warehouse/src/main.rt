@@ -72,11 +72,8 @@ fn work<R: Threads + Wait + time::Clock + Sync + Print + Eprint>(
     let Some(mut last) = clients.pop() else {
         return Ok(false);
     };
-    let fill = Request {
-        worker: WORKERS,
-        number: 0,
-    };
-    let _ = settle(alloc, &mut last, fill)?;
+    let (worker, number) = (WORKERS, 0);
+    let _ = settle(alloc, &mut last, Request { worker, number })?;
     let wrong = AtomicU64::new(0);
     let mut jobs = Vec::new(alloc);
     for client in clients {
