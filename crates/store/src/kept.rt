@@ -13,7 +13,7 @@ use truetime::Clock;
 use units::{Fault, ShardNo, Stamp, TxnId};
 
 /// A node that is served as it is. Before it advances it forgets what is older than so many microseconds, and it renews its log once that has
-/// grown by so many bytes. It also keeps when it may forget again, whether its log is looked at next, and where its requests are counted.
+/// grown by so many bytes. It also keeps when it may forget again, whether its log is looked at next, and the numbers that count its requests.
 #[derive(Drop)]
 pub struct Kept<'n, D: Disk + Drop, H: Wait + Drop> {
     node: &'n Node<D, H>,
