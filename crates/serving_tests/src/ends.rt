@@ -1,5 +1,5 @@
 //! Transactions that are idle, lines that are long, and how lines end.
-use crate::streams::{Paper, Parts, answers, are_answers, served};
+use crate::streams::{Paper, Parts, answers, are_answers, of_two_shards, served};
 use host_files::logs_in_memory;
 use serving::{Desk, Served};
 use std::time::{Duration, Instant};
@@ -102,7 +102,15 @@ fn stopped_shards_are_told(rt: HostRuntime) {
         at: 0,
     };
     let start = Instant::now(&rt).ok().expect(&rt, "a clock");
-    let ended = served(&rt, alloc, disks, NEVER, input, &desk);
+    let ended = served(
+        &rt,
+        alloc,
+        disks,
+        of_two_shards(&rt, alloc),
+        NEVER,
+        input,
+        &desk,
+    );
     let took = start.elapsed(&rt).ok().expect(&rt, "a clock");
     let Paper { bytes, .. } = desk.close();
     assert!(rt; ended == Served::All);

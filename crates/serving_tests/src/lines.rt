@@ -1,6 +1,7 @@
 //! What clients are answered.
-use crate::streams::{answers, are_answers};
-use serving::Served;
+use crate::streams::{Paper, Parts, answers, are_answers, of_two_shards, served};
+use host_files::logs_in_memory;
+use serving::{Desk, Served};
 use std::str;
 
 /// A name, the lines, and what clients 0 and 1 are answered.
@@ -14,11 +15,11 @@ type Row = (
 // Longer than any part takes.
 const NEVER: u64 = 60_000;
 
-static ROWS: [Row; 10] = [
+static ROWS: [Row; 13] = [
     (
         "each client hears its own answers",
-        b"0 put a 1\n1 put b 2\n0 get a\n1 get b\n0 get b a\n1 foo\n",
-        &[b"committed *", b"=1", b"=*"],
+        b"0 put a 1\n1 put b 2\n0 get a\n1 get b\n0 get c a\n1 foo\n",
+        &[b"committed *", b"=1", b"none =1"],
         &[b"committed *", b"=2", b"fault: 7 BadRequest(command)"],
     ),
     (
@@ -135,6 +136,73 @@ static ROWS: [Row; 10] = [
         ],
         &[b"fault: 7 BadRequest(command)"],
     ),
+    (
+        "keys come by pages, over both shards, in their order",
+        b"put z 1\nput b 1\nput m 1\nput a 1\nput c 1\nerase b\nview\nkeys \\x00  1000\nkeys m  1000\nkeys a  1\nkeys b  1\nkeys c  1\nkeys b z 9\nkeys m z 9\nkeys n  9\n1 view 0\n1 keys a  9\n",
+        &[
+            b"committed *",
+            b"committed *",
+            b"committed *",
+            b"committed *",
+            b"committed *",
+            b"committed *",
+            b"at *",
+            b"page =m =a =c",
+            b"page none =m =z",
+            b"page =b =a",
+            b"page =c",
+            b"page =m =c",
+            b"page =m =c",
+            b"page none =m",
+            b"page none =z",
+        ],
+        &[b"at 0", b"page =m"],
+    ),
+    (
+        "pages that are refused",
+        b"keys a  9\nview\nkeys a  0\nkeys a  1001\nkeys a  1000\nkeys a  x\nkeys   9\nkeys a\nkeys a b\nkeys a b 1 2\nkeys a \\q 1\noutcome 1.1\nstats\nget a\nend\nbegin\nkeys a  9\nstats\noutcome 1.1\nabort\nview 4611686018427387903\nkeys a  9\n",
+        &[
+            b"fault: 7 BadRequest(state)",
+            b"at *",
+            b"fault: 7 BadRequest(many)",
+            b"fault: 7 BadRequest(many)",
+            b"page =m",
+            b"fault: 7 BadRequest(command)",
+            b"fault: 7 BadRequest(key)",
+            b"fault: 7 BadRequest(command)",
+            b"fault: 7 BadRequest(command)",
+            b"fault: 7 BadRequest(command)",
+            b"fault: 7 BadRequest(command)",
+            b"fault: 7 BadRequest(state)",
+            b"fault: 7 BadRequest(state)",
+            b"none",
+            b"ended",
+            b"begun *",
+            b"fault: 7 BadRequest(state)",
+            b"fault: 7 BadRequest(state)",
+            b"fault: 7 BadRequest(state)",
+            b"aborted",
+            b"at 4611686018427387903",
+            b"fault: 9 NotYet",
+        ],
+        &[],
+    ),
+    (
+        "how a transaction ended is asked of unknown ends alone",
+        b"outcome 1.1\nput a 1\noutcome 1.1\noutcome 7.9\noutcome\noutcome 1\noutcome 1.x\noutcome 1.1 2\nget a\n",
+        &[
+            b"outcome unknown",
+            b"committed *",
+            b"outcome unknown",
+            b"outcome unknown",
+            b"fault: 7 BadRequest(command)",
+            b"fault: 7 BadRequest(command)",
+            b"fault: 7 BadRequest(command)",
+            b"fault: 7 BadRequest(command)",
+            b"=1",
+        ],
+        &[],
+    ),
 ];
 
 // Fails if a client is answered anything but its row, or the lines do not go on to their end.
@@ -177,6 +245,51 @@ fn keys_are_of_the_own_view(rt: HostRuntime) {
     ];
     assert!(rt; are_answers(&told, b'0', &zero));
     assert!(rt; are_answers(&told, b'1', &one));
+}
+
+// An epsilon of so many microseconds: a commit waits for twice that, and its client gives up before.
+const EPSILON: u64 = 400_000;
+
+// So many milliseconds a client waits for a shard that says nothing new.
+const GIVE_UP: u64 = 50;
+
+// Fails if a transaction whose end nobody told is told otherwise later: it is open as long as its commit waits, and then it stands. Another client
+// does not know it.
+#[test]
+fn unknown_ends_are_told_later(rt: HostRuntime) {
+    let alloc = rt.alloc();
+    let mut options = of_two_shards(&rt, alloc);
+    options.epsilon = EPSILON;
+    options.give_up = GIVE_UP;
+    let parts: [(u64, &[u8]); 2] = [
+        (0, b"put z 1\noutcome 1.1\n"),
+        (
+            5 * EPSILON / 1_000,
+            b"1 outcome 1.1\noutcome 1.1\noutcome 1.2\n",
+        ),
+    ];
+    let paper = Paper {
+        bytes: Vec::new(alloc),
+        is_gone: false,
+    };
+    let desk = Desk::new(alloc, paper, false);
+    let disks = logs_in_memory(alloc, 2).ok().expect(&rt, "logs");
+    let input = Parts {
+        rt: &rt,
+        parts: &parts,
+        at: 0,
+    };
+    let ended = served(&rt, alloc, disks, options, NEVER, input, &desk);
+    let Paper { bytes, .. } = desk.close();
+    assert!(rt; ended == Served::All);
+    let zero: [&[u8]; 4] = [
+        b"unknown 1.1",
+        b"outcome open",
+        b"outcome committed *",
+        b"outcome unknown",
+    ];
+    assert!(rt; are_answers(&bytes, b'0', &zero));
+    assert!(rt; are_answers(&bytes, b'1', &[b"outcome unknown"]));
 }
 
 // What `stats` tells of a number of a shard, behind its name, or nothing.

@@ -78,6 +78,7 @@ pub fn answers<R: Threads + Wait + time::Clock + Sync + Abort>(
         rt,
         alloc,
         disks,
+        of_two_shards(rt, alloc),
         idle_millis,
         Parts { rt, parts, at: 0 },
         &desk,
@@ -86,7 +87,14 @@ pub fn answers<R: Threads + Wait + time::Clock + Sync + Abort>(
     (served, bytes)
 }
 
-/// How the lines of a stream end that such a store over these disks answers.
+/// The options of a store of four clients over two shards, which part at `m`.
+pub fn of_two_shards<R: Abort>(rt: &R, alloc: Global) -> Options {
+    let split = Key::new(b"m").ok().expect(rt, "a key");
+    let splits = Splits::new(alloc, &[split]).ok().expect(rt, "splits");
+    Options::new(splits, 4)
+}
+
+/// How the lines of a stream end that a store over these disks answers.
 pub fn served<
     R: Threads + Wait + time::Clock + Sync + Abort,
     I: Read + Drop,
@@ -95,13 +103,12 @@ pub fn served<
     rt: &R,
     alloc: Global,
     disks: Vec<SimDisk>,
+    options: Options,
     idle_millis: u64,
     input: I,
     desk: &Desk<W>,
 ) -> Served {
-    let split = Key::new(b"m").ok().expect(rt, "a key");
-    let splits = Splits::new(alloc, &[split]).ok().expect(rt, "splits");
-    let store = Store::open(rt, alloc, disks, Options::new(splits, 4));
+    let store = Store::open(rt, alloc, disks, options);
     let store = store.ok().expect(rt, "a store");
     let served = store.serve(|clients: Vec<Client<'_, R>>| {
         serve(rt, alloc, clients, idle_millis, input, desk)

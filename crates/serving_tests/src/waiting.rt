@@ -1,5 +1,5 @@
 //! How many lines of a client wait, and for what an answer waits.
-use crate::streams::{Paper, are_answers, served};
+use crate::streams::{Paper, are_answers, of_two_shards, served};
 use host_files::logs_in_memory;
 use serving::{Desk, Served};
 use std::io::{self, Read, Write};
@@ -71,7 +71,15 @@ fn sixty_four_lines_wait(rt: HostRuntime) {
         at: 0,
         last: None,
     };
-    let ended = served(&rt, alloc, disks, HELD, lines, &desk);
+    let ended = served(
+        &rt,
+        alloc,
+        disks,
+        of_two_shards(&rt, alloc),
+        HELD,
+        lines,
+        &desk,
+    );
     let Paper { bytes, .. } = desk.close();
     let mut wanted: [&[u8]; 64] = [b"=1"; 64];
     wanted[0] = b"committed *";
@@ -150,7 +158,15 @@ fn no_answer_waits_for_a_line(rt: HostRuntime) {
         at: 0,
         is_answered: &is_answered,
     };
-    let ended = served(&rt, alloc, disks, HELD, line, &desk);
+    let ended = served(
+        &rt,
+        alloc,
+        disks,
+        of_two_shards(&rt, alloc),
+        HELD,
+        line,
+        &desk,
+    );
     let Bell { paper, .. } = desk.close();
     assert!(rt; ended == Served::All);
     assert!(rt; are_answers(&paper.bytes, b'0', &[b"none"]));
