@@ -3,46 +3,41 @@ ghost use Rattle.std.specs.Prelude.{◌≡◌, ◌≤◌, IfErr, IfOk, length};
 
 use crate::copied::{Uncopied, Whole};
 use crate::moved::{NotBackedUp, Side};
-use commands::splits_of;
 use disk::Disk;
 use filedisk::{Cause, FileDisk, cause_of};
 use host_files::{
     Causes, Copying, HostFiles, LogFile, Name, Refused, at_one_moment, check_agreement, known_on,
+    manifest_text,
 };
 use std::alloc::Global;
 use std::fs::{self, File};
 use std::io::{self, ErrorKind};
 use std::path::Path;
 use std::rt::Files;
-use system::Files as Texts;
-use units::{Fault, ShardNo, Splits};
+use system::{Files as Texts, read_text};
+use units::{Fault, Reason, ShardNo, Splits};
 
-// So many bytes of a manifest are read: that of 16 shards takes no more than 6,000.
-const MOST_MANIFEST: u64 = 1 << 16;
-
-/// Copies the store in a folder into another one, which is made if it is not there. Clients may work in the store meanwhile, in this process or in
-/// another one: nothing waits for the copy. It opens to the state at one moment of this call. Each transaction is whole in it, and all that was
-/// acknowledged before the call is in it. What was renewed is left out, so its files are short.
+/// Copies the store in a folder, whose keys part at these, into another folder, which is made if it is not there. Clients may work in the store
+/// meanwhile, in this process or in another one: nothing waits for the copy. It opens to the state at one moment of this call. Each transaction is whole
+/// in it, and all that was acknowledged before the call is in it. What was renewed is left out, so its files are short.
 ///
 /// The other folder may hold no file of a store. One that a copy was cut off in may be used again unless a log has its name there already; without a
 /// manifest it holds no store.
 ///
 /// It is refused as `Device` if the system refuses a file, or for a folder with a store; as `Damaged`, `NotALog` or `Stranger` if the logs are
-/// not those of one store at one moment; as `settings` for a manifest that is none; and for memory. Then the other folder holds no store.
+/// not those of one store at one moment; as `settings` for another store's splits, or a manifest that is none; and for memory. Then the other folder holds
+/// no store, but if the system refused its last sync, all of it.
 pub fn backup<R: Files<File = File> + Eprint>(
     rt: &R,
     alloc: Global,
     from: &str,
+    splits: &Splits,
     to: &str,
 ) -> Result<(), NotBackedUp> {
-    let (splits, manifest) = match manifest_of(rt, alloc, from) {
-        Ok(found) => found,
-        Err(refused) => return Err(NotBackedUp::from_store(refused)),
-    };
-    let backed_up = back_up(rt, alloc, from, to, &splits, &manifest);
-    drop(splits);
-    drop(manifest);
-    backed_up
+    match manifest_of(rt, alloc, from, splits) {
+        Ok(manifest) => back_up(rt, alloc, from, to, splits, &manifest),
+        Err(refused) => Err(NotBackedUp::from_store(refused)),
+    }
 }
 
 // The same, of a store with these splits and this manifest. Nothing is made before the logs are accepted.
@@ -98,45 +93,48 @@ fn whole_logs<R: Files<File = File>>(
     Ok(Whole::of(alloc, logs_of(rt, alloc, from, shards)?)?)
 }
 
-// The splits of the store in a folder, and its manifest, which never changes.
+// The manifest of a store with these splits, which never changes.
 fn manifest_of<R: Files<File = File> + Eprint>(
     rt: &R,
     alloc: Global,
     from: &str,
-) -> Result<(Splits, String), Refused> {
-    let files = HostFiles::new(rt, false);
-    let found = splits_and_text(alloc, &files, from);
-    match found {
-        Ok(found) => Ok(found),
-        Err(fault) => {
-            let refused = Refused::from(fault);
-            if fault == Fault::Memory {
-                return Err(refused);
-            }
-            Err(refused.of(Name::Manifest))
-        }
+    splits: &Splits,
+) -> Result<String, Refused> {
+    let path = format!(in alloc; "{from}/{}", Name::Manifest)?;
+    match manifest_in(alloc, &HostFiles::new(rt, false), &path, splits) {
+        Ok(manifest) => Ok(manifest),
+        Err(Fault::Memory) => Err(Refused::from(Fault::Memory)),
+        Err(fault) => Err(Refused::from(fault).of(Name::Manifest)),
     }
 }
 
-fn splits_and_text<F: Texts>(
+fn manifest_in<F: Texts>(
     alloc: Global,
     files: &F,
-    from: &str,
-) -> Result<(Splits, String), Fault> {
-    let splits = splits_of(alloc, files, from)?;
-    match text_of(alloc, files, from) {
-        Ok(text) => Ok((splits, text)),
+    path: &str,
+    splits: &Splits,
+) -> Result<String, Fault> {
+    let text = read_text(alloc, files, path, Reason::Settings)?;
+    match is_of(alloc, &text, splits) {
+        Ok(true) => Ok(text),
+        Ok(false) => {
+            drop(text);
+            Err(Fault::BadRequest(Reason::Settings))
+        }
         Err(fault) => {
-            drop(splits);
+            drop(text);
             Err(fault)
         }
     }
 }
 
-fn text_of<F: Texts>(alloc: Global, files: &F, from: &str) -> Result<String, Fault> {
-    let path = format!(in alloc; "{from}/{}", Name::Manifest)?;
-    let bytes = files.read(alloc, &path, MOST_MANIFEST)?;
-    String::from_utf8(bytes).map_err(|_error| Fault::Device)
+// A text is the manifest of a store with these splits, whatever its name is. The name is 16 digits, before a quote and the end of the last line.
+fn is_of(alloc: Global, text: &str, splits: &Splits) -> Result<bool, Fault> {
+    let other = manifest_text(alloc, splits, 0)?;
+    let front = other.len().saturating_sub(18);
+    let same = text.len() == other.len() && text.as_bytes().get(..front) == other.as_bytes().get(..front);
+    drop(other);
+    Ok(same)
 }
 
 // The logs of a store as they stand at one moment of this call, by shard.

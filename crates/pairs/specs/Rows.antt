@@ -20,9 +20,13 @@ lines_of = flat_map line_of
 abbrev pub setup : WriterBuilder
 setup = with_style default_writer style.Always
 
--- the bytes are a text in UTF-8, without the byte 0 and without a backslash (92)
+-- the byte is neither 0 nor a backslash (92)
+abbrev pub shows_itself : ℕ → Bool
+shows_itself byte = not (byte == 0) && not (byte == 92)
+
+-- the bytes are a text in UTF-8, without the byte 0 and without a backslash
 abbrev pub is_plain : Bytes → Bool
-is_plain bytes = is_utf8 bytes && list_all (λ b. not (b == 0) && not (b == 92)) bytes
+is_plain bytes = is_utf8 bytes && list_all shows_itself bytes
 
 -- how some bytes stand in a field: such a text as it is, and all else spelled
 abbrev pub field : Bytes → List ℕ

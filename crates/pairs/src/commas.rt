@@ -1,8 +1,9 @@
 //! Keys and values as comma-separated values, as PostgreSQL's COPY takes them: a header, and a row for each pair.
 ghost use Rattle.std.specs.Prelude.{◌≡◌, ◌⊎◌, None, Some, IfErr, IfOk, MatchResult, map};
+ghost use Rattle.std.specs.List.{list_all};
 ghost use Rattle.csv.specs.Writing.{row_text};
 ghost use Rattle.requests.specs.Spelling.{unspelled};
-ghost use Rattle.pairs.specs.Rows.{FieldsAreRead, field, header, is_plain, rows_of, setup};
+ghost use Rattle.pairs.specs.Rows.{FieldsAreRead, field, header, is_plain, rows_of, setup, shows_itself};
 
 use crate::{Pair, Pairs};
 use counts::Past;
@@ -52,9 +53,16 @@ fn field(alloc: Global, bytes: &[u8]) -> Result<Vec<u8>, Fault>
 fn is_plain(bytes: &[u8]) -> bool
     ensures { result ≡ is_plain bytes.now }
 {
-    if str::from_utf8(bytes).is_err() {
-        return false;
+    match str::from_utf8(bytes) {
+        Ok(_) => show_themselves(bytes),
+        Err(_) => false,
     }
+}
+
+// None of the bytes is 0 or a backslash.
+fn show_themselves(bytes: &[u8]) -> bool
+    ensures { result ≡ list_all shows_itself bytes.now }
+{
     for byte in bytes {
         if *byte == 0 || *byte == b'\\' {
             return false;

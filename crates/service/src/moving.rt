@@ -1,6 +1,8 @@
 //! The commands `export`, `import` and `backup`.
 use crate::alone::alone;
 use crate::refusal::Refusal;
+use commands::splits_of;
+use host_files::HostFiles;
 use moving::{Form, Imported, NotBackedUp, Side, Stop, backup, export, import};
 use output::{Failure, Stream};
 use pairs::{Commas, Lines};
@@ -143,7 +145,12 @@ pub fn backup_folder<R: rt::Files<File = File> + Eprint>(
     dir: &str,
     to: &str,
 ) -> Result<u8, Refusal> {
-    match backup(rt, alloc, dir, to) {
+    let files = HostFiles::new(rt, false);
+    let splits = match splits_of(alloc, &files, dir) {
+        Ok(splits) => splits,
+        Err(fault) => return Err(Refusal::of_manifest(alloc, &files, dir, fault)),
+    };
+    match backup(rt, alloc, dir, &splits, to) {
         Ok(()) => Ok(0),
         Err(NotBackedUp { side, refused }) => {
             let folder = match side {

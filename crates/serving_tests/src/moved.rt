@@ -1,5 +1,5 @@
 //! Stores in folders that are exported, imported into and backed up, one command after the other.
-use crate::streams::{Paper, Parts};
+use crate::streams::Paper;
 use made::{Folder, WrongRows};
 use service::service;
 use std::alloc::Global;
@@ -31,7 +31,7 @@ const DONE: Step = Step {
 };
 
 // Keys and values of each kind, in the order of the keys: line feeds, blanks, quotes, commas, no bytes, letters of UTF-8, and bytes that are no text.
-const LINES: &[u8] = b"a 1\na\\x20b two\\x0alines\nc:\\x5ctemp \\x5cx41\nk \nm \\x22q\\x22,\\x20\\x0d\nn \\x00\nz\\xc3\\xa4 \\xc3\\x9f\n\\xff \\x80,\n";
+const LINES: &[u8] = b"a 1\na\\x20b two\\x0alines\nc:\\x5ctemp \\x5cx41\nk \nm \"q\",\\x20\\x0d\nn \\x00\nz\\xc3\\xa4 \\xc3\\x9f\n\\xff \\x80,\n";
 
 const ROWS: &[u8] = b"\"key\",\"value\"\n\"a\",\"1\"\n\"a b\",\"two\nlines\"\n\"c:\\x5ctemp\",\"\\x5cx41\"\n\"k\",\"\"\n\"m\",\"\"\"q\"\", \r\"\n\"n\",\"\\x00\"\n\"z\xc3\xa4\",\"\xc3\x9f\"\n\"\\xff\",\"\\x80,\"\n";
 
@@ -278,12 +278,11 @@ fn carried_out<
         bytes: Vec::new(alloc),
         is_gone: false,
     };
-    let parts: [(u64, &[u8]); 1] = [(0, step.input)];
-    let input = Parts {
-        rt,
-        parts: &parts,
-        at: 0,
-    };
+    let typed = folder.put(host, "typed", step.input);
+    typed.ok().expect(rt, "a file");
+    let path = folder.path(alloc, "typed").ok().expect(rt, "memory");
+    let input = File::open(rt, path.as_str()).ok().expect(rt, "a file");
+    drop(path);
     let status = service(
         rt,
         alloc,

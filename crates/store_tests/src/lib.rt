@@ -2,6 +2,8 @@
 #![tactic(auto)]
 
 #[cfg(test)]
+mod backups;
+#[cfg(test)]
 mod ceilings;
 #[cfg(test)]
 mod clients;
@@ -17,6 +19,8 @@ mod disks;
 mod doors;
 #[cfg(test)]
 mod drives;
+#[cfg(test)]
+mod faulty;
 #[cfg(test)]
 mod folder_scenes;
 #[cfg(test)]

@@ -1,4 +1,5 @@
 //! Folders of a store of two shards, which part at `m`: what is taken, what is refused, and what is left under which name.
+use crate::faulty::Faulty;
 use crate::folder_scenes::{MADE, Named, Scene, beside, emptied, logs, stores, strange, strangers};
 use crate::verdict::end;
 use drive::drive_shards;
@@ -6,111 +7,15 @@ use host_files::{Expected, Noted, logs_in};
 use made::{Folder, WrongRows, with_slots};
 use settings::Settings;
 use std::alloc::Global;
-use std::fs::{self, File, Metadata, OpenOptions};
+use std::fs::{self, File};
 use std::os::unix::fs::symlink;
 use std::process::Abort;
 use std::random::RandomSource;
 use std::rt::Files;
 use std::sync::Wait;
-use std::sync::atomic::{AtomicU64, Ordering};
 use std::thread::Threads;
-use std::{io, time};
+use std::time;
 use units::{Fault, Key, Splits};
-
-// The files of a runtime, of which one call fails.
-#[derive(Drop)]
-struct Faulty<'r> {
-    rt: &'r HostRuntime,
-    calls: AtomicU64,
-    fails: u64,
-}
-
-impl<'r> Faulty<'r> {
-    fn new(rt: &'r HostRuntime, fails: u64) -> Faulty<'r> {
-        Faulty {
-            rt,
-            calls: AtomicU64::new(0),
-            fails,
-        }
-    }
-
-    // Counts a call, which fails if it is the one.
-    fn call(&self) -> io::Result<()> {
-        if self.calls.fetch_add(1, Ordering::SeqCst) == self.fails {
-            Err(io::Error::from(io::ErrorKind::StorageFull))
-        } else {
-            Ok(())
-        }
-    }
-
-    // Whether the call was made that is to fail.
-    fn has_failed(&self) -> bool {
-        self.calls.load(Ordering::SeqCst) > self.fails
-    }
-}
-
-impl Files for Faulty<'_> {
-    type File = File;
-
-    type Dir = <HostRuntime as Files>::Dir;
-
-    fn open_file(&self, how: &OpenOptions, path: &str) -> io::Result<File> {
-        self.call()?;
-        self.rt.open_file(how, path)
-    }
-
-    fn open_dir(&self, path: &str) -> io::Result<Self::Dir> {
-        self.call()?;
-        self.rt.open_dir(path)
-    }
-
-    fn metadata(&self, path: &str) -> io::Result<Metadata> {
-        self.call()?;
-        self.rt.metadata(path)
-    }
-
-    fn symlink_metadata(&self, path: &str) -> io::Result<Metadata> {
-        self.call()?;
-        self.rt.symlink_metadata(path)
-    }
-
-    fn copy(&self, from: &str, to: &str) -> io::Result<u64> {
-        self.call()?;
-        self.rt.copy(from, to)
-    }
-
-    fn rename(&self, from: &str, to: &str) -> io::Result<()> {
-        self.call()?;
-        self.rt.rename(from, to)
-    }
-
-    fn remove_file(&self, path: &str) -> io::Result<()> {
-        self.call()?;
-        self.rt.remove_file(path)
-    }
-
-    fn create_dir(&self, path: &str) -> io::Result<()> {
-        self.call()?;
-        self.rt.create_dir(path)
-    }
-
-    fn remove_dir(&self, path: &str) -> io::Result<()> {
-        self.call()?;
-        self.rt.remove_dir(path)
-    }
-
-    fn remove_dir_all<B: std::alloc::Allocator>(&self, alloc: B, path: &str) -> io::Result<()> {
-        self.call()?;
-        self.rt.remove_dir_all(alloc, path)
-    }
-}
-
-impl RandomSource for Faulty<'_> {
-    fn fill_bytes(&self, buf: &mut [u8]) -> io::Result<()> {
-        self.call()?;
-        self.rt.fill_bytes(buf)
-    }
-}
 
 fn splits(test: &impl Abort, alloc: Global) -> Splits {
     let split = Key::new(b"m").expect(test, "a key");

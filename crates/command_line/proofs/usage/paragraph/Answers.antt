@@ -4,7 +4,7 @@ use Rattle.std.specs.Prelude.{if◌then◌else◌}
 use Rattle.std.specs.Str.{bytes_eq}
 use Rattle.std.proofs.lemmas.Slice.Eq.{bytes_eq-Decides}
 use Rattle.command_line.specs.Lines.{Word}
-use Rattle.command_line.specs.declared.usage.TheConstants.{PAGE, GET, PUT, HISTORY, STATS, DUMP, INSPECT, DRIVE, FORMAT, MIGRATE, COMPACT, PLAY, ONCE, MAKE, SERVE}
+use Rattle.command_line.specs.declared.usage.TheConstants.{PAGE, GET, PUT, HISTORY, STATS, DUMP, INSPECT, DRIVE, FORMAT, MIGRATE, COMPACT, PLAY, ONCE, MAKE, SERVE, EXPORT, IMPORT, BACKUP}
 use Rattle.command_line.proofs.usage.paragraph.Goals as goal
 
 differs : (name known : Word) → (name ≡ known → ⊥) → bytes_eq name known ≡ false
@@ -15,8 +15,8 @@ differs name known other = by (bytes_eq name known) refl
     by false e = e
 
 -- the text by which names it is
-abbrev text_by : Bool → Bool → Bool → Bool → Bool → Bool → Bool → Bool → Bool → Bool → Bool → Bool → Bool → Bool → List ℕ
-text_by a b c d e f g h i j k l m n =
+abbrev text_by : Bool → Bool → Bool → Bool → Bool → Bool → Bool → Bool → Bool → Bool → Bool → Bool → Bool → Bool → Bool → Bool → Bool → List ℕ
+text_by a b c d e f g h i j k l m n o p q =
     if a then GET.now
     else (if b then PUT.now
     else (if c then HISTORY.now
@@ -31,7 +31,10 @@ text_by a b c d e f g h i j k l m n =
     else (if l then ONCE.now
     else (if m then MAKE.now
     else (if n then SERVE.now
-    else PAGE.now)))))))))))))
+    else (if o then EXPORT.now
+    else (if p then IMPORT.now
+    else (if q then BACKUP.now
+    else PAGE.now))))))))))))))))
 
 pub returns-in_default : goal.returns-in_default
 returns-in_default c =
@@ -49,4 +52,7 @@ returns-in_default c =
     (differs name (codes "play") c.in_default.not-play i)
     (differs name (codes "once") c.in_default.not-once i)
     (differs name (codes "make") c.in_default.not-make i)
-    (differs name (codes "serve") c.in_default.not-serve i))
+    (differs name (codes "serve") c.in_default.not-serve i)
+    (differs name (codes "export") c.in_default.not-export i)
+    (differs name (codes "import") c.in_default.not-import i)
+    (differs name (codes "backup") c.in_default.not-backup i))

@@ -1,0 +1,3 @@
+pub mod Copying
+pub mod Told
+pub mod Putting
