@@ -14,12 +14,11 @@ use Rattle.moving.specs.declared.form.Form.TheVariants.{Lines, Rows}
 pub told_next : (splits : List Bytes) (at : ℕ) (before middle after : List Viewing) (pairs : List Pair) (pair : Pair) → AreTold splits at before pairs middle
     → LookedAt middle after (shard_of splits pair.key) (λ viewer later. IsShown viewer later pair.key at (Some pair.value))
     → AreTold splits at before (pairs ++ pair ∷ []) after
-told_next splits at before middle after [] pair are looked =
-    (
-      after,
-      subst (λ (vs : List Viewing). LookedAt vs after (shard_of splits pair.key) (λ viewer later. IsShown viewer later pair.key at (Some pair.value))) are looked,
-      refl,
-    )
+told_next splits at before middle after [] pair are looked = (
+  after,
+  subst (λ (vs : List Viewing). LookedAt vs after (shard_of splits pair.key) (λ viewer later. IsShown viewer later pair.key at (Some pair.value))) are looked,
+  refl,
+)
 told_next splits at before middle after (first ∷ pairs) pair are looked =
     (are.0, are.1, told_next splits at are.0 middle after pairs pair are.2 looked)
 

@@ -132,7 +132,8 @@ fn manifest_in<F: Texts>(
 fn is_of(alloc: Global, text: &str, splits: &Splits) -> Result<bool, Fault> {
     let other = manifest_text(alloc, splits, 0)?;
     let front = other.len().saturating_sub(18);
-    let same = text.len() == other.len() && text.as_bytes().get(..front) == other.as_bytes().get(..front);
+    let same = text.len() == other.len()
+        && text.as_bytes().get(..front) == other.as_bytes().get(..front);
     drop(other);
     Ok(same)
 }

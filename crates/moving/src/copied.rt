@@ -53,11 +53,7 @@ impl<D: Disk + Drop> Whole<D> {
 
     /// Copies each log onto a new disk, without what was renewed. The logs have to stay as they are meanwhile. It is refused for memory, if a device
     /// fails, and as `many` if there are fewer new disks than logs.
-    pub fn copy_onto<E: Disk + Drop>(
-        self,
-        alloc: Global,
-        files: Vec<E>,
-    ) -> Result<Vec<E>, Uncopied>
+    pub fn copy_onto<E: Disk + Drop>(self, alloc: Global, files: Vec<E>) -> Result<Vec<E>, Uncopied>
         // Each copy holds the records of its log, whatever crash comes.
         ensures copies { IfOk result (λ copies. D.keeps_model → E.keeps_model → AreCopies E.file
             (map (λ log. (surface (D.file log)).seen) self.logs.items) copies.items) }

@@ -120,10 +120,7 @@ fn put_all<R: Wait + time::Clock>(client: &mut Client<'_, R>, pairs: &[Pair]) ->
 }
 
 // Puts some pairs, one after the other.
-fn put_each<R: Wait + time::Clock>(
-    tx: &mut Transaction<'_, R>,
-    pairs: &[Pair],
-) -> Result<(), Halt>
+fn put_each<R: Wait + time::Clock>(tx: &mut Transaction<'_, R>, pairs: &[Pair]) -> Result<(), Halt>
     ensures { OnOk result (HasPut pairs.now tx.old.session.client tx.new.session.client) }
 {
     for pair in pairs {

@@ -43,9 +43,12 @@ pub fn export_folder<
     errors: &mut E,
 ) -> Result<u8, Refusal> {
     let mut out = Stream::new(output);
-    let exported = alone(rt, alloc, dir, |client: &mut Client<'_, R>| exported(
-        alloc, client, at, form_of(csv), &mut out,
-    ))?;
+    let exported = alone(
+        rt,
+        alloc,
+        dir,
+        |client: &mut Client<'_, R>| exported(alloc, client, at, form_of(csv), &mut out),
+    )?;
     drop(out);
     match exported {
         Ok(Exported { pairs, at }) => {
@@ -87,20 +90,23 @@ pub fn import_folder<
     R: rt::Files<File = File> + Eprint + RandomSource + Threads + Wait + time::Clock + Sync,
     I: Read + Drop,
     O: Write + Drop,
->(
-    rt: &R,
-    alloc: Global,
-    dir: &str,
-    csv: bool,
-    input: I,
-    output: O,
-) -> Result<u8, Refusal> {
+>(rt: &R, alloc: Global, dir: &str, csv: bool, input: I, output: O) -> Result<u8, Refusal> {
     let imported = if csv {
         let mut rows = Commas::of(alloc, input);
-        alone(rt, alloc, dir, |client: &mut Client<'_, R>| import(alloc, client, &mut rows))?
+        alone(
+            rt,
+            alloc,
+            dir,
+            |client: &mut Client<'_, R>| import(alloc, client, &mut rows),
+        )?
     } else {
         let mut lines = Lines::of(alloc, buffered(alloc, input)?);
-        alone(rt, alloc, dir, |client: &mut Client<'_, R>| import(alloc, client, &mut lines))?
+        alone(
+            rt,
+            alloc,
+            dir,
+            |client: &mut Client<'_, R>| import(alloc, client, &mut lines),
+        )?
     };
     let mut output = output;
     let Imported { pairs, stop } = imported;

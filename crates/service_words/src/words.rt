@@ -19,9 +19,15 @@ const BEYOND: Fault = Fault::BadRequest(Reason::Settings);
 #[derive(Drop)]
 pub enum Asked<'a> {
     /// An empty store is made in a folder, whose keys part at these.
-    Make { dir: &'a str, splits: Splits },
+    Make {
+        dir: &'a str,
+        splits: Splits,
+    },
     /// The store in a folder is served.
-    Serve { dir: &'a str, choices: Choices },
+    Serve {
+        dir: &'a str,
+        choices: Choices,
+    },
     /// The keys and values of the store in a folder are written as lines or as comma-separated values, as they are now or were at a timestamp.
     Export {
         dir: &'a str,
@@ -29,9 +35,15 @@ pub enum Asked<'a> {
         csv: bool,
     },
     /// Keys and values are put into the store in a folder, from lines or from comma-separated values.
-    Import { dir: &'a str, csv: bool },
+    Import {
+        dir: &'a str,
+        csv: bool,
+    },
     /// The store in a folder is copied into another folder.
-    Backup { dir: &'a str, to: &'a str },
+    Backup {
+        dir: &'a str,
+        to: &'a str,
+    },
 }
 
 // The parts in which a client's patience is counted, in milliseconds.

@@ -178,21 +178,16 @@ fn told<R: Files<File = File> + RandomSource + Threads + Wait + time::Clock + Sy
 }
 
 // Whether the store is made and copied as said, and each copy has all money, and what was acknowledged before it was begun.
-fn are_right<R: Files<File = File> + Eprint + RandomSource + Threads + Wait + time::Clock + Sync + Abort>(
-    rt: &R,
-    alloc: Global,
-    folder: &str,
-    copies: &[String],
-    wrong: &mut WrongRows,
-) {
+fn are_right<
+    R: Files<File = File> + Eprint + RandomSource + Threads + Wait + time::Clock + Sync + Abort,
+>(rt: &R, alloc: Global, folder: &str, copies: &[String], wrong: &mut WrongRows) {
     let mut chosen = options(rt, alloc, 3);
     chosen.make = true;
     let store = Store::open_folder(rt, alloc, folder, chosen);
     let splits = splits(rt, alloc);
-    let served = store
-        .ok()
-        .expect(rt, "a store")
-        .serve(|clients: Vec<Client<'_, R>>| work(rt, alloc, clients, folder, &splits, copies));
+    let served = store.ok().expect(rt, "a store").serve(|clients: Vec<Client<'_, R>>| work(
+        rt, alloc, clients, folder, &splits, copies,
+    ));
     drop(splits);
     let (worked, disks) = served.ok().expect(rt, "threads");
     drop(disks);
@@ -237,16 +232,13 @@ fn made<R: Files<File = File> + RandomSource + Threads + Wait + time::Clock + Sy
     let mut chosen = options(rt, alloc, 1);
     chosen.make = true;
     let store = Store::open_folder(rt, alloc, folder, chosen);
-    let served = store
-        .ok()
-        .expect(rt, "a store")
-        .serve(|clients: Vec<Client<'_, R>>| -> bool {
-            let mut clients = clients;
-            match clients.pop() {
-                Some(mut client) => fill(&mut client),
-                None => false,
-            }
-        });
+    let served = store.ok().expect(rt, "a store").serve(|clients: Vec<Client<'_, R>>| -> bool {
+        let mut clients = clients;
+        match clients.pop() {
+            Some(mut client) => fill(&mut client),
+            None => false,
+        }
+    });
     match served {
         Ok((filled, disks)) => {
             drop(disks);
@@ -281,7 +273,9 @@ fn a_backup_that_is_cut_off_is_no_store(rt: HostRuntime) {
     wrong.unless(made(&rt, alloc, path.as_str()), "the store");
     let mut ended = false;
     for fails in 0..200_u64 {
-        let copy = format!(in alloc; "{}/copy-{fails}", path.as_str()).ok().expect(&rt, "memory");
+        let copy = format!(in alloc; "{}/copy-{fails}", path.as_str())
+            .ok()
+            .expect(&rt, "memory");
         let faulty = Faulty::new(&rt, fails);
         let splits = splits(&rt, alloc);
         let backed_up = backup(&faulty, alloc, path.as_str(), &splits, copy.as_str());
