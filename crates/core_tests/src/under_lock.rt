@@ -20,6 +20,7 @@ use truetime::{Clock, Reading};
 const WAITS: u64 = 200;
 
 // A clock that notes whether its node answers another thread while it is asked.
+#[derive(Drop)]
 struct Asked<'a, R> {
     rt: &'a R,
     now: Reading,
