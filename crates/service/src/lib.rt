@@ -2,8 +2,10 @@
 #![tactic(auto)]
 
 mod alone;
+mod backing_up;
+mod exporting;
+mod importing;
 mod making;
-mod moving;
 mod opening;
 mod options;
 mod refusal;

@@ -1,8 +1,10 @@
 //! The commands over an open store are carried out.
 ghost use Rattle.std.specs.Prelude.{◌≡◌, ◌⊎◌};
 
+use crate::backing_up::backup_folder;
+use crate::exporting::export_folder;
+use crate::importing::import_folder;
 use crate::making::make;
-use crate::moving::{backup_folder, export_folder, import_folder};
 use crate::opening::opened;
 use crate::refusal::Refusal;
 use commands::splits_of;

@@ -1,5 +1,5 @@
 //! What is wrong with words that are refused.
-use crate::moving::explanation_of_text;
+use crate::move_words::explanation_of_text;
 use crate::options::{Numbered, OPTIONS};
 use command_line::paragraph;
 use std::alloc::{AllocError, Global};

@@ -3,7 +3,7 @@
 
 mod choices;
 mod explaining;
-mod moving;
+mod move_words;
 mod options;
 mod words;
 

@@ -2,7 +2,7 @@
 ghost use Rattle.std.specs.Prelude.{◌≡◌, ◌≤◌, IfOk};
 
 use crate::choices::Choices;
-use crate::moving::{backup, export, import, with_moving};
+use crate::move_words::{backup, export, import, with_moving};
 use crate::options::{CLIENTS, EPSILON, IDLE, KEEP, Numbered, OPTIONS, PATIENCE, RENEW, STRIDE};
 use clap::error::ErrorKind;
 use clap::{Arg, ArgMatches, Command};

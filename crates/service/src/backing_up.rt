@@ -1,0 +1,37 @@
+//! The command `backup`.
+use crate::refusal::Refusal;
+use commands::splits_of;
+use host_files::HostFiles;
+use moving::{NotBackedUp, Side, backup};
+use std::alloc::Global;
+use std::fs::File;
+use std::rt;
+use store::RefusedIn;
+
+/// Copies the store in a folder into another one.
+pub fn backup_folder<R: rt::Files<File = File> + Eprint>(
+    rt: &R,
+    alloc: Global,
+    dir: &str,
+    to: &str,
+) -> Result<u8, Refusal> {
+    let files = HostFiles::new(rt, false);
+    let splits = match splits_of(alloc, &files, dir) {
+        Ok(splits) => splits,
+        Err(fault) => return Err(Refusal::of_manifest(alloc, &files, dir, fault)),
+    };
+    match backup(rt, alloc, dir, &splits, to) {
+        Ok(()) => Ok(0),
+        Err(NotBackedUp { side, refused }) => {
+            let folder = match side {
+                Side::From => dir,
+                Side::To => to,
+            };
+            let told = RefusedIn { folder, refused };
+            Err(Refusal {
+                fault: refused.fault,
+                told: format!(in alloc; "--> {told}").ok(),
+            })
+        }
+    }
+}

@@ -1,0 +1,74 @@
+//! The command `import`.
+use crate::alone::alone;
+use crate::refusal::Refusal;
+use moving::{Imported, Stop, import};
+use pairs::{Commas, Lines};
+use std::alloc::Global;
+use std::fs::File;
+use std::io::{BufReader, Read, Write};
+use std::random::RandomSource;
+use std::sync::Wait;
+use std::thread::Threads;
+use std::{rt, time};
+use store::Client;
+use units::{Fault, Reason};
+
+/// Puts the keys and values that come on `input` into the store in a folder, and prints how many. Gives the status: 0, or 1 if a transaction does not
+/// surely stand. A line that is none is refused by its number, after the number of those that were put.
+pub fn import_folder<
+    R: rt::Files<File = File> + Eprint + RandomSource + Threads + Wait + time::Clock + Sync,
+    I: Read + Drop,
+    O: Write + Drop,
+>(rt: &R, alloc: Global, dir: &str, csv: bool, input: I, output: O) -> Result<u8, Refusal> {
+    let imported = if csv {
+        let mut rows = Commas::of(alloc, input);
+        alone(
+            rt,
+            alloc,
+            dir,
+            |client: &mut Client<'_, R>| import(alloc, client, &mut rows),
+        )?
+    } else {
+        let mut lines = Lines::of(alloc, buffered(alloc, input)?);
+        alone(
+            rt,
+            alloc,
+            dir,
+            |client: &mut Client<'_, R>| import(alloc, client, &mut lines),
+        )?
+    };
+    let mut output = output;
+    let Imported { pairs, stop } = imported;
+    let _ = writeln!(output, "imported {pairs}");
+    match stop {
+        None => Ok(0),
+        Some(Stop::Aborted) => {
+            let _ = writeln!(output, "aborted");
+            Ok(1)
+        }
+        Some(Stop::Unknown(id)) => {
+            let _ = writeln!(output, "unknown {id}");
+            Ok(1)
+        }
+        Some(Stop::Refused(fault)) => Err(of_line(alloc, fault)),
+    }
+}
+
+fn buffered<I: Read + Drop>(alloc: Global, input: I) -> Result<BufReader<I>, Fault> {
+    match BufReader::new(alloc, input) {
+        Ok(reader) => Ok(reader),
+        Err(_) => Err(Fault::Memory),
+    }
+}
+
+// Refuses a line by its number, if the fault has one.
+fn of_line(alloc: Global, fault: Fault) -> Refusal {
+    let told = match fault {
+        Fault::BadRequest(Reason::Syntax(line)) => {
+            format!(in alloc; "--> standard input:{line}").ok()
+        }
+        Fault::Device => format!(in alloc; "--> standard input").ok(),
+        _ => None,
+    };
+    Refusal { fault, told }
+}
