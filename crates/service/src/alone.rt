@@ -39,9 +39,7 @@ pub fn alone<
     drop(defaults);
     let store = match opened(rt, alloc, dir, &splits, &choices, false) {
         Ok(store) => store,
-        Err(unopened) => {
-            return Err(Refusal::of_store(alloc, &files, dir, &splits, unopened.fault));
-        }
+        Err(refused) => return Err(Refusal::of_store(alloc, dir, refused)),
     };
     let (done, disks) = store.serve(|clients: Vec<Client<'_, R>>| -> Result<T, Fault> {
         let mut clients = clients;
