@@ -196,7 +196,10 @@ fn refused_as(causes: &Causes, uncopied: Uncopied) -> NotBackedUp {
         Side::From => NotBackedUp::from_store(Refused::from(fault).of(Name::Log(shard))),
         Side::To => {
             let number = u8::try_from(shard).ok().and_then(ShardNo::new);
-            NotBackedUp::to_folder(causes.refuse(fault, number))
+            NotBackedUp::to_folder(Refused {
+                file: Some(Name::LogCopy(shard)),
+                ..causes.refuse(fault, number)
+            })
         }
     }
 }
