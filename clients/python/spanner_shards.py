@@ -2,19 +2,7 @@
 
 Keys and values are bytes. Threads may share a store: each call takes one of its clients, and waits while all are in use."""
 
-import collections
-import contextlib
-import os
-import queue
-import random
-import re
-import subprocess
-import threading
-import time
-
-_NOT_PLAIN = re.compile(rb"[^!-\[\]-~]")
-_SPELLED = re.compile(rb"\\x([0-9a-fA-F]{2})")
-_OVER = {b"committed", b"unknown", b"aborted", b"ended", b"ended:"}  # after these answers nothing is open
+import collections, contextlib, os, queue, re, subprocess, threading, time  # noqa: E401
 
 # A transaction stands at the timestamp `at`, in microseconds. `result` is what its code returned.
 Committed = collections.namedtuple("Committed", "at id result", defaults=[None])
@@ -22,7 +10,6 @@ Committed = collections.namedtuple("Committed", "at id result", defaults=[None])
 
 class Refused(Exception):
     """The store refused what was asked: the number and the words of a fault. `ended` says whether the transaction or view is over."""
-
     def __init__(self, words, ended=False):
         super().__init__(words)
         self.number, self.ended = int(re.match("[0-9]*", words).group() or 0), ended
@@ -43,12 +30,12 @@ class Closed(Exception):
 
 def spelled(data):
     """The word that spells some bytes."""
-    return _NOT_PLAIN.sub(lambda found: b"\\x%02x" % found.group()[0], data)
+    return re.sub(rb"[^!-\[\]-~]", lambda found: b"\\x%02x" % found.group()[0], data)
 
 
 def unspelled(word):
     """The bytes that a word spells."""
-    return _SPELLED.sub(lambda found: bytes([int(found.group(1), 16)]), word)
+    return re.sub(rb"\\x([0-9a-fA-F]{2})", lambda found: bytes([int(found.group(1), 16)]), word)
 
 
 def _program(program):
@@ -60,26 +47,25 @@ def _program(program):
 def _read(answer):
     """What an answer tells, or raises."""
     first, *words = answer.split(b" ")
-    if first.startswith(b"=") or first == b"none":
-        return [unspelled(word[1:]) if word.startswith(b"=") else None for word in [first, *words]]
+    values = [unspelled(word[1:]) if word.startswith(b"=") else None for word in [first, *words]]
     if first in (b"fault:", b"ended:"):
         raise Refused(answer.partition(b"fault: ")[2].decode("ascii", "replace"), first == b"ended:")
-    if first == b"aborted":
-        raise Aborted("aborted")
-    if first == b"unknown":
-        raise Unknown(words[0].decode())
+    if first in (b"aborted", b"unknown"):
+        raise Unknown(words[0].decode()) if words else Aborted("aborted")
     if first == b"committed":
         return Committed(int(words[0]), words[1].decode())
-    return words[0].decode() if words else None
+    if first == b"page":
+        return values[1], values[2:]
+    return values if first == b"none" or first.startswith(b"=") else b" ".join(words).decode()
 
 
 class _Client:
     """One client of the program. Each of its lines gets one answer, in order. It is one call's at a time."""
-
     def __init__(self, store, number):
         self.store, self.number = store, b"%d " % number
         self.waiting = collections.deque()  # for each line without an answer, where the answer goes
         self.end = self.id = None  # the line that ends what may be open, and the id of a transaction
+        self.doubts = collections.deque(maxlen=16)  # the last ids that were answered `unknown`
 
     def ask(self, verb, *data):
         """Asks for a line, and waits for its answer, also beside one that nobody waits for any more."""
@@ -87,10 +73,11 @@ class _Client:
         self.store._send(self, b" ".join([verb, *map(spelled, data)]), place)
         answer = place.get()
         if answer is None:
-            is_commit = verb == b"commit" or verb in (b"put", b"erase") and not self.end
-            raise Unknown(self.id) if is_commit else Closed(self.store.folder)
-        if answer.partition(b" ")[0] in _OVER:
-            self.end = self.id = None
+            raise Unknown(self.id) if verb == b"commit" or verb in (b"put", b"erase") and not self.end else Closed(self.store.folder)
+        first, _, rest = answer.partition(b" ")
+        if first in (b"committed", b"unknown", b"aborted", b"ended", b"ended:"):
+            self.end = self.id = None  # nothing is open
+        self.doubts.extend([rest.decode()] * (first == b"unknown"))
         return _read(answer)
 
     def close(self):
@@ -122,11 +109,9 @@ class _Writes(_Reads):
 
 class _Open(contextlib.AbstractContextManager):
     """A transaction or a view, until it is over. Then no line is sent: the program would serve it by itself."""
-    _words = []
-
-    def __init__(self, client):
+    def __init__(self, client, *words):
         self._client, self._over, client.end = client, None, self._end
-        self.id = client.id = client.ask(self._begin, *self._words)
+        self.id = client.id = client.ask(self._begin, *words)
 
     def _ask(self, *words):
         if self._over:
@@ -151,32 +136,28 @@ class View(_Open, _Reads):
     _begin, _end = b"view", b"end"
     at = property(lambda self: int(self.id))
 
-    def __init__(self, client, at=None):
-        self._words = [] if at is None else [b"%d" % at]
-        super().__init__(client)
+    def keys(self, first=b"\0", end=b"", limit=1000):
+        """A page of the keys from the first on, and before the end unless that is empty: at most `limit`, 1 to 1,000, and maybe none."""
+        return self._ask(b"keys", first, end, b"%d" % limit)
 
 
 class Store(_Writes, contextlib.AbstractContextManager):
     """A store in a folder, open for so many clients (1 to 64). `options` are further words of the program, as ("--idle", "5000")."""
-
     def __init__(self, folder, clients=64, options=(), program=None):
-        self.folder, self._lock, self._is_closed, self._free = os.fspath(folder), threading.Lock(), False, queue.SimpleQueue()
+        self.folder, self._lock, self._is_closed, self._freed = os.fspath(folder), threading.Lock(), False, threading.Condition()
         words = [*_program(program), "serve", self.folder, "--clients", str(clients), *options]
-        # In a session of its own the program is not ended by a key that interrupts this one.
         self.process = subprocess.Popen(words, stdin=subprocess.PIPE, stdout=subprocess.PIPE, start_new_session=True)
         if not self.process.stdout.readline().startswith(b"ready"):
             self.process.communicate()
             raise Closed(f"{self.folder} was not opened (status {self.process.returncode}): standard error has the reason")
         self._clients = [_Client(self, number) for number in range(clients)]
-        for client in self._clients:
-            self._free.put(client)
+        self._free = self._clients[:]
         threading.Thread(target=self._hear, daemon=True).start()
 
     @staticmethod
     def make(folder, *splits, program=None):
         """Makes an empty store, of one shard more than there are splits. If there is one already, that is refused."""
-        words = [*_program(program), "make", os.fspath(folder), *map(spelled, splits)]
-        made = subprocess.run(words, stdin=subprocess.DEVNULL, capture_output=True)
+        made = subprocess.run([*_program(program), "make", os.fspath(folder), *map(spelled, splits)], stdin=subprocess.DEVNULL, capture_output=True)
         if made.returncode:
             raise Refused(made.stderr.decode("utf8", "replace").strip().rpartition("fault: ")[2])
 
@@ -205,8 +186,10 @@ class Store(_Writes, contextlib.AbstractContextManager):
                     place.put(None)
 
     @contextlib.contextmanager
-    def _client(self):
-        client = self._free.get()
+    def _client(self, wanted=()):
+        with self._freed:
+            client = self._freed.wait_for(lambda: [one for one in self._free if one in wanted] if wanted else self._free)[-1]
+            self._free.remove(client)
         try:
             client.close()
             yield client
@@ -214,7 +197,9 @@ class Store(_Writes, contextlib.AbstractContextManager):
             try:
                 client.close()
             finally:
-                self._free.put(client)
+                with self._freed:
+                    self._free.append(client)
+                    self._freed.notify_all()
 
     def _ask(self, *words):
         with self._client() as client:
@@ -231,15 +216,26 @@ class Store(_Writes, contextlib.AbstractContextManager):
                     except Aborted as aborted:
                         if aborted is not tx._over:
                             raise
-                time.sleep(random.random() * min(attempt, 20) / 1000)
+                time.sleep(os.urandom(1)[0] / 256 * min(attempt, 20) / 1000)
             raise Aborted(f"aborted at each of {tries} tries")
 
     @contextlib.contextmanager
     def view(self, at=None):
-        """A view of the present, or at a time in microseconds: all that it answers stood then. Of a time that is not served yet `get` raises
-        `Refused` with fault 9, which a retry heals, and of one that is forgotten with fault 15, for good."""
-        with self._client() as client, View(client, at) as view:
+        """A view of the present, or of a time in microseconds: all that it answers stood then."""
+        with self._client() as client, View(client, *([] if at is None else [b"%d" % at])) as view:
             yield view
+
+    def outcome(self, id):
+        """How a transaction ended that was `Unknown`: `Committed`, or it raises `Aborted`. If nobody can tell yet it is `None`: ask again."""
+        with self._client([client for client in self._clients if id in client.doubts]) as client:
+            how, _, at = client.ask(b"outcome", id.encode()).partition(" ")
+        if how == "aborted":
+            raise Aborted(id)
+        return Committed(int(at), id) if at else None
+
+    def stats(self):
+        """The numbers of the store, as Prometheus reads them."""
+        return self._ask(b"stats")[0].decode()
 
     def close(self):
         """Ends the program, which first answers what was asked, and gives up what is open. Returns its exit status."""

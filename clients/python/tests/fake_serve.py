@@ -43,12 +43,16 @@ def key_of(word):
     return key
 
 
-def stamp_of(word):
+def number_of(word):
     if not re.fullmatch(rb"0|[1-9][0-9]*", word):
         raise Bad(COMMAND)
-    if int(word) >= 1 << 62:
-        raise Bad(b"fault: 7 BadRequest(stamp)")
     return int(word)
+
+
+def stamp_of(word):
+    if number_of(word) >= 1 << 62:
+        raise Bad(b"fault: 7 BadRequest(stamp)")
+    return number_of(word)
 
 
 def value_of(word):
@@ -73,6 +77,8 @@ class Log:
                     raise
                 time.sleep(0.01)
         self.versions, self.last, self.count = collections.defaultdict(list), 0, 0
+        with open(os.path.join(folder, "fake.splits"), "rb") as splits:
+            self.splits = list(map(unspelled, splits.read().split()))
         whole = self.file.read()
         whole = whole[:whole.rfind(b"\n") + 1]
         for line in whole.splitlines():
@@ -136,12 +142,19 @@ class View:
             raise Bad(b"fault: 9 NotYet")
         return self.log.value(key, self.at)
 
+    def keys(self, first, end, limit):
+        """A page: as many keys as the limit says that were ever written, of one shard, and where the next begins."""
+        self.value(first)
+        split = min([split for split in self.log.splits if split > first and (not end or split < end)], default=None)
+        written = sorted(key for key in self.log.versions if key >= first and (not end or key < end) and (split is None or key < split))
+        return [key for key in written[:limit] if self.value(key) is not None], min(written[limit:], default=split)
+
 
 class Client:
     """One client's conversation."""
 
     def __init__(self, log, idle):
-        self.log, self.idle, self.open, self.heard = log, idle, None, time.monotonic()
+        self.log, self.idle, self.open, self.heard, self.doubts = log, idle, None, time.monotonic(), set()
         self.lock, self.held, self.late = threading.Lock(), [], None
 
     def tell(self, line, wait):
@@ -166,7 +179,7 @@ class Client:
             self.open = None
             return b"aborted"
         verb, *rest = words
-        if verb not in (b"begin", b"get", b"put", b"erase", b"commit", b"abort", b"view", b"end"):
+        if verb not in (b"begin", b"get", b"put", b"erase", b"commit", b"abort", b"view", b"keys", b"end", b"outcome", b"stats"):
             raise Bad(COMMAND)
         return getattr(self, verb.decode())(*rest)
 
@@ -225,11 +238,33 @@ class Client:
         self.open = View(self.log, *at)
         return b"at %d" % self.open.at
 
+    def keys(self, first, end, limit):
+        first, end, limit = key_of(first), end and key_of(end), number_of(limit)
+        if not 1 <= limit <= 1000:
+            raise Bad(b"fault: 7 BadRequest(many)")
+        if not self.is_in(View):
+            raise Bad(STATE)
+        keys, after = self.open.keys(first, end, limit)
+        return b" ".join([b"page", b"none" if after is None else b"=" + spelled(after), *(b"=" + spelled(key) for key in keys)])
+
     def end(self):
         if self.is_in(Transaction):
             raise Bad(STATE)
         self.open = None
         return b"ended"
+
+    def outcome(self, id):
+        """What was `unknown` stands nowhere. Of each other id a client knows nothing."""
+        if not re.fullmatch(rb"[0-9]+[.][0-9]+", id):
+            raise Bad(COMMAND)
+        if self.open:
+            raise Bad(STATE)
+        return b"outcome aborted" if id in self.doubts else b"outcome unknown"
+
+    def stats(self):
+        if self.open:
+            raise Bad(STATE)
+        return b"=" + spelled(b'# TYPE spanner_shards_commits counter\nspanner_shards_commits{shard="0"} %d\n' % self.log.count)
 
 
 def option(words, name, otherwise):
@@ -252,7 +287,9 @@ def told_in(path):
 
 def told_answer(client, answer):
     """An answer that was told, once its effect is there."""
-    first = answer.split(b" ")[0]
+    first, _, rest = answer.partition(b" ")
+    if first == b"unknown":
+        client.doubts.add(rest)
     if first == b"committed" and client.is_in(Transaction):
         client.log.commit(client.open.id, list(client.open.writes.items()))
     if first in (b"committed", b"unknown", b"aborted", b"ended", b"ended:"):
@@ -310,9 +347,11 @@ def serve(folder, *options):
     return 0
 
 
-def make(folder, *_splits):
+def make(folder, *splits):
     try:
         os.makedirs(folder, exist_ok=True)
+        with open(os.path.join(folder, "fake.splits"), "w", encoding="ascii") as file:
+            file.write("\n".join(splits))
         open(os.path.join(folder, "fake.log"), "xb").close()
     except OSError:
         print("fault: 2 Device", file=sys.stderr)

@@ -80,6 +80,53 @@ class Ends(Told):
             store.put(b"a", b"1")
         self.assertEqual(unknown.exception.id, "3.6")
 
+    def test_how_an_unknown_one_ended(self):
+        store = self.told("put unknown 3.6", "outcome outcome open", "outcome outcome unknown", "outcome outcome committed 17")
+        with self.assertRaises(Unknown):
+            store.put(b"a", b"1")
+        self.assertIsNone(store.outcome("3.6"))
+        self.assertIsNone(store.outcome("3.6"))
+        self.assertEqual(store.outcome("3.6"), (17, "3.6", None))
+        with self.assertRaises(Aborted):
+            store.outcome("3.6")
+
+    def test_the_client_that_ran_it_is_asked(self):
+        """Once it is in no use. Another one would know nothing."""
+        store = self.told("put unknown 3.6", "commit unknown 3.7", clients=3)
+        told = []
+
+        def ask(id):
+            try:
+                told.append(store.outcome(id))
+            except Aborted:
+                told.append("aborted")
+
+        with self.assertRaises(Unknown):
+            store.put(b"a", b"1")
+        with self.assertRaises(Unknown):
+            store.transact(add_one)
+        with store.view() as view:
+            asking = [threading.Thread(target=ask, args=(id,)) for id in ("3.6", "3.7")]
+            for thread in asking:
+                thread.start()
+            time.sleep(0.2)
+            self.assertIsNone(view.get(b"a"))
+            self.assertIsNone(store.get(b"a"))
+            self.assertEqual(told, [])
+        for thread in asking:
+            thread.join(10)
+        self.assertEqual(told, ["aborted"] * 2)
+        self.assertIsNone(store.outcome("3.8"))
+
+    def test_a_client_knows_its_last_sixteen(self):
+        store = self.told(*["put unknown 3.%d" % number for number in range(17)], clients=1)
+        for _ in range(17):
+            with self.assertRaises(Unknown):
+                store.put(b"a", b"1")
+        for number in range(1, 17):
+            with self.assertRaises(Aborted):
+                store.outcome("3.%d" % number)
+
     def test_put_outside_aborted(self):
         store = self.told("put aborted", "erase aborted")
         for write in (lambda: store.put(b"a", b"1"), lambda: store.erase(b"a")):

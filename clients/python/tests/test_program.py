@@ -69,6 +69,59 @@ CONVERSATIONS = {
         ("get a", "0 fault: 9 NotYet"),
         ("end", "0 ended"),
     ],
+    "keys by pages": [
+        ("put z 1", "0 committed AT1 ID1"),
+        ("put b 1", "0 committed AT2 ID2"),
+        ("put m 1", "0 committed AT3 ID3"),
+        ("put a 1", "0 committed AT4 ID4"),
+        ("put c\\x20 1", "0 committed AT5 ID5"),
+        ("erase b", "0 committed AT6 ID6"),
+        ("view", "0 at AT7"),
+        ("1 put d 1", "1 committed AT8 ID7"),
+        ("keys \\x00  1000", "0 page =m =a =c\\x20"),
+        ("keys m  1000", "0 page none =m =z"),
+        ("keys a  1", "0 page =b =a"),
+        ("keys b  1", "0 page =c\\x20"),
+        ("keys a c 9", "0 page none =a"),
+        ("keys b z 9", "0 page =m =c\\x20"),
+        ("keys m z 9", "0 page none =m"),
+        ("keys zz  9", "0 page none"),
+        ("end", "0 ended"),
+        ("view 0", "0 at 0"),
+        ("keys a  9", "0 page =m"),
+    ],
+    "keys out of place, and no page": [
+        ("keys a  9", "0 fault: 7 BadRequest(state)"),
+        ("begin", "0 begun ID1"),
+        ("keys a  9", "0 fault: 7 BadRequest(state)"),
+        ("abort", "0 aborted"),
+        ("view", "0 at AT1"),
+        ("keys a  0", "0 fault: 7 BadRequest(many)"),
+        ("keys a  1001", "0 fault: 7 BadRequest(many)"),
+        ("keys a  x", "0 fault: 7 BadRequest(R)"),
+        ("keys a b", "0 fault: 7 BadRequest(R)"),
+        ("keys   9", "0 fault: 7 BadRequest(key)"),
+        ("keys a " + "k" * 65 + " 9", "0 fault: 7 BadRequest(key)"),
+        ("end", "0 ended"),
+        ("view 4611686018427387903", "0 at 4611686018427387903"),
+        ("keys a  9", "0 fault: 9 NotYet"),
+    ],
+    "how ids ended that were not unknown": [
+        ("outcome 1.1", "0 outcome unknown"),
+        ("put a 1", "0 committed AT1 ID1"),
+        ("outcome 1.1", "0 outcome unknown"),
+        ("outcome", "0 fault: 7 BadRequest(R)"),
+        ("outcome 1", "0 fault: 7 BadRequest(R)"),
+        ("outcome 1.1 2", "0 fault: 7 BadRequest(R)"),
+        ("begin", "0 begun ID2"),
+        ("outcome 1.1", "0 fault: 7 BadRequest(state)"),
+        ("stats", "0 fault: 7 BadRequest(state)"),
+        ("abort", "0 aborted"),
+        ("view", "0 at AT2"),
+        ("outcome 1.1", "0 fault: 7 BadRequest(state)"),
+        ("stats", "0 fault: 7 BadRequest(state)"),
+        ("stats now", "0 fault: 7 BadRequest(R)"),
+    ],
     "nothing is open": [
         ("abort", "0 aborted"),
         ("end", "0 ended"),
@@ -321,6 +374,43 @@ class OverStores:
             with store.view(at) as view:
                 self.assertEqual((view.at, view.get(b"a")), (at, value))
         self.assertEqual(store.get(b"a"), b"2")
+
+    def test_keys_by_pages(self):
+        """Both shards, in order, as the view has them."""
+        self.make()
+        store = self.open()
+        rows = [b"%s%02d" % (front, number) for front in (b"a", b"z ") for number in range(25)]
+        for key in reversed(rows):
+            store.put(key, b"1")
+        with store.view() as view:
+            store.erase(rows[0])
+            store.put(b"b", b"2")
+            found, next = [], b"\0"
+            while next is not None:
+                next, keys = view.keys(next, limit=7)
+                found += keys
+            self.assertEqual(found, rows)
+            self.assertEqual(view.keys(b"a03", b"a05"), (None, [b"a03", b"a04"]))
+            for limit in (0, 1001):
+                with self.assertRaises(Refused):
+                    view.keys(limit=limit)
+        with store.view() as view:
+            self.assertEqual(view.keys(), (b"m", [*rows[1:25], b"b"]))
+
+    def test_how_a_transaction_ended(self):
+        """A client knows only what was unknown."""
+        self.make()
+        store = self.open()
+        self.assertIsNone(store.outcome(store.put(b"a", b"1").id))
+        with self.assertRaises(Refused):
+            store.outcome("no id")
+
+    def test_stats(self):
+        self.make()
+        store = self.open()
+        store.put(b"a", b"1")
+        store.put(b"b", b"1")
+        self.assertIn('spanner_shards_commits{shard="0"} 2\n', store.stats())
 
     def test_a_view_of_the_future_is_not_served_yet(self):
         self.make()
