@@ -168,6 +168,32 @@ sums | cmp -s - ../before || {
     failed=$((failed + 1))
 }
 exec 9>&-
+
+# What a command says that finds no room in a log which it has opened: told_full STATUS ANSWER FAULT COMMAND. The answer is a pattern.
+told_full() {
+    tried=$((tried + 1))
+    wanted="${3:+$3
+}--> room/filled/shard-0.log: no room left"
+    [ "$status" = "$1" ] && tail -n 1 ../out | grep -qx "$2" && [ "$(cat ../err)" = "$wanted" ] || {
+        echo "refusals: '$4' on a full disk: status $status, '$(tail -n 1 ../out)', '$(cat ../err)'" >&2
+        failed=$((failed + 1))
+    }
+}
+
+# The log is filled so far that the record of an opening has room in the last block, and not one of a write.
+"$program" make room/filled m
+"$program" put room/filled a 1 >committed
+length=$(wc -c <room/filled/shard-0.log)
+rest=$((512 - (2 * length - 9225 + 20) % 512))
+"$program" put room/filled a "$(printf "%0$((rest + 1))d" 0)" >committed
+blocks=$((($(wc -c <room/filled/shard-0.log) + 511) / 512))
+status=0
+(trap '' XFSZ && ulimit -f $blocks && exec timeout 60 "$program" put room/filled a 2) >../out 2>../err || status=$?
+told_full 1 'unknown 4[.][0-9]*' '' put
+status=0
+(trap '' XFSZ && ulimit -f $((blocks + 1)) && seq 30 | sed 's/^/put a /' | timeout 60 "$program" serve room/filled) >../out 2>../err || status=$?
+told_full 2 '0 unknown 5[.][0-9]*' 'fault: 2 Device' serve
+
 [ $failed = 0 ] || exit 1
 [ "$tried" -ge 105 ] || {
     echo "refusals: only $tried lines were found" >&2
