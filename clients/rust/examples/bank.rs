@@ -33,7 +33,7 @@ fn below(limit: u64) -> u64 {
 }
 
 /// Puts 1,000 on each account, unless that was done.
-fn open_accounts(tx: &mut Transaction<'_, '_>) -> Result<(), Failed> {
+fn open_accounts(tx: &mut Transaction<'_>) -> Result<(), Failed> {
     if tx.get(&accounts()[0])?.is_none() {
         for account in accounts() {
             tx.put(&account, b"1000")?;
@@ -46,7 +46,7 @@ fn open_accounts(tx: &mut Transaction<'_, '_>) -> Result<(), Failed> {
 pub fn total(store: &Store) -> Result<u64, Failed> {
     let all = accounts();
     let keys: Vec<&[u8]> = all.iter().map(Vec::as_slice).collect();
-    Ok(store.view()?.get_all(&keys)?.into_iter().map(number).sum())
+    Ok(store.view(None)?.get_all(&keys)?.into_iter().map(number).sum())
 }
 
 /// What a teller was told: the number of its last move that was committed, those whose end is unknown, and how many were committed.
@@ -138,7 +138,7 @@ impl Bank {
             while Instant::now() < until && audited.is_ok() {
                 audited = self.audit(store);
             }
-            let killed = store.kill();
+            let killed = store.child.lock().unwrap().kill();
             let worked = threads.into_iter().map(|thread| thread.join().unwrap_or(Err(Failed::Closed)));
             audited.and(killed.map_err(|_| Failed::Closed)).and(worked.collect())
         });

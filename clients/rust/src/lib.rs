@@ -1,15 +1,11 @@
 #![doc = include_str!("../README.md")]
 
-use std::collections::hash_map::RandomState;
-use std::hash::{BuildHasher, Hasher};
+use std::hash::{BuildHasher, RandomState};
 use std::io::{self, BufRead, BufReader, Write};
 use std::os::unix::process::CommandExt;
-use std::path::Path;
 use std::process::{Child, ChildStdin, ChildStdout, Command, ExitStatus, Stdio};
-use std::sync::mpsc::{channel, Receiver, Sender};
-use std::sync::{Arc, Condvar, Mutex, MutexGuard, PoisonError};
-use std::time::Duration;
-use std::{env, fmt, mem, thread};
+use std::sync::{Arc, Condvar, Mutex};
+use std::{env, fmt, iter, mem, path::Path, thread, time::Duration};
 
 /// Why a call did not do what was asked.
 #[derive(Debug, Clone, PartialEq, Eq)]
@@ -27,10 +23,8 @@ pub enum Failed {
 impl fmt::Display for Failed {
     fn fmt(&self, f: &mut fmt::Formatter<'_>) -> fmt::Result {
         match self {
-            Failed::Aborted => write!(f, "aborted"),
-            Failed::Unknown(id) => write!(f, "unknown {}", id.as_deref().unwrap_or("")),
             Failed::Refused { words, .. } => write!(f, "fault: {words}"),
-            Failed::Closed => write!(f, "the store is closed"),
+            failed => write!(f, "{failed:?}"),
         }
     }
 }
@@ -47,15 +41,17 @@ pub struct Committed<T> {
 
 /// A store that is open. Threads may share it: each call takes one of its clients, and waits while all are in use.
 pub struct Store {
-    child: Mutex<Child>,
-    input: Mutex<Option<ChildStdin>>,
-    free: Mutex<Vec<Client>>,
-    freed: Condvar,
+    /// The program. If it is killed, what was answered stays.
+    pub child: Mutex<Child>,
+    pipe: Arc<Pipe>,
+    // The numbers of the clients that are in no use, and what wakes those that wait for one.
+    free: (Mutex<Vec<usize>>, Condvar),
+    // The last ids that were answered `unknown`, each with the number of its client.
+    doubts: Mutex<Vec<(String, usize)>>,
 }
 
 impl Store {
-    /// Opens the store in a folder for 64 clients, by the program that the environment names as `SHARDS_PROGRAM`, or by `run` in the
-    /// repository that has this crate.
+    /// Opens the store in a folder for 64 clients, by the program that SHARDS_PROGRAM names, or else by `run` of this crate's repository.
     pub fn open(folder: impl AsRef<Path>) -> io::Result<Store> {
         let run = || Path::new(env!("CARGO_MANIFEST_DIR")).join("../../run").into();
         let mut command = Command::new(env::var_os("SHARDS_PROGRAM").unwrap_or_else(run));
@@ -65,84 +61,75 @@ impl Store {
 
     /// Opens a store by a command of one's own, which serves so many clients, 1 to 64.
     pub fn start(mut command: Command, clients: usize) -> io::Result<Store> {
-        // In a group of its own the program is not ended by a key that interrupts this one.
         let mut child = command.stdin(Stdio::piped()).stdout(Stdio::piped()).process_group(0).spawn()?;
-        let (Some(input), Some(output)) = (child.stdin.take(), child.stdout.take()) else { unreachable!("both are piped") };
-        let (mut output, mut ready) = (BufReader::with_capacity(65536, output), Vec::new());
-        if output.read_until(b'\n', &mut ready).is_err() || !ready.starts_with(b"ready") {
-            drop(input);
+        let output = child.stdout.take().ok_or(io::ErrorKind::BrokenPipe)?;
+        let (mut output, mut ready) = (BufReader::with_capacity(65536, output), String::new());
+        if output.read_line(&mut ready).is_err() || !ready.starts_with("ready") {
             return Err(io::Error::other(format!("the store was not opened: {}; standard error has the reason", child.wait()?)));
         }
-        let (ears, free): (Vec<_>, Vec<_>) = (0..clients).map(client).unzip();
-        thread::spawn(move || hear(output, ears));
-        Ok(Store { child: Mutex::new(child), input: Mutex::new(Some(input)), free: Mutex::new(free), freed: Condvar::new() })
+        let ears = (0..clients).map(|_| Default::default()).collect();
+        let pipe = Arc::new(Pipe { lines: Mutex::new((Some(Vec::new()), child.stdin.take())), ears });
+        let (heard, free) = (pipe.clone(), (Mutex::new((0..clients).collect()), Condvar::new()));
+        thread::spawn(move || heard.hear(output));
+        Ok(Store { child: Mutex::new(child), pipe, free, doubts: Mutex::default() })
     }
 
-    /// Runs the code of a transaction and commits what it did; up to `tries` times, while that is aborted. If the code fails otherwise, the
-    /// transaction is aborted.
-    pub fn transact<T, E, F>(&self, tries: u32, mut code: F) -> Result<Committed<T>, E>
-    where
-        E: From<Failed>,
-        F: FnMut(&mut Transaction<'_, '_>) -> Result<T, E>,
-    {
-        let mut lease = self.lease();
-        for attempt in 0..tries {
-            (lease.is_due, lease.id, lease.over) = (true, None, None);
-            let ended = match code(&mut Transaction { lease: &mut lease }) {
-                Ok(value) => lease.commit("commit", &[], value),
-                Err(_) if lease.over == Some(Failed::Aborted) => Err(Failed::Aborted),
-                Err(failed) => return Err(failed),
-            };
-            if !matches!(ended, Err(Failed::Aborted)) {
-                return Ok(ended?);
+    /// Runs the code of a transaction and commits what it did; up to `tries` times, while that is aborted. Another failure of the code aborts it.
+    pub fn transact<T, E: From<Failed>>(&self, tries: u32, mut f: impl FnMut(&mut Transaction) -> Result<T, E>) -> Result<Committed<T>, E> {
+        for attempt in 0..u64::from(tries) {
+            let mut tx = self.lease(None, ());
+            tx.add("begin", &[]);
+            let ended = f(&mut tx).and_then(|value| Ok(tx.commit("commit", &[], value)?));
+            if tx.over != Some(Failed::Aborted) {
+                return ended;
             }
-            let random = RandomState::new().build_hasher().finish();
-            thread::sleep(Duration::from_micros(random % (1 + 1000 * u64::from(attempt.min(20)))));
+            thread::sleep(Duration::from_micros(RandomState::new().hash_one(attempt) % (1 + 1000 * attempt.min(20))));
         }
         Err(Failed::Aborted.into())
     }
 
-    /// A view of the present: all that it answers stood at its timestamp.
-    pub fn view(&self) -> Result<View<'_>, Failed> {
-        self.open_view(&[])
-    }
-
-    /// A view at a time, in microseconds. Of one that is not served yet `get` is `Refused` as fault 9, which a retry heals, and of one that is
-    /// forgotten as fault 15, for good.
-    pub fn view_at(&self, at: u64) -> Result<View<'_>, Failed> {
-        self.open_view(&[at.to_string().as_bytes()])
-    }
-
-    fn open_view(&self, words: &[&[u8]]) -> Result<View<'_>, Failed> {
-        let mut lease = self.lease();
-        let answer = lease.ask(&[("view", words)], Failed::Closed)?;
-        Ok(View { lease, at: text(parted(&answer).1).parse().map_err(|_| Failed::Closed)? })
+    /// A view of the present, or of a time in microseconds: all that it answers stood then.
+    pub fn view(&self, at: Option<u64>) -> Result<View<'_>, Failed> {
+        let (mut view, verb) = (self.lease(None, 0), at.map_or("view".into(), |at| format!("view {at}")));
+        view.at = parted(&view.ask(&verb, &[], Failed::Closed)?).1.parse().map_err(|_| Failed::Closed)?;
+        Ok(view)
     }
 
     /// The value of a key at the present.
     pub fn get(&self, key: &[u8]) -> Result<Option<Vec<u8>>, Failed> {
-        Ok(self.lease().get_all(&[key])?.pop().flatten())
+        self.lease(None, ()).get(key)
     }
 
     /// Commits one write. If it is aborted the program tries again, for two seconds.
     pub fn put(&self, key: &[u8], value: &[u8]) -> Result<Committed<()>, Failed> {
-        self.lease().commit("put", &[key, value], ())
+        self.lease(None, ()).commit("put", &[key, value], ())
     }
 
-    /// Kills the program. What was answered stays.
-    pub fn kill(&self) -> io::Result<()> {
-        locked(&self.child).kill()
+    /// The timestamp of a transaction that was `Unknown`, or `Aborted` if it stands nowhere. If nobody can tell yet, it gives `None`: ask again.
+    pub fn outcome(&self, id: &str) -> Result<Option<u64>, Failed> {
+        let whose = self.doubts.lock().unwrap().iter().find(|doubt| doubt.0 == id).map(|doubt| doubt.1);
+        let answer = self.lease(whose, ()).ask("outcome", &[id.as_bytes()], Failed::Closed)?;
+        let (how, at) = parted(parted(&answer).1);
+        (how != "aborted").then(|| at.parse().ok()).ok_or(Failed::Aborted)
+    }
+
+    /// The numbers of the store, as Prometheus reads them.
+    pub fn stats(&self) -> Result<String, Failed> {
+        let answer = self.lease(None, ()).ask("stats", &[], Failed::Closed)?;
+        Ok(words(&answer).flatten().map(|text| String::from_utf8_lossy(&text).into_owned()).collect())
     }
 
     /// Ends the program, which first answers what was asked, and gives up what is open. So does dropping the store.
     pub fn close(&self) -> io::Result<ExitStatus> {
-        let _ = locked(&self.input).take().map(|mut input| input.write_all(b"quit\n"));
-        locked(&self.child).wait()
+        let _ = self.pipe.send(b"quit\n");
+        self.child.lock().unwrap().wait()
     }
 
-    fn lease(&self) -> Lease<'_> {
-        let free = self.freed.wait_while(locked(&self.free), |free| free.is_empty());
-        Lease { store: self, client: free.unwrap_or_else(PoisonError::into_inner).pop(), is_due: false, id: None, over: None }
+    fn lease<At>(&self, number: Option<usize>, at: At) -> Open<'_, At> {
+        let place = |free: &[usize]| free.iter().rposition(|one| number.is_none_or(|number| number == *one));
+        let mut free = self.free.1.wait_while(self.free.0.lock().unwrap(), |free| place(free).is_none()).unwrap();
+        let number = place(&free).map(|place| free.swap_remove(place)).unwrap();
+        Open { store: self, number, text: Vec::new(), writes: 0, end: None, id: None, over: None, at }
     }
 }
 
@@ -152,121 +139,74 @@ impl Drop for Store {
     }
 }
 
-fn locked<T>(mutex: &Mutex<T>) -> MutexGuard<'_, T> {
-    mutex.lock().unwrap_or_else(PoisonError::into_inner)
+struct Pipe {
+    // The lines that wait until the thread that writes takes them along, or nothing once the store is closed; and the stream while none writes.
+    lines: Mutex<(Option<Vec<u8>>, Option<ChildStdin>)>,
+    // For how many answers each client waits, those that have come, and what wakes it.
+    ears: Vec<(Mutex<(usize, String)>, Condvar)>,
 }
 
-// One client of the program. Each of its lines gets one answer, in order. It is one call's at a time.
-struct Client {
-    number: usize,
-    answers: Receiver<Vec<Vec<u8>>>,
-    // For how many answers it waits, which come together.
-    wanted: Arc<Mutex<usize>>,
-    // The line that ends what may be open.
-    end: Option<&'static str>,
-}
-
-// Where the answers to a client go, for how many it waits, and those that have come.
-type Ear = (Sender<Vec<Vec<u8>>>, Arc<Mutex<usize>>, Vec<Vec<u8>>);
-fn client(number: usize) -> (Ear, Client) {
-    let ((sender, answers), wanted) = (channel(), Arc::new(Mutex::new(1)));
-    ((sender, wanted.clone(), Vec::new()), Client { number, answers, wanted, end: None })
-}
-
-// Hands each answer to the client that waits for it, until there are no more. A line that was cut off is none.
-fn hear(mut output: BufReader<ChildStdout>, mut ears: Vec<Ear>) {
-    let mut line = Vec::new();
-    while output.read_until(b'\n', &mut line).unwrap_or(0) > 0 && line.pop() == Some(b'\n') {
-        let (number, answer) = parted(&line);
-        let Some((sender, wanted, heard)) = text(number).parse().ok().and_then(|number: usize| ears.get_mut(number)) else { return };
-        heard.push(answer.to_vec());
-        if heard.len() == *locked(wanted) {
-            let _ = sender.send(mem::take(heard));
+impl Pipe {
+    // Sends whole lines. No answer comes of one that was not written whole, and no other follows it.
+    fn send(&self, text: &[u8]) -> Result<(), Failed> {
+        let mut lines = self.lines.lock().unwrap();
+        lines.0.as_mut().ok_or(Failed::Closed)?.extend_from_slice(text);
+        let Some(mut input) = lines.1.take() else { return Ok(()) };
+        while let Some(text) = lines.0.as_mut().map(mem::take).filter(|text| !text.is_empty()) {
+            drop(lines);
+            let written = input.write_all(&text);
+            lines = self.lines.lock().unwrap();
+            lines.0 = lines.0.take().filter(|_| written.is_ok());
         }
-        line.clear();
+        lines.1 = lines.0.is_some().then_some(input);
+        Ok(())
+    }
+
+    // Hands each answer to its client, which wakes with the last that it waits for. A line that was cut off is none.
+    fn hear(&self, mut output: BufReader<ChildStdout>) {
+        let mut line = String::new();
+        while output.read_line(&mut line).is_ok() && line.ends_with('\n') {
+            let (client, answer) = parted(&line);
+            let Some((heard, came)) = client.parse().ok().and_then(|client: usize| self.ears.get(client)) else { break };
+            let mut heard = heard.lock().unwrap();
+            *heard = (heard.0.saturating_sub(1), mem::take(&mut heard.1) + answer);
+            if heard.0 == 0 {
+                came.notify_one();
+            }
+            line.clear();
+        }
+        *self.lines.lock().unwrap() = (None, None);
+        for (heard, came) in &self.ears {
+            heard.lock().unwrap().0 = 0;
+            came.notify_one();
+        }
     }
 }
 
-// A client in use. What it has open is ended when it is given back.
-struct Lease<'s> {
+/// A client that is in use, of which each line gets one answer. What it has open is ended when it is dropped.
+pub struct Open<'s, At> {
     store: &'s Store,
-    client: Option<Client>,
-    // Whether a transaction is to begin with the next line, and the id of the one that has begun.
-    is_due: bool,
+    number: usize,
+    // Lines that go with the next one: a `begin`, or the last write.
+    text: Vec<u8>,
+    writes: usize,
+    // The line that ends what is open, and the id of a transaction.
+    end: Option<&'static str>,
     id: Option<String>,
     // Why the transaction or view is over. Then no line of it is sent: the program would serve it by itself.
     over: Option<Failed>,
+    /// The timestamp of a view, in microseconds.
+    pub at: At,
 }
 
-impl Lease<'_> {
-    // Asks for lines, behind the `begin` that is due: for the last answer, or what the first failed with, or `lost` if they do not come.
-    fn ask(&mut self, lines: &[(&str, &[&[u8]])], lost: Failed) -> Result<Vec<u8>, Failed> {
-        if mem::take(&mut self.is_due) {
-            self.ask(&[("begin", &[])], Failed::Closed)?;
-        }
-        self.over.clone().map_or(Ok(()), Err)?;
-        let client = self.client.as_mut().ok_or(Failed::Closed)?;
-        *locked(&client.wanted) = lines.len();
-        send(&self.store.input, client.number, lines)?;
-        let mut last = Ok(Vec::new());
-        for ((verb, _), answer) in lines.iter().zip(client.answers.recv().map_err(|_| lost)?) {
-            let (first, rest) = parted(&answer);
-            let failed = match first {
-                b"aborted" => Some(Failed::Aborted),
-                b"unknown" => Some(Failed::Unknown(Some(text(rest)))),
-                b"fault:" => Some(Failed::Refused { words: text(rest), ended: false }),
-                b"ended:" => Some(Failed::Refused { words: text(parted(rest).1), ended: true }),
-                _ => None,
-            };
-            match first {
-                b"begun" => (client.end, self.id) = (Some("abort"), Some(text(rest))),
-                b"at" => client.end = Some("end"),
-                b"committed" | b"unknown" | b"aborted" | b"ended" | b"ended:" => (client.end, self.over) = (None, failed.clone()),
-                _ if *verb == "begin" => self.over = failed.clone(),
-                _ => {}
-            }
-            last = last.and(failed.map_or(Ok(answer), Err));
-        }
-        last
-    }
-
-    // A transaction that is due begins by the same write. If it does not, nobody is told what was read without it.
-    fn get_all(&mut self, keys: &[&[u8]]) -> Result<Vec<Option<Vec<u8>>>, Failed> {
-        let is_open = !mem::take(&mut self.is_due);
-        let answer = self.ask(&[("begin", &[][..]), ("get", keys)][usize::from(is_open)..], Failed::Closed)?;
-        Ok(answer.split(|byte| *byte == b' ').map(|word| word.strip_prefix(b"=").map(unspelled)).collect())
-    }
-
-    fn commit<T>(&mut self, verb: &str, data: &[&[u8]], value: T) -> Result<Committed<T>, Failed> {
-        let unknown = Failed::Unknown(self.id.take());
-        let answer = self.ask(&[(verb, data)], unknown.clone())?;
-        let (at, told) = parted(parted(&answer).1);
-        Ok(Committed { at: text(at).parse().map_err(|_| unknown)?, id: text(told), value })
-    }
-}
-
-impl Drop for Lease<'_> {
-    fn drop(&mut self) {
-        let _ = self.client.as_ref().and_then(|client| client.end).map(|end| self.ask(&[(end, &[])], Failed::Closed));
-        locked(&self.store.free).extend(self.client.take());
-        self.store.freed.notify_one();
-    }
-}
-
+/// The key that the next page begins with, if there is one, and the keys of this one, which have a value, ascending.
+pub type Page = (Option<Vec<u8>>, Vec<Vec<u8>>);
 /// A transaction that is open. It sees what it has put.
-pub struct Transaction<'t, 's> {
-    lease: &'t mut Lease<'s>,
-}
+pub type Transaction<'s> = Open<'s, ()>;
+/// What stood at one timestamp, `at`.
+pub type View<'s> = Open<'s, u64>;
 
-impl Transaction<'_, '_> {
-    /// Its id.
-    pub fn id(&mut self) -> Result<String, Failed> {
-        if mem::take(&mut self.lease.is_due) {
-            self.lease.ask(&[("begin", &[])], Failed::Closed)?;
-        }
-        self.lease.id.clone().ok_or(Failed::Closed)
-    }
-
+impl<At> Open<'_, At> {
     /// The value of a key.
     pub fn get(&mut self, key: &[u8]) -> Result<Option<Vec<u8>>, Failed> {
         Ok(self.get_all(&[key])?.pop().flatten())
@@ -274,36 +214,108 @@ impl Transaction<'_, '_> {
 
     /// The values of some keys, asked for at once.
     pub fn get_all(&mut self, keys: &[&[u8]]) -> Result<Vec<Option<Vec<u8>>>, Failed> {
-        self.lease.get_all(keys)
+        Ok(words(&self.ask("get", keys, Failed::Closed)?).collect())
     }
 
-    /// Puts a value.
+    fn add(&mut self, verb: &str, data: &[&[u8]]) {
+        self.text.extend_from_slice(format!("{} {verb}", self.number).as_bytes());
+        data.iter().for_each(|bytes| self.text.extend([b" ", &spelled(bytes)[..]].concat()));
+        self.text.push(b'\n');
+    }
+
+    fn ask(&mut self, verb: &str, data: &[&[u8]], lost: Failed) -> Result<String, Failed> {
+        self.add(verb, data);
+        self.send(lost)
+    }
+
+    // Sends the text, and waits: for the last answer, or what the first line failed with that did, which is `lost` if its answer does not come.
+    fn send(&mut self, lost: Failed) -> Result<String, Failed> {
+        let text = mem::take(&mut self.text);
+        self.over.clone().map_or(Ok(()), Err)?;
+        let (heard, came) = &self.store.pipe.ears[self.number];
+        let count = text.iter().filter(|byte| **byte == b'\n').count();
+        *heard.lock().unwrap() = (count, String::new());
+        self.store.pipe.send(&text)?;
+        let answers = mem::take(&mut came.wait_while(heard.lock().unwrap(), |heard| heard.0 > 0).unwrap().1);
+        let heard: Vec<_> = answers.lines().chain(iter::repeat("")).take(count).map(|answer| self.heard(answer, &lost)).collect();
+        heard.into_iter().reduce(Result::and).unwrap_or(Ok(String::new()))
+    }
+
+    fn heard(&mut self, answer: &str, lost: &Failed) -> Result<String, Failed> {
+        let (first, rest) = parted(answer);
+        let failed = match first {
+            "aborted" => Some(Failed::Aborted),
+            "unknown" => Some(Failed::Unknown(Some(rest.into()))),
+            "fault:" => Some(Failed::Refused { words: rest.into(), ended: false }),
+            "ended:" => Some(Failed::Refused { words: parted(rest).1.into(), ended: true }),
+            "" => Some(lost.clone()),
+            _ => None,
+        };
+        match first {
+            "begun" => (self.end, self.id) = (Some("abort"), Some(rest.into())),
+            "at" => self.end = Some("end"),
+            "committed" => self.end = None,
+            "fault:" if self.end.is_some() => {}
+            _ => self.over = self.over.take().or_else(|| failed.clone()),
+        }
+        if first == "unknown" {
+            let mut doubts = self.store.doubts.lock().unwrap();
+            doubts.insert(0, (rest.into(), self.number));
+            doubts.truncate(1024);
+        }
+        failed.map_or(Ok(answer.into()), Err)
+    }
+}
+
+impl<At> Drop for Open<'_, At> {
+    fn drop(&mut self) {
+        let _ = self.end.map(|end| self.ask(end, &[], Failed::Closed));
+        self.store.free.0.lock().unwrap().push(self.number);
+        self.store.free.1.notify_all();
+    }
+}
+
+impl Open<'_, ()> {
+    /// Its id.
+    pub fn id(&mut self) -> Result<String, Failed> {
+        self.send(Failed::Closed)?;
+        self.id.clone().ok_or(Failed::Closed)
+    }
+
+    /// Puts a value. If that fails, the next call may tell it.
     pub fn put(&mut self, key: &[u8], value: &[u8]) -> Result<(), Failed> {
-        self.lease.ask(&[("put", &[key, value])], Failed::Closed).map(drop)
+        self.write("put", &[key, value])
     }
 
-    /// Takes the value of a key away.
+    /// Takes the value of a key away, as `put`.
     pub fn erase(&mut self, key: &[u8]) -> Result<(), Failed> {
-        self.lease.ask(&[("erase", &[key])], Failed::Closed).map(drop)
+        self.write("erase", &[key])
+    }
+
+    // A write that is surely taken goes with the next line. Of two writes that went together the program might serve the second by itself.
+    fn write(&mut self, verb: &str, data: &[&[u8]]) -> Result<(), Failed> {
+        self.send(Failed::Closed)?;
+        self.add(verb, data);
+        self.writes += 1;
+        let waits = self.writes <= 128 && (1..=64).contains(&data[0].len()) && data[data.len() - 1].len() <= 4096;
+        let sent = if waits { Ok(String::new()) } else { self.send(Failed::Closed) };
+        sent.map(drop)
+    }
+
+    fn commit<T>(&mut self, verb: &str, data: &[&[u8]], value: T) -> Result<Committed<T>, Failed> {
+        let unknown = Failed::Unknown(self.id.clone());
+        let answer = self.ask(verb, data, unknown.clone())?;
+        let (at, id) = parted(parted(&answer).1);
+        Ok(Committed { at: at.parse().map_err(|_| unknown)?, id: id.into(), value })
     }
 }
 
-/// What stood at one timestamp.
-pub struct View<'s> {
-    lease: Lease<'s>,
-    /// The timestamp, in microseconds.
-    pub at: u64,
-}
-
-impl View<'_> {
-    /// The value of a key there.
-    pub fn get(&mut self, key: &[u8]) -> Result<Option<Vec<u8>>, Failed> {
-        Ok(self.get_all(&[key])?.pop().flatten())
-    }
-
-    /// The values of some keys there, asked for at once.
-    pub fn get_all(&mut self, keys: &[&[u8]]) -> Result<Vec<Option<Vec<u8>>>, Failed> {
-        self.lease.get_all(keys)
+impl Open<'_, u64> {
+    /// A page of the keys from one on, and before another unless that is empty: at most `limit`, 1 to 1,000, and maybe none.
+    pub fn keys(&mut self, from: &[u8], to: &[u8], limit: u64) -> Result<Page, Failed> {
+        let answer = self.ask("keys", &[from, to, limit.to_string().as_bytes()], Failed::Closed)?;
+        let mut words = words(parted(&answer).1);
+        Ok((words.next().flatten(), words.flatten().collect()))
     }
 }
 
@@ -313,48 +325,26 @@ pub fn spelled(bytes: &[u8]) -> Vec<u8> {
     for byte in bytes {
         match byte {
             b'!'..=b'~' if *byte != b'\\' => word.push(*byte),
-            _ => word.extend(format!("\\x{byte:02x}").as_bytes()),
+            _ => word.extend_from_slice(format!("\\x{byte:02x}").as_bytes()),
         }
     }
     word
 }
 
 /// The bytes that a word spells.
-pub fn unspelled(mut word: &[u8]) -> Vec<u8> {
-    let digit = |byte: &u8| char::from(*byte).to_digit(16).map_or(0, |digit| digit as u8);
-    let mut bytes = Vec::with_capacity(word.len());
-    while let [first, rest @ ..] = word {
-        let (byte, rest) = match word {
-            [b'\\', b'x', high, low, rest @ ..] => (16 * digit(high) + digit(low), rest),
-            _ => (*first, rest),
-        };
-        bytes.push(byte);
-        word = rest;
+pub fn unspelled(word: &[u8]) -> Vec<u8> {
+    let digit = |byte: Option<&u8>| byte.and_then(|byte| char::from(*byte).to_digit(16)).map_or(0, |digit| digit as u8);
+    let (mut rest, mut bytes) = (word.iter(), Vec::with_capacity(word.len()));
+    while let Some(byte) = rest.next() {
+        bytes.push(if *byte == b'\\' { 16 * digit(rest.nth(1)) + digit(rest.next()) } else { *byte });
     }
     bytes
 }
 
-// Sends lines to the program, each a verb and its data. No answer comes of one that was not written whole, and no other follows it.
-fn send(input: &Mutex<Option<ChildStdin>>, number: usize, lines: &[(&str, &[&[u8]])]) -> Result<(), Failed> {
-    let mut text = Vec::new();
-    for (verb, data) in lines {
-        text.extend(format!("{number} {verb}").as_bytes());
-        data.iter().for_each(|bytes| text.extend([b" ", &spelled(bytes)[..]].concat()));
-        text.push(b'\n');
-    }
-    let mut input = locked(input);
-    if input.as_mut().ok_or(Failed::Closed)?.write_all(&text).is_err() {
-        *input = None;
-    }
-    Ok(())
+fn parted(line: &str) -> (&str, &str) {
+    line.split_once(' ').unwrap_or((line, ""))
 }
 
-// The first word of a line, and what stands behind it.
-fn parted(line: &[u8]) -> (&[u8], &[u8]) {
-    let mut parts = line.splitn(2, |byte| *byte == b' ');
-    (parts.next().unwrap_or(b""), parts.next().unwrap_or(b""))
-}
-
-fn text(bytes: &[u8]) -> String {
-    String::from_utf8_lossy(bytes).into_owned()
+fn words(line: &str) -> impl Iterator<Item = Option<Vec<u8>>> + '_ {
+    line.split(' ').map(|word| word.strip_prefix('=').map(|word| unspelled(word.as_bytes())))
 }

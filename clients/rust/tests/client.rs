@@ -7,7 +7,7 @@ use std::panic::{catch_unwind, AssertUnwindSafe};
 use std::time::Duration;
 use std::{fs, process, thread};
 
-fn add_one(tx: &mut Transaction<'_, '_>) -> Result<(), Failed> {
+fn add_one(tx: &mut Transaction<'_>) -> Result<(), Failed> {
     let value = tx.get(b"a")?.map_or(0, |value| String::from_utf8(value).unwrap().parse::<u64>().unwrap());
     tx.put(b"a", (value + 1).to_string().as_bytes())
 }
@@ -49,18 +49,119 @@ fn a_commit_tells_timestamp_id_and_value() {
 
 #[test]
 fn an_aborted_transaction_is_run_again() {
+    for answer in ["commit aborted", "get aborted", "put aborted"] {
+        let logs = logs();
+        let store = logs.told(2, &[answer]);
+        let mut ids = Vec::new();
+        store
+            .transact(50, |tx| {
+                ids.push(tx.id()?);
+                add_one(tx)
+            })
+            .unwrap();
+        ids.dedup();
+        assert_eq!(ids.len(), 2);
+        assert_eq!(text(store.get(b"a").unwrap()), Some("1".into()));
+    }
+}
+
+// A write goes with the line after it, and what fails of it is told there.
+#[test]
+fn a_write_that_fails_fails_with_the_next_call() {
+    let refused = Failed::Refused { words: "1 Memory".into(), ended: true };
+    for (answer, failed) in [("put aborted", Failed::Aborted), ("put ended: fault: 1 Memory", refused)] {
+        let logs = logs();
+        let store = logs.told(2, &[answer, answer, answer, answer]);
+        let committed = store.transact(1, |tx| tx.put(b"a", b"1"));
+        let read = store.transact(1, |tx| {
+            tx.put(b"a", b"1")?;
+            assert_eq!(tx.get(b"a"), Err(failed.clone()));
+            Ok::<_, Failed>(())
+        });
+        let written = store.transact(1, |tx| {
+            tx.put(b"a", b"1")?;
+            assert_eq!(tx.put(b"b", b"1"), Err(failed.clone()));
+            assert_eq!(tx.erase(b"c"), Err(failed.clone()));
+            Ok::<_, Failed>(())
+        });
+        let named = store.transact(1, |tx| {
+            tx.put(b"a", b"1")?;
+            assert_eq!(tx.id(), Err(failed.clone()));
+            Ok::<_, Failed>(())
+        });
+        for ended in [committed, read, written, named] {
+            assert_eq!(ended.err(), Some(failed.clone()));
+        }
+        for key in [b"a", b"b"] {
+            assert_eq!(store.get(key), Ok(None));
+        }
+    }
+}
+
+// What is told of a transaction that was idle for too long is told once. Then the program would serve further writes by themselves.
+#[test]
+fn no_write_of_an_idle_transaction_stands() {
     let logs = logs();
-    let store = logs.told(2, &["commit aborted", "get aborted", "put aborted"]);
-    let mut ids = Vec::new();
-    store
-        .transact(50, |tx| {
-            ids.push(tx.id()?);
-            add_one(tx)
-        })
-        .unwrap();
-    ids.dedup();
-    assert_eq!(ids.len(), 4);
-    assert_eq!(text(store.get(b"a").unwrap()), Some("1".into()));
+    let store = logs.open(1, &["--idle", "100"]);
+    let ended = store.transact(1, |tx| {
+        tx.get(b"a")?;
+        thread::sleep(Duration::from_millis(300));
+        for key in [b"a", b"b", b"c"] {
+            let _ = tx.put(key, b"1");
+        }
+        Ok::<_, Failed>(())
+    });
+    assert_eq!(ended, Err(Failed::Aborted));
+    for key in [b"a", b"b", b"c"] {
+        assert_eq!(store.get(key), Ok(None));
+    }
+}
+
+#[test]
+fn writes_beyond_a_limit_are_refused_at_once() {
+    let logs = logs();
+    let store = logs.told(1, &["erase fault: 7 BadRequest(many)"]);
+    let many = Failed::Refused { words: "7 BadRequest(many)".into(), ended: false };
+    let ended = store.transact(1, |tx| {
+        for number in 0..128u8 {
+            tx.put(&[b'a', number], b"1")?;
+        }
+        assert_eq!(tx.erase(b"b"), Err(many.clone()));
+        tx.get(&[b'a', 127])
+    });
+    assert_eq!(ended.unwrap().value, Some(b"1".to_vec()));
+    assert_eq!(store.get(&[b'a', 0]), Ok(Some(b"1".to_vec())));
+}
+
+#[test]
+fn how_an_unknown_transaction_ended() {
+    let logs = logs();
+    let answers = ["put unknown 3.6", "outcome outcome open", "outcome outcome unknown", "outcome outcome committed 17"];
+    let store = logs.told(2, &answers);
+    assert_eq!(store.put(b"a", b"1"), Err(Failed::Unknown(Some("3.6".into()))));
+    let told: Vec<_> = (0..4).map(|_| store.outcome("3.6")).collect();
+    assert_eq!(told, [Ok(None), Ok(None), Ok(Some(17)), Err(Failed::Aborted)]);
+}
+
+// The client that ran it is asked, once it is in no use. Another one would know nothing.
+#[test]
+fn the_client_that_ran_it_is_asked() {
+    let logs = logs();
+    let store = logs.told(3, &["put unknown 3.6", "commit unknown 3.7"]);
+    store.put(b"a", b"1").unwrap_err();
+    store.transact(1, add_one).unwrap_err();
+    thread::scope(|scope| {
+        let mut view = store.view(None).unwrap();
+        let asking = [scope.spawn(|| store.outcome("3.6")), scope.spawn(|| store.outcome("3.7"))];
+        thread::sleep(Duration::from_millis(200));
+        assert_eq!((view.get(b"a"), store.get(b"a")), (Ok(None), Ok(None)));
+        assert!(asking.iter().all(|asked| !asked.is_finished()));
+        drop(view);
+        for asked in asking {
+            assert_eq!(asked.join().unwrap(), Err(Failed::Aborted));
+        }
+    });
+    assert_eq!(store.outcome("3.8"), Ok(None));
 }
 
 #[test]
@@ -168,7 +269,7 @@ fn a_refusal_that_leaves_it_open() {
     let logs = logs();
     let store = logs.told(1, &["get fault: 1 Memory", "commit fault: 1 Memory"]);
     let refused = Failed::Refused { words: "1 Memory".into(), ended: false };
-    let code = |tx: &mut Transaction<'_, '_>| {
+    let code = |tx: &mut Transaction<'_>| {
         let _ = tx.get(b"b");
         tx.put(b"a", b"1")
     };
@@ -182,13 +283,13 @@ fn a_refusal_that_leaves_it_open() {
 fn a_view_that_ended() {
     let logs = logs();
     let store = logs.told(1, &["get ended: fault: 3 Stopped", "view fault: 8 Early"]);
-    assert!(store.view().is_err());
-    let mut view = store.view().unwrap();
+    assert!(store.view(None).is_err());
+    let mut view = store.view(None).unwrap();
     let refused = Failed::Refused { words: "3 Stopped".into(), ended: true };
     assert_eq!(view.get(b"a"), Err(refused.clone()));
     assert_eq!(view.get(b"a"), Err(refused));
     drop(view);
-    assert_eq!(store.view().unwrap().get(b"a"), Ok(None));
+    assert_eq!(store.view(None).unwrap().get(b"a"), Ok(None));
 }
 
 #[test]
@@ -198,11 +299,11 @@ fn a_view_of_another_time() {
     let first = store.put(b"a", b"1").unwrap().at;
     store.put(b"a", b"2").unwrap();
     for (at, value) in [(first - 1, None), (first, Some("1".to_string()))] {
-        let mut view = store.view_at(at).unwrap();
+        let mut view = store.view(Some(at)).unwrap();
         assert_eq!((view.at, text(view.get(b"a").unwrap())), (at, value));
     }
     let late = Failed::Refused { words: "9 NotYet".into(), ended: false };
-    assert_eq!(store.view_at(1 << 61).unwrap().get(b"a"), Err(late));
+    assert_eq!(store.view(Some(1 << 61)).unwrap().get(b"a"), Err(late));
 }
 
 #[test]
@@ -264,7 +365,7 @@ fn a_kill_while_calls_wait() {
     thread::scope(|scope| {
         let waits = scope.spawn(|| store.get(b"a"));
         thread::sleep(Duration::from_millis(200));
-        store.kill().unwrap();
+        store.child.lock().unwrap().kill().unwrap();
         assert_eq!(waits.join().unwrap(), Err(Failed::Closed));
     });
     assert!(matches!(store.put(b"a", b"1"), Err(Failed::Closed | Failed::Unknown(None))));
@@ -293,7 +394,11 @@ fn a_kill_while_a_write_is_asked_for() {
     let store = logs.told(2, &["put die"]);
     assert_eq!(store.put(b"a", b"1"), Err(Failed::Unknown(None)));
     let store = logs.told(2, &["put die"]);
-    assert_eq!(store.transact(50, |tx| tx.put(b"a", b"1")), Err(Failed::Closed));
+    assert_eq!(store.transact(50, |tx| tx.put(b"a", b"1").and_then(|()| tx.put(b"b", b"1"))), Err(Failed::Closed));
+    // The commit went along.
+    let store = logs.told(2, &["put die"]);
+    let ended = store.transact(50, |tx| tx.put(b"a", b"1")).unwrap_err();
+    assert!(matches!(ended, Failed::Unknown(Some(_))), "{ended}");
 }
 
 #[test]

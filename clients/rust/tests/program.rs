@@ -9,7 +9,7 @@ use spanner_shards::{Failed, Transaction};
 use std::thread;
 use std::time::Duration;
 
-fn add_one(tx: &mut Transaction<'_, '_>) -> Result<(), Failed> {
+fn add_one(tx: &mut Transaction<'_>) -> Result<(), Failed> {
     let value = tx.get(b"a")?.map_or(0, |value| String::from_utf8(value).unwrap().parse::<u64>().unwrap());
     tx.put(b"a", (value + 1).to_string().as_bytes())
 }
@@ -20,7 +20,7 @@ fn a_transaction_and_a_view() {
         let logs = Logs::made_by(program);
         let store = logs.open(4, &[]);
         let first = store.put(b"a", b"1").unwrap();
-        let mut view = store.view().unwrap();
+        let mut view = store.view(None).unwrap();
         let seen = store.transact(50, |tx| {
             tx.put(b"z", b"2")?;
             tx.erase(b"a")?;
@@ -31,7 +31,50 @@ fn a_transaction_and_a_view() {
         assert!(first.at < view.at && view.at < seen.at);
         assert_eq!(view.get_all(&[b"a", b"z"]), Ok(vec![Some(b"1".to_vec()), None]));
         drop(view);
-        assert_eq!(store.view().unwrap().get_all(&[b"a", b"z"]), Ok(vec![None, Some(b"2".to_vec())]));
+        assert_eq!(store.view(None).unwrap().get_all(&[b"a", b"z"]), Ok(vec![None, Some(b"2".to_vec())]));
+    }
+}
+
+#[test]
+fn keys_by_pages() {
+    for program in programs() {
+        let logs = Logs::made_by(program);
+        let store = logs.open(4, &[]);
+        let rows: Vec<Vec<u8>> =
+            (0..50).map(|number| format!("{} {number:02}", if number < 25 { "a" } else { "z" }).into_bytes()).collect();
+        for key in rows.iter().rev() {
+            store.put(key, b"1").unwrap();
+        }
+        let mut view = store.view(None).unwrap();
+        store.transact(50, |tx| tx.erase(&rows[0]).and_then(|()| tx.put(b"b", b"2"))).unwrap();
+        let (mut found, mut next) = (Vec::new(), Some(vec![0]));
+        while let Some(from) = next {
+            let (after, keys) = view.keys(&from, b"", 7).unwrap();
+            found.extend(keys);
+            next = after;
+        }
+        assert_eq!(found, rows);
+        assert_eq!(view.keys(&rows[3], &rows[5], 1000), Ok((None, rows[3..5].to_vec())));
+        for limit in [0, 1001] {
+            assert!(matches!(view.keys(b"a", b"", limit), Err(Failed::Refused { ended: false, .. })));
+        }
+        let later = store.view(None).unwrap().keys(&[0], b"", 1000);
+        assert_eq!(later, Ok((Some(b"m".to_vec()), [&rows[1..25], &[b"b".to_vec()]].concat())));
+    }
+}
+
+#[test]
+fn numbers_and_ends_are_told() {
+    for program in programs() {
+        let logs = Logs::made_by(program);
+        let store = logs.open(4, &[]);
+        let id = store.put(b"a", b"1").unwrap().id;
+        store.put(b"b", b"1").unwrap();
+        let stats = store.stats().unwrap();
+        assert!(stats.contains("spanner_shards_commits{shard=\"0\"} 2\n"), "{stats}");
+        // A client knows only what was unknown.
+        assert_eq!(store.outcome(&id), Ok(None));
+        assert!(matches!(store.outcome("no id"), Err(Failed::Refused { ended: false, .. })));
     }
 }
 
