@@ -25,6 +25,17 @@ else
     export SHARDS_PROGRAM="$program"
 fi
 
+# Each client is one file of so many lines at most.
+short() {
+    lines=$(wc -l <"$root/clients/$2")
+    if [ "$lines" -gt "$1" ]; then
+        echo "clients: FAILED: $2 has $lines lines, and not $1 at most" >&2
+        exit 1
+    fi
+}
+short 250 python/spanner_shards.py
+short 350 rust/src/lib.rs
+
 # Runs the tests of a client, and says how many there were: tried NAME COMMAND..
 tried() {
     name=$1

@@ -69,6 +69,14 @@ begins 'put [--raw] [--bytes] DIR KEY VALUE' put logs -h
 begins 'shards 1.0' --version
 grep -q '^not built; the sources are those of commit ' "$room/out" || fail "the version does not tell that nothing was built"
 
+# Lines are no words that run without proof.
+printf '#!/bin/sh\nexit 1\n' >"$room/rt"
+chmod +x "$room/rt"
+PATH=$room:$PATH
+ask serve logs
+[ $status = 3 ] && grep -q "'serve' wants the program built" "$room/err" || fail "'serve' does not say that it wants the program built"
+PATH=${PATH#*:}
+
 # A program that is built: one's own crate changes nothing, and a crate that the program stands on does.
 program=$room/clone/crates/shards/out/shards
 printf '#!/bin/sh\necho ran\n' >"$program"

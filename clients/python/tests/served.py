@@ -41,7 +41,6 @@ class Folder(unittest.TestCase):
         from spanner_shards import Store
         store = Store(self.logs, clients=clients, program=self.words, **given)
         self.addCleanup(store.process.wait)
-        self.addCleanup(store.process.stdout.close)
         self.addCleanup(store.close)
         return store
 

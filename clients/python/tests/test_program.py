@@ -275,6 +275,29 @@ class OverPipes:
         self.assertRegex(pipe.ask(b"commit"), b"0 committed")
         self.assertEqual(pipe.end(), (b"", 0))
 
+    def test_ids_begin_with_the_run_that_is_told_first(self):
+        self.make()
+        for _ in range(2):
+            pipe = self.pipe()
+            run = re.fullmatch(rb"ready ([0-9]+)\n", pipe.ready).group(1)
+            self.assertRegex(pipe.ask(b"begin"), rb"\A0 begun %s\.[0-9]+\Z" % run)
+            self.assertRegex(pipe.ask(b"1 put a 1"), rb"\A1 committed [0-9]+ %s\.[0-9]+\Z" % run)
+            self.assertEqual(pipe.end(), (b"", 0))
+
+    def test_two_that_are_in_each_others_way(self):
+        """Both have read the key that both write: one commits, and the other is aborted."""
+        self.make()
+        pipe = self.pipe()
+        for client in (b"0", b"1"):
+            self.assertRegex(pipe.ask(client + b" begin"), client + b" begun")
+            self.assertEqual(pipe.ask(client + b" get a"), client + b" none")
+            self.assertEqual(pipe.ask(client + b" put a " + client), client + b" ok")
+        pipe.send(b"0 commit\n1 commit\n")
+        ends = dict(pipe.line().split()[:2] for _ in range(2))
+        self.assertEqual(sorted(ends.values()), [b"aborted", b"committed"])
+        self.assertEqual(pipe.ask(b"get a"), b"0 =" + next(client for client, end in ends.items() if end == b"committed"))
+        self.assertEqual(pipe.end(), (b"", 0))
+
     def test_an_idle_transaction_lets_its_locks_go(self):
         """A `put` beside it commits within its two seconds, and the next line of the idle one is answered `aborted`."""
         self.make()
@@ -443,12 +466,23 @@ class OverStores:
             thread.join()
         self.assertEqual(store.get(b"a"), b"80")
 
+    def test_an_opening_waits_for_the_folder(self):
+        """For a second at most."""
+        self.make()
+        first = self.open()
+        first.put(b"a", b"1")
+        closer = threading.Timer(0.3, first.close)
+        closer.start()
+        self.assertEqual(self.open().get(b"a"), b"1")
+        closer.join()
+
     def test_a_second_opening(self):
         """It is refused after a second, and taken once the first is closed."""
         self.make()
-        store = self.open()
+        store, start = self.open(), time.monotonic()
         with self.assertRaisesRegex(Closed, "was not opened .status 2."):
             Store(self.logs, program=self.words)
+        self.assertGreater(time.monotonic() - start, 0.9)
         store.put(b"a", b"1")
         store.close()
         self.assertEqual(self.open().get(b"a"), b"1")

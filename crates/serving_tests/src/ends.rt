@@ -26,6 +26,21 @@ fn idle_transactions_are_given_up(rt: HostRuntime) {
     assert!(rt; are_answers(&told, b'1', &[b"committed *", b"=2"]));
 }
 
+// A write outside of a transaction is tried for two seconds beside one that holds its key.
+#[test]
+fn writes_are_tried_for_two_seconds(rt: HostRuntime) {
+    let alloc = rt.alloc();
+    let parts: [(u64, &[u8]); 3] = [
+        (0, b"1 begin\n1 get a\n"),
+        (400, b"put a 1\nget a\n"),
+        (4_000, b"1 abort\nput a 2\nget a\n"),
+    ];
+    let (served, told) = answers(&rt, alloc, &parts, NEVER, false);
+    assert!(rt; served == Served::All);
+    assert!(rt; are_answers(&told, b'0', &[b"aborted", b"none", b"committed *", b"=2"]));
+    assert!(rt; are_answers(&told, b'1', &[b"begun *", b"none", b"aborted"]));
+}
+
 // A line of 65,536 bytes is read, and one of a byte more is refused in its place, by its client.
 #[test]
 fn long_lines_are_refused(rt: HostRuntime) {

@@ -262,10 +262,13 @@ fn unknown_ends_are_told_later(rt: HostRuntime) {
     options.epsilon = EPSILON;
     options.give_up = GIVE_UP;
     let parts: [(u64, &[u8]); 2] = [
-        (0, b"put z 1\noutcome 1.1\n"),
+        (
+            0,
+            b"put z 1\noutcome 1.1\nbegin\nput a 1\ncommit\noutcome 1.2\n",
+        ),
         (
             5 * EPSILON / 1_000,
-            b"1 outcome 1.1\noutcome 1.1\noutcome 1.2\n",
+            b"1 outcome 1.1\noutcome 1.1\noutcome 1.2\noutcome 1.3\n",
         ),
     ];
     let paper = Paper {
@@ -282,9 +285,14 @@ fn unknown_ends_are_told_later(rt: HostRuntime) {
     let ended = served(&rt, alloc, disks, options, NEVER, input, &desk);
     let Paper { bytes, .. } = desk.close();
     assert!(rt; ended == Served::All);
-    let zero: [&[u8]; 4] = [
+    let zero: [&[u8]; 9] = [
         b"unknown 1.1",
         b"outcome open",
+        b"begun 1.2",
+        b"ok",
+        b"unknown 1.2",
+        b"outcome open",
+        b"outcome committed *",
         b"outcome committed *",
         b"outcome unknown",
     ];

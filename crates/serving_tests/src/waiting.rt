@@ -1,5 +1,5 @@
 //! How many lines of a client wait, and for what an answer waits.
-use crate::streams::{Paper, are_answers, of_two_shards, served};
+use crate::streams::{Paper, Parts, are_answers, of_two_shards, served};
 use host_files::logs_in_memory;
 use serving::{Desk, Served};
 use std::io::{self, Read, Write};
@@ -87,6 +87,66 @@ fn sixty_four_lines_wait(rt: HostRuntime) {
     assert!(rt; are_answers(&bytes, b'0', &wanted));
     assert!(rt; are_answers(&bytes, b'2', &[]));
     assert!(rt; are_answers(&bytes, b'3', &[b"=1"]));
+}
+
+/// A stream on which the first answer takes a while, and that counts what is written at once.
+#[derive(Drop)]
+struct Slow<'a, R> {
+    rt: &'a R,
+    paper: Paper,
+    writes: u64,
+}
+
+impl<R: time::Clock> Write for Slow<'_, R> {
+    fn write(&mut self, bytes: &[u8]) -> io::Result<usize> {
+        self.writes = self.writes.saturating_add(1);
+        if bytes.starts_with(b"0 ") {
+            thread::sleep(self.rt, Duration::from_millis(HELD));
+        }
+        self.paper.write(bytes)
+    }
+
+    fn flush(&mut self) -> io::Result<()> {
+        Ok(())
+    }
+}
+
+// Answers that come while one is written are written together: `ready`, the answer to client 0, and those of the other three.
+#[test]
+fn answers_go_together(rt: HostRuntime) {
+    let alloc = rt.alloc();
+    let slow = Slow {
+        rt: &rt,
+        paper: Paper {
+            bytes: Vec::new(alloc),
+            is_gone: false,
+        },
+        writes: 0,
+    };
+    let desk = Desk::new(alloc, slow, false);
+    let disks = logs_in_memory(alloc, 2).ok().expect(&rt, "logs");
+    let parts: [(u64, &[u8]); 3] = [
+        (0, b"get a\n"),
+        (HELD / 3, b"1 get a\n2 get a\n3 get a\n"),
+        (HELD, b""),
+    ];
+    let input = Parts {
+        rt: &rt,
+        parts: &parts,
+        at: 0,
+    };
+    let options = of_two_shards(&rt, alloc);
+    let ended = served(&rt, alloc, disks, options, HELD, input, &desk);
+    let Slow {
+        rt: _,
+        paper,
+        writes,
+    } = desk.close();
+    assert!(rt; ended == Served::All);
+    assert!(rt; writes == 3);
+    for client in [b'0', b'1', b'2', b'3'] {
+        assert!(rt; are_answers(&paper.bytes, client, &[b"none"]));
+    }
 }
 
 /// A line of client 0; and after its answer came one of client 1, or one of client 2 if none came within five seconds.
