@@ -1,3 +1,4 @@
 pub mod Copying
-pub mod Told
+pub mod Lists
 pub mod Putting
+pub mod Told

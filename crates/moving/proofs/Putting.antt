@@ -1,30 +1,40 @@
 -- Attempts whose code puts pairs, and what they come to.
-use Rattle.std.proofs.Common.{◌≡◌, ◌⊎◌, inl, inr, ◌∙◌, refl, sym, subst, ap, true≢false, ℕ, Bool, true, false, List, [], ◌∷◌, ◌++◌, Result, Ok, Err, Some}
+use Rattle.std.proofs.Common.{◌≡◌, ◌⊎◌, inl, inr, ◌∙◌, refl, sym, subst, ap, true≢false, ℕ, ◌+◌, ◌<◌, Bool, true, false, List, [], ◌∷◌, ◌++◌, length, take, get_or, Result, Ok, Err, Some}
 use Rattle.std.specs.Prelude.{MatchResult}
 use Rattle.std.specs.List.{All, FoldsTo}
 use Rattle.std.specs.Fn.{Mut, Called}
 use Rattle.std.specs.Borrow.{MutBor}
 use Rattle.std.proofs.lemmas.List.Elements.{All-cons, All-nil, All-pop}
 use Rattle.units.specs.Ids.{Id, same_id}
+use Rattle.units.specs.Keys.{Bytes}
 use Rattle.units.specs.declared.fault.Fault.{Fault}
 use Rattle.session.specs.Sessions.{Client, Goes, begun, buffers}
 use Rattle.client.specs.declared.ended.Ended.{Ended as Finish}
 use Rattle.client.specs.declared.ended.Ended.TheVariants as finish
-use Rattle.store.specs.Attempts.{Attempt, AreAttempts, ComesTo, Doing, HasTried, IsAttempt, IsOver, IsToldAs, Runs, Worker, beginning, id_in, kept}
-use Rattle.store.proofs.Attempts.{same_run}
+use Rattle.store.specs.Attempts.{Attempt, AreAttempts, ComesTo, Doing, HasTried, IsAttempt, IsOver, IsToldAs, Runs, Worker, beginning, id_in, kept, worked_all}
 use Rattle.store.specs.declared.ended.Ended.{Ended}
 use Rattle.store.specs.declared.ended.Ended.TheVariants as ended
 use Rattle.store.specs.declared.ended.Halt.{Halt}
 use Rattle.store.specs.declared.ended.Halt.TheVariants as halt
 use Rattle.pairs.specs.declared.pair.Pair.{Pair}
-use Rattle.moving.specs.Imports.{HasPut, IsPut}
+use Rattle.moving.specs.Imports.{HasPut, IsPut, is_committed}
+use Rattle.moving.proofs.Lists.{next}
 
 -- one more pair is put
-pub put_next : (before middle after : Client) (pairs : List Pair) (pair : Pair) → HasPut pairs before middle
+put_next : (before middle after : Client) (pairs : List Pair) (pair : Pair) → HasPut pairs before middle
     → buffers (record { key = pair.key; value = Some pair.value }) middle ≡ Goes after [] → HasPut (pairs ++ pair ∷ []) before after
 put_next before middle after [] pair has goes =
     (after, subst (λ (c : Client). buffers (record { key = pair.key; value = Some pair.value }) c ≡ Goes after []) has goes, refl)
 put_next before middle after (first ∷ pairs) pair has goes = (has.0, has.1, put_next has.0 middle after pairs pair has.2 goes)
+
+-- the same of a list that is read
+pub put_on : (all : List Pair) (i : ℕ) (pair : Pair) (value : Bytes) (before middle after : Client) → i < length all → pair ≡ get_or all i pair
+    → value ≡ pair.value → HasPut (take i all) before middle
+    → buffers (record { key = pair.key; value = Some value }) middle ≡ Goes after [] → HasPut (take (i + 1) all) before after
+put_on all i pair value before middle after here is same has goes =
+    subst (λ (ps : List Pair). HasPut ps before after) (sym (next all i pair here is))
+    (put_next before middle after (take i all) pair has
+    (subst (λ (v : Bytes). buffers (record { key = pair.key; value = Some v }) middle ≡ Goes after []) same goes))
 
 abbrev Tried : Type 0
 Tried = Attempt (Unit {0}) (Unit {0})
@@ -73,15 +83,12 @@ module _ {F : Type 0} (g : Mut F (MutBor Doing × Unit {0}) (Ran × (MutBor Doin
 
 -- ---- what they come to
 
-abbrev is_committed : Result Told Fault → Bool
-is_committed (Ok (ended.Committed at id value)) = true
-is_committed (Ok (ended.Abandoned why)) = false
-is_committed (Ok (ended.Aborted tries)) = false
-is_committed (Ok (ended.Unknown id)) = false
-is_committed (Err fault) = false
+abbrev stands : Result Told Fault → Bool
+stands (Ok told) = is_committed told
+stands (Err fault) = false
 
 -- what was told of the last attempt, if it is committed
-told_committed : (run : ℕ) (pairs : List Pair) (a : Tried) (told : Result Told Fault) → is_committed told ≡ true → Puts run pairs a
+told_committed : (run : ℕ) (pairs : List Pair) (a : Tried) (told : Result Told Fault) → stands told ≡ true → Puts run pairs a
     → IsToldAs (id_in run a) a.ran a.ended told → IsPut run pairs
 told_committed run pairs a told is puts said = by_end a.ran a.ended puts.put refl refl said
   where
@@ -90,34 +97,38 @@ told_committed run pairs a told is puts said = by_end a.ran a.ended puts.put ref
         → IsToldAs (id_in run a) ran end told → IsPut run pairs
     by_end (Ok done) (Ok (finish.Committed at)) put ran_is end_is said =
         record { attempt = a; is = puts.is; put = put; ran = ran_is; at = at; told = end_is }
-    by_end (Ok done) (Ok (finish.Unknown txn)) put ran_is end_is said = absurd (true≢false (sym is ∙ ap is_committed said))
+    by_end (Ok done) (Ok (finish.Unknown txn)) put ran_is end_is said = absurd (true≢false (sym is ∙ ap stands said))
     by_end (Ok done) (Ok finish.Aborted) put ran_is end_is said = absurd said
-    by_end (Err (halt.Abandon why)) (Ok end) put ran_is end_is said = absurd (true≢false (sym is ∙ ap is_committed said))
+    by_end (Err (halt.Abandon why)) (Ok end) put ran_is end_is said = absurd (true≢false (sym is ∙ ap stands said))
     by_end (Err halt.Again) (Ok end) put ran_is end_is said = absurd said
     by_end (Err (halt.Refused fault)) (Ok end) put ran_is end_is said = absurd said
     by_end (Err (halt.Unserved shard fault)) (Ok end) put ran_is end_is said = absurd said
-    by_end (Ok done) (Err fault) put ran_is end_is said = absurd (true≢false (sym is ∙ ap is_committed said))
-    by_end (Err why) (Err fault) put ran_is end_is said = absurd (true≢false (sym is ∙ ap is_committed said))
+    by_end (Ok done) (Err fault) put ran_is end_is said = absurd (true≢false (sym is ∙ ap stands said))
+    by_end (Err why) (Err fault) put ran_is end_is said = absurd (true≢false (sym is ∙ ap stands said))
 
-committed_by : (run tries : ℕ) (pairs : List Pair) (w : Worker) (made : List Tried) (told : Result Told Fault) → w.run ≡ run → is_committed told ≡ true
+committed_by : (run tries : ℕ) (pairs : List Pair) (w : Worker) (made : List Tried) (told : Result Told Fault) → w.run ≡ run → stands told ≡ true
     → All (Puts run pairs) made → ComesTo tries w made told → IsPut run pairs
-committed_by run tries pairs w made told same is each (inl are) = absurd (true≢false (sym is ∙ ap is_committed are.2))
-committed_by run tries pairs w made told same is each (inr (inl cannot)) = absurd (true≢false (sym is ∙ ap is_committed cannot.2.1))
+committed_by run tries pairs w made told same is each (inl are) = absurd (true≢false (sym is ∙ ap stands are.2))
+committed_by run tries pairs w made told same is each (inr (inl cannot)) = absurd (true≢false (sym is ∙ ap stands cannot.2.1))
 committed_by run tries pairs w made told same is each (inr (inr over)) =
     let its = subst (λ (n : ℕ). IsOver n made told) same over.0 in
     told_committed run pairs its.last told is (All-pop (Puts run pairs) made its.before (Some its.last) its.whole each).1 its.told
 
 -- a client's run stays
+run_stays : (w : Worker) (made : List Tried) → (worked_all w made).run ≡ w.run
+run_stays w [] = refl
+run_stays w (a ∷ rest) = run_stays _ rest
+
 pub run_kept : {F : Type 0} (g : Mut F (MutBor Doing × Unit {0}) (Ran × (MutBor Doing × Unit {0}))) (f last : F) (old new : Worker) (made : List Tried)
     → HasTried g old f made new last → new.run ≡ old.run
-run_kept g f last old new made tried = ap (λ (w : Worker). w.run) tried.whole ∙ same_run old made
+run_kept g f last old new made tried = ap (λ (w : Worker). w.run) tried.whole ∙ run_stays old made
 
 -- what a client comes to by code that puts pairs: if it is told as committed, a transaction of its run has put them
 pub put_by : {F : Type 0} (g : Mut F (MutBor Doing × Unit {0}) (Ran × (MutBor Doing × Unit {0}))) (tries : ℕ) (pairs : List Pair) (f : F)
     → ((p : MutBor Doing) (r : Ran) (q : MutBor Doing) (f' : F) → Called g f (p, tt) (r, (q, tt)) f'
     → MatchResult r (λ _. HasPut pairs p.now.session.client q.now.session.client) (λ _. Unit {0}) × (f' ≡ f))
-    → (old new : Worker) (told : Result Told Fault) → is_committed told ≡ true
-    → ((made : List Tried) × ((last : F) × HasTried g old f made new last) × ComesTo tries new made told) → IsPut old.run pairs
+    → (old new : Worker) (told : Told) → is_committed told ≡ true
+    → ((made : List Tried) × ((last : F) × HasTried g old f made new last) × ComesTo tries new made (Ok told)) → IsPut old.run pairs
 put_by g tries pairs f says old new told is tried =
-    committed_by old.run tries pairs new tried.0 told (run_kept g f tried.1.0 old new tried.0 tried.1.1) is
+    committed_by old.run tries pairs new tried.0 (Ok told) (run_kept g f tried.1.0 old new tried.0 tried.1.1) is
     (each_puts g pairs f says old f tried.1.0 tried.0 refl tried.1.1.attempts tried.1.1.ran) tried.2

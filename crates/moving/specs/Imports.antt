@@ -1,9 +1,11 @@
 -- What is put into a store by the pairs of a text.
-use Rattle.std.specs.Prelude.{◌≡◌, ℕ, List, [], ◌∷◌, Some, Ok, flat_map}
+use Rattle.std.specs.Prelude.{◌≡◌, ℕ, Bool, true, false, List, [], ◌∷◌, Some, Ok, flat_map}
 use Rattle.units.specs.declared.writes.Write.{Write}
 use Rattle.session.specs.Sessions.{Client, Goes, begun, buffers}
 use Rattle.client.specs.declared.ended.Ended.TheVariants as finish
 use Rattle.store.specs.Attempts.{Attempt, IsAttempt, id_in}
+use Rattle.store.specs.declared.ended.Ended.{Ended}
+use Rattle.store.specs.declared.ended.Ended.TheVariants as ended
 use Rattle.pairs.specs.declared.pair.Pair.{Pair}
 
 -- a session after the pairs were put, one after the other
@@ -24,3 +26,10 @@ pub record IsPut (run : ℕ) (pairs : List Pair) : Type 0 where
 -- all pairs of some batches
 abbrev pub pairs_in : List (List Pair) → List Pair
 pairs_in = flat_map (λ pairs. pairs)
+
+-- the transaction was told as committed
+abbrev pub is_committed : Ended (Unit {0}) (Unit {0}) → Bool
+is_committed (ended.Committed at id value) = true
+is_committed (ended.Abandoned why) = false
+is_committed (ended.Aborted tries) = false
+is_committed (ended.Unknown id) = false

@@ -1,8 +1,8 @@
 //! Keys and values are read from a text, and put into a store.
-ghost use Rattle.std.specs.Prelude.{◌≡◌, ◌++◌, ℕ, List, [], ◌∷◌, None, OnOk, IfOk, MatchResult, length, flat_map};
+ghost use Rattle.std.specs.Prelude.{◌≡◌, ◌++◌, ℕ, List, [], ◌∷◌, None, OnOk, IfOk, MatchResult, length, true};
 ghost use Rattle.std.specs.List.{All};
 ghost use Rattle.pairs.specs.declared.pair.Pair.{Pair};
-ghost use Rattle.moving.specs.Imports.{HasPut, IsPut, pairs_in};
+ghost use Rattle.moving.specs.Imports.{HasPut, IsPut, is_committed, pairs_in};
 
 use pairs::{Pair, Pairs};
 use std::alloc::Global;
@@ -112,10 +112,19 @@ fn put_all<R: Wait + time::Clock>(client: &mut Client<'_, R>, pairs: &[Pair]) ->
         { put_each(tx, pairs) },
     );
     match ended {
-        Ok(Ended::Committed { .. }) => Ok(()),
-        Ok(Ended::Abandoned(()) | Ended::Aborted { .. }) => Err(Stop::Aborted),
-        Ok(Ended::Unknown { id }) => Err(Stop::Unknown(id)),
+        Ok(ended) => stands(ended),
         Err(fault) => Err(Stop::Refused(fault)),
+    }
+}
+
+// Why a transaction does not surely stand.
+fn stands(ended: Ended) -> Result<(), Stop>
+    ensures { OnOk result (is_committed ended ≡ true) }
+{
+    match ended {
+        Ended::Committed { .. } => Ok(()),
+        Ended::Abandoned(()) | Ended::Aborted { .. } => Err(Stop::Aborted),
+        Ended::Unknown { id } => Err(Stop::Unknown(id)),
     }
 }
 

@@ -5,8 +5,8 @@ use Rattle.output.specs.Streams.{writer_of}
 use Rattle.moving.specs.Exports.{ArePages, Page, head, least, pairs_on, text}
 use Rattle.moving.proofs.exporting.export.Given as goal
 
-abbrev pub invariant-loop-_page : goal.invariant-loop-_page
-invariant-loop-_page g l =
+abbrev pub invariant-loop-page : goal.invariant-loop-page
+invariant-loop-page g l =
     (l.view.at ≡ l.fn.view.at)
     × (l.view.shared.now.splits ≡ l.fn.view.shared.now.splits)
     × ((pages : List Page)

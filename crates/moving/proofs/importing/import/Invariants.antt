@@ -5,8 +5,8 @@ use Rattle.pairs.specs.declared.pair.Pair.{Pair}
 use Rattle.moving.specs.Imports.{IsPut, pairs_in}
 use Rattle.moving.proofs.importing.import.Given as goal
 
-abbrev pub invariant-loop-_batch : goal.invariant-loop-_batch
-invariant-loop-_batch g l =
+abbrev pub invariant-loop-batch : goal.invariant-loop-batch
+invariant-loop-batch g l =
     (l.client.run ≡ l.fn.client.run)
     × ((batches : List (List Pair)) × All (IsPut l.fn.client.run) batches
     × (l.imported ≡ length (pairs_in batches))
