@@ -1,23 +1,24 @@
 -- Attempts whose code puts pairs, and what they come to.
-use Rattle.std.proofs.Common.{◌≡◌, ◌⊎◌, inl, inr, ◌∙◌, refl, sym, subst, ap, true≢false, ℕ, ◌+◌, ◌<◌, Bool, true, false, List, [], ◌∷◌, ◌++◌, length, take, get_or, Result, Ok, Err, Some}
-use Rattle.std.specs.Prelude.{MatchResult}
+use Rattle.std.proofs.Common.{◌≡◌, inl, inr, ◌∙◌, refl, sym, subst, ap, true≢false, ℕ, ◌+◌, ◌<◌, Bool, true, false, List, [], ◌∷◌, ◌++◌, length, take, get_or, append_assoc, Result, Ok, Err, Some}
+use Rattle.std.specs.Prelude.{MatchResult, OnOk}
 use Rattle.std.specs.List.{All, FoldsTo}
 use Rattle.std.specs.Fn.{Mut, Called}
 use Rattle.std.specs.Borrow.{MutBor}
-use Rattle.std.proofs.lemmas.List.Elements.{All-cons, All-nil, All-pop}
-use Rattle.units.specs.Ids.{Id, same_id}
+use Rattle.std.proofs.lemmas.Grind.{flat_map-append}
+use Rattle.std.proofs.lemmas.List.{append-nil, length-append}
+use Rattle.std.proofs.lemmas.List.Elements.{All-append, All-cons, All-nil, All-pop}
+use Rattle.units.specs.Ids.{same_id}
 use Rattle.units.specs.Keys.{Bytes}
 use Rattle.units.specs.declared.fault.Fault.{Fault}
 use Rattle.session.specs.Sessions.{Client, Goes, begun, buffers}
 use Rattle.client.specs.declared.ended.Ended.{Ended as Finish}
 use Rattle.client.specs.declared.ended.Ended.TheVariants as finish
-use Rattle.store.specs.Attempts.{Attempt, AreAttempts, ComesTo, Doing, HasTried, IsAttempt, IsOver, IsToldAs, Runs, Worker, beginning, id_in, kept, worked_all}
+use Rattle.store.specs.Attempts.{Attempt, AreAttempts, ComesTo, Doing, HasTried, IsAttempt, IsOver, IsToldAs, Runs, Worker, id_in, kept, worked_all}
 use Rattle.store.specs.declared.ended.Ended.{Ended}
-use Rattle.store.specs.declared.ended.Ended.TheVariants as ended
 use Rattle.store.specs.declared.ended.Halt.{Halt}
 use Rattle.store.specs.declared.ended.Halt.TheVariants as halt
 use Rattle.pairs.specs.declared.pair.Pair.{Pair}
-use Rattle.moving.specs.Imports.{HasPut, IsPut, is_committed}
+use Rattle.moving.specs.Imports.{HasPut, IsPut, is_committed, pairs_in}
 use Rattle.moving.proofs.Lists.{next}
 
 -- one more pair is put
@@ -50,6 +51,11 @@ record Puts (run : ℕ) (pairs : List Pair) (a : Tried) : Type 0 where
   is : IsAttempt run a
   put : MatchResult a.ran (λ _. HasPut pairs (begun (id_in run a)) a.left.session.client) (λ _. Unit {0})
 
+-- what an answer says only if it is one
+from_on : (r : Ran) (A : Type 0) → OnOk r A → MatchResult r (λ _. A) (λ _. Unit {0})
+from_on (Ok done) A is = is
+from_on (Err why) A is = tt
+
 -- what the code did in it
 puts_in : (pairs : List Pair) (before after : Client) (own : Bool) (ran r : Ran) → MatchResult r (λ _. HasPut pairs before after) (λ _. Unit {0})
     → ran ≡ kept own r → MatchResult ran (λ _. HasPut pairs before after) (λ _. Unit {0})
@@ -61,7 +67,7 @@ puts_in pairs before after false ran r put is =
 module _ {F : Type 0} (g : Mut F (MutBor Doing × Unit {0}) (Ran × (MutBor Doing × Unit {0}))) where
   each_puts : (pairs : List Pair) (f : F)
       → ((p : MutBor Doing) (r : Ran) (q : MutBor Doing) (f' : F) → Called g f (p, tt) (r, (q, tt)) f'
-      → MatchResult r (λ _. HasPut pairs p.now.session.client q.now.session.client) (λ _. Unit {0}) × (f' ≡ f))
+      → OnOk r (HasPut pairs p.now.session.client q.now.session.client) × (f' ≡ f))
       → (w : Worker) (h f' : F) (made : List Tried) → h ≡ f → AreAttempts w.run made → FoldsTo (Runs g w) h made f'
       → All (Puts w.run pairs) made
   each_puts pairs f says w h f' [] same are folds = All-nil (Puts w.run pairs)
@@ -72,7 +78,7 @@ module _ {F : Type 0} (g : Mut F (MutBor Doing × Unit {0}) (Ran × (MutBor Doin
       (subst (λ (x : F). Called g x (call.shown, tt) (folds.1.0, (call.left, tt)) folds.0) same call.called) in
       let put =
       subst (λ (d : Doing). MatchResult folds.1.0 (λ _. HasPut pairs d.session.client a.left.session.client) (λ _. Unit {0})) call.shows
-      (subst (λ (d : Doing). MatchResult folds.1.0 (λ _. HasPut pairs call.shown.now.session.client d.session.client) (λ _. Unit {0})) call.leaves said.0) in
+      (subst (λ (d : Doing). MatchResult folds.1.0 (λ _. HasPut pairs call.shown.now.session.client d.session.client) (λ _. Unit {0})) call.leaves (from_on folds.1.0 _ said.0)) in
       All-cons (Puts w.run pairs) a rest
       (record {
         is = are.0;
@@ -126,9 +132,35 @@ run_kept g f last old new made tried = ap (λ (w : Worker). w.run) tried.whole �
 -- what a client comes to by code that puts pairs: if it is told as committed, a transaction of its run has put them
 pub put_by : {F : Type 0} (g : Mut F (MutBor Doing × Unit {0}) (Ran × (MutBor Doing × Unit {0}))) (tries : ℕ) (pairs : List Pair) (f : F)
     → ((p : MutBor Doing) (r : Ran) (q : MutBor Doing) (f' : F) → Called g f (p, tt) (r, (q, tt)) f'
-    → MatchResult r (λ _. HasPut pairs p.now.session.client q.now.session.client) (λ _. Unit {0}) × (f' ≡ f))
+    → OnOk r (HasPut pairs p.now.session.client q.now.session.client) × (f' ≡ f))
     → (old new : Worker) (told : Told) → is_committed told ≡ true
     → ((made : List Tried) × ((last : F) × HasTried g old f made new last) × ComesTo tries new made (Ok told)) → IsPut old.run pairs
 put_by g tries pairs f says old new told is tried =
     committed_by old.run tries pairs new tried.0 (Ok told) (run_kept g f tried.1.0 old new tried.0 tried.1.1) is
     (each_puts g pairs f says old f tried.1.0 tried.0 refl tried.1.1.attempts tried.1.1.ran) tried.2
+
+-- what follows from what an answer says
+pub on_ok : {X Y A B : Type 0} (r : Result X Y) → OnOk r A → (A → B) → OnOk r B
+on_ok (Ok done) is so = so is
+on_ok (Err why) is so = tt
+
+-- ---- batches, one after the other
+
+pub pairs_more : (batches : List (List Pair)) (batch : List Pair) → pairs_in (batches ++ batch ∷ []) ≡ pairs_in batches ++ batch
+pairs_more batches batch =
+    flat_map-append (λ (ps : List Pair). ps) batches (batch ∷ []) ∙ ap (λ (rest : List Pair). pairs_in batches ++ rest) (append-nil batch)
+
+pub counted_on : (batches : List (List Pair)) (batch : List Pair) → length (pairs_in (batches ++ batch ∷ [])) ≡ length (pairs_in batches) + length batch
+counted_on batches batch = ap (λ (ps : List Pair). length ps) (pairs_more batches batch) ∙ length-append (pairs_in batches) batch
+
+pub given_on : (start before after : List Pair) (batches : List (List Pair)) (batch : List Pair) → before ≡ start ++ pairs_in batches → after ≡ before ++ batch
+    → after ≡ start ++ pairs_in (batches ++ batch ∷ [])
+given_on start before after batches batch so more =
+    more ∙ ap (λ (ps : List Pair). ps ++ batch) so ∙ append_assoc start (pairs_in batches) batch
+    ∙ ap (λ (ps : List Pair). start ++ ps) (sym (pairs_more batches batch))
+
+pub put_more : (run its : ℕ) (batches : List (List Pair)) (batch put : List Pair) → its ≡ run → put ≡ batch → All (IsPut run) batches → IsPut its put
+    → All (IsPut run) (batches ++ batch ∷ [])
+put_more run its batches batch put same is all one =
+    All-append (IsPut run) batches (batch ∷ []) all
+    (All-cons (IsPut run) batch [] (subst (λ (n : ℕ). IsPut n batch) same (subst (IsPut its) is one)) (All-nil (IsPut run)))

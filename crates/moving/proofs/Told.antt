@@ -1,7 +1,9 @@
 -- Pairs and pages that were told, one after the other.
-use Rattle.std.proofs.Common.{◌≡◌, ◌∙◌, refl, sym, subst, ap, arith, length, append_assoc, take, get_or, ℕ, ◌+◌, ◌<◌, List, [], ◌∷◌, ◌++◌, map, Option, Some, None}
+use Rattle.std.proofs.Common.{◌≡◌, ◌∙◌, refl, sym, subst, ap, length, append_assoc, take, get_or, ℕ, ◌+◌, ◌<◌, List, [], ◌∷◌, ◌++◌, map, Option, Some}
 use Rattle.std.proofs.lemmas.Grind.{flat_map-append}
 use Rattle.std.proofs.lemmas.List.{append-nil, length-append, map-append}
+use Rattle.std.specs.Io.KnownBytes.{Appends}
+use Rattle.std.proofs.KnownBytes.{Appends-trans}
 use Rattle.units.specs.Keys.{Bytes, shard_of}
 use Rattle.board.specs.Views.{Viewing}
 use Rattle.store.specs.Views.{IsShown, LookedAt}
@@ -75,6 +77,14 @@ pub written_on : (form : Form) (pages : List Page) (page : Page)
 written_on form pages page =
     append_assoc (head form) (text form (pairs_on pages)) (text form page.pairs)
     ∙ ap (λ (t : List ℕ). head form ++ t) (sym (text_of_both form (pairs_on pages) page.pairs) ∙ ap (text form) (sym (pairs_more pages page)))
+
+-- a page more is written
+pub wrote_on : (old middle new : Option (List ℕ)) (form : Form) (pages : List Page) (page : Page) (bytes : List ℕ) → bytes ≡ text form page.pairs
+    → Appends old middle (head form ++ text form (pairs_on pages)) → Appends middle new bytes
+    → Appends old new (head form ++ text form (pairs_on (pages ++ page ∷ [])))
+wrote_on old middle new form pages page bytes is before more =
+    subst (Appends old new) (written_on form pages page)
+    (subst (λ (bs : List ℕ). Appends old new ((head form ++ text form (pairs_on pages)) ++ bs)) is (Appends-trans old middle new _ bytes before more))
 
 pub counted_on : (pages : List Page) (page : Page) → length (pairs_on (pages ++ page ∷ [])) ≡ length (pairs_on pages) + length page.pairs
 counted_on pages page = ap (λ (ps : List Pair). length ps) (pairs_more pages page) ∙ length-append (pairs_on pages) page.pairs

@@ -1,5 +1,5 @@
 -- What is exported of a view: pages of keys, each with its value.
-use Rattle.std.specs.Prelude.{◌≡◌, ◌++◌, ℕ, List, [], ◌∷◌, map, flat_map, Option, Some, None}
+use Rattle.std.specs.Prelude.{◌≡◌, ℕ, List, [], ◌∷◌, map, flat_map, Option, Some, None}
 use Rattle.units.specs.Keys.{Bytes, shard_of}
 use Rattle.board.specs.Views.{Viewing}
 use Rattle.store.specs.Ranges.{IsListedBy}

@@ -1,6 +1,5 @@
 -- What is put into a store by the pairs of a text.
 use Rattle.std.specs.Prelude.{◌≡◌, ℕ, Bool, true, false, List, [], ◌∷◌, Some, Ok, flat_map}
-use Rattle.units.specs.declared.writes.Write.{Write}
 use Rattle.session.specs.Sessions.{Client, Goes, begun, buffers}
 use Rattle.client.specs.declared.ended.Ended.TheVariants as finish
 use Rattle.store.specs.Attempts.{Attempt, IsAttempt, id_in}

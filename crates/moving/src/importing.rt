@@ -65,10 +65,10 @@ pub fn import<R: Wait + time::Clock, P: Pairs>(
         let Some(sum) = imported.checked_add(batch.len() as u64) else {
             return stopped(imported, Stop::Refused(Fault::TimeSpent));
         };
-        if let Err(stop) = put_all(client, &batch) {
-            return stopped(imported, stop);
+        match put_all(client, &batch) {
+            Ok(()) => imported = sum,
+            Err(stop) => return stopped(imported, stop),
         }
-        imported = sum;
     }
     stopped(imported, Stop::Refused(Fault::TimeSpent))
 }
@@ -94,7 +94,10 @@ fn next_batch<P: Pairs>(alloc: Global, source: &mut P) -> Result<Vec<Pair>, Faul
         let Some(pair) = source.next(alloc)? else {
             break;
         };
-        batch.push(pair)?;
+        if let Err(failed) = batch.push(pair) {
+            drop(failed);
+            return Err(Fault::Memory);
+        }
     }
     Ok(batch)
 }
