@@ -1,5 +1,5 @@
 //! The commands over an open store are carried out.
-ghost use Rattle.std.specs.Prelude.{◌≡◌, ◌⊎◌};
+ghost use Rattle.std.specs.Prelude.{◌≡◌, ◌⊎◌, IfOk};
 
 use crate::backing_up::backup_folder;
 use crate::exporting::export_folder;
