@@ -139,9 +139,7 @@ fn is_renewed(rt: &impl Abort, alloc: Global, disks: Vec<SimDisk>) -> (bool, Vec
 // Whether a store's log is renewed as the row says, and what was written is seen over it.
 fn goes<R: Threads + Wait + time::Clock + Sync + Abort>(rt: &R, alloc: Global, row: &Row) -> bool {
     let store = open(rt, alloc, disks_of(rt, alloc, 1), row);
-    let served = store.serve(|clients: Vec<Client<'_, R>>| write_all(
-        rt, alloc, clients, row
-    ));
+    let served = store.serve(|clients: Vec<Client<'_, R>>| write_all(rt, alloc, clients, row));
     let Ok((wrote, disks)) = served else {
         return false;
     };

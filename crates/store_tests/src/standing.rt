@@ -97,9 +97,11 @@ fn goes<R: Threads + Wait + time::Clock + Sync>(
     clients: Vec<Client<'_, R>>,
 ) -> bool {
     let mut clients = clients;
-    let (Some(mut older), Some(mut younger), Some(mut third)) =
-        (clients.pop(), clients.pop(), clients.pop())
-    else {
+    let (Some(mut older), Some(mut younger), Some(mut third)) = (
+        clients.pop(),
+        clients.pop(),
+        clients.pop(),
+    ) else {
         return false;
     };
     drop(clients);
