@@ -31,9 +31,11 @@ const DONE: Step = Step {
 };
 
 // Keys and values of each kind, in the order of the keys: line feeds, blanks, quotes, commas, no bytes, letters of UTF-8, and bytes that are no text.
-const LINES: &[u8] = b"a 1\na\\x20b two\\x0alines\nc:\\x5ctemp \\x5cx41\nk \nm \"q\",\\x20\\x0d\nn \\x00\nz\\xc3\\xa4 \\xc3\\x9f\n\\xff \\x80,\n";
+const LINES: &[u8] =
+    b"a 1\na\\x20b two\\x0alines\nc:\\x5ctemp \\x5cx41\nk \nm \"q\",\\x20\\x0d\nn \\x00\nz\\xc3\\xa4 \\xc3\\x9f\n\\xff \\x80,\n";
 
-const ROWS: &[u8] = b"\"key\",\"value\"\n\"a\",\"1\"\n\"a b\",\"two\nlines\"\n\"c:\\x5ctemp\",\"\\x5cx41\"\n\"k\",\"\"\n\"m\",\"\"\"q\"\", \r\"\n\"n\",\"\\x00\"\n\"z\xc3\xa4\",\"\xc3\x9f\"\n\"\\xff\",\"\\x80,\"\n";
+const ROWS: &[u8] =
+    b"\"key\",\"value\"\n\"a\",\"1\"\n\"a b\",\"two\nlines\"\n\"c:\\x5ctemp\",\"\\x5cx41\"\n\"k\",\"\"\n\"m\",\"\"\"q\"\", \r\"\n\"n\",\"\\x00\"\n\"z\xc3\xa4\",\"\xc3\x9f\"\n\"\\xff\",\"\\x80,\"\n";
 
 // A store of two shards becomes one of four, by lines and by rows, and is copied.
 static MOVED: [Step; 18] = [
