@@ -31,7 +31,7 @@ pub fn opened<'r, R: Files<File = File> + RandomSource + Threads + Wait + time::
         match open_once(rt, alloc, dir, splits, choices, is_new) {
             Ok(store) => return Ok(store),
             Err(refused) => {
-                if !is_in_use(refused) {
+                if !is_in_use(&refused) {
                     return Err(refused);
                 }
             }
@@ -42,7 +42,7 @@ pub fn opened<'r, R: Files<File = File> + RandomSource + Threads + Wait + time::
 }
 
 // Whether another process has the folder or a log open.
-fn is_in_use(refused: Refused) -> bool {
+fn is_in_use(refused: &Refused) -> bool {
     match refused.why {
         Some(Why::System(cause)) => cause == Cause::InUse,
         _ => false,
