@@ -44,7 +44,7 @@ pub fn export_folder<
         rt,
         alloc,
         dir,
-        |client: &mut Client<'_, R>| exported(alloc, client, at, form_of(csv), &mut out),
+        |client: &mut Client<'_, R>| write_view(alloc, client, at, form_of(csv), &mut out),
     )?;
     drop(out);
     match exported {
@@ -61,7 +61,8 @@ fn form_of(csv: bool) -> Form {
     if csv { Form::Rows } else { Form::Lines }
 }
 
-fn exported<R: Wait + time::Clock, O: Write>(
+// Opens the view, and writes it.
+fn write_view<R: Wait + time::Clock, O: Write>(
     alloc: Global,
     client: &mut Client<'_, R>,
     at: Option<Stamp>,
