@@ -2,6 +2,7 @@
 use crate::opening::opened;
 use crate::refusal::Refusal;
 use commands::splits_of;
+use filedisk::FileDisk;
 use host_files::HostFiles;
 use service_words::Choices;
 use std::alloc::Global;
@@ -10,17 +11,14 @@ use std::random::RandomSource;
 use std::sync::Wait;
 use std::thread::Threads;
 use std::{rt, time};
-use store::{Client, Options};
+use store::{Client, Options, Store};
 use units::{Fault, Reason};
 
-/// Opens the store in a folder, lends its client to the work, and closes it.
-pub fn alone<
+/// Opens the store in a folder for one client.
+pub fn opened_alone<
+    'r,
     R: rt::Files<File = File> + Eprint + RandomSource + Threads + Wait + time::Clock + Sync,
-    T: Drop,
-    F: for<'s> FnOnce(&mut Client<'s, R>) -> T,
->(rt: &R, alloc: Global, dir: &str, work: F) -> Result<T, Refusal>
-    requires { F.IsAlwaysCallable work }
-{
+>(rt: &'r R, alloc: Global, dir: &str) -> Result<Store<'r, R, FileDisk>, Refusal> {
     let files = HostFiles::new(rt, false);
     let splits = match splits_of(alloc, &files, dir) {
         Ok(splits) => splits,
@@ -37,17 +35,14 @@ pub fn alone<
         idle: 1_000,
     };
     drop(defaults);
-    let store = match opened(rt, alloc, dir, &splits, &choices, false) {
-        Ok(store) => store,
-        Err(refused) => return Err(Refusal::of_store(alloc, dir, refused)),
-    };
-    let (done, disks) = store.serve(|clients: Vec<Client<'_, R>>| -> Result<T, Fault> {
-        let mut clients = clients;
-        match clients.pop() {
-            Some(mut client) => Ok(work(&mut client)),
-            None => Err(Fault::BadRequest(Reason::Settings)),
-        }
-    })?;
-    drop(disks);
-    Ok(done?)
+    match opened(rt, alloc, dir, &splits, &choices, false) {
+        Ok(store) => Ok(store),
+        Err(unopened) => { Err(Refusal::of_store(alloc, &files, dir, &splits, unopened.fault)) }
+    }
+}
+
+/// The one client.
+pub fn only<R>(clients: Vec<Client<'_, R>>) -> Result<Client<'_, R>, Fault> {
+    let mut clients = clients;
+    clients.pop().ok_or(Fault::BadRequest(Reason::Settings))
 }

@@ -1,4 +1,6 @@
 //! The command `backup`.
+ghost use Rattle.std.specs.Prelude.{◌≡◌, IfOk};
+
 use crate::refusal::Refusal;
 use commands::splits_of;
 use host_files::HostFiles;
@@ -6,7 +8,7 @@ use moving::{NotBackedUp, Side, backup};
 use std::alloc::Global;
 use std::fs::File;
 use std::rt;
-use store::RefusedIn;
+use store::{Refused, RefusedIn};
 
 /// Copies the store in a folder into another one.
 pub fn backup_folder<R: rt::Files<File = File> + Eprint>(
@@ -14,7 +16,9 @@ pub fn backup_folder<R: rt::Files<File = File> + Eprint>(
     alloc: Global,
     dir: &str,
     to: &str,
-) -> Result<u8, Refusal> {
+) -> Result<u8, Refusal>
+    ensures { IfOk result (λ status. status ≡ 0) }
+{
     let files = HostFiles::new(rt, false);
     let splits = match splits_of(alloc, &files, dir) {
         Ok(splits) => splits,
@@ -22,16 +26,18 @@ pub fn backup_folder<R: rt::Files<File = File> + Eprint>(
     };
     match backup(rt, alloc, dir, &splits, to) {
         Ok(()) => Ok(0),
-        Err(NotBackedUp { side, refused }) => {
-            let folder = match side {
-                Side::From => dir,
-                Side::To => to,
-            };
-            let told = RefusedIn { folder, refused };
-            Err(Refusal {
-                fault: refused.fault,
-                told: format!(in alloc; "--> {told}").ok(),
-            })
-        }
+        Err(NotBackedUp { side, refused }) => Err(match side {
+            Side::From => refusal_in(alloc, dir, refused),
+            Side::To => refusal_in(alloc, to, refused),
+        }),
+    }
+}
+
+// Refuses a folder: tells the file, and why.
+fn refusal_in(alloc: Global, folder: &str, refused: Refused) -> Refusal {
+    let told = RefusedIn { folder, refused };
+    Refusal {
+        fault: refused.fault,
+        told: format!(in alloc; "--> {told}").ok(),
     }
 }

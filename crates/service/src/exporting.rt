@@ -1,5 +1,7 @@
 //! The command `export`.
-use crate::alone::alone;
+ghost use Rattle.std.specs.Prelude.{◌≡◌, ◌⊎◌, IfOk};
+
+use crate::alone::{only, opened_alone};
 use crate::refusal::Refusal;
 use moving::{Form, export};
 use output::{Failure, Stream};
@@ -38,14 +40,16 @@ pub fn export_folder<
     csv: bool,
     output: O,
     errors: &mut E,
-) -> Result<u8, Refusal> {
+) -> Result<u8, Refusal>
+    ensures { IfOk result (λ status. (status ≡ 0) ⊎ (status ≡ 2)) }
+{
+    let store = opened_alone(rt, alloc, dir)?;
     let mut out = Stream::new(output);
-    let exported = alone(
-        rt,
-        alloc,
-        dir,
-        |client: &mut Client<'_, R>| write_view(alloc, client, at, form_of(csv), &mut out),
-    )?;
+    let form = form_of(csv);
+    let (exported, disks) = store.serve(|clients: Vec<Client<'_, R>>| write_pairs(
+        alloc, clients, at, form, &mut out,
+    ))?;
+    drop(disks);
     drop(out);
     match exported {
         Ok(Exported { pairs, at }) => {
@@ -61,14 +65,15 @@ fn form_of(csv: bool) -> Form {
     if csv { Form::Rows } else { Form::Lines }
 }
 
-// Opens the view, and writes it.
-fn write_view<R: Wait + time::Clock, O: Write>(
+// Opens a view by the one client, and writes it.
+fn write_pairs<R: Wait + time::Clock, O: Write>(
     alloc: Global,
-    client: &mut Client<'_, R>,
+    clients: Vec<Client<'_, R>>,
     at: Option<Stamp>,
     form: Form,
     out: &mut Stream<O>,
 ) -> Result<Exported, Failure> {
+    let mut client = only(clients)?;
     let mut view = match at {
         Some(at) => client.view_at(at),
         None => match client.view() {

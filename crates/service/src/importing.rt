@@ -1,8 +1,10 @@
 //! The command `import`.
-use crate::alone::alone;
+ghost use Rattle.std.specs.Prelude.{◌≡◌, ◌⊎◌, IfOk};
+
+use crate::alone::{only, opened_alone};
 use crate::refusal::Refusal;
 use moving::{Imported, Stop, import};
-use pairs::{Commas, Lines};
+use pairs::{Commas, Lines, Pairs};
 use std::alloc::Global;
 use std::fs::File;
 use std::io::{BufReader, Read, Write};
@@ -22,35 +24,58 @@ pub fn import_folder<
 >(rt: &R, alloc: Global, dir: &str, csv: bool, input: I, output: O) -> Result<u8, Refusal> {
     let imported = if csv {
         let mut rows = Commas::of(alloc, input);
-        alone(
-            rt,
-            alloc,
-            dir,
-            |client: &mut Client<'_, R>| import(alloc, client, &mut rows),
-        )?
+        put_from(rt, alloc, dir, &mut rows)?
     } else {
         let mut lines = Lines::of(alloc, buffered(alloc, input)?);
-        alone(
-            rt,
-            alloc,
-            dir,
-            |client: &mut Client<'_, R>| import(alloc, client, &mut lines),
-        )?
+        put_from(rt, alloc, dir, &mut lines)?
     };
     let mut output = output;
     let Imported { pairs, stop } = imported;
     let _ = writeln!(output, "imported {pairs}");
     match stop {
+        Some(stop) => stopped(alloc, stop, output),
         None => Ok(0),
-        Some(Stop::Aborted) => {
+    }
+}
+
+// Puts the keys and values that come from a text into the store in a folder.
+fn put_from<
+    R: rt::Files<File = File> + Eprint + RandomSource + Threads + Wait + time::Clock + Sync,
+    P: Pairs,
+>(rt: &R, alloc: Global, dir: &str, source: &mut P) -> Result<Imported, Refusal> {
+    let store = opened_alone(rt, alloc, dir)?;
+    let (imported, disks) = store.serve(|clients: Vec<Client<'_, R>>| put_pairs(
+        alloc, clients, source,
+    ))?;
+    drop(disks);
+    Ok(imported?)
+}
+
+// The same by the one client.
+fn put_pairs<R: Wait + time::Clock, P: Pairs>(
+    alloc: Global,
+    clients: Vec<Client<'_, R>>,
+    source: &mut P,
+) -> Result<Imported, Fault> {
+    let mut client = only(clients)?;
+    Ok(import(alloc, &mut client, source))
+}
+
+// What is printed of an import that has stopped: 1, or why it is refused.
+fn stopped<O: Write + Drop>(alloc: Global, stop: Stop, output: O) -> Result<u8, Refusal>
+    ensures { IfOk result (λ status. status ≡ 1) }
+{
+    let mut output = output;
+    match stop {
+        Stop::Aborted => {
             let _ = writeln!(output, "aborted");
             Ok(1)
         }
-        Some(Stop::Unknown(id)) => {
+        Stop::Unknown(id) => {
             let _ = writeln!(output, "unknown {id}");
             Ok(1)
         }
-        Some(Stop::Refused(fault)) => Err(of_line(alloc, fault)),
+        Stop::Refused(fault) => Err(of_line(alloc, fault)),
     }
 }
 
