@@ -8,7 +8,6 @@ use moving::{NotBackedUp, Side, backup};
 use std::alloc::Global;
 use std::fs::File;
 use std::rt;
-use store::{Refused, RefusedIn};
 
 /// Copies the store in a folder into another one.
 pub fn backup_folder<R: rt::Files<File = File> + Eprint>(
@@ -27,17 +26,8 @@ pub fn backup_folder<R: rt::Files<File = File> + Eprint>(
     match backup(rt, alloc, dir, &splits, to) {
         Ok(()) => Ok(0),
         Err(NotBackedUp { side, refused }) => Err(match side {
-            Side::From => refusal_in(alloc, dir, refused),
-            Side::To => refusal_in(alloc, to, refused),
+            Side::From => Refusal::of_store(alloc, dir, refused),
+            Side::To => Refusal::of_store(alloc, to, refused),
         }),
-    }
-}
-
-// Refuses a folder: tells the file, and why.
-fn refusal_in(alloc: Global, folder: &str, refused: Refused) -> Refusal {
-    let told = RefusedIn { folder, refused };
-    Refusal {
-        fault: refused.fault,
-        told: format!(in alloc; "--> {told}").ok(),
     }
 }
