@@ -21,7 +21,9 @@ pub fn import_folder<
     R: rt::Files<File = File> + Eprint + RandomSource + Threads + Wait + time::Clock + Sync,
     I: Read + Drop,
     O: Write + Drop,
->(rt: &R, alloc: Global, dir: &str, csv: bool, input: I, output: O) -> Result<u8, Refusal> {
+>(rt: &R, alloc: Global, dir: &str, csv: bool, input: I, output: O) -> Result<u8, Refusal>
+    ensures { IfOk result (λ status. (status ≡ 0) ⊎ (status ≡ 1)) }
+{
     let imported = if csv {
         let mut rows = Commas::of(alloc, input);
         put_from(rt, alloc, dir, &mut rows)?
