@@ -95,8 +95,8 @@ fn tell_money<R: Wait + time::Clock>(
 }
 
 // Makes the copies. Before each its number is committed.
-fn copy_often<R: Files<File = File> + Eprint + Wait + time::Clock>(
-    rt: &R,
+fn copy_often<R: Wait + time::Clock>(
+    files: &HostRuntime,
     alloc: Global,
     client: &mut Client<'_, R>,
     folder: &str,
@@ -110,7 +110,7 @@ fn copy_often<R: Files<File = File> + Eprint + Wait + time::Clock>(
             Ok(())
         });
         let is_marked = matches!(ended, Ok(Ended::Committed { .. }));
-        if !is_marked || backup(rt, alloc, folder, splits, copy.as_str()).is_err() {
+        if !is_marked || backup(files, alloc, folder, splits, copy.as_str()).is_err() {
             return false;
         }
     }
@@ -118,8 +118,9 @@ fn copy_often<R: Files<File = File> + Eprint + Wait + time::Clock>(
 }
 
 // Fills the accounts, and lets two clients move money while a third makes copies.
-fn work<R: Files<File = File> + Eprint + Threads + Wait + time::Clock + Sync>(
+fn work<R: Threads + Wait + time::Clock + Sync>(
     rt: &R,
+    files: &HostRuntime,
     alloc: Global,
     clients: Vec<Client<'_, R>>,
     folder: &str,
@@ -146,7 +147,7 @@ fn work<R: Files<File = File> + Eprint + Threads + Wait + time::Clock + Sync>(
             if place > 0 {
                 return tell_money(&mut client, place, &is_over);
             }
-            let copied = copy_often(rt, alloc, &mut client, folder, splits, copies);
+            let copied = copy_often(files, alloc, &mut client, folder, splits, copies);
             is_over.store(true, Ordering::SeqCst);
             copied
         },
@@ -178,15 +179,20 @@ fn told<R: Files<File = File> + RandomSource + Threads + Wait + time::Clock + Sy
 }
 
 // Whether the store is made and copied as said, and each copy has all money, and what was acknowledged before it was begun.
-fn are_right<
-    R: Files<File = File> + Eprint + RandomSource + Threads + Wait + time::Clock + Sync + Abort,
->(rt: &R, alloc: Global, folder: &str, copies: &[String], wrong: &mut WrongRows) {
+fn are_right<R: Files<File = File> + RandomSource + Threads + Wait + time::Clock + Sync + Abort>(
+    rt: &R,
+    files: &HostRuntime,
+    alloc: Global,
+    folder: &str,
+    copies: &[String],
+    wrong: &mut WrongRows,
+) {
     let mut chosen = options(rt, alloc, 3);
     chosen.make = true;
     let store = Store::open_folder(rt, alloc, folder, chosen);
     let splits = splits(rt, alloc);
     let served = store.ok().expect(rt, "a store").serve(|clients: Vec<Client<'_, R>>| work(
-        rt, alloc, clients, folder, &splits, copies,
+        rt, files, alloc, clients, folder, &splits, copies,
     ));
     drop(splits);
     let (worked, disks) = served.ok().expect(rt, "threads");
@@ -216,7 +222,7 @@ fn copies_beside_clients_are_whole(rt: HostRuntime) {
     let path = folder.path(rt.alloc(), ".").ok().expect(&rt, "memory");
     let copies = copies_in(&rt, rt.alloc(), &folder);
     let mut wrong = WrongRows::none(rt.alloc());
-    are_right(&rt, rt.alloc(), path.as_str(), &copies, &mut wrong);
+    are_right(&rt, &rt, rt.alloc(), path.as_str(), &copies, &mut wrong);
     drop(copies);
     drop(path);
     wrong.unless(folder.remove(&rt), "the folder");
