@@ -37,7 +37,7 @@ pub fn opened_alone<
     drop(defaults);
     match opened(rt, alloc, dir, &splits, &choices, false) {
         Ok(store) => Ok(store),
-        Err(unopened) => { Err(Refusal::of_store(alloc, &files, dir, &splits, unopened.fault)) }
+        Err(refused) => Err(Refusal::of_store(alloc, dir, refused)),
     }
 }
 

@@ -31,13 +31,3 @@ pub fn backup_folder<R: rt::Files<File = File> + Eprint>(
         }),
     }
 }
-
-// Refuses a folder: tells the file, and why.
-fn refusal_in(alloc: Global, folder: &str, refused: Refused) -> Refusal {
-    let fault = refused.fault;
-    let told = RefusedIn { folder, refused };
-    Refusal {
-        fault,
-        told: format!(in alloc; "--> {told}").ok(),
-    }
-}
