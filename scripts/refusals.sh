@@ -11,7 +11,7 @@ fi
 room=$(mktemp -d)
 chmod 711 "$room"
 server=
-trap '[ -z "$server" ] || kill "$server" 2>/dev/null; rm -rf "$room"' EXIT
+trap '[ -z "$server" ] || kill "$server" 2>/dev/null || true; rm -rf "$room"' EXIT
 mkdir "$room/here"
 cd "$room/here"
 failed=0
