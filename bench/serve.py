@@ -147,14 +147,15 @@ def rows(told, place, room):
 
 def limits(found):
     """What each limit says, and what was found. `None` if it was not tried."""
-    def less(work, limit):
-        over, alone = found.get((work, 1, "Python")), found.get((work, 1, "store"))
+    def less(work, limit, by):
+        over, alone = found.get((work, 1, by)), found.get((work, 1, "store"))
         return over and alone and (over[1] - alone[1] <= limit, f"{over[1] - alone[1]} us above")
 
     reads, over, alone = found.get(("reads", 16, "Python")), found.get(("commits", 64, "Rust")), found.get(("commits", 64, "store"))
     return {
-        "1 client: a read at most 80 us above": less("reads", 80),
-        "1 client: a transaction of four lines at most 250 us above": less("commits", 250),
+        "1 client in Python: a read at most 80 us above": less("reads", 80, "Python"),
+        "1 client in Rust: a transaction of four lines at most 250 us above": less("commits", 250, "Rust"),
+        "1 client in Python: the same": less("commits", 250, "Python"),
         "16 threads of one Python process: at least 5,000 reads a second": reads and (reads[0] >= 5000, f"{reads[0]} a second"),
         "64 clients in Rust: at least .7 of the commits of 64 of `store`":
             over and alone and (over[0] >= .7 * alone[0], f"{over[0] / max(alone[0], 1):.2f} of {alone[0]} a second"),
