@@ -1,11 +1,12 @@
 -- A search by halves among installs in order.
-use Rattle.std.proofs.Common.{◌≡◌, ℕ, zero, suc, ◌+◌, ◌*◌, ◌^◌, ◌<◌, ◌≤◌, true, false, List, [], ◌∷◌, length, get_or, refl, sym, ap, ◌∙◌, arith}
+use Rattle.std.proofs.Common.{◌≡◌, ℕ, zero, suc, ◌+◌, ◌*◌, ◌^◌, ◌<◌, ◌≤◌, Bool, true, false, nat_lt, List, [], ◌∷◌, length, get_or, refl, sym, ap, ◌∙◌, arith}
 use Rattle.std.specs.List.{AllByRecursion, insert}
 use Rattle.std.proofs.lemmas.Bool.Decides.{nat_tests}
 use Rattle.units.specs.Keys.{same_key, key_before}
 use Rattle.std.proofs.lemmas.Bool.{false≢true, false_from_ne_true}
 use Rattle.units.proofs.KeyLaws.{same_key-is, key_before-trans}
 use Rattle.units.specs.declared.writes.Install.{Install}
+use Rattle.versions.specs.Arranged.{no_install}
 use Rattle.versions.specs.Halves.{AllUpTo, AllAfter}
 use Rattle.versions.specs.Ordered.{is_not_after, count_not_after, version_before, installed, AscendsByVersion}
 
@@ -20,6 +21,16 @@ count_at key at (x ∷ t) (suc p) le below above =
     let rest : p ≡ count_not_after key at t = count_at key at t p (omega arith) (λ k d lt. below (suc k) d (omega arith))
     (λ k d le lt. above (suc k) d (omega arith) (omega arith)) in
     rw (below zero x (omega arith)) (ap suc rest)
+
+-- a place up to which none is after the key and timestamp is not behind one from which on all are
+pub up_to_after : (key : List ℕ) (at : ℕ) (t : List Install) (low high : ℕ) → low ≤ length t → AllUpTo key at t low → AllAfter key at t high → low ≤ high
+up_to_after key at t low high le before after = by_test (nat_lt high low) refl
+  where
+    by_test : (b : Bool) → nat_lt high low ≡ b → low ≤ high
+    by_test true e =
+        let less : high < low = grind (arith, nat_tests) in
+        absurd (false≢true (sym (after high no_install (omega arith) (omega (arith, less, le))) ∙ before high no_install less))
+    by_test false e = let more : low ≤ high = grind (arith, nat_tests) in more
 
 -- for each number of digits that is enough for them all, what is left to search fits the digits that are left
 abbrev pub LeftFits : ℕ → ℕ → ℕ → Type 0

@@ -73,43 +73,28 @@ impl Places {
         self.spots.get(at).head
     }
 
-    /// Finds the places from the first head that is not below a number to the first that is above it, if heads ascend. The contract speaks
-    /// only of the heads at both ends.
-    pub(crate) fn range(&self, head: u64) -> (usize, usize)
-        ensures order { result.0 ≤ result.1 }
-        ensures within { result.1 ≤ length self.now.places }
-        ensures below { 0 < result.0 → slice_index_or self.now.heads (result.0 - 1) 0 < head }
-        ensures first { result.0 < length self.now.places →
-            head ≤ slice_index_or self.now.heads result.0 0 }
-        ensures last { result.0 < result.1 → slice_index_or self.now.heads (result.1 - 1) 0 ≤ head }
-        ensures above { result.1 < length self.now.places →
-            head < slice_index_or self.now.heads result.1 0 }
+    /// Finds the first place whose head is not below a number, if heads ascend. The contract speaks only of the heads there and right before.
+    pub(crate) fn first_at(&self, head: u64) -> usize
+        ensures within { result ≤ length self.now.places }
+        ensures below { 0 < result → slice_index_or self.now.heads (result - 1) 0 < head }
+        ensures first { result < length self.now.places →
+            head ≤ slice_index_or self.now.heads result 0 }
     {
-        let low = self.spots.first_at(head);
-        (low, self.first_above(low, head))
+        self.spots.first_at(head)
     }
 
-    // The first head from a place on that is above a number. Mostly it is near, so steps double from the place on (a galloping search), and are
-    // halved once one of them has gone too far.
-    fn first_above(&self, from: usize, head: u64) -> usize
-        requires { from ≤ length self.now.places }
-        ensures order { from ≤ result }
+    /// Finds the first place whose head is above a number, if heads ascend: the first that is not below the next number.
+    pub(crate) fn first_above(&self, head: u64) -> usize
         ensures within { result ≤ length self.now.places }
-        ensures last { from < result → slice_index_or self.now.heads (result - 1) 0 ≤ head }
+        ensures last { 0 < result → slice_index_or self.now.heads (result - 1) 0 ≤ head }
         ensures above { result < length self.now.places →
             head < slice_index_or self.now.heads result 0 }
     {
-        let mut low = from;
-        let mut high = self.len();
-        while low < high {
-            let middle = low + ((high - low) / 2).min(low - from);
-            if self.head(middle) <= head {
-                low = middle + 1;
-            } else {
-                high = middle;
-            }
+        let len = self.len();
+        if len == 0 || self.head(len - 1) <= head {
+            return len;
         }
-        low
+        self.first_at(head + 1)
     }
 
     /// Computes the head that a key has beside these places.

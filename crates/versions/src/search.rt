@@ -119,8 +119,8 @@ fn count(installs: &[Install], places: &Places, key: &Key, at: u64) -> usize
     among(installs, places, key, key_head, at)
 }
 
-// The same, if the last is after them. The heads leave those whose head is the key's, mostly one or none, and only of these versions are
-// read.
+// The same, if the last is after them. Mostly all versions of the key are not, as when one more is installed. So one search by heads finds
+// where those end whose head is the key's, and only the last of them is read.
 fn among(installs: &[Install], places: &Places, key: &Key, key_head: u64, at: u64) -> usize
     requires within { AreWithin places.now.places (length installs.now) }
     requires order { AscendsByVersion (arranged installs.now places.now.places) }
@@ -133,7 +133,38 @@ fn among(installs: &[Install], places: &Places, key: &Key, key_head: u64, at: u6
     ensures after { AllAfter key.now at (arranged installs.now places.now.places) result }
     ensures bound { result ≤ length places.now.places }
 {
-    let (mut low, mut high) = places.range(key_head);
+    let end = places.first_above(key_head);
+    if end > 0 && is_not_after(&installs[places.get(end - 1)], key, at, &mut Count::none()) {
+        return end;
+    }
+    before(installs, places, key, key_head, at, end)
+}
+
+// The same, if they are before a place from which on all are after them. Of the versions before it those are read whose head is the key's, mostly
+// one or none.
+fn before(
+    installs: &[Install],
+    places: &Places,
+    key: &Key,
+    key_head: u64,
+    at: u64,
+    end: usize,
+) -> usize
+    requires within { AreWithin places.now.places (length installs.now) }
+    requires order { AscendsByVersion (arranged installs.now places.now.places) }
+    requires heads { AreHeads places.now.prefix (arranged installs.now places.now.places)
+        places.now.heads }
+    requires bytes { AreBytes key.now }
+    requires head { key_head ≡ head places.now.prefix key.now }
+    requires end { end ≤ length places.now.places }
+    requires behind { AllAfter key.now at (arranged installs.now places.now.places) end }
+    ensures count { result ≡ count_not_after key.now at (arranged installs.now places.now.places) }
+    ensures before { AllUpTo key.now at (arranged installs.now places.now.places) result }
+    ensures after { AllAfter key.now at (arranged installs.now places.now.places) result }
+    ensures bound { result ≤ length places.now.places }
+{
+    let mut low = places.first_at(key_head);
+    let mut high = end;
     while low < high {
         let middle = low + (high - low) / 2;
         if is_not_after(&installs[places.get(middle)], key, at, &mut Count::none()) {

@@ -1,4 +1,4 @@
-use Rattle.std.proofs.Common.{◌≡◌, true, ◌++◌, ◌∷◌, [], sym, ap, subst, ◌∙◌}
+use Rattle.std.proofs.Common.{◌≡◌, true, sym, ap, subst, ◌∙◌}
 use Rattle.units.specs.declared.writes.Install.{Install}
 use Rattle.versions.specs.Ordered.{installed, is_above}
 use Rattle.versions.proofs.Last.{installed_last, above_last}

@@ -1,4 +1,4 @@
-use Rattle.std.proofs.Common.{◌≡◌, ℕ, ◌+◌, ◌++◌, ◌∷◌, [], take, get_or, sym, ap, subst, ◌∙◌, arith}
+use Rattle.std.proofs.Common.{◌≡◌, ◌+◌, ◌++◌, ◌∷◌, [], get_or, sym, ap, subst, ◌∙◌, arith}
 use Rattle.versions.specs.Arranged.{arranged}
 use Rattle.versions.specs.Ordered.{AscendsByVersion}
 use Rattle.versions.proofs.Last.{ascends_taken, next_taken}

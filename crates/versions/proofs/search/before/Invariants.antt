@@ -1,7 +1,7 @@
 use Rattle.std.proofs.Common.{◌-◌, ◌≤◌, length}
 use Rattle.versions.specs.Arranged.{arranged}
 use Rattle.versions.specs.Halves.{AllUpTo, AllAfter}
-use Rattle.versions.proofs.search.among.Given as goal
+use Rattle.versions.proofs.search.before.Given as goal
 
 abbrev pub invariant-loop-low : goal.invariant-loop-low
 invariant-loop-low l = record {
