@@ -82,6 +82,10 @@ impl<'s, R: Wait + time::Clock> Client<'s, R> {
     ///
     /// Each attempt is a session of its own, which is closed only if its code gave `Ok`, and the answer is that of the last. Code that
     /// puts the transaction of another client in the place of its own is refused as a `Stranger`, and what it left is given up.
+    ///
+    /// - `Memory` if memory runs out, `RowsFull` if a shard at which the code reads has no free row: the same call may be answered later;
+    /// - `Stopped` if such a shard has stopped, `TimeSpent` once the client has drawn 2^40 ids: open the store again;
+    /// - `BadRequest(nothing)` if the code read nothing and wrote nothing, and each fault that the code hands on.
     pub fn transact<T: Drop, E: Drop, F: FnMut(&mut Transaction<'s, R>) -> Result<T, Halt<E>>>(
         &mut self,
         tries: u32,
@@ -97,7 +101,8 @@ impl<'s, R: Wait + time::Clock> Client<'s, R> {
     }
 
     /// `transact`, but no attempt is begun once so much time has passed: then it is `Aborted`, as after the last of `tries`. The first attempt
-    /// is made in any case. None is cut off: one that closes is waited for, and is never told as aborted for want of time.
+    /// is made in any case. None is cut off: one that closes is waited for, and is never told as aborted for want of time. It is refused as
+    /// `transact` is.
     pub fn transact_within<
         T: Drop,
         E: Drop,

@@ -7,6 +7,7 @@ mod counted;
 mod crew;
 mod door;
 mod ended;
+mod folders;
 mod histories;
 mod kept;
 mod numbers;

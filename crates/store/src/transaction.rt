@@ -44,7 +44,9 @@ impl<R: Wait + time::Clock> Transaction<'_, R> {
         self.tx.txn()
     }
 
-    /// The value of a key, under a shared lock: what this transaction has put there, or else what its shard holds, the same each time.
+    /// The value of a key, under a shared lock: what this transaction has put there, or else what its shard holds, the same each time. More than
+    /// 128 keys are refused as `many`. After any refusal the code should end: hand it on by `?`, and `transact` runs the code again or tells the
+    /// fault.
     pub fn get(&mut self, key: &Key) -> Result<Option<Value>, Halted>
         ensures splits { self.new.session.splits ≡ self.old.session.splits }
         ensures txn { self.new.session.client.txn ≡ self.old.session.client.txn }
@@ -55,7 +57,7 @@ impl<R: Wait + time::Clock> Transaction<'_, R> {
         self.wire.get(&mut self.tx, key)
     }
 
-    /// The values of some keys, which are asked for together.
+    /// The values of some keys, which are asked for together. It is refused as `get` is.
     pub fn get_all(&mut self, keys: &[Key]) -> Result<Vec<Option<Value>>, Halted>
         ensures splits { self.new.session.splits ≡ self.old.session.splits }
         ensures txn { self.new.session.client.txn ≡ self.old.session.client.txn }
@@ -81,7 +83,7 @@ impl<R: Wait + time::Clock> Transaction<'_, R> {
         Ok(())
     }
 
-    /// Erases a key, once the transaction commits.
+    /// Erases a key, once the transaction commits. It is refused as `put` is.
     pub fn erase(&mut self, key: &Key) -> Result<(), Halted>
         ensures splits { self.new.session.splits ≡ self.old.session.splits }
         ensures step { MatchResult result
