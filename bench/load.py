@@ -1,10 +1,12 @@
 #!/usr/bin/env python3
-"""Clients of a store under load, now and at other revisions, in turn: bench/load.py [REVISION..] [--disks D,..] [--shards N,..] [--clients N,..] [--keys N]
+"""Clients of a store under load, now and at other revisions, in turn:
+bench/load.py [REVISION or PROGRAM..] [--disks D,..] [--shards N,..] [--clients N,..] [--keys N]
 
 A row is a disk, how many shards and how many clients. Each client runs transactions that read and write two of 1,000 keys, or of KEYS, one
-after the other; of 8 keys or fewer each transaction takes one. It tells how many commit a second, within how many microseconds half and 99 of 100 do, the slowest, and how many were aborted after 50
-attempts, unknown or refused. Disks: `memory`; `files` under TMPDIR; `5` and `15`, files in /dev/shm each sync of which takes so many milliseconds
-more. The programs are built without a proof (serving.sh); a load beside them shows."""
+after the other; of 8 keys or fewer each transaction takes one. It tells how many commit a second, within how many microseconds half and 99
+of 100 do, the slowest, and how many were aborted after 50 attempts, unknown or refused. Disks: `memory`; `files` under TMPDIR; `5` and `15`,
+files in /dev/shm each sync of which takes so many milliseconds more. The programs are built without a proof (serving.sh); a load beside
+them shows. At e0e3e57a the program `serving.rs` of da1b65fc is to be built, and its PROGRAM named."""
 import argparse
 import os
 import pathlib
@@ -15,7 +17,9 @@ HERE = pathlib.Path(__file__).resolve().parent
 
 
 def build(made, revision):
-    """The program over the crates as they stand here, or stood at a revision."""
+    """The program over the crates as they stand here, or stood at a revision; or the one that is named, which was built before."""
+    if revision and os.path.isfile(revision):
+        return pathlib.Path(revision).resolve()
     to = made / (revision or "here")
     tree = HERE.parent
     if revision:

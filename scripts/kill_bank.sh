@@ -1,7 +1,7 @@
 #!/bin/sh
 # Kills the bank with `kill -9` at 20 random moments, or at as many as it is told, and starts it again over the same folder. Each start has to
-# find all money there, in each audit, and so has a last one that ends by itself; behind it the accounts are added up by `get`, another program's
-# reading of the logs. With a number of bytes as its second word the bank renews a
+# find all money there, in each audit, and so has a last one that ends by itself and audits; behind it the accounts are added up by `get`, another
+# program's reading of the logs. A start that moves nothing leaves what each account has. With a number of bytes as its second word the bank renews a
 # log that has grown by so many, and the logs have to be renewed in the end, with verdict yes. It wants the program built: `BANK_PROGRAM`
 # names it, and `PROGRAM` the one that judges logs.
 set -eu
@@ -43,18 +43,31 @@ done
 last=$("$program" "$room" 200 $bytes) || true
 echo "$last"
 case $last in
+'audits 0 '*) exit 1 ;;
 *'wrong 0') ;;
 *) exit 1 ;;
 esac
 # What the accounts hold by the program that reads logs, so that the bank's own audit is not alone in saying so.
-total=$(
+balances() {
     for account in 00 01 02 03 04 05 06 07 08 09 10 11 12 13 14 15; do
         "$judge" get "$room" "acct-$account"
-    done | python3 -c '
+    done
+}
+balances >"$room/before"
+"$program" "$room" 0 $bytes >/dev/null 2>&1
+balances >"$room/after"
+if ! cmp -s "$room/before" "$room/after"; then
+    echo "kill_bank: a start that moves nothing changes what the accounts have" >&2
+    exit 1
+fi
+if [ "$(sort -u "$room/before" | wc -l)" -lt 2 ]; then
+    echo "kill_bank: no money was moved" >&2
+    exit 1
+fi
+total=$(python3 -c '
 import sys
 balances = [line.rstrip("\n")[1:].encode("latin1").decode("unicode_escape").encode("latin1") for line in sys.stdin]
-print(sum(int.from_bytes(balance, "big") for balance in balances))'
-)
+print(sum(int.from_bytes(balance, "big") for balance in balances))' <"$room/before")
 if [ "$total" != 16000 ]; then
     echo "kill_bank: by their logs the accounts hold $total in all" >&2
     exit 1

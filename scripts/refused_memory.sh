@@ -2,7 +2,7 @@
 # Runs programs with the N-th growth of their memory refused, for N = 1, 2, .. until none is. The test `two_stories` of `core_tests` has to ask
 # again, and to end as without. The program has to end as without, or with `1 Memory` behind what it printed so far: `once`, `play`, `inspect`,
 # `migrate`, `compact`, and `drive` at some of its growths, whose number depends on its threads. And a drive over files has to sync each write of a
-# file before the next one, and the last. It wants these tests and the program built (as the gate does), and the kit's own clang; where there is none,
+# file before the next one, and the last, and the folder after each name that it gives, before it gives or writes more. It wants these tests and the program built (as the gate does), and the kit's own clang; where there is none,
 # nothing is tried.
 set -eu
 root=$(dirname "$(dirname "$(readlink -f "$0")")")
@@ -105,12 +105,15 @@ mkdir "$room/logs"
 (cat "$room/settings" && echo "dir = \"$room/logs\"") >"$room/with.files"
 : >"$room/no.lines"
 
-# How many writes a drive over files makes, each of which is synced before the next one of its file.
+# How many writes a drive over files makes, each of which is synced before the next one of its file. None comes before the names are on the device
+# of the manifest and the two logs that it makes.
 writes_in_turn() {
     LD_PRELOAD=$room/turns.so "$program" drive "$room/with.files" 9>"$room/turns" >/dev/null
-    awk '$1 == "w" { if (open[$2]) bad = 1; open[$2] = 1; count++ }
+    awk '$1 == "w" { if (open[$2] || named) bad = 1; open[$2] = 1; count++ }
         $1 == "s" { open[$2] = 0 }
-        END { for (file in open) if (open[file]) bad = 1; print bad ? 0 : count + 0 }' "$room/turns"
+        $1 == "n" { if (named) bad = 1; named = 1; names++ }
+        $1 == "d" { named = 0 }
+        END { for (file in open) if (open[file]) bad = 1; print bad || named || names != 3 ? 0 : count + 0 }' "$room/turns"
 }
 
 # What the stories tell, and how a test ends that passes.
@@ -143,7 +146,7 @@ cp "$room/long.log" "$room/kept.long"
 # Two to make each log, and two for its opening.
 writes=$(writes_in_turn)
 if [ "$writes" -lt 8 ]; then
-    echo "refused_memory: FAILED: a drive over files does not sync each write before the next one" >&2
+    echo "refused_memory: FAILED: a drive over files does not sync each write before the next one, or a name" >&2
     exit 1
 fi
 

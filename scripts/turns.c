@@ -1,6 +1,9 @@
-/* Tells on descriptor 9 of each write at an offset (w) and each sync (s), with the descriptor of its file, once it came back well. */
+/* Tells on descriptor 9 of each write at an offset (w), each sync of a file (s) or a folder (d), with its descriptor, and each new name (n),
+   once it came back well. */
 extern void *dlsym(void *, const char *);
 extern long write(int, const void *, unsigned long);
+extern int openat(int, const char *, int, ...);
+extern int close(int);
 
 static void tell(char what, int file) {
     char line[16];
@@ -22,9 +25,22 @@ long pwrite(int file, const void *bytes, unsigned long size, long at) {
     return done;
 }
 
+static int is_folder(int file) {
+    int found = openat(file, ".", 0);
+    if (found >= 0) close(found);
+    return found >= 0;
+}
+
 int fsync(int file) {
     int (*call)(int) = behind("fsync");
     int done = call(file);
-    if (done == 0) tell('s', file);
+    if (done == 0) tell(is_folder(file) ? 'd' : 's', file);
+    return done;
+}
+
+int rename(const char *from, const char *to) {
+    int (*call)(const char *, const char *) = behind("rename");
+    int done = call(from, to);
+    if (done == 0) tell('n', 0);
     return done;
 }

@@ -80,6 +80,8 @@ mod verdict;
 #[cfg(test)]
 mod viewed;
 #[cfg(test)]
+mod waiting;
+#[cfg(test)]
 mod without_memory;
 #[cfg(test)]
 mod wounded;

@@ -30,6 +30,8 @@ pub enum Ask {
     Failing(&'static [Given], Option<Fault>),
     Advance(u32, Result<u64, Fault>),
     Turn(Result<(), Fault>),
+    // Keeps versions for this many microseconds.
+    Keep(u64, Result<(), Fault>),
     // Keeps versions for this many microseconds, and turns the log over once it has grown by this many bytes.
     Renew(u64, u64, Result<(), Fault>),
     Restart(usize, Result<usize, Fault>),
@@ -110,6 +112,7 @@ fn is_answered<'a, R: Threads + Wait + Sync + Abort>(
             Err(fault) => tells == Err(fault),
         },
         Ask::Turn(gives) => node.turn_over(rt) == gives,
+        Ask::Keep(micros, gives) => node.keep_by(rt, &mut Standing { now }, micros) == gives,
         Ask::Renew(micros, least, gives) => node.renew(rt, &now, micros, least) == gives,
         Ask::Restart(count, gives) => match node.restart(rt, rt, alloc, count) {
             Ok(opened) => {

@@ -67,7 +67,7 @@ const FAILING: Story = Story {
     ],
 };
 
-static TURNING: [Story; 4] = [
+static TURNING: [Story; 5] = [
     Story {
         fails: None,
         room: 0,
@@ -138,6 +138,23 @@ static TURNING: [Story; 4] = [
             },
         ],
         ..FAILING
+    },
+    // The horizon is the beginning of the reading less the distance.
+    Story {
+        fails: None,
+        room: 0,
+        asks: &[PROMISE, CLOSE, SERVE, (210, 220, Ask::Keep(20, Ok(())))],
+        moments: &[Moment {
+            name: "a node keeps what it is asked to",
+            after: 4,
+            log: &[
+                Line::Opened(1),
+                Line::Promised(2, 200),
+                Line::Committed(2, 200),
+                Line::Ceiling(210),
+                Line::Horizon(190),
+            ],
+        }],
     },
     // It has grown by 114 bytes: 14 of the opening, 41 of the promise, 31 of its outcome, 14 of the ceiling, and 14 of the horizon.
     Story {
