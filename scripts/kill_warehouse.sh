@@ -32,9 +32,15 @@ done
 wait
 last=$("$program" "$room/killed" "$requests" 2>/dev/null) || true
 whole=$("$program" "$room/whole" "$requests" 2>/dev/null) || true
+"$program" "$room/killed" 0 "$room/copy" >"$room/said" 2>&1 || true
+copy=$("$program" "$room/copy" 0 2>/dev/null) || true
 echo "$last"
 if [ "$last" != "$whole" ]; then
     echo "kill_warehouse: one that was never killed says '$whole'" >&2
+    exit 1
+fi
+if [ "$copy" != "$whole" ]; then
+    echo "kill_warehouse: the backup says '$copy' $(cat "$room/said")" >&2
     exit 1
 fi
 case $last in

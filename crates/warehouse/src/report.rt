@@ -5,10 +5,10 @@ use crate::stock::key_of;
 use std::alloc::Global;
 use std::sync::Wait;
 use std::time;
-use store::{Client, Fault, Key, Stamp, View};
+use store::{Client, Fault, Stamp, View};
 
 /// What the warehouse has at a timestamp.
-#[derive(Clone, Copy)]
+#[derive(Clone, Copy, PartialEq, Eq)]
 pub struct Report {
     pub stock: u64,
     pub held: u64,
@@ -55,16 +55,21 @@ fn sum<R: Wait + time::Clock>(
     Ok((count, sum))
 }
 
-/// Makes the report of now. `NotYet` if the clock gives no reading; then the same call may be answered later.
-pub fn report_now<R: Wait + time::Clock>(
+/// Makes the report of an earlier time, or of now, and tells the time. `NotYet`, which a retry heals, if a shard does not serve it in ten seconds.
+pub fn report_at<R: Wait + time::Clock>(
     alloc: Global,
     client: &mut Client<'_, R>,
-) -> Result<Report, Fault> {
-    let Some(mut view) = client.view() else {
+    at: Option<Stamp>,
+) -> Result<(Stamp, Report), Fault> {
+    let Some(now) = client.view() else {
         return Err(Fault::NotYet);
     };
+    let at = at.unwrap_or(now.at());
+    drop(now);
+    let mut view = client.view_at(at);
+    view.wait_at_most(time::Duration::from_secs(10));
     let (orders, ordered) = sum(alloc, &mut view, "order")?;
-    Ok(Report {
+    let report = Report {
         stock: sum(alloc, &mut view, "item")?.1,
         held: sum(alloc, &mut view, "held")?.1,
         ordered,
@@ -72,20 +77,6 @@ pub fn report_now<R: Wait + time::Clock>(
         received: sum(alloc, &mut view, "in")?.1,
         shipped: sum(alloc, &mut view, "out")?.1,
         requests: sum(alloc, &mut view, "request")?.0,
-    })
-}
-
-/// Tells how often a number of the store has changed up to now.
-pub fn changes_of<R: Wait + time::Clock>(
-    client: &mut Client<'_, R>,
-    key: &Key,
-) -> Result<usize, Fault> {
-    let Some(mut view) = client.view() else {
-        return Err(Fault::NotYet);
     };
-    let to = view.at();
-    let history = view.versions(key, Stamp::new(0)?, to, usize::MAX)?;
-    let changes = history.versions.len().saturating_sub(1);
-    drop(history);
-    Ok(changes)
+    Ok((at, report))
 }

@@ -36,26 +36,6 @@ impl Request {
     }
 }
 
-// Moves so many goods between two numbers of the store.
-fn shift<R: Wait + time::Clock>(
-    alloc: Global,
-    tx: &mut Transaction<'_, R>,
-    from: (&str, u32),
-    to: (&str, u32),
-    quantity: u64,
-) -> Result<(), Halt<Why>> {
-    let from = key_of(alloc, from.0, from.1)?;
-    let to = key_of(alloc, to.0, to.1)?;
-    let has = tx.get_as::<u64>(&from)?.unwrap_or(0);
-    let gets = tx.get_as::<u64>(&to)?.unwrap_or(0);
-    let Some((left, more)) = moved(has, gets, quantity) else {
-        return Err(Halt::Abandon(Why::Short));
-    };
-    tx.put_as(&from, &left)?;
-    tx.put_as(&to, &more)?;
-    Ok(())
-}
-
 // Moves the goods of an order from one place to another, each by its item, or to what its worker has shipped. Gives how many they are.
 fn carry<R: Wait + time::Clock>(
     alloc: Global,
@@ -68,7 +48,15 @@ fn carry<R: Wait + time::Clock>(
     for line in 0..3 {
         let (item, quantity) = order.line(line);
         let number = if to == "out" { order.worker } else { item };
-        shift(alloc, tx, (from, item), (to, number), quantity)?;
+        let from = key_of(alloc, from, item)?;
+        let to = key_of(alloc, to, number)?;
+        let has = tx.get_as::<u64>(&from)?.unwrap_or(0);
+        let gets = tx.get_as::<u64>(&to)?.unwrap_or(0);
+        let Some((left, more)) = moved(has, gets, quantity) else {
+            return Err(Halt::Abandon(Why::Short));
+        };
+        tx.put_as(&from, &left)?;
+        tx.put_as(&to, &more)?;
         carried = carried.saturating_add(quantity);
     }
     Ok(carried)
@@ -113,15 +101,16 @@ fn act<R: Wait + time::Clock>(
     }
 }
 
-// Sends a request: its own key tells whether it was done. That of no worker fills the shelves.
+// Sends a request, with no new attempt after ten seconds: its own key tells whether it was done. That of no worker fills the shelves.
 fn send<R: Wait + time::Clock>(
     alloc: Global,
     client: &mut Client<'_, R>,
     request: Request,
 ) -> Result<Ended<(), Why>, Fault> {
     let key = key_of(alloc, "request", request.place())?;
-    client.transact(
+    client.transact_within(
         100,
+        time::Duration::from_secs(10),
         |tx: &mut Transaction<'_, R>| -> Result<(), Halt<Why>> {
             if tx.get(&key)?.is_some() {
                 return Err(Halt::Abandon(Why::Done));
@@ -133,8 +122,7 @@ fn send<R: Wait + time::Clock>(
             } else {
                 act(alloc, tx, request)?;
             }
-            tx.put_as(&key, &1_u64)?;
-            Ok(())
+            Ok(tx.put_as(&key, &1_u64)?)
         },
     )
 }
