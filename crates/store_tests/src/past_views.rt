@@ -12,13 +12,15 @@ use store::{Client, Ended, Fault, Stamp};
 // How long is kept, in microseconds.
 const KEEP: u64 = 1_000_000;
 
-// What views at a time tell: at the first of two commits, at the second, at a time that has not come, and at the first once it is forgotten.
+// What views at a time tell: at the first of two commits, at the second, at a time that has not come, and at the first once it is forgotten. Beside it
+// is whether a view at a time that has not come waits as long as it is told to.
 #[derive(Clone, Copy)]
 struct Told {
     first: Result<(), Fault>,
     second: Result<(), Fault>,
     future: Result<(), Fault>,
     soon: bool,
+    waits: bool,
     forgotten: Result<(), Fault>,
 }
 
@@ -46,6 +48,23 @@ fn tells_at<R: Wait + time::Clock>(
         tells(&mut view, key, value)?;
     }
     Ok(())
+}
+
+// Whether a view at a time that has not come waits for so many milliseconds, and is then refused within a few seconds.
+fn waits_for<R: Wait + time::Clock>(
+    rt: &R,
+    client: &mut Client<'_, R>,
+    at: Stamp,
+    millis: u64,
+) -> Option<bool> {
+    let wait = Duration::from_millis(millis);
+    let start = Instant::now(rt).ok()?;
+    let mut view = client.view_at(at);
+    view.wait_at_most(wait);
+    let told = tells(&mut view, KEYS[0], b"2");
+    let took = start.elapsed(rt).ok()?;
+    let in_time = took >= wait && took < Duration::from_secs(5);
+    Some(told == Err(Fault::NotYet) && in_time)
 }
 
 // The same once it is served, within a second.
@@ -98,6 +117,7 @@ fn work<R: Wait + time::Clock>(rt: &R, alloc: Global, clients: Vec<Client<'_, R>
     let later = Stamp::new(second_at.micros().saturating_add(60_000_000)).ok()?;
     let future = tells_at(&mut client, later, b"2");
     let soon = start.elapsed(rt).ok()? < Duration::from_secs(1);
+    let waits = waits_for(rt, &mut client, later, 300)?;
     let forgotten = tells_late_at(rt, alloc, &mut client, first_at);
     drop(client);
     Some(Told {
@@ -105,11 +125,12 @@ fn work<R: Wait + time::Clock>(rt: &R, alloc: Global, clients: Vec<Client<'_, R>
         second,
         future,
         soon,
+        waits,
         forgotten,
     })
 }
 
-// It fails where a view at a time shows the present, waits, or tells what is forgotten.
+// It fails where a view at a time shows the present, waits unless it is told to or for another time, or tells what is forgotten.
 #[test]
 fn views_tell_the_past(rt: HostRuntime) {
     let alloc = rt.alloc();
@@ -125,6 +146,7 @@ fn views_tell_the_past(rt: HostRuntime) {
     wrong.unless(told.second == Ok(()), "at the second commit");
     wrong.unless(told.future == Err(Fault::NotYet), "in a minute");
     wrong.unless(told.soon, "at once");
+    wrong.unless(told.waits, "after it has waited");
     wrong.unless(
         told.forgotten == Err(Fault::TooOld),
         "at the first commit, once it is forgotten",

@@ -13,26 +13,38 @@ use std::time::Duration;
 use std::{thread, time};
 use store::{Client, Ended, Store};
 
-// By how many bytes a log has to grow, and whether it was turned over after a second of commits.
+// How many microseconds are kept, by how many bytes a log has to grow, and whether it was turned over after a second of commits.
 struct Row {
     name: &'static str,
+    keep: Option<u64>,
     renew: Option<u64>,
     renewed: bool,
 }
 
-static ROWS: [Row; 3] = [
+const KEPT: Option<u64> = Some(200_000);
+
+static ROWS: [Row; 4] = [
     Row {
         name: "no log is renewed",
+        keep: KEPT,
         renew: None,
         renewed: false,
     },
     Row {
         name: "a log that has grown by a thousand bytes",
+        keep: KEPT,
+        renew: Some(1_000),
+        renewed: true,
+    },
+    Row {
+        name: "one whose past is kept for good",
+        keep: None,
         renew: Some(1_000),
         renewed: true,
     },
     Row {
         name: "a log that has not grown by so much",
+        keep: KEPT,
         renew: Some(1_000_000),
         renewed: false,
     },
@@ -52,16 +64,18 @@ fn open<'r, R: Threads + Wait + Sync + Abort>(
 ) -> Store<'r, R, SimDisk> {
     let mut options = of_one_shard(rt, alloc, 1);
     options.patience = 100;
-    options.keep = Some(200_000);
+    options.keep = row.keep;
     options.renew = row.renew;
     store_of(rt, alloc, disks, options)
 }
 
-// Whether the numbers tell that the shard has forgotten something, and was never refused.
-fn is_counted<R: Wait + time::Clock>(client: &Client<'_, R>) -> bool {
+// Whether the numbers tell that the shard has forgotten something, or nothing if all is kept, and was never refused.
+fn is_counted<R: Wait + time::Clock>(client: &Client<'_, R>, row: &Row) -> bool {
     match client.numbers().of(0) {
         Some(numbers) => {
-            numbers.forgets > 0 && numbers.turnovers_refused == 0 && numbers.fault == 0
+            (numbers.forgets > 0) == row.keep.is_some()
+                && numbers.turnovers_refused == 0
+                && numbers.fault == 0
         }
         None => false,
     }
@@ -69,13 +83,18 @@ fn is_counted<R: Wait + time::Clock>(client: &Client<'_, R>) -> bool {
 
 // Whether the numbers tell within ten seconds that the log was turned over, and stands in another area. The shard tells that when it shows
 // something.
-fn is_turned<R: Wait + time::Clock>(rt: &R, alloc: Global, client: &mut Client<'_, R>) -> bool {
+fn is_turned<R: Wait + time::Clock>(
+    rt: &R,
+    alloc: Global,
+    client: &mut Client<'_, R>,
+    row: &Row,
+) -> bool {
     for _commit in 0..500 {
         drop(write(alloc, client, 5, &[b"a"], b"1"));
         if let Some(told) = client.numbers().of(0) {
             if told.turnovers > 0 {
                 return told.turnovers_left() == 1_024_u64.saturating_sub(told.turnovers)
-                    && told.horizon > 0
+                    && (told.horizon > 0) == row.keep.is_some()
                     && told.area_begins > FIRST_GATE + 1
                     && told.log_bytes >= told.area_begins;
             }
@@ -102,9 +121,9 @@ fn write_all<R: Wait + time::Clock>(
         wrote = wrote && matches!(ended, Ok(Ended::Committed { .. }));
         thread::sleep(rt, Duration::from_millis(PAUSE));
     }
-    wrote = wrote && is_counted(&client);
+    wrote = wrote && is_counted(&client, row);
     if row.renewed {
-        wrote = wrote && is_turned(rt, alloc, &mut client);
+        wrote = wrote && is_turned(rt, alloc, &mut client, row);
     }
     drop(client);
     drop(clients);

@@ -1,15 +1,16 @@
-//! How shards stand, as the numbers of a store tell: which transactions have a row, and which were ended by an older one.
+//! How shards stand, as the numbers of a store tell: which transactions have a row, which were ended by an older one, and how many letters wait.
 use crate::clients::{disks_of, of_one_shard, store_of, write};
+use crate::slow::Slow;
 use crate::verdict::end;
 use made::WrongRows;
 use std::alloc::Global;
 use std::ops::RangeInclusive;
 use std::sync::Wait;
-use std::sync::atomic::{AtomicU64, Ordering};
+use std::sync::atomic::{AtomicBool, AtomicU64, Ordering};
 use std::thread::Threads;
 use std::time::Duration;
 use std::{thread, time};
-use store::{Client, Ended, Halt, Transaction};
+use store::{Client, Ended, Halt, Numbers, Store, Transaction};
 use units::{Key, Value};
 
 // The older transaction has begun; the younger one has read; the older one has ended.
@@ -133,5 +134,87 @@ fn rows_and_wounds_are_told(rt: HostRuntime) {
     drop(disks);
     let mut wrong = WrongRows::none(alloc);
     wrong.unless(went, "rows and wounds");
+    end(&rt, wrong);
+}
+
+// So many milliseconds a sync takes. A group of letters takes two, and others wait meanwhile.
+const SYNC: u64 = 20;
+
+// Whether the numbers tell within ten seconds that so many letters wait.
+fn tells_waiting<R: time::Clock>(rt: &R, numbers: &Numbers, letters: RangeInclusive<u64>) -> bool {
+    for _milli in 0..10_000 {
+        if let Some(shard) = numbers.of(0) {
+            if letters.contains(&shard.waiting) {
+                return true;
+            }
+        }
+        thread::sleep(rt, Duration::from_millis(1));
+    }
+    false
+}
+
+// Writes a key until a letter that waits was seen, 1,000 times at most.
+fn write_on<R: Wait + time::Clock>(
+    alloc: Global,
+    client: &mut Client<'_, R>,
+    key: &[u8],
+    is_seen: &AtomicBool,
+) {
+    for _write in 0..1_000 {
+        if is_seen.load(Ordering::SeqCst) {
+            return;
+        }
+        drop(write(alloc, client, 5, &[key], b"1"));
+    }
+}
+
+// Whether the numbers tell of a letter that waits while two clients write, each a key of its own, and of none some time after that.
+fn waits<R: Threads + Wait + time::Clock + Sync>(
+    rt: &R,
+    alloc: Global,
+    clients: Vec<Client<'_, R>>,
+) -> bool {
+    let mut clients = clients;
+    let (Some(mut one), Some(mut other)) = (clients.pop(), clients.pop()) else {
+        return false;
+    };
+    drop(clients);
+    let numbers = one.numbers();
+    let is_seen = AtomicBool::new(false);
+    thread::join(
+        rt,
+        || thread::join(
+            rt,
+            || write_on(alloc, &mut one, b"a", &is_seen),
+            || write_on(alloc, &mut other, b"b", &is_seen),
+        ),
+        || is_seen.store(tells_waiting(rt, numbers, 1..=1_000), Ordering::SeqCst),
+    );
+    let none = tells_waiting(rt, numbers, 0..=0);
+    drop(one);
+    drop(other);
+    is_seen.load(Ordering::SeqCst) && none
+}
+
+// Fails if the numbers never tell of a letter that waits, or always do.
+#[test]
+fn waiting_letters_are_told(rt: HostRuntime) {
+    let alloc = rt.alloc();
+    let mut slow = Vec::new(alloc);
+    for disk in disks_of(&rt, alloc, 1) {
+        let pushed = slow.push(Slow {
+            disk,
+            rt: &rt,
+            millis: SYNC,
+        });
+        pushed.ok().expect(&rt, "memory");
+    }
+    let store = Store::open(&rt, alloc, slow, of_one_shard(&rt, alloc, 2));
+    let store = store.ok().expect(&rt, "a store");
+    let served = store.serve(|clients: Vec<Client<'_, HostRuntime>>| waits(&rt, alloc, clients));
+    let (told, disks) = served.ok().expect(&rt, "a service");
+    drop(disks);
+    let mut wrong = WrongRows::none(alloc);
+    wrong.unless(told, "letters that wait");
     end(&rt, wrong);
 }

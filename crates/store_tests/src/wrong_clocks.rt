@@ -1,9 +1,10 @@
-//! A clock that is wrong: logs that are ahead of it, and one that is set back while a store is served.
-use crate::clients::{KEYS, disks_of, of_two_shards, sees, write};
+//! A clock that is wrong: logs that are ahead of it, and one that is set back, or goes on by hours, while a store is served.
+use crate::clients::{KEYS, disks_of, of_two_shards, sees, tells, write};
 use crate::verdict::end;
 use disk::Disk;
 use host_files::logs_in;
 use made::{Folder, WrongRows};
+use simdisk::SimDisk;
 use std::alloc::Global;
 use std::fs::File;
 use std::process::Abort;
@@ -20,6 +21,9 @@ use store::{
 
 // How far the clock is wrong at first, in microseconds.
 const WRONG: u64 = 5_000_000;
+
+// An hour, in microseconds.
+const HOUR: u64 = 3_600_000_000;
 
 // By how much it is set back, in microseconds.
 const BACK: u64 = 1_000_000;
@@ -64,16 +68,14 @@ fn committed<R: Wait + Clock>(alloc: Global, client: &mut Client<'_, R>) -> Opti
     }
 }
 
-// Commits to both shards of a store over the disks.
-fn commits<R: Threads + Wait + Clock + Sync, D: Disk + Drop + Send>(
+// Commits to both shards of a store over the disks, and gives them back; none if it does not commit.
+fn written<R: Threads + Wait + Clock + Sync, D: Disk + Drop + Send>(
     rt: &R,
     alloc: Global,
     disks: Vec<D>,
     options: Options,
-) -> bool {
-    let Ok(store) = Store::open(rt, alloc, disks, options) else {
-        return false;
-    };
+) -> Option<Vec<D>> {
+    let store = Store::open(rt, alloc, disks, options).ok()?;
     let served = store.serve(|clients: Vec<Client<'_, R>>| -> bool {
         let mut clients = clients;
         let Some(mut client) = clients.pop() else {
@@ -85,11 +87,12 @@ fn commits<R: Threads + Wait + Clock + Sync, D: Disk + Drop + Send>(
         at.is_some()
     });
     match served {
-        Ok((done, disks)) => {
+        Ok((true, disks)) => Some(disks),
+        Ok((false, disks)) => {
             drop(disks);
-            done
+            None
         }
-        Err(_) => false,
+        Err(_) => None,
     }
 }
 
@@ -115,7 +118,13 @@ fn is_written<R: Files<File = File> + RandomSource + Threads + Wait + Clock + Sy
         rt,
         micros: &micros,
     };
-    commits(&ahead, alloc, logs, options)
+    match written(&ahead, alloc, logs, options) {
+        Some(disks) => {
+            drop(disks);
+            true
+        }
+        None => false,
+    }
 }
 
 // Why the folder is not opened, if it is not; else whether a view has what was written.
@@ -225,6 +234,45 @@ fn logs_ahead_of_the_clock(rt: HostRuntime) {
     end(&rt, wrong);
 }
 
+// How far the logs of a store are ahead of the clock, as it tells while the clock is as it was when they were written, and once it is set back.
+fn leads<R: Threads + Wait + Clock + Sync>(
+    rt: &R,
+    alloc: Global,
+    disks: Vec<SimDisk>,
+    options: Options,
+    micros: &AtomicU64,
+) -> Option<[Option<u64>; 2]> {
+    let store = Store::open(rt, alloc, disks, options).ok()?;
+    let first = store.ahead();
+    micros.store(0, Ordering::SeqCst);
+    let second = store.ahead();
+    drop(store);
+    Some([first, second])
+}
+
+// Fails if a store does not tell that its logs are ahead of the clock, or by how much, or if it does though the clock has passed them.
+#[test]
+fn leads_of_logs_are_told(rt: HostRuntime) {
+    let alloc = rt.alloc();
+    let micros = AtomicU64::new(HOUR);
+    let ahead = Ahead {
+        rt: &rt,
+        micros: &micros,
+    };
+    let disks = written(&ahead, alloc, disks_of(&rt, alloc, 2), options(&rt, alloc));
+    let disks = disks.expect(&rt, "a commit");
+    let told = leads(&ahead, alloc, disks, options(&rt, alloc), &micros);
+    let [first, second] = told.expect(&rt, "a store");
+    let far = match second {
+        Some(lead) => HOUR / 2 <= lead && lead <= HOUR + STRIDE,
+        None => false,
+    };
+    let mut wrong = WrongRows::none(alloc);
+    wrong.unless(first == Some(0), "while the clock is past the logs");
+    wrong.unless(far, "once it is set back by an hour");
+    end(&rt, wrong);
+}
+
 // What is so of a commit after the clock was set back: it is later than the one before, and took as long as the clock needs to come back there.
 #[derive(Clone, Copy)]
 struct SetBack {
@@ -260,7 +308,7 @@ fn set_back<R: Wait + Clock>(
 fn served_back<R: Threads + Wait + Clock + Sync>(
     rt: &R,
     alloc: Global,
-    disks: Vec<simdisk::SimDisk>,
+    disks: Vec<SimDisk>,
     options: Options,
     micros: &AtomicU64,
 ) -> Option<SetBack> {
@@ -299,5 +347,91 @@ fn a_clock_that_is_set_back(rt: HostRuntime) {
         }
         None => wrong.unless(false, "two commits"),
     }
+    end(&rt, wrong);
+}
+
+// How far the clock goes on while a store is served, in microseconds: two hours.
+const HOURS: u64 = 7_200_000_000;
+
+// Whether the log of the first shard is turned over within ten seconds of commits.
+fn is_turned<R: Wait + Clock>(rt: &R, alloc: Global, client: &mut Client<'_, R>) -> bool {
+    for _commit in 0..500 {
+        drop(write(alloc, client, 5, &KEYS, b"2"));
+        if let Some(told) = client.numbers().of(0) {
+            if told.turnovers > 0 {
+                return true;
+            }
+        }
+        thread::sleep(rt, Duration::from_millis(20));
+    }
+    false
+}
+
+// Whether a view at that time tells the first value, once the time is served.
+fn tells_first<R: Wait + Clock>(rt: &R, client: &mut Client<'_, R>, at: Stamp) -> bool {
+    for _look in 0..100 {
+        let mut view = client.view_at(at);
+        let told = tells(&mut view, KEYS[0], b"1");
+        drop(view);
+        if told != Err(Fault::NotYet) {
+            return told.is_ok();
+        }
+        thread::sleep(rt, Duration::from_millis(10));
+    }
+    false
+}
+
+// Whether a log was turned over two hours after a commit, and a view at the time of the commit is answered then.
+fn is_kept<R: Wait + Clock>(
+    rt: &R,
+    alloc: Global,
+    clients: Vec<Client<'_, R>>,
+    micros: &AtomicU64,
+) -> Option<(bool, bool)> {
+    let mut clients = clients;
+    let mut client = clients.pop()?;
+    drop(clients);
+    let first = committed(alloc, &mut client)?;
+    micros.store(HOURS, Ordering::SeqCst);
+    let turned = is_turned(rt, alloc, &mut client);
+    let told = tells_first(rt, &mut client, first);
+    drop(client);
+    Some((turned, told))
+}
+
+// The same of a store over two disks, which renews its logs and keeps the past for good.
+fn served_for_hours<R: Threads + Wait + Clock + Sync>(
+    rt: &R,
+    alloc: Global,
+    disks: Vec<simdisk::SimDisk>,
+    options: Options,
+    micros: &AtomicU64,
+) -> Option<(bool, bool)> {
+    let store = Store::open(rt, alloc, disks, options).ok()?;
+    let served = store.serve(|clients: Vec<Client<'_, R>>| is_kept(rt, alloc, clients, micros));
+    match served {
+        Ok((told, disks)) => {
+            drop(disks);
+            told
+        }
+        Err(_) => None,
+    }
+}
+
+// Fails if a store that keeps the past for good forgets what is older than an hour once its logs are renewed.
+#[test]
+fn old_versions_stay_for_good(rt: HostRuntime) {
+    let alloc = rt.alloc();
+    let micros = AtomicU64::new(0);
+    let ahead = Ahead {
+        rt: &rt,
+        micros: &micros,
+    };
+    let mut options = of_two_shards(&rt, alloc, STRIDE);
+    options.renew = Some(1_000);
+    let disks = disks_of(&rt, alloc, 2);
+    let told = served_for_hours(&ahead, alloc, disks, options, &micros);
+    let mut wrong = WrongRows::none(alloc);
+    wrong.unless(told == Some((true, true)), "a view of two hours ago");
     end(&rt, wrong);
 }
