@@ -27,13 +27,15 @@ pub struct BoardCopy {
     // The list with the entries that are prepared.
     ahead: Growing<BoardEntry>,
     second: bool,
-    // The versions of that list, without those that the horizon of what is shown lets go. Those that are only prepared are above
+    // The versions of that list, perhaps without some that the horizon of what is shown lets go. Those that are only prepared are above
     // each timestamp at which it is looked.
     versions: Versions,
     safe: Stamp,
     prepared_safe: Stamp,
     horizon: Stamp,
     prepared_horizon: Stamp,
+    // How many versions were left when some were last let go.
+    left: usize,
 }
 
 impl Model for BoardCopy {
@@ -113,6 +115,7 @@ impl BoardCopy {
             prepared_safe: safe,
             horizon,
             prepared_horizon: horizon,
+            left: 0,
         }
     }
 
@@ -138,11 +141,17 @@ impl BoardCopy {
         Ok(())
     }
 
-    /// Shows what is prepared, and lets the versions go that its horizon no longer needs. It takes no memory.
+    /// Shows what is prepared. If its horizon rose, it lets go the versions that are no longer needed, but not before there are twice as many as
+    /// were left the last time. It takes no memory.
     pub(crate) fn commit(&mut self)
         ensures { self.new ≡ record self.old { list = self.old.ahead } }
     {
-        forget(&mut self.versions, self.horizon, self.prepared_horizon);
+        forget(
+            &mut self.versions,
+            &mut self.left,
+            self.horizon,
+            self.prepared_horizon,
+        );
         self.safe = self.prepared_safe;
         self.horizon = self.prepared_horizon;
         self.list.follow(&self.ahead);
@@ -273,12 +282,12 @@ fn add_version(versions: &mut Versions, install: &Install) -> Result<(), Fault>
     Ok(())
 }
 
-// Forgets the versions below a horizon, if it is above the one before. It takes no memory.
-fn forget(versions: &mut Versions, before: Stamp, horizon: Stamp)
+// Forgets the versions below a horizon, if it is above the one before and that is due. It takes no memory.
+fn forget(versions: &mut Versions, left: &mut usize, before: Stamp, horizon: Stamp)
     ensures { Forgets versions.old.installs versions.new.installs before horizon }
 {
     forgotten_is_not_missed();
     if before < horizon {
-        versions.forget(horizon);
+        versions.forget_if_due(horizon, left);
     }
 }

@@ -1,5 +1,5 @@
 -- What is asked of facts that are renewed is a fact: it has at most one proof.
-use Rattle.std.proofs.Common.{◌≡◌, ◌≤◌, ℕ, List, [], ◌∷◌, Some, None}
+use Rattle.std.proofs.Common.{◌≤◌, ℕ, List, [], ◌∷◌, Some, None}
 use Rattle.std.proofs.Props.{props}
 use Rattle.std.specs.List.{AllByRecursion-prop, list_all}
 use Rattle.std.specs.Prelude.{IsTrue}

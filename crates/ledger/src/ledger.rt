@@ -26,6 +26,8 @@ const MOST_INSTALLS: usize = 128;
 pub struct Ledger {
     facts: Facts,
     places: Places,
+    // How many places were left when some were last dropped.
+    left: usize,
 }
 
 impl Drop for Ledger {
@@ -33,6 +35,7 @@ impl Drop for Ledger {
         let Ledger {
             facts: _,
             places: _,
+            left: _,
         } = self;
     }
 }
@@ -69,6 +72,7 @@ impl Ledger {
         Ledger {
             facts: Facts::new(alloc, shard),
             places: Places::none(alloc),
+            left: 0,
         }
     }
 
@@ -199,7 +203,7 @@ impl Ledger {
     }
 
     /// Learns the record that comes next in the log. It takes no memory: an outcome moves the writes of its promise or decision to the
-    /// versions. A horizon drops the places of versions below it, but not their room.
+    /// versions. A horizon drops the places of versions below it if that is due (`Places::forget_if_due`), but not their room.
     pub fn learn(&mut self, item: Record)
         requires room { 1 ≤ self.old.room }
         requires follows { IsTrue
@@ -238,7 +242,8 @@ impl Ledger {
         ensures stage { self.new.stage ≡ stage_after self.old.stage (Record.Horizon at) }
     {
         self.facts.learn_next(Record::Horizon { at });
-        self.places.forget(self.facts.installs(), at);
+        self.places
+            .forget_if_due(self.facts.installs(), at, &mut self.left);
     }
 }
 

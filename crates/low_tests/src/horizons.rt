@@ -108,12 +108,16 @@ impl Row for Many {
         let end = self.versions.saturating_add(1);
         let later = end.saturating_add(self.behind);
         let installed = install_turns(alloc, &mut versions, self.keys, 1..end);
-        versions.forget(stamp(self.horizon));
+        let mut kept = 0;
+        versions.forget_if_due(stamp(self.horizon), &mut kept);
+        // It is not due again.
+        versions.forget_if_due(stamp(self.versions), &mut kept);
         let before = stamp(self.horizon.saturating_sub(1));
         let (left, _) = versions.find(&key(255), stamp(u32::MAX), &mut Count::none());
         let old = versions.at(&in_turn(self.horizon, self.keys).key, before);
         let shown = installed
             && left == self.left
+            && kept == self.left
             && old.is_none()
             && show_turns(&versions, self.keys, self.horizon..end)
             && install_turns(alloc, &mut versions, self.keys, end..later)

@@ -18,7 +18,7 @@ use Rattle.versions.proofs.AtOnce.{still_above, rest_ascends}
 use Rattle.versions.proofs.Kept.{kept-installed}
 use Rattle.versions.proofs.Pruned.{kept-pruned, pruned_after}
 use Rattle.versions.specs.Pruned.{pruned}
-use Rattle.versions.proofs.Same.{same-from}
+use Rattle.versions.proofs.Same.{same-from, same-higher}
 use Rattle.versions.proofs.SameMore.{above-same, same-one}
 
 pub take_whole : (t : List Install) → take (length t) t ≡ t
@@ -136,4 +136,14 @@ orders_forgotten before h t p q o items within heads fewer = record {
   kept = subst (IsInOrder (2 ^ 62 - 1)) (sym items) (kept-pruned (2 ^ 62 - 1) h (arranged t p.places) o.kept);
   headed = heads;
   same = subst (λ r. SameVersions (max before h) r (take (length t) t)) (sym items) (pruned_after before h (arranged t p.places) (take (length t) t) o.same);
+}
+
+-- nothing was forgotten below a horizon
+pub orders_later : (before h : ℕ) (t : List Install) (p : Headed) → Orders before t (length t) p → Orders (max before h) t (length t) p
+orders_later before h t p o = record {
+  within = o.within;
+  few = o.few;
+  kept = o.kept;
+  headed = o.headed;
+  same = same-higher before (max before h) (arranged t p.places) (take (length t) t) (omega arith) o.same;
 }

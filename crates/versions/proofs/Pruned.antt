@@ -9,6 +9,7 @@ use Rattle.units.proofs.KeyLaws.{same_key-is}
 use Rattle.units.proofs.ListLaws.{keep-keep, keep-alike, all-keep}
 use Rattle.versions.specs.Ordered.{is_by, version_before, AscendsByVersion, IsInOrder}
 use Rattle.versions.specs.Places.{SameFrom, SameVersions, AllFromTheBeginning, AllFromAnyTime}
+use Rattle.versions.specs.Due.{StayingIsNotMissed}
 use Rattle.versions.specs.Pruned.{kept_from, pruned, PrunedIsNotMissed, PrunedAgainIsNotMissed}
 use Rattle.versions.proofs.Found.{from_on, newest-from, newest-wider, found-from}
 use Rattle.versions.proofs.Same.{same-from, same-higher, same-then}
@@ -70,6 +71,9 @@ same_trans h a b c one other = record {
 pub pruned_again_is_not_missed : PrunedAgainIsNotMissed
 pruned_again_is_not_missed before h kept log le same =
     same_trans h (pruned h kept) kept log (pruned_is_not_missed h kept) (same_later before h kept log le same)
+
+pub staying_is_not_missed : StayingIsNotMissed
+staying_is_not_missed before h kept log le same = same_later before h kept log le same
 
 -- whichever of two horizons is the later one
 pub pruned_after : (before h : ℕ) (kept log : List Install) → SameVersions before kept log → SameVersions (max before h) (pruned h kept) log

@@ -3,6 +3,7 @@ pub mod Halves
 pub mod Ordered
 pub mod Places
 pub mod Pruned
+pub mod Due
 pub mod Store
 pub mod Pieces
 pub mod Heads

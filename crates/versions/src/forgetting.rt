@@ -1,5 +1,5 @@
 //! Versions below a horizon are forgotten: their places go, and the versions that are kept come together.
-ghost use Rattle.std.specs.Prelude.{◌≡◌, ◌+◌, ◌<◌, ◌≤◌, ℕ, length, drop, vec_len, vec_capacity, slice_index_or};
+ghost use Rattle.std.specs.Prelude.{◌≡◌, ◌+◌, ◌*◌, ◌<◌, ◌≤◌, ℕ, nat_le, length, drop, vec_len, vec_capacity, slice_index_or};
 ghost use Rattle.versions.specs.Arranged.{arranged, no_install, AreWithin};
 ghost use Rattle.versions.specs.Gathered.{AreSettled, IsRedirected};
 ghost use Rattle.versions.specs.Heads.{AreHeads};
@@ -10,6 +10,9 @@ use crate::placed::Places;
 use crate::search::find;
 use counts::Count;
 use units::{Install, Stamp};
+
+// A pass over fewer versions does not pay.
+const FEW: usize = 1_024;
 
 /// Drops the places of versions below a horizon: of each key those of all below it, except the newest that is not above it. It takes one pass
 /// and no memory.
@@ -38,6 +41,13 @@ pub fn forget(installs: &[Install], places: &mut Places, horizon: Stamp)
         kept += 1;
     }
     places.shorten(kept);
+}
+
+/// Tells whether a pass over all versions is due, if so many were left by the last one.
+pub fn is_due(left: usize, len: usize) -> bool
+    ensures { result ≡ nat_le (2 * left + 1024) len }
+{
+    len >= FEW && (len - FEW) / 2 >= left
 }
 
 /// Tells whether the next version is of the same key, and not above the horizon. Then no look from the horizon up reads the one at this

@@ -5,9 +5,10 @@ ghost use Rattle.units.specs.Versions.{latest, at_time};
 ghost use Rattle.versions.specs.Arranged.{arranged};
 ghost use Rattle.versions.specs.Orders.{Orders, AreBehind};
 ghost use Rattle.versions.specs.Ordered.{is_above};
+ghost use Rattle.versions.specs.Due.{ForgetsIfDue};
 ghost use Rattle.versions.specs.Pruned.{first_left, pruned};
 
-use crate::forgetting::{self, is_passed};
+use crate::forgetting::{self, is_due, is_passed};
 use crate::placed::Places;
 use crate::search::{self, place};
 use units::{Install, Key, Stamp, Value};
@@ -86,5 +87,21 @@ impl Places {
             length self.old.places + self.old.room }
     {
         forgetting::forget(installs, self, horizon);
+    }
+
+    /// Forgets the versions below a horizon (`forget`) if that is due: if there are twice as many places as were left the last time, and 1,024 more.
+    /// `left` says how many that were. So a pass over all places is paid for by those that came since the last one.
+    pub fn forget_if_due(&mut self, installs: &[Install], horizon: Stamp, left: &mut usize)
+        requires { (before : ℕ) × Orders before installs.now (length installs.now) self.old }
+        ensures forgotten { ForgetsIfDue horizon left.old left.new
+            (arranged installs.now self.old.places) (arranged installs.now self.new.places) }
+        ensures orders { (before : ℕ) → Orders before installs.now (length installs.now) self.old
+            → Orders (max before horizon) installs.now (length installs.now) self.new }
+        ensures room { self.old.room ≤ self.new.room }
+    {
+        if is_due(*left, self.len()) {
+            self.forget(installs, horizon);
+            *left = self.len();
+        }
     }
 }

@@ -8,10 +8,11 @@ ghost use Rattle.versions.specs.Arranged.{arranged, AreWithin};
 ghost use Rattle.versions.specs.Next.{IsNextKey, IsNextVersion};
 ghost use Rattle.versions.specs.Ordered.{installed, all_installed, count_not_after, is_above, AscendsByVersion};
 ghost use Rattle.versions.specs.Orders.{Orders};
+ghost use Rattle.versions.specs.Due.{ForgetsIfDue};
 ghost use Rattle.versions.specs.Pruned.{pruned};
 
 use crate::copying::copy_install;
-use crate::forgetting::{forget, gather};
+use crate::forgetting::{forget, gather, is_due};
 use crate::placed::Places;
 use crate::search::{self, find, install};
 use counts::Count;
@@ -182,6 +183,19 @@ impl Versions {
         forget(&self.installs, &mut self.places, horizon);
         gather(&mut self.installs, &mut self.places);
         self.room += before - self.places.len();
+    }
+
+    /// Forgets the versions below a horizon (`forget`) if that is due: if there are twice as many as were left the last time, and 1,024 more.
+    /// `left` says how many that were. So a pass over all versions is paid for by those that came since the last one.
+    pub fn forget_if_due(&mut self, horizon: Stamp, left: &mut usize)
+        ensures forgotten { ForgetsIfDue horizon left.old left.new
+            self.old.installs self.new.installs }
+        ensures room { self.old.room ≤ self.new.room }
+    {
+        if is_due(*left, self.places.len()) {
+            self.forget(horizon);
+            *left = self.places.len();
+        }
     }
 
     /// Gives the most recent value of a key: `None` if there is none or it was erased.

@@ -8,6 +8,9 @@ returns-clause-once c = law.pruned_is_not_missed
 pub returns-clause-again : goal.returns-clause-again
 returns-clause-again c = law.pruned_again_is_not_missed
 
+pub returns-clause-stays : goal.returns-clause-stays
+returns-clause-stays c = law.staying_is_not_missed
+
 pub returns-clause-one : goal.returns-clause-one
 returns-clause-one c = place_does_not_matter_from
 

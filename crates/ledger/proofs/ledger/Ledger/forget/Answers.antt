@@ -11,8 +11,8 @@ use Rattle.ledger.specs.Ledger.{head_ascends}
 use Rattle.ledger.proofs.Learns.{still_rising, forgotten_horizon, forgotten_installs, same_orders}
 use Rattle.ledger.proofs.ledger.Ledger.forget.Goals as goal
 
-pub forget-requires : goal.forget-requires
-forget-requires c =
+pub forget_if_due-requires : goal.forget_if_due-requires
+forget_if_due-requires c =
     let f = c.self.inside.facts.facts in (
       f.horizon,
       same_orders f.horizon f.installs c.installs.result.now c.self.inside.places
@@ -24,10 +24,10 @@ invariant_of-self c =
     let f = c.self.inside.facts.facts in
     let may : follows_next c.self.inside.facts.shard c.self.inside.facts.stage f (Record.Horizon c.args.at) ≡ true =
     subst (λ (k : Known). follows_next k.shard k.stage k.facts (Record.Horizon c.args.at) ≡ true) (sym c.self.view_is) c.requires.follows in (
-      subst (λ h. Orders h c.learn_next.new.self.facts.installs (length c.learn_next.new.self.facts.installs) c.forget.new.self)
+      subst (λ h. Orders h c.learn_next.new.self.facts.installs (length c.learn_next.new.self.facts.installs) c.forget_if_due.new.self)
           (sym (ap (λ (g : Facts). g.horizon) c.learn_next.ensures.facts ∙ forgotten_horizon f c.args.at))
-          (subst (λ (t : List Install). Orders (max f.horizon c.args.at) t (length t) c.forget.new.self) c.installs.ensures
-          (c.forget.ensures.orders f.horizon (same_orders f.horizon f.installs c.installs.result.now
+          (subst (λ (t : List Install). Orders (max f.horizon c.args.at) t (length t) c.forget_if_due.new.self) c.installs.ensures
+          (c.forget_if_due.ensures.orders f.horizon (same_orders f.horizon f.installs c.installs.result.now
           c.self.inside.places (c.installs.ensures ∙ ap (λ (g : Facts). g.installs) c.learn_next.ensures.facts ∙ forgotten_installs f c.args.at)
           c.self.invariant.0))),
       subst (λ (s : Stage). head_ascends s c.learn_next.new.self.facts.installs ≡ true) (sym c.learn_next.ensures.stage)
