@@ -58,8 +58,10 @@ class Ends(Told):
     def test_aborted_is_run_again(self):
         store = self.told("commit aborted", "get aborted", "put aborted")
         runs = []
+        store.transact(lambda tx: (runs.append(tx.id), tx.get(b"a")))
+        self.assertEqual(len(set(runs)), 3)
         store.transact(lambda tx: (runs.append(tx.id), add_one(tx)))
-        self.assertEqual(len(set(runs)), 4)
+        self.assertEqual(len(set(runs)), 5)
         self.assertEqual(store.get(b"a"), b"1")
 
     def test_aborted_each_time(self):
@@ -243,11 +245,64 @@ class Over(Told):
         self.assertEqual(refused.exception.number, 8)
         self.assertIsNone(store.get(b"a"))
 
+    def test_a_transaction_that_does_not_begin(self):
+        works = [lambda tx: tx.put(b"a", b"1"), lambda tx: (tx.get(b"a"), tx.put(b"a", b"1")), lambda tx: tx.id, lambda tx: None]
+        store = self.told(*["begin fault: 5 RowsFull"] * len(works), clients=1)
+        for work in works:
+            with self.assertRaises(Refused) as refused:
+                store.transact(work)
+            self.assertEqual(refused.exception.number, 5)
+            self.assertIsNone(store.get(b"a"))
+        store.transact(add_one)
+        self.assertEqual(store.get(b"a"), b"1")
+
+    def test_a_write_that_finds_no_memory(self):
+        """It ends the transaction, so the commit that went with it commits nothing."""
+        store = self.told("put ended: fault: 1 Memory", clients=1)
+        with self.assertRaises(Refused) as refused:
+            store.transact(lambda tx: (tx.put(b"a", b"1"), tx.put(b"b", b"2")))
+        self.assertEqual((refused.exception.number, refused.exception.ended), (1, True))
+        self.assertEqual(store.get_all(b"a", b"b"), [None, None])
+
+    def test_a_write_beyond_a_limit(self):
+        """It is refused at once, and the others are committed."""
+        store = self.told(clients=1)
+        refusals = []
+
+        def work(tx):
+            for key, value in ((b"a" * 65, b"1"), (b"", b"1"), (b"a", b"1" * 4097), (b"a" * 64, b"1" * 4096)):
+                try:
+                    tx.put(key, value)
+                except Refused as refused:
+                    refusals.append(refused.number)
+
+        store.transact(work)
+        self.assertEqual(refusals, [7, 7, 7])
+        self.assertEqual(store.get(b"a" * 64), b"1" * 4096)
+
+    def test_writes_are_seen_and_taken_back(self):
+        store = self.told(clients=1)
+        seen = []
+
+        def work(tx):
+            tx.put(b"a", b"1")
+            seen.append(tx.get(b"a"))
+            tx.put(b"a", b"2")
+            tx.erase(b"b")
+            raise KeyError
+
+        with self.assertRaises(KeyError):
+            store.transact(work)
+        self.assertEqual(seen, [b"1"])
+        self.assertIsNone(store.get(b"a"))
+        store.transact(lambda tx: (tx.put(b"a", b"3"), tx.erase(b"a"), tx.put(b"b", b"4")))
+        self.assertEqual(store.get_all(b"a", b"b"), [None, b"4"])
+
     def test_an_idle_transaction(self):
-        store = self.told(options=["--idle", "50"], clients=1)
-        waits = [0.2, 0]
+        store = self.told(options=["--idle", "1000"], clients=1)
+        waits = [2, 0]
         runs = []
-        store.transact(lambda tx: (runs.append(tx), time.sleep(waits.pop(0)), add_one(tx)))
+        store.transact(lambda tx: (runs.append(tx), tx.get(b"b"), time.sleep(waits.pop(0)), add_one(tx)))
         self.assertEqual(len(runs), 2)
         self.assertEqual(store.get(b"a"), b"1")
 
@@ -362,6 +417,9 @@ class Closes(Told):
         with self.assertRaises(Unknown) as unknown:
             store.transact(lambda tx: ids.append(tx.id))
         self.assertEqual([unknown.exception.id], ids)
+        with self.assertRaises(Closed):  # another transaction is told no id of an earlier one
+            store.transact(lambda tx: ids.append(tx.id))
+        self.assertEqual(len(ids), 1)
 
     def test_a_kill_while_a_write_is_asked_for(self):
         store = self.told("put die")
@@ -374,7 +432,14 @@ class Closes(Told):
     def test_a_kill_within_a_transaction(self):
         store = self.told("put die")
         with self.assertRaises(Closed):
+            store.transact(lambda tx: (tx.put(b"a", b"1"), tx.get(b"a")))
+
+    def test_a_kill_while_a_write_goes_with_the_commit(self):
+        """Both were asked for, so nobody knows."""
+        store = self.told("put die")
+        with self.assertRaises(Unknown) as unknown:
             store.transact(lambda tx: tx.put(b"a", b"1"))
+        self.assertEqual(unknown.exception.id, "1.1")
 
     def test_an_answer_that_was_cut_off(self):
         """The front of `committed 1700 1.2` is no timestamp."""
