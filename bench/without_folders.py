@@ -19,6 +19,7 @@ for path in sorted(folder.glob("*.rs")):
         )
     text = re.sub(r"(?m)^(pub )?use (shim::(fs::File|random::RandomSource|rt::Files)|filedisk::\w+|host_files::[^;]+);\n", "", text)
     text = re.sub(r"(?m)^pub use timed::[^;]+;\n", "", text)
+    text = re.sub(r"(?m)^use crate::timed::\{check_time, expected_by\};\n", "", text)
     text = re.sub(r"(?m)^use crate::timed::[^;]*lead_by[^;]*;", "use crate::timed::lead_by;", text)
     text = text.replace(", push_clients", "")
     path.write_text(text, encoding="utf-8")

@@ -25,8 +25,8 @@ pub struct Kept<'n, D: Disk + Drop, H: Wait + Drop> {
     place: usize,
 }
 
-// To forget costs a record of the log, and a look at each version. So it is done no more than ten times a second, and once an eighth of
-// what is kept has become too old.
+// To forget costs a record of the log, and now and then a look at each version. So it is done no more than ten times a second, and once an
+// eighth of what is kept has become too old.
 const SHORTEST_PAUSE: u64 = 100_000;
 
 const SHARE_OF_PAUSE: u64 = 8;
