@@ -3,6 +3,7 @@ pub mod Look
 pub mod State
 pub mod OneList
 pub mod Views
+pub mod Dealing
 pub mod Pages
 pub mod Histories
 pub mod Showing

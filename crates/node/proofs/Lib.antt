@@ -1,3 +1,4 @@
+mod Dealt
 mod DeskFaults
 mod Faults
 mod Follow

@@ -1,3 +1,4 @@
+pub mod Dealt
 pub mod DeskFaults
 pub mod Faults
 pub mod Grouped

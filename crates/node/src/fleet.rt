@@ -1,6 +1,9 @@
 //! Nodes over the disks of all shards.
-ghost use Rattle.std.specs.Prelude.{◌≡◌, ◌≢◌, ◌⊎◌, ◌≤◌, ◌+◌, ◌<◌, length, map, max, Err, Some, IfErr, IfOk, IsOk, OnOk};
+ghost use Rattle.std.specs.Prelude.{◌≡◌, ◌≢◌, ◌⊎◌, ◌≤◌, ◌+◌, ◌<◌, ◌++◌, ◌∷◌, [], List, length, map, max, Err, Some, IfErr, IfOk, IsOk, OnOk};
 ghost use Rattle.std.specs.List.{AllZip};
+ghost use Rattle.board.specs.Dealing.{AreDealt, lists_of};
+ghost use Rattle.board.specs.Views.{Viewing};
+ghost use Rattle.node.specs.Dealt.{AreDealtOver, HasViewers};
 ghost use Rattle.node.specs.Openings.{IsMade};
 ghost use Rattle.node.specs.Together.{AreSetups, IsCauseOf, IsEarly, IsFirstOf, IsOpenedOver, epoch_in, last_in};
 ghost use Rattle.node.specs.Setups.{IsSetupOf};
@@ -58,6 +61,10 @@ impl<N: Drop> Opened<N> {
     fn add(&mut self, made: Result<Made<N>, Fault>) -> Result<(), Fault>
         ensures viewers { length self.new.viewers.by_worker.items
             ≡ length self.old.viewers.by_worker.items }
+        ensures dealt { OnOk result ((all : List Viewing) (one : Viewing)
+            → AreDealt all (lists_of self.old.viewers)
+            → HasViewers (length self.old.viewers.by_worker.items) made one
+            → AreDealt (all ++ one ∷ []) (lists_of self.new.viewers)) }
         ensures nodes { OnOk result
             (length self.new.nodes.items ≡ length self.old.nodes.items + 1) }
         ensures made { IsOk result → IsOk made }
@@ -79,8 +86,8 @@ impl<N: Drop> Opened<N> {
     }
 }
 
-/// Opens the disks of shards 0, 1 and so on side by side, each with a viewer for each worker. More or fewer disks than shards are refused as
-/// `settings`. Otherwise the fault is that of the first shard that is refused.
+/// Opens the disks of shards 0, 1 and so on side by side. Each worker gets a viewer of each shard's board, by shard. More or fewer disks than shards
+/// are refused as `settings`. Otherwise the fault is that of the first shard that is refused.
 pub fn open_shards<'r, R: Threads + Wait + Sync, D: Disk + Drop + Send>(
     rt: &'r R,
     alloc: Global,
@@ -91,6 +98,9 @@ pub fn open_shards<'r, R: Threads + Wait + Sync, D: Disk + Drop + Send>(
 ) -> Result<Opened<Node<D, &'r R>>, Unopened>
     ensures viewers { IfOk result (λ opened.
         length opened.viewers.by_worker.items ≡ workers) }
+    ensures dealt { IfOk result (λ opened.
+        AreDealtOver D.keeps_model D.obeys D.file D.clock D.since D.failures D.plan
+        splits.now stride disks.items (lists_of opened.viewers)) }
     ensures nodes { IfOk result (λ opened. length opened.nodes.items ≡ length disks.items) }
     ensures run { IfOk result (λ opened.
         IsRunOver D.keeps_model D.file disks.items opened.epoch) }
@@ -123,6 +133,9 @@ fn open_counted<'r, R: Threads + Wait + Sync, D: Disk + Drop + Send>(
     requires { length disks.items ≡ length splits.now + 1 }
     ensures viewers { IfOk result (λ opened.
         length opened.viewers.by_worker.items ≡ workers) }
+    ensures dealt { IfOk result (λ opened.
+        AreDealtOver D.keeps_model D.obeys D.file D.clock D.since D.failures D.plan
+        splits.now stride disks.items (lists_of opened.viewers)) }
     ensures nodes { IfOk result (λ opened. length opened.nodes.items ≡ length disks.items) }
     ensures run { IfOk result (λ opened.
         IsRunOver D.keeps_model D.file disks.items opened.epoch) }
@@ -234,6 +247,9 @@ fn all_opened<N: Drop>(
     requires { length made.items ≤ 16 }
     ensures viewers { IfOk result (λ opened.
         length opened.viewers.by_worker.items ≡ length viewers.by_worker.items) }
+    ensures dealt { IfOk result (λ opened. (all : List Viewing)
+        → AllZip (HasViewers (length viewers.by_worker.items)) made.items all
+        → AreDealt [] (lists_of viewers) → AreDealt all (lists_of opened.viewers)) }
     ensures opened { IfOk result (λ opened.
         IsOpenedOver made.items (length opened.nodes.items) opened.epoch opened.last) }
     ensures first { IfErr result (IsFirstOf made.items) }

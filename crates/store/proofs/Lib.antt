@@ -1,4 +1,5 @@
 mod Attempts
+mod Dealt
 mod Across
 mod Ends
 mod Shown

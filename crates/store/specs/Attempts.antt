@@ -1,5 +1,5 @@
 -- What contracts see of a transaction while its code runs, of each attempt of a client, and of what they come to.
-use Rattle.std.specs.Prelude.{◌≡◌, ◌⊎◌, ◌^◌, ◌<◌, ◌≤◌, ℕ, Bool, true, false, List, [], ◌∷◌, ◌++◌, length, Result, Ok, Err, MatchResult}
+use Rattle.std.specs.Prelude.{◌≡◌, ◌⊎◌, ◌^◌, ◌<◌, ◌≤◌, ℕ, Bool, true, false, List, [], ◌∷◌, ◌++◌, length, Result, Ok, Err, MatchResult, Contains}
 use Rattle.std.specs.Fn.{Mut, CalledAtMut}
 use Rattle.std.specs.Borrow.{MutBor}
 use Rattle.std.specs.List.{FoldsTo, list_all}
@@ -153,9 +153,11 @@ pub record Worker : Type 0 where
   pub from : ℕ
   pub readings : List Interval
 
--- a client of a run over these splits that has made no attempt, and whose clock has this epsilon and goes on from this timestamp
-abbrev pub IsFresh : ℕ → List Bytes → ℕ → ℕ → Worker → Type 0
-IsFresh run splits epsilon from w = (w.run ≡ run) × (w.splits ≡ splits) × (w.epsilon ≡ epsilon) × (w.from ≡ from) × (w.traffics ≡ [])
+-- A client of a run over these splits that has made no attempt, and whose clock has this epsilon and goes on from this timestamp. Its viewers are
+-- one of these lists.
+abbrev pub IsFresh : ℕ → List Bytes → ℕ → ℕ → List (List Viewing) → Worker → Type 0
+IsFresh run splits epsilon from dealt w =
+    (w.run ≡ run) × (w.splits ≡ splits) × (w.epsilon ≡ epsilon) × (w.from ≡ from) × (w.traffics ≡ []) × Contains dealt w.viewers
 
 -- the client has drawn one number more
 abbrev pub drew : Worker → ℕ → Worker

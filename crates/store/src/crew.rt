@@ -1,5 +1,6 @@
 //! What clients are made of.
-ghost use Rattle.std.specs.Prelude.{◌≡◌, All, IfErr, IfOk, IfSome};
+ghost use Rattle.std.specs.Prelude.{◌≡◌, ◌++◌, ◌∷◌, [], All, IfErr, IfOk, IfSome};
+ghost use Rattle.board.specs.Dealing.{lists_of};
 ghost use Rattle.store.specs.Attempts.{IsFresh};
 
 use crate::clients::Client;
@@ -35,8 +36,10 @@ impl Crew {
         ensures drawers { All (λ drawer. drawer.source ≡ shared.now.ids) self.new.drawers.items }
         ensures client { IfSome result
             (λ client. IsFresh shared.now.run shared.now.splits
-            clock.entry.machine.epsilon clock.entry.from client
+            clock.entry.machine.epsilon clock.entry.from (client.viewers ∷ []) client
             × (client.drawing.source ≡ shared.now.ids)) }
+        ensures viewers { IfSome result (λ client.
+            lists_of self.old.viewers ≡ lists_of self.new.viewers ++ client.viewers ∷ []) }
     {
         let inbox = self.inboxes.pop()?;
         let number = self.inboxes.len();
@@ -59,7 +62,7 @@ impl Crew {
 }
 
 /// The clients, as many as there are inboxes. Each is of the run and the splits that they share, draws from their one
-/// source, has the clock, and has made no attempt.
+/// source, has the clock, and has made no attempt. Its viewers are one of the lists of the crew.
 pub fn clients_of<'s, R>(
     rt: &'s R,
     shared: &'s Shared,
@@ -70,7 +73,7 @@ pub fn clients_of<'s, R>(
     requires { All (λ drawer. drawer.source ≡ shared.now.ids) crew.drawers.items }
     ensures clients { IfOk result (λ clients. All (λ client.
         IsFresh shared.now.run shared.now.splits
-        clock.entry.machine.epsilon clock.entry.from client
+        clock.entry.machine.epsilon clock.entry.from (lists_of crew.viewers) client
         × (client.drawing.source ≡ shared.now.ids)) clients.items) }
     ensures refused { IfErr result (λ fault. fault ≡ Fault.Memory) }
 {

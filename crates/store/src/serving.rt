@@ -1,5 +1,6 @@
 //! A store is served while its clients work.
 ghost use Rattle.std.specs.Prelude.{◌≡◌, ◌<◌, ◌≤◌, All, length, IfErr, IfOk};
+ghost use Rattle.board.specs.Dealing.{lists_of};
 ghost use Rattle.store.specs.Attempts.{IsFresh};
 ghost use Rattle.std.specs.Thread.{IsSync, IsSend};
 
@@ -48,7 +49,8 @@ pub fn serve_kept<
 ) -> Result<T, Fault>
     requires { F.IsAlwaysCallable work }
     ensures clients { IfOk result (λ answer. (clients : _) × F.post work clients answer
-        × All (IsFresh epoch options.now.splits options.now.epsilon last) clients.items) }
+        × All (IsFresh epoch options.now.splits options.now.epsilon last (lists_of viewers))
+        clients.items) }
     ensures refused { 0 < length viewers.by_worker.items
         → length viewers.by_worker.items ≤ 256
         → IfErr result (λ fault. fault ≡ Fault.Memory) }
@@ -79,7 +81,8 @@ fn serve_nodes<
 ) -> Result<T, Fault>
     requires { F.IsAlwaysCallable work }
     ensures clients { IfOk result (λ answer. (clients : _) × F.post work clients answer
-        × All (IsFresh epoch options.now.splits options.now.epsilon last) clients.items) }
+        × All (IsFresh epoch options.now.splits options.now.epsilon last (lists_of viewers))
+        clients.items) }
     ensures refused { 0 < length viewers.by_worker.items
         → length viewers.by_worker.items ≤ 256
         → IfErr result (λ fault. fault ≡ Fault.Memory) }
@@ -110,6 +113,8 @@ fn shared_of(
         (λ made. All (λ drawer. drawer.source ≡ made.0.ids) made.2.drawers.items) }
     ensures run { IfOk result (λ made. made.0.run ≡ epoch) }
     ensures splits { IfOk result (λ made. made.0.splits ≡ options.now.splits) }
+    ensures viewers { IfOk result
+        (λ made. made.2.viewers.by_worker.items ≡ viewers.by_worker.items) }
     ensures refused { 0 < length viewers.by_worker.items
         → length viewers.by_worker.items ≤ 256
         → IfErr result (λ fault. fault ≡ Fault.Memory) }
@@ -162,7 +167,8 @@ fn work_beside<
     requires drawers { All (λ drawer. drawer.source ≡ shared.now.ids) crew.drawers.items }
     ensures clients { IfOk result (λ answer. (clients : _) × F.post work clients answer
         × All (IsFresh shared.now.run shared.now.splits
-        clock.entry.machine.epsilon clock.entry.from) clients.items) }
+        clock.entry.machine.epsilon clock.entry.from (lists_of crew.viewers))
+        clients.items) }
     ensures refused { IfErr result (λ fault. fault ≡ Fault.Memory) }
 {
     thread::scope(
@@ -174,7 +180,8 @@ fn work_beside<
             requires drawers { All (λ drawer. drawer.source ≡ shared.now.ids) crew.drawers.items }
             ensures clients { IfOk result (λ answer. (clients : _) × F.post work clients answer
                 × All (IsFresh shared.entry.now.run shared.entry.now.splits
-                clock.entry.machine.epsilon clock.entry.from) clients.items) }
+                clock.entry.machine.epsilon clock.entry.from (lists_of crew.viewers))
+                clients.items) }
             ensures refused { IfErr result (λ fault. fault ≡ Fault.Memory) }
         {
             let answer = if start_in(scope, rt, served, &shared.network) {
@@ -208,7 +215,8 @@ fn work_with<
     requires drawers { All (λ drawer. drawer.source ≡ shared.now.ids) crew.drawers.items }
     ensures clients { IfOk result (λ answer. (clients : _) × F.post work clients answer
         × All (IsFresh shared.now.run shared.now.splits
-        clock.entry.machine.epsilon clock.entry.from) clients.items) }
+        clock.entry.machine.epsilon clock.entry.from (lists_of crew.viewers))
+        clients.items) }
     ensures refused { IfErr result (λ fault. fault ≡ Fault.Memory) }
 {
     let clients = clients_of(rt, shared, crew, clock, patience)?;

@@ -1,5 +1,6 @@
 //! An open store.
 ghost use Rattle.std.specs.Prelude.{◌≡◌, ◌⊎◌, ◌<◌, ◌≤◌, ◌+◌, ◌-◌, ℕ, [], All, length, Err, IfErr, IfOk, IfSome, IsOk, vec_capacity};
+ghost use Rattle.node.specs.Dealt.{AreDealtOver};
 ghost use Rattle.node.specs.Unopened.{IsFirst, IsLastIn, IsRunOver, IsUnmade, unopened_for};
 ghost use Rattle.store.specs.Attempts.{IsFresh};
 
@@ -18,7 +19,7 @@ use std::time;
 use units::{Fault, Reason};
 
 /// A store whose shards are open, each over a disk of its own. Contracts see the run of its ids, its splits, and how many shards and clients it
-/// has. Of its clock they see the epsilon and the timestamp from which it goes on.
+/// has. Of its clock they see the epsilon and the timestamp from which it goes on. They also see the viewers that its clients get.
 #[derive(Drop)]
 pub struct Store<'r, R: Wait, D: Disk + Drop> {
     rt: &'r R,
@@ -30,6 +31,7 @@ pub struct Store<'r, R: Wait, D: Disk + Drop> {
 
 impl<'r, R: Wait, D: Disk + Drop> Model for Store<'r, R, D> {
     ghost use Rattle.std.specs.Prelude.{◌<◌, ◌≤◌, length};
+    ghost use Rattle.board.specs.Dealing.{lists_of};
     ghost use Rattle.store.specs.Standing.{Standing};
 
     ghost Value = { Standing };
@@ -41,6 +43,7 @@ impl<'r, R: Wait, D: Disk + Drop> Model for Store<'r, R, D> {
       clients = length s.opened.viewers.by_worker.items;
       epsilon = s.options.epsilon;
       last = s.opened.last;
+      dealt = lists_of s.opened.viewers;
     } };
 
     ghost invariant = { λ s. (0 < length s.opened.viewers.by_worker.items)
@@ -67,6 +70,9 @@ impl<'r, R: Threads + Wait + Sync, D: Disk + Drop + Send> Store<'r, R, D> {
         ensures shards { IfOk result (λ store. store.shards ≡ length disks.items) }
         ensures clients { IfOk result (λ store. store.clients ≡ options.clients) }
         ensures epsilon { IfOk result (λ store. store.epsilon ≡ options.epsilon) }
+        ensures dealt { IfOk result (λ store.
+            AreDealtOver D.keeps_model D.obeys D.file D.clock D.since D.failures D.plan
+            options.splits options.stride disks.items store.dealt) }
         ensures each { IsOk result → length disks.items ≡ length options.splits + 1 }
         ensures limits { (1000000 < options.epsilon)
             ⊎ ((options.clients ≡ 0) ⊎ (64 < options.clients))
@@ -129,8 +135,8 @@ impl<'r, R: Threads + Wait + time::Clock + Sync, D: Disk + Drop + Send> Store<'r
         requires { F.IsAlwaysCallable work }
         ensures disks { IfOk result (λ done. length done.1.items ≡ self.entry.shards) }
         ensures clients { IfOk result (λ done. (clients : _) × F.post work clients done.0
-            × All (IsFresh self.entry.run self.entry.splits self.entry.epsilon self.entry.last)
-            clients.items) }
+            × All (IsFresh self.entry.run self.entry.splits self.entry.epsilon self.entry.last
+            self.entry.dealt) clients.items) }
         ensures refused { IfErr result (λ fault. fault ≡ Fault.Memory) }
     {
         let Store {

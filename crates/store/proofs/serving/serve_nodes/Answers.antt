@@ -1,4 +1,5 @@
-use Rattle.std.proofs.Common.{◌∙◌}
+use Rattle.std.proofs.Common.{◌∙◌, map, slice_index_or, subst}
+use Rattle.std.specs.Prelude.{Contains}
 use Rattle.std.proofs.lemmas.Result.{IfOk-weaker}
 use Rattle.store.proofs.serving.serve_nodes.Goals as goal
 
@@ -15,6 +16,8 @@ returns-in-Ok-clause-clients g c =
         (worked.2 k d lt).2 ∙ c.new-clock.ensures.epsilon,
         (worked.2 k d lt).3 ∙ c.new-clock.ensures.from,
         (worked.2 k d lt).4,
+        subst (λ lists. Contains (map (λ own. own.items) lists) (slice_index_or worked.0.items k d).viewers) c.in_ok-shared.ensures.viewers
+            (worked.2 k d lt).5,
       ),
     ))
     c.work_beside.ensures.clients

@@ -1,4 +1,6 @@
-use Rattle.std.proofs.Common.{◌∙◌, ap, arith}
+use Rattle.std.proofs.Common.{◌∙◌, List, ap, arith, slice_index_or, subst}
+use Rattle.std.specs.Prelude.{Contains}
+use Rattle.board.specs.Views.{Viewing}
 use Rattle.store.specs.Standing.{Standing}
 use Rattle.store.proofs.store.Store.serve.Goals as goal
 
@@ -14,6 +16,8 @@ returns-in-Ok-answer-clause-clients g c =
         (worked.2 k d lt).2 ∙ ap (λ (s : Standing). s.epsilon) c.self.view_is,
         (worked.2 k d lt).3 ∙ ap (λ (s : Standing). s.last) c.self.view_is,
         (worked.2 k d lt).4,
+        subst (λ (lists : List (List Viewing)). Contains lists (slice_index_or worked.0.items k d).viewers)
+            (ap (λ (s : Standing). s.dealt) c.self.view_is) (worked.2 k d lt).5,
       ),
     )
 
