@@ -1,9 +1,9 @@
-//! A write by a clock that goes on by whole hundredths of a second: its timestamp tells the epsilon.
+//! A write and a drive by a clock that goes on by whole hundredths of a second: timestamps tell the epsilon.
 use crate::command_lines::{
     DONE, EMPTY, MANIFEST, Output, Step, furnished, lent, prints, put, put_log, words_of,
 };
 use crate::verdict::end;
-use made::WrongRows;
+use made::{Folder, WrongRows};
 use std::alloc::Allocator;
 use std::fmt::Display;
 use std::fs::{Metadata, OpenOptions};
@@ -126,6 +126,24 @@ const PUT: Step = Step {
     ..DONE
 };
 
+// What a drive of one worker over files is asked for, but for its folder. No ceiling lies ahead of what is served.
+const SETTINGS: &str =
+    "shards = 2\nsplits = [\"k0005\"]\nstride = 0\nepsilon = 2000\nworkers = 1\ntransactions = 20\nkeys = 10\n";
+
+// A commit waits for the next hundredth, so few of them have one reading.
+static DRIVEN: [Step; 2] = [
+    Step {
+        lines: &["drive ./coarse.settings"],
+        output: Output::Driven(20),
+        ..DONE
+    },
+    Step {
+        lines: &["dump ./shard-0.log", "dump ./shard-1.log"],
+        output: Output::OutcomesFrom(2_000),
+        ..DONE
+    },
+];
+
 // Fails if the store that a write is put to has no epsilon, or another one than 1,000 microseconds.
 #[test]
 fn a_put_by_a_coarse_clock(rt: HostRuntime) {
@@ -133,14 +151,39 @@ fn a_put_by_a_coarse_clock(rt: HostRuntime) {
     put(&rt, &rt, &folder, "store.toml", MANIFEST);
     put_log(&rt, &rt, &folder, "shard-0.log", EMPTY);
     put_log(&rt, &rt, &folder, "shard-1.log", EMPTY);
+    let mut wrong = WrongRows::none(rt.alloc());
     let line = "put ./. k0001 once";
     let whole = words_of(&rt, &rt, &folder, line);
     let words = lent(&rt, rt.alloc(), whole.as_slice());
     let right = prints(&Coarse { rt: &rt }, rt.alloc(), words.as_slice(), &PUT);
     drop(words);
     drop(whole);
-    let mut wrong = WrongRows::none(rt.alloc());
     wrong.unless(right, line);
+    wrong.unless(folder.remove(&rt), "the folder");
+    end(&rt, wrong);
+}
+
+// Fails if the nodes of a drive are served by a clock without the epsilon of its settings.
+#[test]
+fn a_drive_by_a_coarse_clock(rt: HostRuntime) {
+    let folder = furnished(&rt, &rt);
+    let dir = folder.path(rt.alloc(), ".").ok().expect(&rt, "memory");
+    let text = format!(in rt.alloc(); "{SETTINGS}dir = \"{dir}\"\n");
+    drop(dir);
+    let text = text.ok().expect(&rt, "settings");
+    put(&rt, &rt, &folder, "coarse.settings", text.as_bytes());
+    drop(text);
+    let mut wrong = WrongRows::none(rt.alloc());
+    for step in &DRIVEN {
+        for line in step.lines {
+            let whole = words_of(&rt, &rt, &folder, line);
+            let words = lent(&rt, rt.alloc(), whole.as_slice());
+            let right = prints(&Coarse { rt: &rt }, rt.alloc(), words.as_slice(), step);
+            drop(words);
+            drop(whole);
+            wrong.unless(right, line);
+        }
+    }
     wrong.unless(folder.remove(&rt), "the folder");
     end(&rt, wrong);
 }

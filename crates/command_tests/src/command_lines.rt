@@ -25,6 +25,8 @@ pub enum Output {
     Committed,
     /// That a write is committed, so many microseconds after a whole hundredth of a second.
     CommittedBehind(u64),
+    /// A dump with outcomes of commits, each so many microseconds after a whole hundredth of a second or before one, and less than a thousand more.
+    OutcomesFrom(u64),
     /// This text.
     Is(&'static str),
     /// A text that begins so.
@@ -304,6 +306,29 @@ fn is_behind(text: &str, micros: u64) -> bool {
     }
 }
 
+// Whether a dump has outcomes of commits, each at the end of a reading or at its beginning: in the thousand microseconds that begin so many after a
+// whole hundredth of a second, or so many before one.
+fn are_from(text: &str, micros: u64) -> bool {
+    let mut count: u64 = 0;
+    for line in text.lines() {
+        if let Some((_, at)) = line.split_once(" committed ") {
+            let Ok(at) = at.parse::<u64>() else {
+                return false;
+            };
+            let behind = at % 10_000;
+            if !begins_at(behind, micros) && !begins_at(behind, 10_000_u64.saturating_sub(micros)) {
+                return false;
+            }
+            count = count.saturating_add(1);
+        }
+    }
+    count > 0
+}
+
+fn begins_at(behind: u64, first: u64) -> bool {
+    behind >= first && behind - first < 1_000
+}
+
 fn is_printed(text: &str, output: Output) -> bool {
     match output {
         Output::Nothing => text.is_empty(),
@@ -311,6 +336,7 @@ fn is_printed(text: &str, output: Output) -> bool {
         Output::Driven(tried) => is_driven(text, tried),
         Output::Committed => committed(text).is_some(),
         Output::CommittedBehind(micros) => is_behind(text, micros),
+        Output::OutcomesFrom(micros) => are_from(text, micros),
         Output::Is(right) => text == right,
         Output::Begins(first) => text.starts_with(first),
         Output::Ends(last) => text.ends_with(last),

@@ -1,3 +1,4 @@
 pub mod Named
+pub mod OfFiles
 pub mod OfKey
 pub mod Refusals

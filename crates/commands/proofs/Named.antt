@@ -1,5 +1,5 @@
 -- The names of a store's logs, one log at a time.
-use Rattle.std.proofs.Common.{◌≡◌, ◌∙◌, ◌++◌, ◌∷◌, ◌+◌, [], ℕ, zero, suc, List, map, ap, ap₂, arith, refl, sym}
+use Rattle.std.proofs.Common.{◌≡◌, ◌∙◌, ◌++◌, ◌∷◌, ◌+◌, [], ℕ, suc, List, map, ap, ap₂, arith, refl}
 use Rattle.std.proofs.lemmas.List.{map-append}
 use Rattle.command_line.specs.Lines.{Word}
 use Rattle.commands.specs.Replies.{log_name, log_names}

@@ -18,6 +18,7 @@ use Rattle.output.specs.Verdicts.{exit_status, text_of}
 use Rattle.showing.specs.Dumps.{IsADump}
 use Rattle.showing.specs.HistoryTexts.{IsAHistory, IsAValue}
 use Rattle.showing.specs.Json.{IsAJsonHistory, IsAJsonValue}
+use Rattle.showing.specs.JsonTexts.{AreJsonStats, IsAJsonDump}
 use Rattle.showing.specs.StatsTexts.{AreStats}
 
 -- what a command prints, where its words tell it; the rest is told by files
@@ -65,10 +66,10 @@ abbrev pub IsHistoryAs : Bool → List ℕ → Type 0
 IsHistoryAs false text = IsAHistory text
 IsHistoryAs true text = IsAJsonHistory text
 
--- a dump, of which no more is said as JSON
+-- a dump, as JSON or not
 abbrev pub IsDumpAs : Bool → List ℕ → Type 0
 IsDumpAs false text = IsADump text
-IsDumpAs true text = Unit {0}
+IsDumpAs true text = IsAJsonDump text
 
 -- the log of a shard in a folder, and those of so many shards
 abbrev pub log_name : Word → ℕ → Word
@@ -85,10 +86,10 @@ AreLogsOf folder names = (shards : ℕ) × (names ≡ log_names folder shards)
 abbrev pub AreNamed : List Word → List Word → Type 0
 AreNamed words names = (names ≡ words) ⊎ ((folder : Word) × (words ≡ folder ∷ []) × AreLogsOf folder names)
 
--- the numbers of the logs of these names, of which no more is said as JSON
+-- the numbers of the logs of these names, as JSON or not
 abbrev pub AreStatsIn : Bool → List Word → List ℕ → Type 0
 AreStatsIn false names text = AreStats names text
-AreStatsIn true names text = Unit {0}
+AreStatsIn true names text = AreJsonStats names text
 
 abbrev pub AreStatsAs : Bool → List Word → List ℕ → Type 0
 AreStatsAs json words text = (names : List Word) × AreNamed words names × AreStatsIn json names text

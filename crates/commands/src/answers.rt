@@ -13,6 +13,7 @@ ghost use Rattle.output.specs.Replies.{Is};
 ghost use Rattle.commands.specs.Disks.{LogsCommand, LogsTo};
 ghost use Rattle.commands.specs.Drives.{IsDrivenBy};
 ghost use Rattle.commands.specs.Faults.{FailsAs, IsRefusedBy, IsUnputBy, MayRefuse, MayRefuseTo};
+ghost use Rattle.commands.specs.OnDisks.{IsOfItsFiles, IsOfNamedFiles};
 ghost use Rattle.commands.specs.Puts.{IsPutBy};
 ghost use Rattle.commands.specs.Replies.{Tells, TellsTo, reply_of, reply_or_refusal, reply_to};
 ghost use Rattle.output.specs.Streams.{failures_of, fault_line, writer_of};
@@ -73,6 +74,12 @@ pub fn answer<
     ensures tells { are_covered (map (λ w. w.now) words.entry.now) ≡ true → result.0 ≢ 2
         → (text : List ℕ) × TellsTo (IsDrivenBy (D.post system.now.drive.run alloc))
         (IsPutBy (P.post system.now.drive.put alloc))
+        (command_of (map (λ w. w.now) words.entry.now)) result.0 text
+        × Appends (O.contents (writer_of out.old)) (O.contents (writer_of out.new)) text }
+    // What is told of files is of those that were opened, or made, under the names in the words.
+    ensures named { are_covered (map (λ w. w.now) words.entry.now) ≡ true → result.0 ≢ 2
+        → (text : List ℕ) × IsOfNamedFiles F.Log.keeps_model F.Log.file
+        (F.is_named system.now.files) F.Log.clock F.Log.since
         (command_of (map (λ w. w.now) words.entry.now)) result.0 text
         × Appends (O.contents (writer_of out.old)) (O.contents (writer_of out.new)) text }
     ensures quiet { result.0 ≢ 2 → err.new ≡ err.old }
@@ -139,6 +146,12 @@ fn carry_out<
         (IsPutBy (P.post system.now.drive.put alloc))
         (command_of (map (λ w. w.now) words.entry.now)) status text
         × Appends (O.contents (writer_of out.old)) (O.contents (writer_of out.new)) text) }
+    ensures named { are_covered (map (λ w. w.now) words.entry.now) ≡ true
+        → IfOk result.0 (λ status. (text : List ℕ)
+        × IsOfNamedFiles F.Log.keeps_model F.Log.file
+        (F.is_named system.now.files) F.Log.clock F.Log.since
+        (command_of (map (λ w. w.now) words.entry.now)) status text
+        × Appends (O.contents (writer_of out.old)) (O.contents (writer_of out.new)) text) }
     ensures logged { are_covered (map (λ w. w.now) words.entry.now) ≡ true → IfOk result.0 (λ status.
         LogsTo (command_of (map (λ w. w.now) words.entry.now)) status result.1) }
     ensures refused { are_covered (map (λ w. w.now) words.entry.now) ≡ true → (fault : Fault)
@@ -188,6 +201,12 @@ fn carry_read<
         (IsPutBy (P.post system.now.drive.put alloc))
         (asked_by read.entry) status text
         × Appends (O.contents (writer_of out.old)) (O.contents (writer_of out.new)) text) }
+    ensures named { is_covered read.entry ≡ true
+        → IfOk result.0 (λ status. (text : List ℕ)
+        × IsOfNamedFiles F.Log.keeps_model F.Log.file
+        (F.is_named system.now.files) F.Log.clock F.Log.since
+        (asked_by read.entry) status text
+        × Appends (O.contents (writer_of out.old)) (O.contents (writer_of out.new)) text) }
     ensures logged { is_covered read.entry ≡ true → IfOk result.0 (λ status.
         LogsTo (asked_by read.entry) status result.1) }
     ensures refused { is_covered read.entry ≡ true → (fault : Fault)
@@ -233,6 +252,11 @@ fn run<
     ensures tells { IfOk result.0
         (λ status. (text : List ℕ) × Tells (IsDrivenBy (D.post system.now.drive.run alloc))
         (IsPutBy (P.post system.now.drive.put alloc))
+        (asked_for asked.entry) status text
+        × Appends (O.contents (writer_of out.old)) (O.contents (writer_of out.new)) text) }
+    ensures named { IfOk result.0 (λ status. (text : List ℕ)
+        × IsOfItsFiles F.Log.keeps_model F.Log.file
+        (F.is_named system.now.files) F.Log.clock F.Log.since
         (asked_for asked.entry) status text
         × Appends (O.contents (writer_of out.old)) (O.contents (writer_of out.new)) text) }
     ensures logged { IfOk result.0 (λ status. LogsCommand (asked_for asked.entry) status result.1) }

@@ -1,16 +1,16 @@
 //! The commands `history` and `get`: what the log of a store says of a key.
-ghost use Rattle.std.specs.Prelude.{◌≡◌, ◌⊎◌, ◌<◌, List, ℕ, false, None, Err, IfOk, IfErr, string_bytes};
+ghost use Rattle.std.specs.Prelude.{◌≡◌, ◌⊎◌, ◌<◌, List, ℕ, None, Err, IfOk, IfErr, string_bytes};
 ghost use Rattle.std.specs.Io.KnownBytes.{Appends};
 ghost use Rattle.disk.specs.File.{surface};
 ghost use Rattle.units.specs.declared.fault.Fault.{Fault};
 ghost use Rattle.commands.specs.Faults.{FailsAs};
-ghost use Rattle.commands.specs.OnDisks.{IsOfKey, IsRawIn};
+ghost use Rattle.commands.specs.OnDisks.{IsHistoryAsIn, IsHistoryAsOf, IsOfKey, IsRawIn, IsValueAsOf};
 ghost use Rattle.commands.specs.Replies.{IsHistoryAs, IsToldOf};
 ghost use Rattle.output.specs.Failures.{FailsFor};
 ghost use Rattle.output.specs.Streams.{failures_of, writer_of};
 ghost use Rattle.output.specs.declared.failure.Failure.TheVariants.{Refused};
-ghost use Rattle.showing.specs.HistoryTexts.{IsAValue, IsHistoryIn, IsNotTold, IsValueIn};
-ghost use Rattle.showing.specs.Json.{IsAJsonValue};
+ghost use Rattle.showing.specs.HistoryTexts.{IsAValue, IsNotTold, IsValueIn};
+ghost use Rattle.showing.specs.Json.{IsAJsonValue, IsJsonValueIn};
 
 use crate::printing::{print_text, print_value};
 use crate::store_folder::open_of_key;
@@ -32,10 +32,9 @@ pub fn history<F: Files>(
     files: &F,
 ) -> Result<String, Fault>
     ensures text { IfOk result (λ text. IsHistoryAs json (string_bytes text)) }
-    // As lines it is that of the log of the key's shard.
-    ensures told { json ≡ false → IfOk result (λ text. IsOfKey F.Log.keeps_model F.Log.file
-        (F.is_named files.now) dir.now key.now
-        (λ setup image. IsHistoryIn setup key.now image (string_bytes text))) }
+    // It is that of the log of the key's shard.
+    ensures told { IfOk result (λ text. IsHistoryAsOf F.Log.keeps_model F.Log.file
+        (F.is_named files.now) json dir.now key.now (string_bytes text)) }
     ensures refused { IfErr result IsNotTold }
 {
     let (setup, log) = open_of_key(alloc, files, dir, key)?;
@@ -53,7 +52,7 @@ fn history_in<D: Disk + Drop>(
     json: bool,
 ) -> Result<String, Fault>
     ensures text { IfOk result (λ text. IsHistoryAs json (string_bytes text)) }
-    ensures told { json ≡ false → D.keeps_model → IfOk result (λ text. IsHistoryIn setup.now
+    ensures told { D.keeps_model → IfOk result (λ text. IsHistoryAsIn json setup.now
         key.now (surface (D.file disk)).seen (string_bytes text)) }
     ensures refused { IfErr result IsNotTold }
 {
@@ -77,6 +76,11 @@ pub fn run_get<F: Files, O: Write>(
 ) -> Result<u8, Failure>
     ensures status { IfOk result (λ status. (status ≡ 0) ⊎ (status ≡ 1)) }
     ensures printed { IfOk result (λ status. (text : List ℕ) × IsToldOf form status text
+        × Appends (O.contents (writer_of out.old)) (O.contents (writer_of out.new)) text) }
+    // It is that of the log of the key's shard.
+    ensures told { IfOk result (λ status. (text : List ℕ)
+        × IsValueAsOf F.Log.keeps_model F.Log.file (F.is_named files.now)
+        form dir.now key.now at status text
         × Appends (O.contents (writer_of out.old)) (O.contents (writer_of out.new)) text) }
     ensures failures { IfErr result
         (λ failure. FailsFor (failures_of out.old < failures_of out.new) failure None) }
@@ -120,6 +124,9 @@ fn get_json<F: Files>(
     files: &F,
 ) -> Result<String, Fault>
     ensures text { IfOk result (λ text. IsAJsonValue (string_bytes text)) }
+    ensures told { IfOk result (λ text. IsOfKey F.Log.keeps_model F.Log.file
+        (F.is_named files.now) dir.now key.now
+        (λ setup image. IsJsonValueIn setup key.now at image (string_bytes text))) }
     ensures refused { IfErr result IsNotTold }
 {
     let (setup, log) = open_of_key(alloc, files, dir, key)?;

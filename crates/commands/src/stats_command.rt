@@ -1,8 +1,9 @@
 //! The commands `stats` and `dump`: what logs hold.
-ghost use Rattle.std.specs.Prelude.{◌≡◌, IfErr, IfOk, IfSome, false, map, string_bytes};
+ghost use Rattle.std.specs.Prelude.{◌≡◌, IfErr, IfOk, IfSome, map, string_bytes};
 ghost use Rattle.commands.specs.Faults.{IsNotCounted, IsUnreadStore};
+ghost use Rattle.commands.specs.OnDisks.{AreStatsAsOf, AreStatsInOf, IsDumpAsOf};
 ghost use Rattle.commands.specs.Replies.{AreLogsOf, AreStatsAs, AreStatsIn, IsDumpAs, log_name, log_names};
-ghost use Rattle.showing.specs.Dumps.{IsDumpOf, IsNotShown};
+ghost use Rattle.showing.specs.Dumps.{IsNotShown};
 
 use crate::store_folder::splits_of;
 use showing::{dump_file, dump_file_json, stats_files, stats_files_json};
@@ -13,9 +14,9 @@ use units::Fault;
 /// What the log in a file holds, as text or as JSON.
 pub fn dump<F: Files>(alloc: Global, file: &str, json: bool, files: &F) -> Result<String, Fault>
     ensures text { IfOk result (λ text. IsDumpAs json (string_bytes text)) }
-    // As lines it is that of the file of this name.
-    ensures named { json ≡ false → IfOk result (λ text. IsDumpOf F.Log.keeps_model F.Log.file
-        (F.is_named files.now) file.now (string_bytes text)) }
+    // It is that of the file of this name.
+    ensures named { IfOk result (λ text. IsDumpAsOf F.Log.keeps_model F.Log.file
+        (F.is_named files.now) json file.now (string_bytes text)) }
     ensures refused { IfErr result IsNotShown }
 {
     if json {
@@ -29,6 +30,9 @@ pub fn dump<F: Files>(alloc: Global, file: &str, json: bool, files: &F) -> Resul
 pub fn stats<F: Files>(alloc: Global, logs: &[&str], json: bool, files: &F) -> Result<String, Fault>
     ensures text { IfOk result (λ text.
         AreStatsAs json (map (λ log. log.now) logs.now) (string_bytes text)) }
+    // They are those of the files of these names.
+    ensures named { IfOk result (λ text. AreStatsAsOf F.Log.keeps_model F.Log.file
+        (F.is_named files.now) json (map (λ log. log.now) logs.now) (string_bytes text)) }
     ensures refused { IfErr result IsNotCounted }
 {
     if let [folder] = logs {
@@ -90,6 +94,9 @@ fn stats_of_store<F: Files>(
 ) -> Result<String, Fault>
     ensures text { IfOk result (λ text.
         AreStatsIn json (map (λ name. string_bytes name) names.now) (string_bytes text)) }
+    ensures named { IfOk result (λ text. AreStatsInOf F.Log.keeps_model F.Log.file
+        (F.is_named files.now) json (map (λ name. string_bytes name) names.now)
+        (string_bytes text)) }
     ensures refused { IfErr result IsNotCounted }
 {
     let mut logs = Vec::new(alloc);
@@ -102,6 +109,8 @@ fn stats_of_store<F: Files>(
 fn stats_of<F: Files>(alloc: Global, logs: &[&str], json: bool, files: &F) -> Result<String, Fault>
     ensures text { IfOk result (λ text.
         AreStatsIn json (map (λ log. log.now) logs.now) (string_bytes text)) }
+    ensures named { IfOk result (λ text. AreStatsInOf F.Log.keeps_model F.Log.file
+        (F.is_named files.now) json (map (λ log. log.now) logs.now) (string_bytes text)) }
     ensures refused { IfErr result IsNotCounted }
 {
     if json {

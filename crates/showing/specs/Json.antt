@@ -1,12 +1,14 @@
 -- What is told, as JSON.
-use Rattle.std.specs.Prelude.{◌≡◌, ℕ, Bool, true, false, List, [], ◌++◌, Option, Some, None, codes, flat_map, map, if◌then◌else◌, nat_lt}
+use Rattle.std.specs.Prelude.{◌≡◌, ℕ, Bool, true, false, List, [], ◌++◌, Option, Some, None, Ok, codes, flat_map, map, if◌then◌else◌, nat_lt}
 use Rattle.std.specs.Fmt.{decimal}
 use Rattle.serde_json.specs.Data.{string}
 use Rattle.serde_json.specs.Written.{compact_text}
 use Rattle.units.specs.Ids.{Id}
 use Rattle.units.specs.Keys.{Bytes}
 use Rattle.units.specs.Texts.{txn_text}
+use Rattle.units.specs.declared.setup.Setup.{Setup}
 use Rattle.requests.specs.Spelling.{spelled}
+use Rattle.showing.specs.Histories.{history_in, value_in}
 use Rattle.showing.specs.HistoryTexts.{stamp_of}
 use Rattle.showing.specs.declared.shard_log.Found.{Found}
 use Rattle.showing.specs.declared.told.Standing.{Standing}
@@ -72,6 +74,11 @@ pub record IsHistoryOf (from : Option ℕ) (writes : List Told) (text : List ℕ
 abbrev pub IsAJsonHistory : List ℕ → Type 0
 IsAJsonHistory text = (from : Option ℕ) × (writes : List Told) × IsHistoryOf from writes text
 
+-- it is that of a key by what a file holds, as a shard takes it
+abbrev pub IsJsonHistoryIn : Setup → Bytes → List ℕ → List ℕ → Type 0
+IsJsonHistoryIn setup k image text =
+    (from : Option ℕ) × (writes : List Told) × (history_in setup k image ≡ Ok (from, writes)) × IsHistoryOf from writes text
+
 -- the timestamp that was asked for
 abbrev pub asked_json : Option ℕ → List ℕ → List ℕ
 asked_json (Some at) date = dated (codes "at") (codes "date") at date ++ codes ","
@@ -89,3 +96,8 @@ found_json at date found =
 
 abbrev pub IsAJsonValue : List ℕ → Type 0
 IsAJsonValue text = (at : Option ℕ) × (date : List ℕ) × (found : Found) × (text ≡ found_json at date found)
+
+-- it is what is found of a key by what a file holds, as a shard takes it
+abbrev pub IsJsonValueIn : Setup → Bytes → Option ℕ → List ℕ → List ℕ → Type 0
+IsJsonValueIn setup k at image text =
+    (date : List ℕ) × (found : Found) × (value_in setup k at image ≡ Ok found) × (text ≡ found_json at date found)

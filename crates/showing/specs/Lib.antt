@@ -3,6 +3,7 @@ pub mod Dumps
 pub mod Histories
 pub mod HistoryTexts
 pub mod Json
+pub mod JsonTexts
 pub mod Stats
 pub mod StatsTexts
 pub mod Whose

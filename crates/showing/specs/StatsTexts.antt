@@ -1,8 +1,11 @@
 -- How the numbers of logs are printed.
-use Rattle.std.specs.Prelude.{◌≡◌, ◌-◌, ℕ, Bool, true, false, List, [], ◌∷◌, ◌++◌, codes, flat_map, length, map, sum_by, nat_lt, if◌then◌else◌}
+use Rattle.std.specs.Prelude.{◌≡◌, ◌-◌, ℕ, Bool, true, false, List, [], ◌∷◌, ◌++◌, Ok, codes, flat_map, length, map, sum_by, nat_lt, if◌then◌else◌}
 use Rattle.std.specs.Fmt.{decimal}
 use Rattle.units.specs.Texts.{txn_text}
+use Rattle.disk.specs.File.{File, surface}
+use Rattle.system.specs.Named.{AreNamed}
 use Rattle.showing.specs.Json.{quoted}
+use Rattle.showing.specs.Stats.{stats_in}
 use Rattle.showing.specs.declared.figure.Figure.{Figure}
 use Rattle.showing.specs.declared.figure.Figure.TheVariants.{Bytes, DeadBytes, Turnovers, TurnoversLeft, Records, Opened, Ceilings, Prepares, Commits, Aborts, Outcomes, Horizons}
 use Rattle.showing.specs.declared.figure.Figure.TheVariants.{Bases, VersionRecords, Settled, Closed, Keys, Versions, Epoch, Floor, InDoubt}
@@ -110,11 +113,26 @@ sum_of figure logs = sum_by (number_of figure) logs
 abbrev pub sums_text : List Numbers → List ℕ
 sums_text logs = (codes "all " ++ (decimal (length logs) ++ codes "\n")) ++ flat_map (λ f. number_line f (sum_of f logs)) summed
 
+-- where they are several
+abbrev pub several_text : List Numbers → List ℕ
+several_text logs = if nat_lt 1 (length logs) then sums_text logs else []
+
 -- what is told of each log, and where they are several the sums
 abbrev pub stats_text : List ToldLog → List ℕ
-stats_text told =
-    flat_map log_text told ++ (if nat_lt 1 (length told) then sums_text (map (λ t. t.numbers) told) else [])
+stats_text told = flat_map log_text told ++ several_text (map (λ t. t.numbers) told)
 
 -- it is what is told of the logs of these names
 abbrev pub AreStats : List (List ℕ) → List ℕ → Type 0
 AreStats names text = (told : List ToldLog) × (map (λ t. t.name) told ≡ names) × (text ≡ stats_text told)
+
+-- what is told of some logs are the numbers of some disks, and what is in doubt on them, in order
+abbrev pub AreOfDisks : {D : Type 0} → (D → File) → List D → List ToldLog → Type 0
+AreOfDisks file disks told = map (λ d. stats_in (surface (file d)).seen) disks ≡ map (λ t. Ok (t.numbers, t.in_doubt)) told
+
+-- It is told of logs of these names, and on disks that keep the model of disks that were opened under the names.
+abbrev pub AreNumbersOf : {D : Type 0} → Type 0 → (D → File) → (List ℕ → D → Type 0) → List (List ℕ) → List ToldLog → Type 0
+AreNumbersOf {D} keeps file named names told =
+    (map (λ t. t.name) told ≡ names) × (disks : List D) × AreNamed named names disks × (keeps → AreOfDisks file disks told)
+
+abbrev pub AreStatsOf : {D : Type 0} → Type 0 → (D → File) → (List ℕ → D → Type 0) → List (List ℕ) → List ℕ → Type 0
+AreStatsOf keeps file named names text = (told : List ToldLog) × AreNumbersOf keeps file named names told × (text ≡ stats_text told)

@@ -4,8 +4,10 @@ ghost use Rattle.disk.specs.File.{surface};
 ghost use Rattle.frames.specs.Placed.{Placed};
 ghost use Rattle.showing.specs.Dumps.{IsADump, IsDumpOf, IsNotShown, dump_of};
 ghost use Rattle.showing.specs.HistoryTexts.{IsAHistory, IsAValue, IsHistoryIn, IsNotTold, IsValueIn};
-ghost use Rattle.showing.specs.Json.{IsAJsonHistory, IsAJsonValue};
-ghost use Rattle.showing.specs.StatsTexts.{AreStats, ToldLog, log_text};
+ghost use Rattle.showing.specs.Json.{IsAJsonHistory, IsAJsonValue, IsJsonHistoryIn, IsJsonValueIn};
+ghost use Rattle.showing.specs.JsonTexts.{AreJsonStats, AreJsonStatsOf, IsAJsonDump, IsJsonDumpOf, LogJson};
+ghost use Rattle.showing.specs.Stats.{stats_in};
+ghost use Rattle.showing.specs.StatsTexts.{AreStats, AreStatsOf, ToldLog, log_text};
 
 use crate::history_json::{found_json, history_json};
 use crate::history_lines::{found_line, history_text};
@@ -14,8 +16,8 @@ use crate::reading::{Dump, read_dump};
 use crate::record_json::dump_json;
 use crate::shard_log::{read_history, read_value};
 use crate::stats::{Numbers, Stats, read_stats};
-use crate::stats_json::{push_log_json, push_sums_json};
-use crate::stats_lines::{push_log, push_sums};
+use crate::stats_json::{push_log_json, push_several_json};
+use crate::stats_lines::{push_log, push_several};
 use disk::Disk;
 use std::alloc::Global;
 use system::Files;
@@ -44,6 +46,9 @@ fn dump_in<F: Files>(alloc: Global, files: &F, path: &str) -> Result<Dump, Fault
 
 // What it holds, as numbers.
 fn stats_in<F: Files>(alloc: Global, files: &F, log: &str) -> Result<Stats, Fault>
+    ensures named { IfOk result (λ stats. (disk : F.Log) × F.is_named files.now log.now disk
+        × (F.Log.keeps_model → stats_in (surface (F.Log.file disk)).seen
+        ≡ Ok (stats.numbers, stats.in_doubt.items))) }
     ensures refused { IfErr result IsNotShown }
 {
     read_stats(alloc, files.open(alloc, log)?)
@@ -51,6 +56,9 @@ fn stats_in<F: Files>(alloc: Global, files: &F, log: &str) -> Result<Stats, Faul
 
 /// Tells what the log in a file holds, as JSON: an object a line. The file is opened to be read alone.
 pub fn dump_file_json<F: Files>(alloc: Global, files: &F, path: &str) -> Result<String, Fault>
+    ensures text { IfOk result (λ text. IsAJsonDump (string_bytes text)) }
+    ensures named { IfOk result (λ text. IsJsonDumpOf F.Log.keeps_model F.Log.file
+        (F.is_named files.now) path.now (string_bytes text)) }
     ensures refused { IfErr result IsNotShown }
 {
     let dump = dump_in(alloc, files, path)?;
@@ -60,24 +68,46 @@ pub fn dump_file_json<F: Files>(alloc: Global, files: &F, path: &str) -> Result<
 /// Tells what the logs in some files hold, as one JSON object: the numbers of each, and their sums if there are several. They are opened as
 /// `stats_files` opens them.
 pub fn stats_files_json<F: Files>(alloc: Global, files: &F, logs: &[&str]) -> Result<String, Fault>
+    ensures text { IfOk result (λ text.
+        AreJsonStats (map (λ log. log.now) logs.now) (string_bytes text)) }
+    ensures named { IfOk result (λ text. AreJsonStatsOf F.Log.keeps_model F.Log.file
+        (F.is_named files.now) (map (λ log. log.now) logs.now) (string_bytes text)) }
     ensures refused { IfErr result IsNotShown }
 {
     let mut text = String::from_str(alloc, "{\"logs\":[")?;
     let mut told = Vec::new(alloc);
     let mut mark = "";
     for log in logs {
-        let stats = stats_in(alloc, files, log)?;
         text.push_str(mark)?;
-        push_log_json(&mut text, alloc, log, &stats)?;
-        told.push(stats.numbers)?;
+        tell_log_json(&mut text, &mut told, alloc, files, log)?;
         mark = ",";
     }
     text.push_str("]")?;
-    if told.len() > 1 {
-        push_sums_json(&mut text, &told)?;
-    }
+    push_several_json(&mut text, &told)?;
     text.push_str("}\n")?;
     Ok(text)
+}
+
+// What the log in one file holds stands after the text, and its numbers after those of the others.
+fn tell_log_json<F: Files>(
+    text: &mut String,
+    told: &mut Vec<Numbers>,
+    alloc: Global,
+    files: &F,
+    log: &str,
+) -> Result<(), Fault>
+    ensures told { OnOk result ((one : LogJson) × (one.told.name ≡ log.now)
+        × (told.new.items ≡ told.old.items ++ one.told.numbers ∷ [])
+        × (string_bytes text.new ≡ string_bytes text.old ++ one.text)
+        × ((disk : F.Log) × F.is_named files.now log.now disk
+        × (F.Log.keeps_model → stats_in (surface (F.Log.file disk)).seen
+        ≡ Ok (one.told.numbers, one.told.in_doubt)))) }
+    ensures refused { IfErr result IsNotShown }
+{
+    let stats = stats_in(alloc, files, log)?;
+    push_log_json(text, alloc, log, &stats)?;
+    told.push(stats.numbers)?;
+    Ok(())
 }
 
 /// What the logs in some files hold, as numbers, and their sums if there are several. Each is opened to be read alone, and closed before
@@ -85,6 +115,8 @@ pub fn stats_files_json<F: Files>(alloc: Global, files: &F, logs: &[&str]) -> Re
 pub fn stats_files<F: Files>(alloc: Global, files: &F, logs: &[&str]) -> Result<String, Fault>
     ensures text { IfOk result (λ text.
         AreStats (map (λ log. log.now) logs.now) (string_bytes text)) }
+    ensures named { IfOk result (λ text. AreStatsOf F.Log.keeps_model F.Log.file
+        (F.is_named files.now) (map (λ log. log.now) logs.now) (string_bytes text)) }
     ensures refused { IfErr result IsNotShown }
 {
     let mut text = String::new(alloc);
@@ -92,9 +124,7 @@ pub fn stats_files<F: Files>(alloc: Global, files: &F, logs: &[&str]) -> Result<
     for log in logs {
         tell_log(&mut text, &mut told, alloc, files, log)?;
     }
-    if told.len() > 1 {
-        push_sums(&mut text, &told)?;
-    }
+    push_several(&mut text, &told)?;
     Ok(text)
 }
 
@@ -108,7 +138,10 @@ fn tell_log<F: Files>(
 ) -> Result<(), Fault>
     ensures told { OnOk result ((one : ToldLog) × (one.name ≡ log.now)
         × (told.new.items ≡ told.old.items ++ one.numbers ∷ [])
-        × (string_bytes text.new ≡ string_bytes text.old ++ log_text one)) }
+        × (string_bytes text.new ≡ string_bytes text.old ++ log_text one)
+        × ((disk : F.Log) × F.is_named files.now log.now disk
+        × (F.Log.keeps_model → stats_in (surface (F.Log.file disk)).seen
+        ≡ Ok (one.numbers, one.in_doubt)))) }
     ensures refused { IfErr result IsNotShown }
 {
     let stats = stats_in(alloc, files, log)?;
@@ -158,6 +191,8 @@ pub fn history_told_json<D: Disk + Drop>(
     key: &Key,
 ) -> Result<String, Fault>
     ensures text { IfOk result (λ text. IsAJsonHistory (string_bytes text)) }
+    ensures told { D.keeps_model → IfOk result (λ text. IsJsonHistoryIn setup.now key.now
+        (surface (D.file disk)).seen (string_bytes text)) }
     ensures refused { IfErr result IsNotTold }
 {
     let (from, told) = read_history(alloc, disk, setup, key)?;
@@ -173,6 +208,8 @@ pub fn value_told_json<D: Disk + Drop>(
     at: Option<Stamp>,
 ) -> Result<String, Fault>
     ensures text { IfOk result (λ text. IsAJsonValue (string_bytes text)) }
+    ensures told { D.keeps_model → IfOk result (λ text. IsJsonValueIn setup.now key.now at
+        (surface (D.file disk)).seen (string_bytes text)) }
     ensures refused { IfErr result IsNotTold }
 {
     let found = read_value(alloc, disk, setup, key, at)?;

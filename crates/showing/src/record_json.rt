@@ -1,5 +1,6 @@
 //! A dump as JSON.
-ghost use Rattle.std.specs.Prelude.{◌≡◌, IfErr};
+ghost use Rattle.std.specs.Prelude.{◌≡◌, ◌++◌, IfErr, IfOk, List, OnOk, string_bytes, ℕ};
+ghost use Rattle.showing.specs.JsonTexts.{AreEntries, IsDumpJson, end_json, entry_json};
 
 use crate::json::{dated, spelled_json, value_json};
 use crate::reading::End;
@@ -10,20 +11,56 @@ use units::{Fault, Key, Keys, Parts, ShardNo, Stamp, TxnId, Value, Writes};
 
 /// Writes an object a line: each entry with its offset, and last how the file ends.
 pub fn dump_json(alloc: Global, entries: &[Entry], end: End) -> Result<String, Fault>
+    ensures text { IfOk result (λ text. IsDumpJson entries.now end (string_bytes text)) }
+    ensures memory { IfErr result (λ fault. fault ≡ Fault.Memory) }
+{
+    let mut text = lines_of(alloc, entries)?;
+    push_end(&mut text, end)?;
+    Ok(text)
+}
+
+// A line for each entry.
+fn lines_of(alloc: Global, entries: &[Entry]) -> Result<String, Fault>
+    ensures lines { IfOk result (λ text. AreEntries entries.now (string_bytes text)) }
     ensures memory { IfErr result (λ fault. fault ≡ Fault.Memory) }
 {
     let mut text = String::new(alloc);
     for entry in entries {
-        let offset = entry.offset();
-        write!(text, "{{\"offset\":{offset}")?;
-        push_record(&mut text, alloc, entry.item())?;
-        text.push_str("}\n")?;
+        push_entry(&mut text, alloc, entry)?;
     }
+    Ok(text)
+}
+
+fn push_entry(text: &mut String, alloc: Global, entry: &Entry) -> Result<(), Fault>
+    ensures line { OnOk result ((words : List ℕ) × (string_bytes text.new
+        ≡ string_bytes text.old ++ entry_json (entry.now.offset, words))) }
+    ensures memory { IfErr result (λ fault. fault ≡ Fault.Memory) }
+{
+    let offset = entry.offset();
+    let words = words_of(alloc, entry.item())?;
+    write!(text, "{{\"offset\":{offset}{words}}}\n")?;
+    Ok(())
+}
+
+// How the file ends, on a line.
+fn push_end(text: &mut String, end: End) -> Result<(), Fault>
+    ensures end { OnOk result (string_bytes text.new ≡ string_bytes text.old ++ end_json end) }
+    ensures memory { IfErr result (λ fault. fault ≡ Fault.Memory) }
+{
     match end {
         End::Closed(gate) => write!(text, "{{\"closed at\":{gate}}}\n")?,
         End::Torn(gate) => write!(text, "{{\"torn at\":{gate}}}\n")?,
     }
-    Ok(text)
+    Ok(())
+}
+
+// The members that tell of a record.
+fn words_of(alloc: Global, record: &Record) -> Result<String, Fault>
+    ensures { IfErr result (λ fault. fault ≡ Fault.Memory) }
+{
+    let mut words = String::new(alloc);
+    push_record(&mut words, alloc, record)?;
+    Ok(words)
 }
 
 // The kind of a record, and what it says.

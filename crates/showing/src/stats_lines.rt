@@ -1,6 +1,6 @@
 //! The numbers of logs as text.
 ghost use Rattle.std.specs.Prelude.{◌≡◌, ◌++◌, IfErr, OnOk, flat_map, map, string_bytes};
-ghost use Rattle.showing.specs.StatsTexts.{doubt_line, log_text, number_line, number_of, standing_word, sum_of, sums_text};
+ghost use Rattle.showing.specs.StatsTexts.{doubt_line, log_text, number_line, number_of, several_text, standing_word, sum_of, sums_text};
 
 use crate::figure::Figure;
 use crate::stats::{InDoubt, Numbers, Stats};
@@ -68,8 +68,20 @@ pub fn push_log(text: &mut String, name: &str, stats: &Stats) -> Result<(), Faul
     push_doubts(text, &stats.in_doubt)
 }
 
-/// How many logs there are, and the sums of their numbers.
-pub fn push_sums(text: &mut String, logs: &[Numbers]) -> Result<(), Fault>
+/// How many logs there are, and the sums of their numbers, if there are several.
+pub fn push_several(text: &mut String, logs: &[Numbers]) -> Result<(), Fault>
+    ensures text { OnOk result
+        (string_bytes text.new ≡ string_bytes text.old ++ several_text logs.now) }
+    ensures memory { IfErr result (λ fault. fault ≡ Fault.Memory) }
+{
+    if logs.len() > 1 {
+        push_sums(text, logs)
+    } else {
+        Ok(())
+    }
+}
+
+fn push_sums(text: &mut String, logs: &[Numbers]) -> Result<(), Fault>
     ensures text { OnOk result
         (string_bytes text.new ≡ string_bytes text.old ++ sums_text logs.now) }
     ensures memory { IfErr result (λ fault. fault ≡ Fault.Memory) }

@@ -10,6 +10,7 @@ use Rattle.commands.specs.Faults.{IsRefusedBy, IsUnputBy}
 use Rattle.commands.specs.Puts.{IsPutBy}
 use Rattle.commands.specs.Replies.{TellsTo, reply_or_refusal}
 use Rattle.output.specs.Replies.{Is}
+use Rattle.commands.proofs.OfFiles.{named_for}
 use Rattle.commands.proofs.Refusals.{fails_as, fails_for, memory_of}
 use Rattle.commands.proofs.answers.carry_out.Goals as goal
 
@@ -29,6 +30,11 @@ returns-in-Ok-clause-tells g c covered =
       told.2,
     ))
     (c.carry_read.ensures.tells (c.in-Ok.ensures.covered ∙ covered))
+
+pub returns-in-Ok-clause-named : goal.returns-in-Ok-clause-named
+returns-in-Ok-clause-named g c covered =
+    named_for g.F.Log.Disk.keeps_model g.F.Log.Disk.file (g.F.Files.is_named c.args.system.now.files) g.F.Log.Disk.clock g.F.Log.Disk.since _
+    c.carry_read.result.0 c.in-Ok.ensures.asks (c.carry_read.ensures.named (c.in-Ok.ensures.covered ∙ covered))
 
 pub returns-in-Ok-clause-logged : goal.returns-in-Ok-clause-logged
 returns-in-Ok-clause-logged g c covered =

@@ -7,6 +7,7 @@ use Rattle.commands.specs.Drives.{IsDrivenBy}
 use Rattle.commands.specs.Faults.{IsRefusedBy, IsUnputBy}
 use Rattle.commands.specs.Puts.{IsPutBy}
 use Rattle.commands.specs.Replies.{TellsTo}
+use Rattle.commands.proofs.OfFiles.{named_for}
 use Rattle.commands.proofs.Refusals.{fails_for, memory_of, none_of}
 use Rattle.commands.proofs.answers.carry_read.Goals as goal
 
@@ -21,6 +22,12 @@ returns-in-Ok-clause-tells g c covered =
       told.2,
     ))
     c.run.ensures.tells
+
+pub returns-in-Ok-clause-named : goal.returns-in-Ok-clause-named
+returns-in-Ok-clause-named g c covered =
+    let is : asked_by c.args.read ≡ Ok (asked_for c.in-Ok.asked) = c.in-Ok.ensures covered in
+    named_for g.F.Log.Disk.keeps_model g.F.Log.Disk.file (g.F.Files.is_named c.args.system.now.files) g.F.Log.Disk.clock g.F.Log.Disk.since _
+    c.run.result.0 (sym is) c.run.ensures.named
 
 pub returns-in-Ok-clause-numbered : goal.returns-in-Ok-clause-numbered
 returns-in-Ok-clause-numbered g c covered =

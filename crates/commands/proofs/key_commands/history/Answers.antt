@@ -1,10 +1,10 @@
 use Rattle.std.proofs.Common.{string_bytes}
 use Rattle.commands.proofs.OfKey.{of-key}
-use Rattle.showing.specs.HistoryTexts.{IsHistoryIn}
+use Rattle.commands.specs.OnDisks.{IsHistoryAsIn}
 use Rattle.commands.proofs.key_commands.history.Goals as goal
 
 pub returns-clause-told : goal.returns-clause-told
-returns-clause-told g c lines =
+returns-clause-told g c =
     of-key g.F.Log.Disk.file (g.F.Files.is_named c.args.files.now) c.args.dir.now c.args.key.now
-    (λ setup image text. IsHistoryIn setup c.args.key.now image (string_bytes text)) c.in_ok-setup.setup c.in_ok-setup.log
-    c.in_ok-setup.ensures.owned c.in_ok-setup.ensures.named c.history_in-text.result (λ keeps. c.history_in-text.ensures.told lines keeps)
+    (λ setup image text. IsHistoryAsIn c.args.json setup c.args.key.now image (string_bytes text)) c.in_ok-setup.setup c.in_ok-setup.log
+    c.in_ok-setup.ensures.owned c.in_ok-setup.ensures.named c.history_in-text.result c.history_in-text.ensures.told

@@ -11,4 +11,5 @@ returns-clause-told g c = (
   refl,
   c.in_ok-push.ensures.items,
   c.in_ok-push_log.ensures.text,
+  c.in_ok-stats.ensures.named,
 )

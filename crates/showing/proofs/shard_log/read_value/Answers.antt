@@ -1,7 +1,7 @@
-use Rattle.std.proofs.Common.{ap, sym, ◌∙◌, ◌⊎◌, inl, inr}
+use Rattle.std.proofs.Common.{ap, sym, ◌∙◌}
 use Rattle.recovery.specs.Recovered.{items}
 use Rattle.showing.specs.Histories.{is_settled, value_told}
-use Rattle.showing.proofs.Values.{found_in, refused_in}
+use Rattle.showing.proofs.Values.{found_in}
 use Rattle.showing.proofs.shard_log.read_value.Goals as goal
 
 pub returns-clause-value : goal.returns-clause-value

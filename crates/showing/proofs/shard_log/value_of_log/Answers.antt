@@ -1,7 +1,6 @@
-use Rattle.std.proofs.Common.{ap, ◌∙◌, inl, inr}
+use Rattle.std.proofs.Common.{inl, inr}
 use Rattle.std.proofs.lemmas.Result.{IfErr-weaker, IfOk-weaker}
 use Rattle.recovery.specs.Recovered.{items}
-use Rattle.showing.specs.Histories.{whole_from}
 use Rattle.showing.proofs.Values.{nothing_told, rebuilt_facts, rebuilt_none, value_kept}
 use Rattle.showing.proofs.shard_log.value_of_log.Goals as goal
 
