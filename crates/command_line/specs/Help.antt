@@ -2,7 +2,8 @@
 use Rattle.std.specs.Prelude.{ℕ, Bool, false, ◌||◌, List, [], ◌∷◌, Option, Some, None, codes, if◌then◌else◌}
 use Rattle.std.specs.Str.{bytes_eq}
 use Rattle.command_line.specs.Lines.{Word, has_mark}
-use Rattle.command_line.specs.declared.usage.TheConstants.{PAGE, VERSION, GET, PUT, HISTORY, STATS, DUMP, INSPECT, DRIVE, FORMAT, MIGRATE, COMPACT, PLAY, ONCE, MAKE, SERVE, EXPORT, IMPORT, BACKUP}
+use Rattle.command_line.specs.declared.usage.TheConstants.{PAGE, VERSION, GET, PUT, HISTORY, STATS, DUMP, INSPECT, DRIVE, FORMAT}
+use Rattle.command_line.specs.declared.usage.TheConstants.{MIGRATE, COMPACT, PLAY, ONCE, MAKE, SERVE, EXPORT, IMPORT, BACKUP, RENEW}
 
 -- what is told of a command, or the page where the word is none
 abbrev pub paragraph_of : Word → List ℕ
@@ -24,7 +25,8 @@ paragraph_of name =
     else (if bytes_eq name (codes "export") then EXPORT.now
     else (if bytes_eq name (codes "import") then IMPORT.now
     else (if bytes_eq name (codes "backup") then BACKUP.now
-    else PAGE.now))))))))))))))))
+    else (if bytes_eq name (codes "renew") then RENEW.now
+    else PAGE.now)))))))))))))))))
 
 -- one of the words, before any `--`, is `-h` or `--help`
 abbrev pub asks_help : List Word → Bool

@@ -18,7 +18,7 @@ const OPTIONS: &str = "[OPTION..]";
 const SPLITS: &str = "[SPLIT..]";
 
 /// Why words were refused for this fault, as one line: what is missing, wrong or too much. A second line tells how the command is called.
-/// Words of `serve` are given without its options and their numbers.
+/// Words of `serve` and `renew` are given without their options and numbers.
 pub fn explanation(alloc: Global, words: &[&str], fault: Fault) -> Result<String, AllocError> {
     let read = Words::new(alloc, words)?;
     let text = match read.plain.as_slice() {

@@ -22,6 +22,7 @@ the year 1970, below 2^62: 'date -d @SECONDS' reads them.
     export   prints the keys and values of a store
     import   puts keys and values from standard input into a store
     backup   copies a store into another folder, beside whoever writes to it
+    renew    writes the logs of a closed store anew, without what is past
     get      prints the value of a key
     put      commits a write of one key
     history  prints all versions of a key
@@ -202,6 +203,15 @@ backup DIR TO
     TO holds a file of a store, that is refused. Prints nothing.
 ";
 
+pub const RENEW: &str = "\
+renew DIR [OPTION..]
+    Writes each log of the store in DIR anew, with what it holds now, into a new
+    file that takes its name. No program may have the store open. Prints a line
+    for each log: its name, and its bytes before and after.
+    --keep MICROS  forgets what is older than so many microseconds before the
+                   greatest timestamp of the logs; if nothing is said, nothing
+";
+
 /// What is told of a command, or the page where the word is none.
 pub fn paragraph(name: &str) -> &'static str
     ensures { result.now ≡ paragraph_of name.now }
@@ -224,6 +234,7 @@ pub fn paragraph(name: &str) -> &'static str
         "export" => EXPORT,
         "import" => IMPORT,
         "backup" => BACKUP,
+        "renew" => RENEW,
         _ => PAGE,
     }
 }

@@ -42,7 +42,8 @@ impl Causes {
         }
     }
 
-    fn refuse_log(&self, fault: Fault, log: usize) -> Refused
+    /// Refuses a store as this fault, and names the log of this number.
+    pub(crate) fn refuse_log(&self, fault: Fault, log: usize) -> Refused
         ensures fault { result.fault ≡ fault }
         ensures named { IfNone result.file ⊥ }
     {

@@ -90,8 +90,8 @@ fn check_free<R: Files<File = File>>(folder: &StoreFolder<'_, R>, name: Name) ->
     }
 }
 
-// A new file in the place of what an earlier copy left.
-fn new_file<R: Files<File = File>>(
+/// A new file in the place of what was left under a name.
+pub fn new_file<R: Files<File = File>>(
     folder: &mut StoreFolder<'_, R>,
     name: Name,
 ) -> Result<FileDisk, Refused>

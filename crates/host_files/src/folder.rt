@@ -120,8 +120,8 @@ pub fn found_in<R: Files<File = File> + RandomSource>(
     found
 }
 
-// The same in a folder that is locked.
-fn logs_of<R: Files<File = File> + RandomSource>(
+/// The same in a folder that is locked.
+pub fn logs_of<R: Files<File = File> + RandomSource>(
     folder: &mut StoreFolder<'_, R>,
     rt: &R,
     alloc: Global,

@@ -13,6 +13,7 @@ mod names;
 mod newest;
 mod owners;
 mod refused;
+mod replacing;
 mod shards;
 mod walking;
 
@@ -26,3 +27,4 @@ pub use manifest::manifest_text;
 pub use names::Name;
 pub use newest::{Limit, Newest};
 pub use refused::{Refused, RefusedIn, Why};
+pub use replacing::Replacing;

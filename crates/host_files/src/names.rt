@@ -180,11 +180,30 @@ impl<'a, R: Files<File = File>> StoreFolder<'a, R> {
         let Kind::Nothing = self.kind(name)? else {
             return Err(Refused::from(Cause::Exists).of(name));
         };
-        let from = self.path_of(draft)?;
-        let to = self.path_of(name)?;
-        match fs::rename(self.rt, &from, &to) {
+        self.rename(draft, name)
+    }
+
+    /// Gives a draft the name of a plain file, which loses it at once. All earlier names are on the device, so a crash leaves the name to one of the
+    /// two.
+    pub fn replace(&mut self, draft: Name, name: Name) -> Result<(), Refused>
+        requires { IsTrue (names_are_synced self.old) }
+        ensures { IfErr result IsSystemRefusal }
+    {
+        self.synced = false;
+        let Kind::Plain = self.kind(name)? else {
+            return Err(Refused::from(Cause::NoPlainFile).of(name));
+        };
+        self.rename(draft, name)
+    }
+
+    fn rename(&self, from: Name, to: Name) -> Result<(), Refused>
+        ensures { IfErr result IsSystemRefusal }
+    {
+        let from = self.path_of(from)?;
+        let path = self.path_of(to)?;
+        match fs::rename(self.rt, &from, &path) {
             Ok(()) => Ok(()),
-            Err(error) => Err(Refused::from(cause_of(&error)).of(name)),
+            Err(error) => Err(Refused::from(cause_of(&error)).of(to)),
         }
     }
 

@@ -1,4 +1,5 @@
 pub mod Copying
 pub mod Lists
 pub mod Putting
+pub mod Renewed
 pub mod Told

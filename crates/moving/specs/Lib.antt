@@ -1,3 +1,4 @@
 pub mod Copies
 pub mod Exports
 pub mod Imports
+pub mod Renewals

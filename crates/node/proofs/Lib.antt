@@ -2,6 +2,7 @@ mod Dealt
 mod DeskFaults
 mod Faults
 mod Follow
+mod Forgot
 mod Grouped
 mod InStep
 mod Kept

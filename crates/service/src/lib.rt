@@ -1,4 +1,4 @@
-//! The commands over an open store: it is made in a folder, held open for lines, exported, imported into, and backed up.
+//! The commands over an open store: it is made in a folder, held open for lines, exported, imported into, backed up, and renewed.
 #![tactic(auto)]
 
 mod alone;
@@ -9,6 +9,7 @@ mod making;
 mod opening;
 mod options;
 mod refusal;
+mod renewing;
 mod running;
 
 pub use running::{is_service, service};

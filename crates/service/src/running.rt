@@ -7,6 +7,7 @@ use crate::importing::import_folder;
 use crate::making::make;
 use crate::opening::opened;
 use crate::refusal::Refusal;
+use crate::renewing::renew_folder;
 use commands::splits_of;
 use host_files::{HostFiles, failed_log};
 use requests::Answer;
@@ -21,7 +22,7 @@ use std::thread::Threads;
 use std::{rt, time};
 use store::Client;
 
-/// Whether a command line is one of `make`, `serve`, `export`, `import` or `backup`, and does not ask for help.
+/// Whether a command line is one of `make`, `serve`, `export`, `import`, `backup` or `renew`, and does not ask for help.
 pub fn is_service(words: &[&str]) -> bool {
     match words {
         [first, rest @ ..] => is_named(*first) && !asks_help(rest),
@@ -30,7 +31,10 @@ pub fn is_service(words: &[&str]) -> bool {
 }
 
 fn is_named(word: &str) -> bool {
-    matches!(word, "make" | "serve" | "export" | "import" | "backup")
+    matches!(
+        word,
+        "make" | "serve" | "export" | "import" | "backup" | "renew"
+    )
 }
 
 // Whether one of the words, before any `--`, asks for help.
@@ -48,9 +52,9 @@ fn asks_help(words: &[&str]) -> bool {
 
 /// Carries out such a command line. `make` and `backup` print nothing. `serve` answers the lines of `input` on `output`; on a
 /// terminal it prompts for them. `export` prints keys and values on `output`, and tells their number on `errors`. `import` reads them from `input`, and
-/// prints how many it has put on `output`. Gives the status: 0, or 2 at a fault, or if nobody reads the answers, or 1 if an import was cut short by a
-/// transaction that does not surely stand. A fault is printed as a line on `errors`. A second line tells the file in which it lies, or what is wrong
-/// with the words; after words, a third tells how they are called.
+/// prints how many it has put on `output`. `renew` prints the sizes of logs there. Gives the status: 0, or 2 at a fault, or if nobody reads the
+/// answers, or 1 if an import was cut short by a transaction that does not surely stand. A fault is printed as a line on `errors`. A second line
+/// tells the file in which it lies, or what is wrong with the words; after words, a third tells how they are called.
 pub fn service<
     R: rt::Files<File = File> + Eprint + RandomSource + Threads + Wait + time::Clock + Sync,
     I: Read + Drop,
@@ -115,6 +119,7 @@ fn carried_out<
         Asked::Export { dir, at, csv } => export_folder(rt, alloc, dir, at, csv, output, errors),
         Asked::Import { dir, csv } => import_folder(rt, alloc, dir, csv, input, output),
         Asked::Backup { dir, to } => backup_folder(rt, alloc, dir, to),
+        Asked::Renew { dir, keep } => renew_folder(rt, alloc, dir, keep, output),
     }
 }
 

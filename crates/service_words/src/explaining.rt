@@ -1,6 +1,6 @@
 //! What is wrong with words that are refused.
 use crate::move_words::explanation_of_text;
-use crate::options::{Numbered, OPTIONS};
+use crate::options::{Numbered, OPTIONS, RENEWING};
 use command_line::paragraph;
 use std::alloc::{AllocError, Global};
 use texts::number;
@@ -10,7 +10,12 @@ use units::Fault;
 /// command is called.
 pub fn explanation(alloc: Global, words: &[&str], fault: Fault) -> Result<String, AllocError> {
     match words {
-        [first, ..] if *first == "serve" => explanation_of_serve(alloc, words, fault),
+        [first, ..] if *first == "serve" => {
+            explanation_with_numbers(alloc, words, "serve", &OPTIONS, fault)
+        }
+        [first, ..] if *first == "renew" => {
+            explanation_with_numbers(alloc, words, "renew", &RENEWING, fault)
+        }
         [first, ..] if *first == "export" || *first == "import" => {
             explanation_of_text(alloc, words, fault)
         }
@@ -18,15 +23,22 @@ pub fn explanation(alloc: Global, words: &[&str], fault: Fault) -> Result<String
     }
 }
 
-fn explanation_of_serve(alloc: Global, words: &[&str], fault: Fault) -> Result<String, AllocError> {
+// The same of a command with options that take numbers.
+fn explanation_with_numbers(
+    alloc: Global,
+    words: &[&str],
+    name: &str,
+    options: &[Numbered],
+    fault: Fault,
+) -> Result<String, AllocError> {
     let mut plain = Vec::new(alloc);
-    let wrong = match wrong_option(alloc, words, &mut plain)? {
+    let wrong = match wrong_option(alloc, words, options, &mut plain)? {
         Some(what) => Some(what),
-        None => twice_told(alloc, words)?,
+        None => twice_told(alloc, words, options)?,
     };
     let text = match wrong {
         Some(what) => {
-            let synopsis = paragraph("serve").lines().next().unwrap_or("serve");
+            let synopsis = paragraph(name).lines().next().unwrap_or(name);
             format!(in alloc; "--> {what}\nusage: shards {synopsis}")
         }
         None => command_line::explanation(alloc, plain.as_slice(), fault),
@@ -39,6 +51,7 @@ fn explanation_of_serve(alloc: Global, words: &[&str], fault: Fault) -> Result<S
 fn wrong_option<'a>(
     alloc: Global,
     words: &[&'a str],
+    options: &[Numbered],
     plain: &mut Vec<&'a str>,
 ) -> Result<Option<String>, AllocError> {
     let mut awaited: Option<Numbered> = None;
@@ -53,7 +66,7 @@ fn wrong_option<'a>(
             continue;
         }
         ended = ended || word == "--";
-        match option_of(ended, word) {
+        match option_of(ended, word, options) {
             Some((option, Some(text))) => {
                 if let Some(what) = wrong_number(alloc, option, text)? {
                     return Ok(Some(what));
@@ -73,7 +86,11 @@ fn wrong_option<'a>(
 }
 
 // The option that a word names, and the number that it gives with it.
-fn option_of(ended: bool, word: &str) -> Option<(Numbered, Option<&str>)> {
+fn option_of<'a>(
+    ended: bool,
+    word: &'a str,
+    options: &[Numbered],
+) -> Option<(Numbered, Option<&'a str>)> {
     if ended {
         return None;
     }
@@ -82,7 +99,7 @@ fn option_of(ended: bool, word: &str) -> Option<(Numbered, Option<&str>)> {
         Some((name, text)) => (name, Some(text)),
         None => (rest, None),
     };
-    for option in &OPTIONS {
+    for option in options {
         if option.name == name {
             return Some((*option, text));
         }
@@ -105,9 +122,13 @@ fn wrong_number(alloc: Global, option: Numbered, text: &str) -> Result<Option<St
 }
 
 // The first option that stands twice.
-fn twice_told(alloc: Global, words: &[&str]) -> Result<Option<String>, AllocError> {
-    for option in &OPTIONS {
-        if times(option.name, words) > 1 {
+fn twice_told(
+    alloc: Global,
+    words: &[&str],
+    options: &[Numbered],
+) -> Result<Option<String>, AllocError> {
+    for option in options {
+        if times(option.name, words, options) > 1 {
             let name = option.name;
             return Ok(Some(format!(in alloc; "'--{name}' stands twice")?));
         }
@@ -116,12 +137,12 @@ fn twice_told(alloc: Global, words: &[&str]) -> Result<Option<String>, AllocErro
 }
 
 // How often an option stands among words.
-fn times(name: &str, words: &[&str]) -> usize {
+fn times(name: &str, words: &[&str], options: &[Numbered]) -> usize {
     let mut ended = false;
     let mut times = 0usize;
     for word in words {
         ended = ended || *word == "--";
-        match option_of(ended, *word) {
+        match option_of(ended, *word, options) {
             Some((option, _)) if option.name == name => times = times.saturating_add(1),
             _ => {}
         }

@@ -1,4 +1,4 @@
-//! What the words of the commands over an open store ask for: `make`, `serve`, `export`, `import` and `backup`.
+//! What the words of the commands over an open store ask for: `make`, `serve`, `export`, `import`, `backup` and `renew`.
 #![tactic(auto)]
 
 mod choices;

@@ -1,5 +1,6 @@
-//! What the words of `export`, `import` and `backup` ask for.
-use crate::words::Asked;
+//! What the words of `export`, `import`, `backup` and `renew` ask for.
+use crate::options::KEEP;
+use crate::words::{Asked, chosen, with_option};
 use clap::{Arg, ArgAction, ArgMatches, Command};
 use command_line::paragraph;
 use std::alloc::{AllocError, Global};
@@ -11,7 +12,7 @@ const NO_COMMAND: Fault = Fault::BadRequest(Reason::Command);
 // The option for comma-separated values.
 const CSV: &str = "--csv";
 
-/// Adds the three commands to those that a parser knows.
+/// Adds the four commands to those that a parser knows.
 pub fn with_moving<'a>(alloc: Global, parser: Command<'a>) -> Result<Command<'a>, AllocError> {
     parser
         .subcommand(
@@ -29,7 +30,13 @@ pub fn with_moving<'a>(alloc: Global, parser: Command<'a>) -> Result<Command<'a>
             Command::new(alloc, "backup")
                 .arg(Arg::new(alloc, "dir").required(true))?
                 .arg(Arg::new(alloc, "to").required(true))?,
-        )
+        )?
+        .subcommand(renewing(alloc)?)
+}
+
+fn renewing<'a>(alloc: Global) -> Result<Command<'a>, AllocError> {
+    let command = Command::new(alloc, "renew").arg(Arg::new(alloc, "dir").required(true))?;
+    with_option(alloc, command, KEEP.name)
 }
 
 fn csv<'a>(alloc: Global) -> Arg<'a> {
@@ -65,6 +72,13 @@ pub fn backup<'a>(given: &ArgMatches<'a>) -> Result<Asked<'a>, Fault> {
     let dir = word(given, "dir")?;
     let to = word(given, "to")?;
     Ok(Asked::Backup { dir, to })
+}
+
+/// What words of `renew` ask for.
+pub fn renew<'a>(given: &ArgMatches<'a>) -> Result<Asked<'a>, Fault> {
+    let dir = word(given, "dir")?;
+    let keep = chosen(given, &KEEP)?;
+    Ok(Asked::Renew { dir, keep })
 }
 
 fn word<'a>(given: &ArgMatches<'a>, id: &str) -> Result<&'a str, Fault> {

@@ -1,7 +1,7 @@
-//! The options of `serve`, and the limits of their numbers.
+//! The options of `serve` and `renew`, and the limits of their numbers.
 use units::Stride;
 
-/// An option of `serve`, which takes a number.
+/// An option that takes a number.
 #[derive(Clone, Copy)]
 pub struct Numbered {
     /// Its name, without the hyphens.
@@ -33,7 +33,7 @@ pub const STRIDE: Numbered = Numbered {
     most: Stride::MAX,
 };
 
-/// How long views of the past are answered, in microseconds.
+/// How long views of the past are answered, in microseconds. `renew` has this one too.
 pub const KEEP: Numbered = Numbered {
     name: "keep",
     least: 0,
@@ -63,3 +63,6 @@ pub const IDLE: Numbered = Numbered {
 
 /// All options of `serve`.
 pub static OPTIONS: [Numbered; 7] = [CLIENTS, EPSILON, STRIDE, KEEP, RENEW, PATIENCE, IDLE];
+
+/// All options of `renew`.
+pub static RENEWING: [Numbered; 1] = [KEEP];

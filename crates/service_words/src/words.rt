@@ -2,7 +2,7 @@
 ghost use Rattle.std.specs.Prelude.{◌≡◌, ◌≤◌, IfOk};
 
 use crate::choices::Choices;
-use crate::move_words::{backup, export, import, with_moving};
+use crate::move_words::{backup, export, import, renew, with_moving};
 use crate::options::{CLIENTS, EPSILON, IDLE, KEEP, Numbered, OPTIONS, PATIENCE, RENEW, STRIDE};
 use clap::error::ErrorKind;
 use clap::{Arg, ArgMatches, Command};
@@ -44,13 +44,18 @@ pub enum Asked<'a> {
         dir: &'a str,
         to: &'a str,
     },
+    /// The logs of the closed store in a folder are renewed, with so many microseconds of the past, or all of it.
+    Renew {
+        dir: &'a str,
+        keep: Option<u64>,
+    },
 }
 
 // The parts in which a client's patience is counted, in milliseconds.
 const SILENCE: u64 = 20;
 
-/// Reads the words of a command line that begins with `make`, `serve`, `export`, `import` or `backup`. An option out of its limits is refused as `settings`, and all
-/// else that is no such line as `command`.
+/// Reads the words of a command line that begins with `make`, `serve`, `export`, `import`, `backup` or `renew`. An option out of its limits is refused
+/// as `settings`, and all else that is no such line as `command`.
 pub fn service_asked<'a>(alloc: Global, words: &'a [&'a str]) -> Result<Asked<'a>, Fault> {
     match parser(alloc)?.try_get_matches_from(words) {
         Ok(matches) => match matches.subcommand() {
@@ -59,6 +64,7 @@ pub fn service_asked<'a>(alloc: Global, words: &'a [&'a str]) -> Result<Asked<'a
             Some(("export", given)) => export(given),
             Some(("import", given)) => import(given),
             Some(("backup", given)) => backup(given),
+            Some(("renew", given)) => renew(given),
             _ => Err(NO_COMMAND),
         },
         Err(error) => match error.kind() {
@@ -92,8 +98,8 @@ fn serving<'a>(alloc: Global) -> Result<Command<'a>, AllocError> {
     Ok(command)
 }
 
-// Adds an option of this name, which has a value.
-fn with_option<'a>(
+/// Adds an option of this name, which has a value.
+pub fn with_option<'a>(
     alloc: Global,
     command: Command<'a>,
     name: &'a str,
@@ -158,8 +164,8 @@ fn within(given: &ArgMatches<'_>, option: &Numbered, else_is: u64) -> Result<u64
     Ok(number)
 }
 
-// The number of an option, if it is chosen.
-fn chosen(given: &ArgMatches<'_>, option: &Numbered) -> Result<Option<u64>, Fault> {
+/// The number of an option, if it is chosen.
+pub fn chosen(given: &ArgMatches<'_>, option: &Numbered) -> Result<Option<u64>, Fault> {
     match given.get_str(option.name) {
         Some(word) => Ok(Some(number(word)?)),
         None => Ok(None),

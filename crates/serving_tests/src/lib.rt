@@ -8,6 +8,8 @@ mod lines;
 #[cfg(test)]
 mod moved;
 #[cfg(test)]
+mod renewed;
+#[cfg(test)]
 mod streams;
 #[cfg(test)]
 mod waiting;

@@ -1,4 +1,4 @@
-//! What the words of `make` and `serve` ask for.
+//! What the words of `make`, `serve` and `renew` ask for.
 use service_words::{Asked, Choices, explanation, service_asked};
 use std::alloc::Global;
 use units::{Fault, Reason};
@@ -80,7 +80,39 @@ fn options_are_chosen(rt: HostRuntime) {
     }
 }
 
-static REFUSED: [(&[&str], Fault); 8] = [
+static RENEWALS: [(&[&str], Option<u64>); 3] = [
+    (&["renew", "d"], None),
+    (&["renew", "d", "--keep", "0"], Some(0)),
+    (
+        &["renew", "--keep=18446744073709551615", "d"],
+        Some(u64::MAX),
+    ),
+];
+
+// Whether words ask for a renewal of the store in `d` that keeps so much.
+fn is_renewal(alloc: Global, words: &[&str], right: Option<u64>) -> bool {
+    match service_asked(alloc, words) {
+        Ok(asked) => match asked {
+            Asked::Renew { dir, keep } => dir == "d" && keep == right,
+            Asked::Make { dir: _, splits } => {
+                drop(splits);
+                false
+            }
+            _ => false,
+        },
+        Err(_) => false,
+    }
+}
+
+// Fails if words of `renew` keep another past than their row says.
+#[test]
+fn renewals_are_asked_for(rt: HostRuntime) {
+    for (words, right) in &RENEWALS {
+        assert!(rt; is_renewal(rt.alloc(), *words, *right));
+    }
+}
+
+static REFUSED: [(&[&str], Fault); 10] = [
     (&["serve"], COMMAND),
     (&["serve", "d", "e"], COMMAND),
     (&["serve", "d", "--clients"], COMMAND),
@@ -89,6 +121,8 @@ static REFUSED: [(&[&str], Fault); 8] = [
     (&["serve", "d", "--epsilon", "1000001"], SETTINGS),
     (&["serve", "d", "--idle", "999"], SETTINGS),
     (&["make"], COMMAND),
+    (&["renew", "d", "--keep"], COMMAND),
+    (&["renew", "d", "--keep", "x"], COMMAND),
 ];
 
 // Fails if wrong words of `make` or `serve` are taken, or refused with another fault.
@@ -168,6 +202,24 @@ static WRONG_SERVES: [Told; 11] = [
     ),
 ];
 
+static WRONG_RENEWALS: [Told; 6] = [
+    (&["renew"], "DIR is missing"),
+    (&["renew", "--keep", "5"], "DIR is missing"),
+    (&["renew", "d", "e"], "'e' is one word too many"),
+    (
+        &["renew", "d", "--renew", "3"],
+        "'--renew' is no option of this command",
+    ),
+    (
+        &["renew", "d", "--keep", "x"],
+        "'--keep' takes a whole number, and not 'x'",
+    ),
+    (
+        &["renew", "--keep", "1", "d", "--keep=1"],
+        "'--keep' stands twice",
+    ),
+];
+
 // Whether words are refused, and this is told of them, with how their command is called.
 fn are_told(alloc: Global, words: &[&str], what: &str, synopsis: &str) -> bool {
     let Err(fault) = service_asked(alloc, words) else {
@@ -190,5 +242,8 @@ fn wrong_words_are_explained(rt: HostRuntime) {
     }
     for (words, what) in &WRONG_SERVES {
         assert!(rt; are_told(rt.alloc(), *words, *what, "serve DIR [OPTION..]"));
+    }
+    for (words, what) in &WRONG_RENEWALS {
+        assert!(rt; are_told(rt.alloc(), *words, *what, "renew DIR [OPTION..]"));
     }
 }

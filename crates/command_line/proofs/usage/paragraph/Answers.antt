@@ -4,7 +4,8 @@ use Rattle.std.specs.Prelude.{if◌then◌else◌}
 use Rattle.std.specs.Str.{bytes_eq}
 use Rattle.std.proofs.lemmas.Slice.Eq.{bytes_eq-Decides}
 use Rattle.command_line.specs.Lines.{Word}
-use Rattle.command_line.specs.declared.usage.TheConstants.{PAGE, GET, PUT, HISTORY, STATS, DUMP, INSPECT, DRIVE, FORMAT, MIGRATE, COMPACT, PLAY, ONCE, MAKE, SERVE, EXPORT, IMPORT, BACKUP}
+use Rattle.command_line.specs.declared.usage.TheConstants.{PAGE, GET, PUT, HISTORY, STATS, DUMP, INSPECT, DRIVE, FORMAT}
+use Rattle.command_line.specs.declared.usage.TheConstants.{MIGRATE, COMPACT, PLAY, ONCE, MAKE, SERVE, EXPORT, IMPORT, BACKUP, RENEW}
 use Rattle.command_line.proofs.usage.paragraph.Goals as goal
 
 differs : (name known : Word) → (name ≡ known → ⊥) → bytes_eq name known ≡ false
@@ -15,8 +16,8 @@ differs name known other = by (bytes_eq name known) refl
     by false e = e
 
 -- the text by which names it is
-abbrev text_by : Bool → Bool → Bool → Bool → Bool → Bool → Bool → Bool → Bool → Bool → Bool → Bool → Bool → Bool → Bool → Bool → Bool → List ℕ
-text_by a b c d e f g h i j k l m n o p q =
+abbrev text_by : Bool → Bool → Bool → Bool → Bool → Bool → Bool → Bool → Bool → Bool → Bool → Bool → Bool → Bool → Bool → Bool → Bool → Bool → List ℕ
+text_by a b c d e f g h i j k l m n o p q r =
     if a then GET.now
     else (if b then PUT.now
     else (if c then HISTORY.now
@@ -34,7 +35,8 @@ text_by a b c d e f g h i j k l m n o p q =
     else (if o then EXPORT.now
     else (if p then IMPORT.now
     else (if q then BACKUP.now
-    else PAGE.now))))))))))))))))
+    else (if r then RENEW.now
+    else PAGE.now)))))))))))))))))
 
 pub returns-in_default : goal.returns-in_default
 returns-in_default c =
@@ -55,4 +57,5 @@ returns-in_default c =
     (differs name (codes "serve") c.in_default.not-serve i)
     (differs name (codes "export") c.in_default.not-export i)
     (differs name (codes "import") c.in_default.not-import i)
-    (differs name (codes "backup") c.in_default.not-backup i))
+    (differs name (codes "backup") c.in_default.not-backup i)
+    (differs name (codes "renew") c.in_default.not-renew i))
