@@ -3,9 +3,10 @@
 
 PROGRAM is the built program. DIRECT is the built program of `direct.rt.txt`; without it there is nothing to compare with. A line is one that
 is refused at once. A read is one line, and by `store` a view and a get. A commit is a transaction of four lines (begin, get, put, commit) that
-reads and writes a key of the client's own. Each row is tried by turns in a new folder: over lines by the client in Python, whose threads are
-in one process, and by the client in Rust, which `cargo` builds, and then by `store`. A row tells the median of its rounds. All are as patient
-as `--patience` says, and commits alone are counted. Behind the table stand the limits that serving has to keep.
+reads and writes a key of the client's own. Each row is tried by turns in a new folder: over lines by a pipe alone, with no client's code, one
+line after the other, or begin with get and put with commit; by the client in Python, whose threads are in one process, by the client in Rust, which
+`cargo` builds, and then by `store`. A row tells the median of its rounds. All are as patient as `--patience` says, and commits alone are counted.
+After the table come the limits that serving has to keep.
 
   --seconds N        how long each try takes (2)
   --rounds N         how often each row is tried (3)
@@ -35,11 +36,20 @@ TOLD = re.compile(r"(\d+) a second, half within (\d+) us, aborted (\d+), unknown
 PLACES = {"files": None, "memory": "/dev/shm"}
 # What is tried: the work, the numbers of clients, and by what.
 WORK = [
-    ("lines", [1], ["Python"]),
-    ("reads", [1, 16], ["Python", "Rust", "store"]),
-    ("commits", [1, 16], ["Python", "Rust", "store"]),
+    ("lines", [1], ["lines", "Python"]),
+    ("reads", [1], ["lines", "Python", "Rust", "store"]),
+    ("reads", [16], ["Python", "Rust", "store"]),
+    ("commits", [1], ["lines", "two writes", "Python", "Rust", "store"]),
+    ("commits", [16], ["Python", "Rust", "store"]),
     ("commits", [64], ["Rust", "store"]),
 ]
+# The lines of a turn: those of one list go in one write, and all their answers are read before the next.
+TURNS = {
+    "lines": [[b"nothing"]],
+    "reads": [[b"get a00"]],
+    "commits": [[b"begin"], [b"get a00"], [b"put a00 %08d"], [b"commit"]],
+    "commits in two writes": [[b"begin", b"get a00"], [b"put a00 %08d", b"commit"]],
+}
 
 
 def key_of(number):
@@ -99,6 +109,33 @@ def by_python(told, folder, work, clients):
     return len(times) / took, statistics.median(times or [0]) * 1e6, aborted, unknown
 
 
+def by_lines(told, folder, work, clients):
+    """One client that writes lines and reads answers by itself."""
+    spanner_shards.Store.make(folder, b"m", program=told["program"])
+    words = [told["program"], "serve", folder, "--clients", "1", "--patience", told["--patience"], *told["--program"].split()]
+    process = subprocess.Popen(words, stdin=subprocess.PIPE, stdout=subprocess.PIPE, bufsize=0)
+    answers, times = os.fdopen(os.dup(process.stdout.fileno()), "rb"), []
+    answers.readline()
+    turn, start = 0, time.perf_counter()
+    until, begun = start + float(told["--seconds"]), start
+    while start < until:
+        turn += 1
+        for lines in TURNS[work]:
+            process.stdin.write(b"".join(b"0 " + (line % turn if b"%" in line else line) + b"\n" for line in lines))
+            for _ in lines:
+                told_last = answers.readline()
+        if work in ("lines", "reads") or told_last.startswith(b"0 committed"):
+            times.append(time.perf_counter() - start)
+        start = time.perf_counter()
+    process.stdin.close()
+    process.wait()
+    return len(times) / (start - begun), statistics.median(times or [0]) * 1e6, turn - len(times), 0
+
+
+def by_two_writes(told, folder, work, clients):
+    return by_lines(told, folder, work + " in two writes", clients)
+
+
 def printed(command, **how):
     """The figures that a program prints."""
     found = TOLD.search(subprocess.run(command, check=True, stdout=subprocess.PIPE, text=True, **how).stdout)
@@ -130,7 +167,8 @@ def rate_program(room):
 
 def rows(told, place, room):
     """The figures of each row, by its work, clients and what it is done by."""
-    by = {"Python": by_python, "Rust": told["rate"] and by_rust, "store": told["direct"] and by_store}
+    by = {"lines": by_lines, "two writes": by_two_writes, "Python": by_python}
+    by.update({"Rust": told["rate"] and by_rust, "store": told["direct"] and by_store})
     found = {}
     for work, numbers, names in WORK:
         for clients in numbers:
@@ -153,9 +191,12 @@ def limits(found):
 
     reads, over, alone = found.get(("reads", 16, "Python")), found.get(("commits", 64, "Rust")), found.get(("commits", 64, "store"))
     return {
-        "1 client in Python: a read at most 80 us above": less("reads", 80, "Python"),
-        "1 client in Rust: a transaction of four lines at most 250 us above": less("commits", 250, "Rust"),
-        "1 client in Python: the same": less("commits", 250, "Python"),
+        "1 client: the round trip of a line that reads at most 80 us above": less("reads", 80, "lines"),
+        "1 client: a transaction of four lines at most 250 us above": less("commits", 250, "two writes"),
+        "the same, one line after the other": less("commits", 250, "lines"),
+        "the same by the client in Python: a read": less("reads", 80, "Python"),
+        "the same by the client in Rust: a transaction": less("commits", 250, "Rust"),
+        "the same by the client in Python: a transaction": less("commits", 250, "Python"),
         "16 threads of one Python process: at least 5,000 reads a second": reads and (reads[0] >= 5000, f"{reads[0]} a second"),
         "64 clients in Rust: at least .7 of the commits of 64 of `store`":
             over and alone and (over[0] >= .7 * alone[0], f"{over[0] / max(alone[0], 1):.2f} of {alone[0]} a second"),
