@@ -219,13 +219,14 @@ module _ (home : Home) (entries : List BoardEntry) (key : Bytes) (t room : ℕ) 
 -- a version is prepared
 pub takes_install : (old new : List Install) (list log log' : List BoardEntry) (e : BoardEntry) (i : Install) (prepared horizon : ℕ) → e ≡ Installed i
     → log' ≡ log ++ e ∷ []
-    → IsPrefix list log → SameFrom (horizon_on list) old (versions_on log) → AddsVersion old new i → prepared ≡ safe_on log → horizon ≡ horizon_on log
+    → IsPrefix list log → SameFrom (horizon_on list) old (versions_on log) → AddsVersion (horizon_on list) old new i
+    → prepared ≡ safe_on log → horizon ≡ horizon_on log
     → IsPrefix list log' × SameFrom (horizon_on list) new (versions_on log') × (prepared ≡ safe_on log') × (horizon ≡ horizon_on log')
 takes_install old new list log log' e i prepared horizon is grown front same adds at below =
     let all : log' ≡ log ++ Installed i ∷ [] = grown ∙ ap (λ (x : BoardEntry). log ++ x ∷ []) is in (
       subst (IsPrefix list) (sym all) (prefix_trans list log (log ++ Installed i ∷ []) front (Installed i ∷ [], refl)),
       subst (λ (es : List BoardEntry). SameFrom (horizon_on list) new (versions_on es)) (sym all)
-          (subst (SameFrom (horizon_on list) new) (sym (versions_on-more log (Installed i ∷ []))) (adds (horizon_on list) (versions_on log) same)),
+          (subst (SameFrom (horizon_on list) new) (sym (versions_on-more log (Installed i ∷ []))) (adds (versions_on log) same)),
       at ∙ (sym (safe_from-install 0 log i) ∙ ap safe_on (sym all)),
       omega (arith, below, ap horizon_on all, horizon_on-more log (Installed i ∷ [])),
     )

@@ -58,9 +58,9 @@ is_quiet (Commit ∷ cs) = false
 abbrev pub pending_of : Page → List BoardChange → List BoardEntry
 pending_of page changes = drop (length page.list) page.ahead ++ newly_prepared changes
 
--- one more version answers in order as it does at the end of the log, from each horizon up
-abbrev pub AddsVersion : List Install → List Install → Install → Type 0
-AddsVersion old new install = (horizon : ℕ) (log : List Install) → SameFrom horizon old log → SameFrom horizon new (log ++ install ∷ [])
+-- one more version answers in order as it does at the end of the log, from the horizon up
+abbrev pub AddsVersion : ℕ → List Install → List Install → Install → Type 0
+AddsVersion horizon old new install = (log : List Install) → SameFrom horizon old log → SameFrom horizon new (log ++ install ∷ [])
 
 -- the versions answer from the later of two horizons up as they did from the first
 abbrev pub Forgets : List Install → List Install → ℕ → ℕ → Type 0

@@ -126,7 +126,7 @@ impl BoardCopy {
     {
         match entry {
             BoardEntry::Installed(install) => {
-                add_version(&mut self.versions, install)?;
+                add_version(&mut self.versions, install, self.horizon)?;
                 self.ahead.add(entry);
             }
             BoardEntry::Safe(at) => {
@@ -260,10 +260,10 @@ impl BoardCopy {
     }
 }
 
-// Adds a copy of a version, which is above its key's others.
-fn add_version(versions: &mut Versions, install: &Install) -> Result<(), Fault>
+// Adds a copy of a version, which is above its key's others. One that the horizon passed may go for it.
+fn add_version(versions: &mut Versions, install: &Install, horizon: Stamp) -> Result<(), Fault>
     ensures added { OnOk result
-        (AddsVersion versions.old.installs versions.new.installs install.now) }
+        (AddsVersion horizon versions.old.installs versions.new.installs install.now) }
     ensures refused { IfErr result
         (λ fault. (fault ≡ Fault.Memory) × (versions.new.installs ≡ versions.old.installs)) }
 {
@@ -278,7 +278,7 @@ fn add_version(versions: &mut Versions, install: &Install) -> Result<(), Fault>
         return Err(Fault::Memory);
     };
     let Install { key, at, value } = copy;
-    versions.install(key, at, value);
+    versions.install_from(key, at, value, horizon);
     Ok(())
 }
 

@@ -219,7 +219,8 @@ impl Ledger {
         }
         let known = self.facts.installs().len();
         self.facts.learn_next(item);
-        self.places.follow(self.facts.installs(), known);
+        let horizon = self.facts.horizon();
+        self.places.follow(self.facts.installs(), known, horizon);
     }
 
     /// Hands on the records of the renewed log: its base, the versions that it holds, then the transactions that ended or stand.

@@ -1,6 +1,6 @@
 //! Many versions, of which those below horizons are forgotten.
 use crate::checks::{Row, byte};
-use crate::versioned::{Plain, agree_at, install};
+use crate::versioned::{Plain, agree_at, install, install_by};
 use counts::Count;
 use made::{WrongRows, key, stamp};
 use std::alloc::Global;
@@ -101,6 +101,29 @@ fn show_turns(versions: &Versions, keys: u32, turns: Range<u32>) -> bool {
     true
 }
 
+// How many turns of the past are kept while versions come.
+const KEPT: u32 = 100;
+
+const TURNS: u32 = 1_000;
+
+// Installs versions in turn, each with the horizon of its turn. Tells whether the keys have their values from the last horizon up, and whether
+// no more versions stay than those read there, and one of each key.
+fn stay_few(alloc: Global, keys: u32) -> bool {
+    let mut versions = Versions::none(alloc);
+    for turn in 1..TURNS {
+        let horizon = turn.saturating_sub(KEPT);
+        let new = in_turn(turn, keys);
+        let Some(true) = install_by(alloc, &mut versions, &new, Some(horizon)) else {
+            drop(versions);
+            return false;
+        };
+    }
+    let (left, _) = versions.find(&key(255), stamp(u32::MAX), &mut Count::none());
+    let shown = show_turns(&versions, keys, TURNS - KEPT..TURNS);
+    drop(versions);
+    shown && left as u64 <= KEPT as u64 + 2 * keys.clamp(1, 200) as u64
+}
+
 impl Row for Many {
     fn tell(&self, wrong: &mut WrongRows, rt: &HostRuntime) {
         let alloc = rt.alloc();
@@ -121,7 +144,8 @@ impl Row for Many {
             && old.is_none()
             && show_turns(&versions, self.keys, self.horizon..end)
             && install_turns(alloc, &mut versions, self.keys, end..later)
-            && show_turns(&versions, self.keys, self.horizon..later);
+            && show_turns(&versions, self.keys, self.horizon..later)
+            && stay_few(alloc, self.keys);
         drop(versions);
         wrong.unless(shown, self.what);
     }

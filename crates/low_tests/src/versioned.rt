@@ -23,6 +23,16 @@ pub struct Plain {
 
 /// Installs the version if its key takes it, and tells whether it does. `None` means that there is no memory.
 pub fn install(alloc: Global, versions: &mut Versions, new: &Plain) -> Option<bool> {
+    install_by(alloc, versions, new, None)
+}
+
+/// The same. If there is a horizon, one that it passed may go for the version.
+pub fn install_by(
+    alloc: Global,
+    versions: &mut Versions,
+    new: &Plain,
+    horizon: Option<u32>,
+) -> Option<bool> {
     let Ok(()) = versions.reserve(1) else {
         return None;
     };
@@ -35,10 +45,10 @@ pub fn install(alloc: Global, versions: &mut Versions, new: &Plain) -> Option<bo
     };
     let at = stamp(new.at);
     let takes = versions.takes(&new.key, at);
-    if takes {
-        versions.install(new.key, at, value);
-    } else {
-        drop(value);
+    match horizon {
+        None if takes => versions.install(new.key, at, value),
+        Some(horizon) if takes => versions.install_from(new.key, at, value, stamp(horizon)),
+        _ => drop(value),
     }
     Some(takes)
 }

@@ -17,4 +17,5 @@ pub mod Shorter
 pub mod Gathered
 pub mod Last
 pub mod Next
+pub mod TakenIn
 mod Examples

@@ -10,16 +10,17 @@ use Rattle.units.specs.declared.writes.Write.{Write}
 use Rattle.versions.specs.Arranged.{arranged, no_install, AreWithin}
 use Rattle.versions.specs.Headed.{Headed}
 use Rattle.versions.specs.Heads.{AreHeads}
-use Rattle.versions.specs.Ordered.{installed, is_above, IsInOrder}
+use Rattle.versions.specs.Ordered.{is_above, IsInOrder}
 use Rattle.versions.specs.Orders.{Orders, AreBehind}
 use Rattle.versions.specs.Places.{SameVersions}
 use Rattle.versions.proofs.Arranged.{still_arranged}
 use Rattle.versions.proofs.AtOnce.{still_above, rest_ascends}
-use Rattle.versions.proofs.Kept.{kept-installed}
 use Rattle.versions.proofs.Pruned.{kept-pruned, pruned_after}
 use Rattle.versions.specs.Pruned.{pruned}
 use Rattle.versions.proofs.Same.{same-from, same-higher}
-use Rattle.versions.proofs.SameMore.{above-same, same-one}
+use Rattle.versions.specs.TakenIn.{TakesIn}
+use Rattle.versions.proofs.SameMore.{above-same}
+use Rattle.versions.proofs.TakenIn.{kept-taken, newest-taken}
 
 pub take_whole : (t : List Install) → take (length t) t ≡ t
 take_whole [] = refl
@@ -109,22 +110,21 @@ module _ (t : List Install) (k : ℕ) (lt : k < length t) where
                 (still_above w b.at (take k t) ws up (and_parts _ _ above).1);
           }
 
-  -- the place of the first is put in
-  pub orders_next : (h : ℕ) (p q : Headed) → Orders h t k p → AreBehind t k → arranged t q.places ≡ installed (arranged t p.places) (get_or t k no_install)
-      → AreWithin q.places (k + 1) → AreHeads q.prefix (arranged t q.places) q.heads → length q.places ≡ length p.places + 1
+  -- the first is taken in
+  pub orders_next : (h : ℕ) (p q : Headed) → Orders h t k p → AreBehind t k → TakesIn h (arranged t p.places) (get_or t k no_install) (arranged t q.places)
+      → AreWithin q.places (k + 1) → AreHeads q.prefix (arranged t q.places) q.heads → length q.places ≤ length p.places + 1
       → (get_or t k no_install).at < 2 ^ 62 → Orders h t (k + 1) q
-  orders_next h p q o b items within heads long in_time =
+  orders_next h p q o b taken within heads long in_time =
       let x = get_or t k no_install in
       let above = first_above b in
       let above_here = above-same h x (arranged t p.places) (take k t) above o.same in
       record {
         within = within;
         few = omega (arith, long, o.few);
-        kept = subst (IsInOrder (2 ^ 62 - 1)) (sym items) (kept-installed (2 ^ 62 - 1) x (arranged t p.places) above_here (omega (arith, in_time)) o.kept);
+        kept = kept-taken (2 ^ 62 - 1) h (arranged t p.places) x (arranged t q.places) taken above_here (omega (arith, in_time)) o.kept;
         headed = heads;
-        same = subst (λ r. SameVersions h r (take (k + 1) t)) (sym items)
-            (subst (SameVersions h (installed (arranged t p.places) x)) (sym (take_more t k no_install lt))
-            (same-one h x (arranged t p.places) (take k t) above o.same));
+        same = subst (SameVersions h (arranged t q.places)) (sym (take_more t k no_install lt))
+            (newest-taken h (arranged t p.places) x (arranged t q.places) (take k t) taken o.kept.order above o.same);
       }
 
 -- what is below a horizon is forgotten

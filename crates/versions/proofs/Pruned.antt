@@ -61,7 +61,7 @@ same_later before h a b le same = record {
   above = same.above;
 }
 
-same_trans : (h : ℕ) (a b c : List Install) → SameFrom h a b → SameFrom h b c → SameFrom h a c
+pub same_trans : (h : ℕ) (a b c : List Install) → SameFrom h a b → SameFrom h b c → SameFrom h a c
 same_trans h a b c one other = record {
   now = λ k. one.now k ∙ other.now k;
   at = λ k t le. one.at k t le ∙ other.at k t le;

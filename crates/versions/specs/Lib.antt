@@ -11,3 +11,4 @@ pub mod Headed
 pub mod Orders
 pub mod Gathered
 pub mod Next
+pub mod TakenIn

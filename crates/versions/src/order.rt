@@ -10,7 +10,7 @@ ghost use Rattle.versions.specs.Pruned.{first_left, pruned};
 
 use crate::forgetting::{self, is_due, is_passed};
 use crate::placed::Places;
-use crate::search::{self, place};
+use crate::search::{self, place_from};
 use units::{Install, Key, Stamp, Value};
 
 impl Places {
@@ -58,18 +58,17 @@ impl Places {
     }
 
     /// Takes in the versions after the first so many, whose places are known. They are the writes of one transaction, above their keys'
-    /// others. There is room, and it takes no memory.
-    pub fn follow(&mut self, installs: &[Install], known: usize)
-        requires known { (horizon : ℕ) × Orders horizon installs.now known self.old }
+    /// others. Places that the horizon passed may go for them. There is room, and it takes no memory.
+    pub fn follow(&mut self, installs: &[Install], known: usize, horizon: Stamp)
+        requires known { Orders horizon installs.now known self.old }
         requires behind { AreBehind installs.now known }
         requires longer { known ≤ length installs.now }
         requires room { length installs.now ≤ known + self.old.room }
-        ensures all { (horizon : ℕ) → Orders horizon installs.now known self.old
-            → Orders horizon installs.now (length installs.now) self.new }
-        ensures room { length installs.now + self.new.room ≡ known + self.old.room }
+        ensures all { Orders horizon installs.now (length installs.now) self.new }
+        ensures room { known + self.old.room ≤ length installs.now + self.new.room }
     {
         for at in known..installs.len() {
-            place(installs, self, at);
+            place_from(installs, self, at, horizon);
         }
     }
 

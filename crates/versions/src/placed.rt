@@ -1,5 +1,5 @@
 //! The places of versions in order, each with the head of its key.
-ghost use Rattle.std.specs.Prelude.{◌≡◌, ℕ, List, ◌+◌, ◌-◌, ◌<◌, ◌≤◌, [], length, take, IsOk, IfErr, OnOk, slice_index_or, slice_set};
+ghost use Rattle.std.specs.Prelude.{◌≡◌, ℕ, List, ◌+◌, ◌-◌, ◌<◌, ◌≤◌, ◌++◌, [], length, take, drop, IsOk, IfErr, OnOk, slice_index_or, slice_set};
 ghost use Rattle.std.specs.List.{insert};
 ghost use Rattle.units.specs.Keys.{same_key};
 ghost use Rattle.units.specs.declared.writes.Install.{Install};
@@ -186,6 +186,20 @@ impl Places {
     {
         let spot = self.spots.get(from);
         self.spots.set(to, spot);
+    }
+
+    /// Takes one place out, with its head, and puts another in at a later place: those in between move forward by one.
+    pub(crate) fn shift(&mut self, from: usize, to: usize, place: usize, head: u64)
+        requires from { from ≤ to }
+        requires to { to < length self.old.places }
+        ensures places { self.new.places ≡
+            insert (take from self.old.places ++ drop (from + 1) self.old.places) to place }
+        ensures heads { self.new.heads ≡
+            insert (take from self.old.heads ++ drop (from + 1) self.old.heads) to head }
+        ensures prefix { self.new.prefix ≡ self.old.prefix }
+        ensures room { self.new.room ≡ self.old.room }
+    {
+        self.spots.shift(from, to, Spot { place, head });
     }
 
     /// Keeps so many places from the front. The space of the others is room from then on.

@@ -1,13 +1,15 @@
 //! Searches by halves among versions that are read in the order of their places.
-ghost use Rattle.std.specs.Prelude.{◌≡◌, ◌+◌, ◌<◌, ◌≤◌, ◌^◌, ℕ, length, vec_len, vec_capacity, filter, slice_index_or};
+ghost use Rattle.std.specs.Prelude.{◌≡◌, ◌+◌, ◌-◌, ◌<◌, ◌≤◌, ◌^◌, ℕ, length, vec_len, vec_capacity, filter, IfSome, slice_index_or};
 ghost use Rattle.std.specs.Option.{option_copied};
 ghost use Rattle.units.specs.Versions.{latest, at_time, newest, of_key};
 ghost use Rattle.versions.specs.Arranged.{arranged, no_install, AreWithin};
 ghost use Rattle.versions.specs.Halves.{AllUpTo, AllAfter};
 ghost use Rattle.versions.specs.Heads.{AreBytes, AreHeads, head};
 ghost use Rattle.versions.specs.Next.{IsNextKey, IsNextVersion};
+ghost use Rattle.versions.specs.TakenIn.{TakesIn, IsPassedAt};
 ghost use Rattle.versions.specs.Ordered.{is_by, is_not_after, count_not_after, installed, is_above, AscendsByVersion, IsInOrder};
 
+use crate::forgetting::is_passed;
 use crate::head::shared;
 use crate::placed::Places;
 use counts::Count;
@@ -298,6 +300,31 @@ pub fn next_version<'a>(
     if next.key == *key { Some(next) } else { None }
 }
 
+// Adds a version, and puts in its place after so many. There is room.
+fn push(installs: &mut Vec<Install>, places: &mut Places, new: Install, count: usize)
+    requires within { AreWithin places.old.places (length installs.old.items) }
+    requires order { AscendsByVersion (arranged installs.old.items places.old.places) }
+    requires heads { AreHeads places.old.prefix (arranged installs.old.items places.old.places)
+        places.old.heads }
+    requires room { (vec_len installs.old < vec_capacity installs.old) × (0 < places.old.room) }
+    requires before { AllUpTo new.key new.at (arranged installs.old.items places.old.places) count }
+    requires after { AllAfter new.key new.at (arranged installs.old.items places.old.places) count }
+    requires bound { count ≤ length places.old.places }
+    ensures items { arranged installs.new.items places.new.places ≡
+        installed (arranged installs.old.items places.old.places) new }
+    ensures within { AreWithin places.new.places (length installs.new.items) }
+    ensures heads { AreHeads places.new.prefix (arranged installs.new.items places.new.places)
+        places.new.heads }
+    ensures len { (vec_len installs.new ≡ vec_len installs.old + 1)
+        × (length places.new.places ≡ length places.old.places + 1)
+        × (places.new.room + 1 ≡ places.old.room) }
+    ensures capacity { vec_capacity installs.new ≡ vec_capacity installs.old }
+{
+    let at = installs.len();
+    installs.push_reserved(new);
+    place(installs, places, at, count);
+}
+
 /// Adds a version, and puts in its place. There is room.
 pub fn install(installs: &mut Vec<Install>, places: &mut Places, new: Install)
     requires within { AreWithin places.old.places (length installs.old.items) }
@@ -316,19 +343,111 @@ pub fn install(installs: &mut Vec<Install>, places: &mut Places, new: Install)
     ensures in_time { new.at < 2 ^ 62 }
     ensures capacity { vec_capacity installs.new ≡ vec_capacity installs.old }
 {
-    let at = installs.len();
-    installs.push_reserved(new);
-    place(installs, places, at);
+    let count = count(installs, places, &new.key, new.at.micros());
+    push(installs, places, new, count);
 }
 
-/// Puts in the place of the version that stands there, after those whose places are known. There is room.
-pub fn place(installs: &[Install], places: &mut Places, at: usize)
+/// Adds a version as `install` does. If the horizon passed the first of its key, it stands there instead, and the other is dropped.
+pub fn install_from(installs: &mut Vec<Install>, places: &mut Places, new: Install, horizon: Stamp)
+    requires within { AreWithin places.old.places (length installs.old.items) }
+    requires order { AscendsByVersion (arranged installs.old.items places.old.places) }
+    requires heads { AreHeads places.old.prefix (arranged installs.old.items places.old.places)
+        places.old.heads }
+    requires room { (vec_len installs.old < vec_capacity installs.old) × (0 < places.old.room) }
+    ensures items { TakesIn horizon (arranged installs.old.items places.old.places) new
+        (arranged installs.new.items places.new.places) }
+    ensures within { AreWithin places.new.places (length installs.new.items) }
+    ensures heads { AreHeads places.new.prefix (arranged installs.new.items places.new.places)
+        places.new.heads }
+    ensures len { (vec_len installs.new ≤ vec_len installs.old + 1)
+        × (length places.new.places + vec_len installs.old ≡
+        length places.old.places + vec_len installs.new)
+        × (places.old.room ≤ places.new.room + 1) }
+    ensures in_time { new.at < 2 ^ 62 }
+    ensures capacity { vec_capacity installs.new ≡ vec_capacity installs.old }
+{
+    let count = count(installs, places, &new.key, new.at.micros());
+    let key_head = places.head_of(&new.key);
+    let Some(first) = passed(installs, places, key_head, count, horizon) else {
+        push(installs, places, new, count);
+        return;
+    };
+    let freed = places.get(first);
+    places.shift(first, count - 1, freed, key_head);
+    installs[freed] = new;
+}
+
+// More places than these are not moved for one.
+const MOST_MOVED: usize = 256;
+
+// Finds the first version whose head is the key's, if the horizon passed it. It is one of so many from the front, and there are few after it.
+fn passed(
+    installs: &[Install],
+    places: &Places,
+    key_head: u64,
+    count: usize,
+    horizon: Stamp,
+) -> Option<usize>
+    requires within { AreWithin places.now.places (length installs.now) }
+    requires bound { count ≤ length places.now.places }
+    ensures { IfSome result (λ first. (first + 1 < count)
+        × IsPassedAt horizon (arranged installs.now places.now.places) first) }
+{
+    if horizon == Stamp::zero() {
+        return None;
+    }
+    let first = places.first_at(key_head);
+    if first >= count || count - first > MOST_MOVED || count - first < 2 {
+        return None;
+    }
+    if !is_passed(installs, places, first, horizon) {
+        return None;
+    }
+    Some(first)
+}
+
+/// Puts in the place of the version that stands there, after those whose places are known. If the horizon passed the first of its key, that
+/// one's place goes. Else there is room.
+pub fn place_from(installs: &[Install], places: &mut Places, at: usize, horizon: Stamp)
     requires there { at < length installs.now }
     requires within { AreWithin places.old.places at }
     requires order { AscendsByVersion (arranged installs.now places.old.places) }
     requires heads { AreHeads places.old.prefix (arranged installs.now places.old.places)
         places.old.heads }
     requires room { 0 < places.old.room }
+    ensures items { TakesIn horizon (arranged installs.now places.old.places)
+        (slice_index_or installs.now at no_install)
+        (arranged installs.now places.new.places) }
+    ensures within { AreWithin places.new.places (at + 1) }
+    ensures heads { AreHeads places.new.prefix (arranged installs.now places.new.places)
+        places.new.heads }
+    ensures len { length places.new.places ≤ length places.old.places + 1 }
+    ensures room { places.old.room ≤ places.new.room + 1 }
+    ensures in_time { (slice_index_or installs.now at no_install).at < 2 ^ 62 }
+{
+    let new = &installs[at];
+    let count = count(installs, places, &new.key, new.at.micros());
+    let key_head = places.head_of(&new.key);
+    match passed(installs, places, key_head, count, horizon) {
+        Some(first) => places.shift(first, count - 1, at, key_head),
+        None => place(installs, places, at, count),
+    }
+}
+
+// Puts in the place of the version that stands there, after so many of those whose places are known. There is room.
+fn place(installs: &[Install], places: &mut Places, at: usize, count: usize)
+    requires there { at < length installs.now }
+    requires within { AreWithin places.old.places at }
+    requires heads { AreHeads places.old.prefix (arranged installs.now places.old.places)
+        places.old.heads }
+    requires room { 0 < places.old.room }
+    requires before { AllUpTo (slice_index_or installs.now at no_install).key
+        (slice_index_or installs.now at no_install).at
+        (arranged installs.now places.old.places) count }
+    requires after { AllAfter (slice_index_or installs.now at no_install).key
+        (slice_index_or installs.now at no_install).at
+        (arranged installs.now places.old.places) count }
+    requires bound { count ≤ length places.old.places }
     ensures items { arranged installs.now places.new.places ≡
         installed (arranged installs.now places.old.places)
         (slice_index_or installs.now at no_install) }
@@ -337,10 +456,8 @@ pub fn place(installs: &[Install], places: &mut Places, at: usize)
         places.new.heads }
     ensures len { length places.new.places ≡ length places.old.places + 1 }
     ensures room { places.new.room + 1 ≡ places.old.room }
-    ensures in_time { (slice_index_or installs.now at no_install).at < 2 ^ 62 }
 {
     let new = &installs[at];
-    let count = count(installs, places, &new.key, new.at.micros());
     let key_head = places.head_of(&new.key);
     places.insert(count, at, key_head);
     renew(installs, places);

@@ -1,5 +1,5 @@
 //! A long list of places, each with its head, in pieces, so that one more moves few of them.
-ghost use Rattle.std.specs.Prelude.{◌≡◌, ◌+◌, ◌-◌, ◌*◌, ◌^◌, ◌<◌, ◌≤◌, [], length, take, IsOk, IfErr, OnOk, OnErr, slice_index_or, slice_set};
+ghost use Rattle.std.specs.Prelude.{◌≡◌, ◌+◌, ◌-◌, ◌*◌, ◌^◌, ◌<◌, ◌≤◌, ◌++◌, [], length, take, drop, IsOk, IfErr, OnOk, OnErr, slice_index_or, slice_set};
 ghost use Rattle.std.specs.List.{insert};
 ghost use Rattle.versions.specs.Pieces.{heads_of, joined, IsLaid};
 
@@ -134,6 +134,21 @@ impl Sequence {
         ensures room { self.new.room ≡ self.old.room }
     {
         self.pieces[at / PIECE].set(at % PIECE, spot);
+    }
+
+    /// Takes one of the places out, and puts another in at a later place: those in between move forward by one.
+    pub fn shift(&mut self, from: usize, to: usize, spot: Spot)
+        requires from { from ≤ to }
+        requires to { to < length self.old.spots }
+        ensures spots { self.new.spots ≡
+            insert (take from self.old.spots ++ drop (from + 1) self.old.spots) to spot }
+        ensures room { self.new.room ≡ self.old.room }
+    {
+        for at in from..to {
+            let next = self.get(at + 1);
+            self.set(at, next);
+        }
+        self.set(to, spot);
     }
 
     /// Keeps so many places from the front. The space of the others is room from then on.

@@ -1,20 +1,22 @@
 //! The versions of keys.
-ghost use Rattle.std.specs.Prelude.{◌≡◌, ℕ, ◌+◌, ◌<◌, ◌≤◌, ◌^◌, ◌++◌, ◌∷◌, [], length, IsTrue, IsOk, IfOk, IfErr, OnOk};
+ghost use Rattle.std.specs.Prelude.{◌≡◌, ℕ, ◌+◌, ◌<◌, ◌≤◌, ◌^◌, ◌++◌, ◌∷◌, [], List, length, IsTrue, IsOk, IfOk, IfErr, OnOk};
 ghost use Rattle.std.specs.Option.{option_copied};
 ghost use Rattle.units.specs.Versions.{latest, at_time, versions, above_versions};
+ghost use Rattle.units.specs.declared.writes.Install.{Install};
 ghost use Rattle.units.specs.Keys.{write_before};
 ghost use Rattle.units.specs.Lists.{ascends};
 ghost use Rattle.versions.specs.Arranged.{arranged, AreWithin};
 ghost use Rattle.versions.specs.Next.{IsNextKey, IsNextVersion};
 ghost use Rattle.versions.specs.Ordered.{installed, all_installed, count_not_after, is_above, AscendsByVersion};
 ghost use Rattle.versions.specs.Orders.{Orders};
+ghost use Rattle.versions.specs.Places.{SameFrom};
 ghost use Rattle.versions.specs.Due.{ForgetsIfDue};
 ghost use Rattle.versions.specs.Pruned.{pruned};
 
 use crate::copying::copy_install;
 use crate::forgetting::{forget, gather, is_due};
 use crate::placed::Places;
-use crate::search::{self, find, install};
+use crate::search::{self, find, install, install_from};
 use counts::Count;
 use std::alloc::Global;
 use std::marker::Model;
@@ -154,6 +156,21 @@ impl Versions {
         self.room -= 1;
         let new = Install { key, at, value };
         install(&mut self.installs, &mut self.places, new);
+    }
+
+    /// Installs a value, or an erasure, at a timestamp above the key's others. The first version of the key may go for it, if the next one is not
+    /// above the horizon. So a key that is written again and again needs no pass over all. It takes no memory.
+    pub fn install_from(&mut self, key: Key, at: Stamp, value: Option<Value>, horizon: Stamp)
+        requires room { 0 < self.old.room }
+        requires above { IsTrue (is_above self.old.installs key at) }
+        ensures same { (log : List Install) → SameFrom horizon self.old.installs log
+            → SameFrom horizon self.new.installs
+            (log ++ (record { key = key; at = at; value = value }) ∷ []) }
+        ensures room { self.old.room ≤ self.new.room + 1 }
+    {
+        self.room -= 1;
+        let new = Install { key, at, value };
+        install_from(&mut self.installs, &mut self.places, new, horizon);
     }
 
     /// Installs some writes at a timestamp above their keys' others. It takes no memory.

@@ -1,3 +1,5 @@
+use Rattle.std.proofs.Common.{ℕ, subst}
+use Rattle.board.specs.State.{AddsVersion}
 use Rattle.board.proofs.Longer.{takes_install, takes_safe, takes_horizon}
 use Rattle.board.proofs.board_copy.BoardCopy.prepare.Goals as goal
 
@@ -7,7 +9,9 @@ invariant_of-self-in-Installed c =
     let s = c.self.inside in
     let taken = takes_install s.versions.installs c.add_version.new.versions.installs s.list.entries s.ahead.entries c.add.new.self.entries c.args.entry.now
     c.in-Installed.install s.prepared_safe s.prepared_horizon
-    c.in-Installed.is c.add.ensures.0 inv.1 inv.2 c.in_ok-add_version-in-Installed.ensures.added inv.4 inv.6 in
+    c.in-Installed.is c.add.ensures.0 inv.1 inv.2
+    (subst (λ (h : ℕ). AddsVersion h s.versions.installs c.add_version.new.versions.installs c.in-Installed.install) inv.5
+    c.in_ok-add_version-in-Installed.ensures.added) inv.4 inv.6 in
     (inv.0, taken.0, taken.1, inv.3, taken.2, inv.5, taken.3)
 
 pub invariant_of-self-in-Safe : goal.invariant_of-self-in-Safe

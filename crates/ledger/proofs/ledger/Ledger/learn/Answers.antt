@@ -18,13 +18,15 @@ follow-requires-clause-known c =
     let may : follows_next c.self.inside.facts.shard c.self.inside.facts.stage f c.args.item ≡ true =
     subst (λ (k : Known). follows_next k.shard k.stage k.facts c.args.item ≡ true) (sym c.self.view_is) c.requires.follows in
     let new : Installs f c.args.item = installs c.self.inside.facts.shard c.self.inside.facts.stage f c.args.item c.self.invariant.1 may can in
-    let known : length c.installs-known.result.now ≡ length f.installs = ap length c.installs-known.ensures in (
-      f.horizon,
-      subst (λ (t : List Install). Orders f.horizon t (length c.installs-known.result.now) places)
-          (sym (c.installs.ensures ∙ ap (λ (g : Facts). g.installs) c.learn_next.ensures.facts))
-          (subst (λ (n : ℕ). Orders f.horizon (learn f c.args.item).installs n places) (sym known)
-          (still_orders f c.args.item new f.horizon places c.self.invariant.0)),
-    )
+    let known : length c.installs-known.result.now ≡ length f.installs = ap length c.installs-known.ensures in
+    let h = (learn f c.args.item).horizon in
+    subst (λ (n : ℕ). Orders n c.installs.result.now (length c.installs-known.result.now) places)
+    (sym (c.horizon-horizon.ensures ∙ ap (λ (g : Facts). g.horizon) c.learn_next.ensures.facts))
+    (subst (λ (t : List Install). Orders h t (length c.installs-known.result.now) places)
+    (sym (c.installs.ensures ∙ ap (λ (g : Facts). g.installs) c.learn_next.ensures.facts))
+    (subst (λ (n : ℕ). Orders h (learn f c.args.item).installs n places) (sym known)
+    (risen_orders f c.args.item (learn f c.args.item).installs (length f.installs) places
+    (still_orders f c.args.item new f.horizon places c.self.invariant.0))))
 
 pub follow-requires-clause-behind : goal.follow-requires-clause-behind
 follow-requires-clause-behind c =
@@ -69,16 +71,9 @@ invariant_of-self c =
     let may : follows_next c.self.inside.facts.shard c.self.inside.facts.stage f c.args.item ≡ true =
     subst (λ (k : Known). follows_next k.shard k.stage k.facts c.args.item ≡ true) (sym c.self.view_is) c.requires.follows in
     let new : Installs f c.args.item = installs c.self.inside.facts.shard c.self.inside.facts.stage f c.args.item c.self.invariant.1 may can in
-    let known : length c.installs-known.result.now ≡ length f.installs = ap length c.installs-known.ensures in
-    let h = (learn f c.args.item).horizon in (
-      subst (λ (g : Facts). Orders g.horizon c.learn_next.new.self.facts.installs (length c.learn_next.new.self.facts.installs) c.follow.new.self)
-          (sym c.learn_next.ensures.facts)
-          (subst (λ (t : List Install). Orders h t (length t) c.follow.new.self) c.installs.ensures
-          (c.follow.ensures.all h (subst (λ (t : List Install). Orders h t (length c.installs-known.result.now) places)
-          (sym (c.installs.ensures ∙ ap (λ (g : Facts). g.installs) c.learn_next.ensures.facts))
-          (subst (λ (n : ℕ). Orders h (learn f c.args.item).installs n places) (sym known)
-          (risen_orders f c.args.item (learn f c.args.item).installs (length f.installs) places
-          (still_orders f c.args.item new f.horizon places c.self.invariant.0)))))),
+    let facts = c.learn_next.new.self.facts in (
+      subst (λ (n : ℕ). Orders n facts.installs (length facts.installs) c.follow.new.self) c.horizon-horizon.ensures
+          (subst (λ (t : List Install). Orders c.horizon-horizon.result t (length t) c.follow.new.self) c.installs.ensures c.follow.ensures.all),
       subst (λ (s : Stage). head_ascends s c.learn_next.new.self.facts.installs ≡ true) (sym c.learn_next.ensures.stage)
           (subst (λ (g : Facts). head_ascends (stage_after c.self.inside.facts.stage c.args.item) g.installs ≡ true) (sym c.learn_next.ensures.facts)
           (still_rising c.self.inside.facts.shard c.self.inside.facts.stage f c.args.item c.self.invariant.1 may)),
