@@ -27,8 +27,8 @@ impl Sink for Gathering {
 
     ghost taken = { λ gathering. reverse gathering.entries.entries };
 
-    fn take(&mut self, alloc: Global, entry: Entry) -> Result<(), Fault> {
-        let pushed = self.area.push(alloc, entry.item());
+    fn take(&mut self, _alloc: Global, entry: Entry) -> Result<(), Fault> {
+        let pushed = self.area.push(entry.item());
         if pushed.is_ok() {
             self.entries.add(&entry);
         }

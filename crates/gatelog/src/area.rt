@@ -10,7 +10,6 @@ use crate::token::put_behind;
 use counts::Past;
 use frames::OPEN_GATE;
 use record::Record;
-use spelling::encoded_len;
 use std::alloc::Global;
 use std::marker::Model;
 use units::Fault;
@@ -19,6 +18,8 @@ use units::Fault;
 #[derive(Drop)]
 pub struct Area {
     bytes: Vec<u8>,
+    // The frame of one record, before it is added.
+    frame: Vec<u8>,
     records: Past<Record>,
 }
 
@@ -44,18 +45,22 @@ impl Area {
     {
         Area {
             bytes: Vec::new(alloc),
+            frame: Vec::new(alloc),
             records: Past::none(),
         }
     }
 
     /// Adds a record at the end. It is refused for want of memory alone, and then the area is as it was.
-    pub fn push(&mut self, alloc: Global, item: &Record) -> Result<(), Fault>
+    pub fn push(&mut self, item: &Record) -> Result<(), Fault>
         ensures added { OnOk result (self.new ≡ self.old ++ item.now ∷ []) }
         ensures same { OnErr result (self.new ≡ self.old) }
         ensures memory { IfErr result (λ fault. fault ≡ Fault.Memory) }
     {
-        let frame = frame_of(alloc, item)?;
-        let Ok(()) = self.bytes.extend_from_slice(&frame) else {
+        self.frame.clear();
+        if !put_whole(&mut self.frame, item) {
+            return Err(Fault::Memory);
+        }
+        let Ok(()) = self.bytes.extend_from_slice(&self.frame) else {
             return Err(Fault::Memory);
         };
         self.records.add(item);
@@ -115,7 +120,11 @@ impl StagedArea {
             × (staged.gate ≡ gate) × (staged.slot ≡ slot)) }
         ensures memory { IfErr result (λ fault. fault ≡ Fault.Memory) }
     {
-        let Area { bytes, records } = area;
+        let Area {
+            bytes,
+            frame: _,
+            records,
+        } = area;
         let mut bytes = bytes;
         let Ok(()) = bytes.push(0) else {
             drop(bytes);
@@ -160,22 +169,6 @@ impl StagedArea {
     {
         self.gate + self.bytes.len() as u64
     }
-}
-
-// Makes the frame of a record, with its gate open.
-fn frame_of(alloc: Global, item: &Record) -> Result<Vec<u8>, Fault>
-    ensures bytes { IfOk result (λ bytes. bytes.items ≡ whole_frame item.now) }
-    ensures fits { OnOk result (IsRecord item.now) }
-    ensures memory { IfErr result (λ fault. fault ≡ Fault.Memory) }
-{
-    let Ok(mut bytes) = Vec::with_capacity(alloc, encoded_len(item) as usize + 5) else {
-        return Err(Fault::Memory);
-    };
-    if !put_whole(&mut bytes, item) {
-        drop(bytes);
-        return Err(Fault::Memory);
-    }
-    Ok(bytes)
 }
 
 // Adds the frame of a record, with its gate open, and tells whether there was the memory.

@@ -9,6 +9,7 @@ use Rattle.units.specs.Ids.{Id, older, same_id}
 use Rattle.units.specs.ById.{IsById, find_member}
 use Rattle.units.proofs.IdLaws.{same_id-refl, older_not_same}
 use Rattle.units.proofs.ByIdLaws.{AllYounger, later_are_younger}
+use Rattle.record.specs.Records.{Status, Unrecorded, StandsPrepared, StandsDecided, HasAborted, HasSettled, HasClosed}
 use Rattle.record.specs.Facts.{Facts, TxnStatus, or_unrecorded, recorded}
 use Rattle.record.specs.declared.record.Record.{Record}
 use Rattle.record.specs.declared.record.Record.TheVariants.{Base, Version}
@@ -98,3 +99,64 @@ handed_all (Ok done) facts before based listed ended now e f g h =
     let stands = gather standing_item facts.entries in
     h ∙ (λ i. g i ++ stands) ∙ append_assoc listed gone stands ∙ (λ i. f i ++ (gone ++ stands)) ∙ append_assoc based versions (gone ++ stands)
     ∙ (λ i. e i ++ (versions ++ (gone ++ stands))) ∙ append_assoc before (base ∷ []) (versions ++ (gone ++ stands))
+
+-- one that ended does not stand
+pub ended_not_standing : (e : TxnStatus) (r : Record) → ended_item e ≡ Some r → standing_item e ≡ None
+ended_not_standing e r is = by_status e.status is
+  where
+    by_status : (s : Status) → ended_item (record { txn = e.txn; status = s }) ≡ Some r → standing_item (record { txn = e.txn; status = s }) ≡ None
+    by_status Unrecorded is = refl
+    by_status (StandsPrepared p) is = let clash : ◌≡◌ {A = Option Record} None (Some r) = is in cc
+    by_status (StandsDecided c) is = let clash : ◌≡◌ {A = Option Record} None (Some r) = is in cc
+    by_status HasAborted is = refl
+    by_status (HasSettled at parts) is = refl
+    by_status (HasClosed coordinator outcome) is = refl
+
+abbrev made_once : Option Record → List Record
+made_once None = []
+made_once (Some r) = r ∷ []
+
+-- ids, and one more
+gather_one : (make : Id → Option Record) (ids : List Id) (t : Id) → gather make (ids ++ t ∷ []) ≡ gather make ids ++ gather make (t ∷ [])
+gather_one make [] t = refl
+gather_one make (u ∷ ids) t =
+    by_made (make u) (gather_one make ids t)
+  where
+    by_made : (o : Option Record) → gather make (ids ++ t ∷ []) ≡ gather make ids ++ gather make (t ∷ [])
+        → elim o [ None ↦ gather make (ids ++ t ∷ []) | Some r ↦ r ∷ gather make (ids ++ t ∷ []) ]
+        ≡ (elim o [ None ↦ gather make ids | Some r ↦ r ∷ gather make ids ]) ++ gather make (t ∷ [])
+    by_made None rest = rest
+    by_made (Some r) rest = ap (λ (l : List Record). r ∷ l) rest
+
+-- what is made of some ids, and of the others from a place on
+module _ (make : Id → Option Record) (ids : List Id) (k : ℕ) (t : Id) (lt : k < length ids) (here : t ≡ get_or ids k t) where
+  one_left : gather make (drop k ids) ≡ made_once (make t) ++ gather make (drop (k + 1) ids)
+  one_left = ap (gather make) (drop_more ids k t lt ∙ ap (λ (u : Id). u ∷ drop (k + 1) ids) (sym here)) ∙ by_made (make t)
+    where
+      by_made : (o : Option Record) → elim o [ None ↦ gather make (drop (k + 1) ids) | Some r ↦ r ∷ gather make (drop (k + 1) ids) ]
+          ≡ made_once o ++ gather make (drop (k + 1) ids)
+      by_made None = refl
+      by_made (Some r) = refl
+
+  one_made : gather make (t ∷ []) ≡ made_once (make t)
+  one_made = by_made (make t)
+    where
+      by_made : (o : Option Record) → elim o [ None ↦ [] | Some r ↦ r ∷ [] ] ≡ made_once o
+      by_made None = refl
+      by_made (Some r) = refl
+
+  -- one is listed
+  pub listed_one : (some : List Id) (all : List Record) → gather make some ++ gather make (drop k ids) ≡ all
+      → gather make (some ++ t ∷ []) ++ gather make (drop (k + 1) ids) ≡ all
+  listed_one some all is =
+      ap (λ (l : List Record). l ++ gather make (drop (k + 1) ids)) (gather_one make some t)
+      ∙ append_assoc (gather make some) (gather make (t ∷ [])) (gather make (drop (k + 1) ids))
+      ∙ ap (λ (l : List Record). gather make some ++ l)
+      (ap (λ (l : List Record). l ++ gather make (drop (k + 1) ids)) one_made ∙ sym one_left) ∙ is
+
+  -- one is not, of which nothing is made
+  pub listed_none : (some : List Id) (all : List Record) → make t ≡ None → gather make some ++ gather make (drop k ids) ≡ all
+      → gather make some ++ gather make (drop (k + 1) ids) ≡ all
+  listed_none some all none is =
+      ap (λ (l : List Record). gather make some ++ l)
+      (sym (one_left ∙ ap (λ (o : Option Record). made_once o ++ gather make (drop (k + 1) ids)) none)) ∙ is

@@ -4,3 +4,4 @@ pub mod Rules
 pub mod Laws
 pub mod Ended
 pub mod Ledger
+pub mod Handed

@@ -10,6 +10,7 @@ ghost use Rattle.versions.specs.Arranged.{arranged};
 ghost use Rattle.versions.specs.Orders.{Orders};
 ghost use Rattle.versions.specs.Pruned.{first_left};
 ghost use Rattle.protocol.specs.Showable.{rises_by_key};
+ghost use Rattle.ledger.specs.Handed.{standing_of};
 ghost use Rattle.ledger.specs.Turned.{ended_item, standing_item, turned, versions_held};
 
 use facts::{Facts, Status};
@@ -48,8 +49,8 @@ pub fn renew<R: Recorder>(
     let ids = facts.ids(alloc)?;
     hand_base(alloc, facts, recorder)?;
     hand_versions(alloc, facts, places, recorder)?;
-    hand_ended(alloc, facts, &ids, recorder)?;
-    hand_standing(alloc, facts, &ids, recorder)
+    let rest = hand_ended(alloc, facts, &ids, recorder)?;
+    hand_standing(alloc, facts, &rest, recorder)
 }
 
 // Hands on the epoch, the greatest timestamp and the horizon.
@@ -113,36 +114,40 @@ fn held<'f>(facts: &'f Facts, places: &Places, at: usize) -> Option<&'f Install>
     places.left(facts.installs(), at, facts.horizon())
 }
 
-// Hands on those of these ids that ended.
+// Hands on those of these ids that ended, and lists the others, which stand: they are few.
 fn hand_ended<R: Recorder>(
     alloc: Global,
     facts: &Facts,
     ids: &[TxnId],
     recorder: &mut R,
-) -> Result<(), Fault>
+) -> Result<Vec<TxnId>, Fault>
     requires ids { ids.now ≡ map (λ e. e.txn) facts.now.facts.entries }
     requires order { IsById (λ id. id) ids.now }
     ensures added { OnOk result (R.records recorder.new ≡ R.records recorder.old
         ++ gather ended_item facts.now.facts.entries) }
+    ensures rest { IfOk result (λ rest. gather (standing_of facts.now.facts) rest.items ≡
+        gather standing_item facts.now.facts.entries) }
     ensures memory { IfErr result (λ fault. fault ≡ Fault.Memory) }
 {
+    let mut rest = Vec::new(alloc);
     for txn in ids {
-        if let Some(item) = ended(*txn, facts.status(*txn)) {
-            hand(alloc, item, recorder)?;
+        match ended(*txn, facts.status(*txn)) {
+            Some(item) => hand(alloc, item, recorder)?,
+            None => rest.push(*txn)?,
         }
     }
-    Ok(())
+    Ok(rest)
 }
 
-// Hands on those of these ids that stand.
+// Hands on the records of those of these ids that stand.
 fn hand_standing<R: Recorder>(
     alloc: Global,
     facts: &Facts,
     ids: &[TxnId],
     recorder: &mut R,
 ) -> Result<(), Fault>
-    requires ids { ids.now ≡ map (λ e. e.txn) facts.now.facts.entries }
-    requires order { IsById (λ id. id) ids.now }
+    requires { gather (standing_of facts.now.facts) ids.now ≡
+        gather standing_item facts.now.facts.entries }
     ensures added { OnOk result (R.records recorder.new ≡ R.records recorder.old
         ++ gather standing_item facts.now.facts.entries) }
     ensures memory { IfErr result (λ fault. fault ≡ Fault.Memory) }

@@ -66,7 +66,7 @@ fn put(
     drop(log.append(staged)?.spend());
     if renewed && number % TURN == 0 {
         let mut area = Area::new(alloc);
-        area.push(alloc, &Record::Ceiling { at: stamp(number) })?;
+        area.push(&Record::Ceiling { at: stamp(number) })?;
         let staged = log.stage_area(area)?;
         log.turn_over(staged)?;
     }

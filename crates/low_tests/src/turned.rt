@@ -192,7 +192,7 @@ fn area_of(alloc: Global, lines: &str) -> Option<Area> {
             drop(area);
             return None;
         };
-        let pushed = area.push(alloc, &item).is_ok();
+        let pushed = area.push(&item).is_ok();
         drop(item);
         if !pushed {
             drop(area);

@@ -24,8 +24,8 @@ struct Renewing {
 impl Recorder for Renewing {
     ghost records = { λ renewing. renewing.area };
 
-    fn record(&mut self, alloc: Global, item: &Record) -> Result<(), Fault> {
-        self.area.push(alloc, item)
+    fn record(&mut self, _alloc: Global, item: &Record) -> Result<(), Fault> {
+        self.area.push(item)
     }
 }
 

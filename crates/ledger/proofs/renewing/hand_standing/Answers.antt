@@ -1,12 +1,12 @@
-use Rattle.std.proofs.Common.{◌≡◌, ◌+◌, ◌++◌, ◌∙◌, List, drop, ap, subst, sym}
+use Rattle.std.proofs.Common.{◌≡◌, ◌+◌, ◌++◌, ◌∙◌, List, drop, ap, sym}
 use Rattle.std.proofs.lemmas.List.{append-nil, drop_all}
-use Rattle.units.specs.ById.{IsById}
 use Rattle.units.specs.Ids.{Id}
 use Rattle.units.specs.Lists.{gather}
 use Rattle.record.specs.Records.{Status}
 use Rattle.record.specs.declared.record.Record.{Record}
+use Rattle.ledger.specs.Handed.{standing_of}
 use Rattle.ledger.specs.Turned.{standing_item}
-use Rattle.ledger.proofs.Renewed.{by_ids, handed_none, handed_one, known_of, made_none, made_of_ids, made_one}
+use Rattle.ledger.proofs.Renewed.{handed_none, handed_one, made_none, made_one}
 use Rattle.ledger.proofs.renewing.hand_standing.Goals.{in-Some+in_ok-hand, in_default}
 use Rattle.ledger.proofs.renewing.hand_standing.Goals as goal
 
@@ -16,17 +16,14 @@ returns-clause-added g c =
     let before = g.R.Recorder.records c.args.recorder.now in
     let after = g.R.Recorder.records c.loop-txn.recorder in
     sym (append-nil after)
-    ∙ ap (λ (ids : List Id). after ++ gather (λ t. standing_item (known_of facts t)) ids)
-    (sym (drop_all c.loop-txn.txn-index c.args.ids.now c.loop-txn-test.false))
+    ∙ ap (λ (ids : List Id). after ++ gather (standing_of facts) ids) (sym (drop_all c.loop-txn.txn-index c.args.ids.now c.loop-txn-test.false))
     ∙ c.loop-txn.invariant
-    ∙ ap (λ (ids : List Id). before ++ gather (λ t. standing_item (known_of facts t)) ids) c.requires.ids
-    ∙ ap (λ (items : List Record). before ++ items) (made_of_ids standing_item facts
-    (by_ids facts.entries (subst (IsById (λ t. t)) c.requires.ids c.requires.order)))
+    ∙ ap (λ (items : List Record). before ++ items) c.requires
 
 pub loop-txn-preserved : goal.loop-txn-preserved
 loop-txn-preserved g c =
     let facts = c.args.facts.now.facts in
-    let make = λ (t : Id). standing_item (known_of facts t) in
+    let make = standing_of facts in
     let ids = c.args.ids.now in
     let at = c.loop-txn.txn-index in
     let t = c.txn-item.result in
