@@ -4,7 +4,7 @@ use std::hash::{BuildHasher, RandomState};
 use std::io::{self, BufRead, BufReader, Write};
 use std::os::unix::process::CommandExt;
 use std::process::{Child, ChildStdin, ChildStdout, Command, ExitStatus, Stdio};
-use std::sync::{Arc, Condvar, Mutex};
+use std::sync::{Condvar, Mutex};
 use std::{env, fmt, iter, mem, path::Path, thread, time::Duration};
 
 /// Why a call did not do what was asked.
@@ -22,10 +22,8 @@ pub enum Failed {
 
 impl fmt::Display for Failed {
     fn fmt(&self, f: &mut fmt::Formatter<'_>) -> fmt::Result {
-        match self {
-            Failed::Refused { words, .. } => write!(f, "fault: {words}"),
-            failed => write!(f, "{failed:?}"),
-        }
+        let Failed::Refused { words, .. } = self else { return write!(f, "{self:?}") };
+        write!(f, "fault: {words}")
     }
 }
 
@@ -43,7 +41,7 @@ pub struct Committed<T> {
 pub struct Store {
     /// The program. If it is killed, what was answered stays.
     pub child: Mutex<Child>,
-    pipe: Arc<Pipe>,
+    pipe: Pipe,
     // The numbers of the clients that are in no use, and what wakes those that wait for one.
     free: (Mutex<Vec<usize>>, Condvar),
     // The last ids that were answered `unknown`, each with the number of its client.
@@ -67,11 +65,9 @@ impl Store {
         if output.read_line(&mut ready).is_err() || !ready.starts_with("ready") {
             return Err(io::Error::other(format!("the store was not opened: {}; standard error has the reason", child.wait()?)));
         }
-        let ears = (0..clients).map(|_| Default::default()).collect();
-        let pipe = Arc::new(Pipe { lines: Mutex::new((Some(Vec::new()), child.stdin.take())), ears });
-        let (heard, free) = (pipe.clone(), (Mutex::new((0..clients).collect()), Condvar::new()));
-        thread::spawn(move || heard.hear(output));
-        Ok(Store { child: Mutex::new(child), pipe, free, doubts: Mutex::default() })
+        let (lines, came) = ((Some(Vec::new()), child.stdin.take()).into(), (0..clients).map(|_| Condvar::new()).collect());
+        let pipe = Pipe { lines, output: output.into(), ears: vec![(0, String::new()); clients].into(), came };
+        Ok(Store { child: child.into(), pipe, free: (Mutex::new((0..clients).collect()), Condvar::new()), doubts: Mutex::default() })
     }
 
     /// Runs the code of a transaction and commits what it did; up to `tries` times, while that is aborted. Another failure of the code aborts it.
@@ -142,44 +138,52 @@ impl Drop for Store {
 struct Pipe {
     // The lines that wait until the thread that writes takes them along, or nothing once the store is closed; and the stream while none writes.
     lines: Mutex<(Option<Vec<u8>>, Option<ChildStdin>)>,
-    // For how many answers each client waits, those that have come, and what wakes it.
-    ears: Vec<(Mutex<(usize, String)>, Condvar)>,
+    output: Mutex<BufReader<ChildStdout>>,
+    // For how many answers each client waits, with those that have come; and what wakes it.
+    ears: Mutex<Vec<(usize, String)>>,
+    came: Vec<Condvar>,
 }
 
 impl Pipe {
-    // Sends whole lines. No answer comes of one that was not written whole, and no other follows it.
+    // Sends whole lines. It fails if nothing of them was written: the system writes up to 4,096 bytes whole, or none of them.
     fn send(&self, text: &[u8]) -> Result<(), Failed> {
         let mut lines = self.lines.lock().unwrap();
         lines.0.as_mut().ok_or(Failed::Closed)?.extend_from_slice(text);
-        let Some(mut input) = lines.1.take() else { return Ok(()) };
+        let (Some(mut input), mut sent) = (lines.1.take(), None) else { return Ok(()) };
         while let Some(text) = lines.0.as_mut().map(mem::take).filter(|text| !text.is_empty()) {
             drop(lines);
-            let written = input.write_all(&text);
+            let written = input.write_all(&text).is_ok();
+            sent = sent.or((written || text.len() > 4096).then_some(Ok(())).or(Some(Err(Failed::Closed))));
             lines = self.lines.lock().unwrap();
-            lines.0 = lines.0.take().filter(|_| written.is_ok());
+            lines.0 = lines.0.take().filter(|_| written);
         }
         lines.1 = lines.0.is_some().then_some(input);
-        Ok(())
+        sent.unwrap_or(Ok(()))
     }
 
-    // Hands each answer to its client, which wakes with the last that it waits for. A line that was cut off is none.
-    fn hear(&self, mut output: BufReader<ChildStdout>) {
-        let mut line = String::new();
-        while output.read_line(&mut line).is_ok() && line.ends_with('\n') {
-            let (client, answer) = parted(&line);
-            let Some((heard, came)) = client.parse().ok().and_then(|client: usize| self.ears.get(client)) else { break };
-            let mut heard = heard.lock().unwrap();
-            *heard = (heard.0.saturating_sub(1), mem::take(&mut heard.1) + answer);
-            if heard.0 == 0 {
-                came.notify_one();
-            }
+    // Sends lines of a client, and waits for their answers: fewer if the store is closed first. One of those that wait reads for all.
+    fn ask(&self, number: usize, count: usize, text: &[u8]) -> Result<String, Failed> {
+        self.ears.lock().unwrap()[number] = (count, String::new());
+        let (sent, mut line) = (self.send(text), String::new());
+        let mut ears = self.ears.lock().unwrap();
+        while sent.is_ok() && ears[number].0 > 0 {
+            let Ok(mut output) = self.output.try_lock() else {
+                ears = self.came[number].wait(ears).unwrap();
+                continue;
+            };
+            drop(ears);
             line.clear();
+            let is_whole = output.read_line(&mut line).is_ok() && line.ends_with('\n');
+            ears = self.ears.lock().unwrap();
+            let (client, answer) = parted(&line);
+            let Some(client) = client.parse().ok().filter(|client: &usize| is_whole && *client < ears.len()) else { break };
+            ears[client] = (ears[client].0.saturating_sub(1), mem::take(&mut ears[client].1) + answer);
+            (ears[client].0 == 0).then(|| self.came[client].notify_one());
         }
-        *self.lines.lock().unwrap() = (None, None);
-        for (heard, came) in &self.ears {
-            heard.lock().unwrap().0 = 0;
-            came.notify_one();
-        }
+        let heard = mem::take(&mut ears[number]).1;
+        // If nobody reads now, one that waits does.
+        ears.iter().position(|ear| ear.0 > 0).filter(|_| self.output.try_lock().is_ok()).inspect(|next| self.came[*next].notify_one());
+        sent.map(|()| heard)
     }
 }
 
@@ -232,11 +236,8 @@ impl<At> Open<'_, At> {
     fn send(&mut self, lost: Failed) -> Result<String, Failed> {
         let text = mem::take(&mut self.text);
         self.over.clone().map_or(Ok(()), Err)?;
-        let (heard, came) = &self.store.pipe.ears[self.number];
         let count = text.iter().filter(|byte| **byte == b'\n').count();
-        *heard.lock().unwrap() = (count, String::new());
-        self.store.pipe.send(&text)?;
-        let answers = mem::take(&mut came.wait_while(heard.lock().unwrap(), |heard| heard.0 > 0).unwrap().1);
+        let answers = self.store.pipe.ask(self.number, count, &text)?;
         let heard: Vec<_> = answers.lines().chain(iter::repeat("")).take(count).map(|answer| self.heard(answer, &lost)).collect();
         heard.into_iter().reduce(Result::and).unwrap_or(Ok(String::new()))
     }
@@ -298,8 +299,7 @@ impl Open<'_, ()> {
         self.add(verb, data);
         self.writes += 1;
         let waits = self.writes <= 128 && (1..=64).contains(&data[0].len()) && data[data.len() - 1].len() <= 4096;
-        let sent = if waits { Ok(String::new()) } else { self.send(Failed::Closed) };
-        sent.map(drop)
+        waits.then_some(()).map_or_else(|| self.send(Failed::Closed).map(drop), Ok)
     }
 
     fn commit<T>(&mut self, verb: &str, data: &[&[u8]], value: T) -> Result<Committed<T>, Failed> {
