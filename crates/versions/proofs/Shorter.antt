@@ -1,70 +1,13 @@
--- Fewer places, in pieces and beside the versions and heads.
-use Rattle.std.proofs.Common.{◌≡◌, ℕ, zero, suc, ◌-◌, ◌<◌, ◌≤◌, Bool, true, false, nat_lt, List, [], ◌∷◌, ◌++◌, length, map, take, get_or, set}
+-- Fewer places, beside the versions and heads.
+use Rattle.std.proofs.Common.{◌≡◌, ℕ, zero, suc, ◌<◌, List, [], ◌∷◌, length, map, take, get_or, set}
 use Rattle.std.proofs.Common.{refl, sym, ap, ◌∙◌, arith}
 use Rattle.std.specs.List.{AllByRecursion}
-use Rattle.std.proofs.lemmas.Bool.Decides.{nat_tests}
-use Rattle.std.proofs.lemmas.List.{length-take, take-map, get_or-map, map-set, nil_from_length, get_or-take}
+use Rattle.std.proofs.lemmas.List.{take-map, get_or-map, map-set, get_or-take}
 use Rattle.units.specs.declared.writes.Install.{Install}
 use Rattle.versions.specs.Arranged.{arranged, no_install, AreWithin}
 use Rattle.versions.specs.Heads.{AreBytes, head, AreHeads}
-use Rattle.versions.specs.declared.chunk.Spot.{Spot}
-use Rattle.versions.specs.Pieces.{IsFilled}
 use Rattle.versions.proofs.Arranged.{place_within}
 use Rattle.versions.proofs.Halves.{each_at}
-
--- ---- in pieces
-
-pub take_nil : (n : ℕ) → ◌≡◌ {A = List Spot} (take n []) []
-take_nil zero = refl
-take_nil (suc n) = refl
-
--- what is taken of two lists together
-take_parts : (p r : List Spot) (n : ℕ) → take n (p ++ r) ≡ take n p ++ take (n - length p) r
-take_parts [] r zero = refl
-take_parts [] r (suc n) =
-    let same : suc n ≡ suc n - 0 = omega arith in
-    ap (λ (m : ℕ). take m r) same
-take_parts (x ∷ p) r zero =
-    let none : 0 ≡ 0 - suc (length p) = omega arith in
-    ap (λ (m : ℕ). take m r) none
-take_parts (x ∷ p) r (suc n) =
-    let same : n - length p ≡ suc n - suc (length p) = omega arith in
-    ap (λ (l : List Spot). x ∷ l) (take_parts p r n ∙ ap (λ (m : ℕ). take n p ++ take m r) same)
-
--- a piece that is cut, and the later ones
-module _ (p rest more : List Spot) (n m : ℕ) (is : IsFilled p rest) (m_is : m ≡ n - 4096) (made : more ≡ take m rest) where
-  pub shorter_joined : take n p ++ more ≡ take n (p ++ rest)
-  shorter_joined = ap (λ (l : List Spot). take n p ++ l) (made ∙ by_test (nat_lt (length p) 4096) refl) ∙ sym (take_parts p rest n)
-    where
-      by_test : (b : Bool) → nat_lt (length p) 4096 ≡ b → take m rest ≡ take (n - length p) rest
-      by_test true e =
-          let less : length p < 4096 = grind (arith, nat_tests) in
-          let none : rest ≡ [] = nil_from_length rest (is.full less) in
-          ap (λ (l : List Spot). take m l) none ∙ take_nil m ∙ sym (take_nil (n - length p)) ∙ ap (λ (l : List Spot). take (n - length p) l) (sym none)
-      by_test false e =
-          let long : 4096 ≤ length p = grind (arith, nat_tests) in
-          let same : m ≡ n - length p = omega (arith, m_is, long, is.few) in
-          ap (λ (k : ℕ). take k rest) same
-
-  pub shorter_filled : IsFilled (take n p) more
-  shorter_filled = record {
-    few = omega (arith, length-take n p, is.few);
-    full = λ less. by_test (nat_lt (length p) 4096) refl less;
-  }
-    where
-      left : length more ≡ length (take m rest)
-      left = ap length made
-
-      by_test : (b : Bool) → nat_lt (length p) 4096 ≡ b → length (take n p) < 4096 → length more ≡ 0
-      by_test true e less =
-          let short : length p < 4096 = grind (arith, nat_tests) in
-          let none : length rest ≡ 0 = is.full short in
-          omega (arith, left, length-take m rest, none)
-      by_test false e less =
-          let long : 4096 ≤ length p = grind (arith, nat_tests) in
-          omega (arith, left, length-take m rest, length-take n p, long, less, m_is)
-
--- ---- beside the versions and the heads
 
 all_take : {X : Type 0} (P : X → Type 0) (n : ℕ) (t : List X) → AllByRecursion P t → AllByRecursion P (take n t)
 all_take P zero t all = tt

@@ -1,16 +1,17 @@
 //! A piece of a long list of places, each with the head of its key.
-ghost use Rattle.std.specs.Prelude.{◌≡◌, ◌-◌, ◌<◌, ◌≤◌, ◌++◌, ◌∷◌, [], length, take, IfOk, IfErr, slice_index_or, slice_set};
+ghost use Rattle.std.specs.Prelude.{◌≡◌, ◌-◌, ◌<◌, ◌≤◌, [], length, take, drop, IfOk, IfErr, vec_len, vec_capacity, slice_index_or, slice_set};
 ghost use Rattle.std.specs.List.{insert};
-ghost use Rattle.std.specs.VecDeque.{deque_len, deque_capacity};
 ghost use Rattle.versions.specs.Pieces.{heads_of, last_head};
 
 use std::alloc::Global;
-use std::collections::VecDeque;
 use std::marker::Model;
 use units::Fault;
 
 /// How many places a piece holds at most.
-pub const PIECE: usize = 4096;
+pub const PIECE: usize = 1024;
+
+/// Half of them.
+pub const HALF: usize = 512;
 
 /// A place in a list of versions, with the head of the key there. A search reads little else.
 #[derive(Clone, Copy)]
@@ -21,9 +22,9 @@ pub struct Spot {
     pub head: u64,
 }
 
-/// At most 4,096 places in order, with the space for all of them.
+/// At most 1,024 places in order, with the space for all of them.
 pub struct Piece {
-    spots: VecDeque<Spot>,
+    spots: Vec<Spot>,
     // The head of the last one, or 0. It stands beside those of the other pieces, so that a search for a piece reads no place.
     last: u64,
 }
@@ -35,8 +36,7 @@ impl Drop for Piece {
 }
 
 impl Model for Piece {
-    ghost use Rattle.std.specs.Prelude.{◌≡◌, List, ◌≤◌};
-    ghost use Rattle.std.specs.VecDeque.{deque_len, deque_capacity};
+    ghost use Rattle.std.specs.Prelude.{◌≡◌, List, ◌≤◌, vec_len, vec_capacity};
     ghost use Rattle.versions.specs.Pieces.{last_head};
     ghost use Rattle.versions.specs.declared.chunk.Spot.{Spot};
 
@@ -44,7 +44,7 @@ impl Model for Piece {
 
     ghost view = { λ p. p.spots.items };
 
-    ghost invariant = { λ p. (4096 ≤ deque_capacity p.spots) × (deque_len p.spots ≤ 4096)
+    ghost invariant = { λ p. (1024 ≤ vec_capacity p.spots) × (vec_len p.spots ≤ 1024)
         × (p.last ≡ last_head p.spots.items) };
 }
 
@@ -54,14 +54,14 @@ impl Piece {
         ensures none { IfOk result (λ piece. piece ≡ []) }
         ensures memory { IfErr result (λ fault. fault ≡ Fault.Memory) }
     {
-        let spots = VecDeque::with_capacity(alloc, PIECE)?;
+        let spots = Vec::with_capacity(alloc, PIECE)?;
         Ok(Piece { spots, last: 0 })
     }
 
     /// Counts its places.
     pub fn len(&self) -> usize
         ensures same { result ≡ length self.now }
-        ensures most { result ≤ 4096 }
+        ensures most { result ≤ 1024 }
     {
         self.spots.len()
     }
@@ -81,11 +81,10 @@ impl Piece {
         self.last
     }
 
-    /// Finds the first place whose head is not below a number, if heads ascend. It is a loop of its own, because the deque's search waits for
+    /// Finds the first place whose head is not below a number, if heads ascend. It is a loop of its own, because the library's search waits for
     /// each spot before it asks for the next. Here the processor goes on with a guess, which is faster if spots miss the cache.
     pub fn first_at(&self, head: u64) -> usize
         ensures within { result ≤ length self.now }
-        ensures most { result ≤ 4096 }
         ensures below { 0 < result → slice_index_or (heads_of self.now) (result - 1) 0 < head }
         ensures first { result < length self.now → head ≤ slice_index_or (heads_of self.now) result 0 }
     {
@@ -122,46 +121,37 @@ impl Piece {
     /// Puts a place into a piece that is not full. It takes no memory.
     pub fn insert(&mut self, at: usize, spot: Spot)
         requires at { at ≤ length self.old }
-        requires room { length self.old < 4096 }
+        requires room { length self.old < 1024 }
         ensures { self.new ≡ insert self.old at spot }
     {
-        put(&mut self.spots, at, spot);
+        match self.spots.insert(at, spot) {
+            Ok(()) => {}
+            Err(_) => unreachable!(),
+        }
         self.last = last_head(&self.spots);
     }
 
-    /// Puts a place into a full piece, and hands out its last one. It takes no memory.
-    pub fn pass(&mut self, at: usize, spot: Spot) -> Spot
-        requires at { at < length self.old }
-        requires full { 4096 ≤ length self.old }
-        ensures { self.new ++ result ∷ [] ≡ insert self.old at spot }
+    /// Hands its places from the 512th on to another piece, instead of those there. It takes no memory.
+    pub fn split(&mut self, upper: &mut Piece)
+        requires { 512 ≤ length self.old }
+        ensures lower { self.new ≡ take 512 self.old }
+        ensures upper { upper.new ≡ drop 512 self.old }
     {
-        let Some(last) = self.spots.pop_back() else {
-            unreachable!()
-        };
-        put(&mut self.spots, at, spot);
-        self.last = last_head(&self.spots);
-        last
-    }
-}
-
-// Puts a place in, if there is space.
-fn put(spots: &mut VecDeque<Spot>, at: usize, spot: Spot)
-    requires at { at ≤ deque_len spots.old }
-    requires room { deque_len spots.old < deque_capacity spots.old }
-    ensures spots { spots.new.items ≡ insert spots.old.items at spot }
-    ensures capacity { deque_capacity spots.old ≤ deque_capacity spots.new }
-{
-    match spots.insert(at, spot) {
-        Ok(()) => {}
-        Err(_) => unreachable!(),
+        upper.spots.truncate(0);
+        match upper.spots.extend_from_slice(&self.spots[HALF..]) {
+            Ok(()) => {}
+            Err(_) => unreachable!(),
+        }
+        upper.last = last_head(&upper.spots);
+        self.shorten(HALF);
     }
 }
 
 // The head of the last place.
-fn last_head(spots: &VecDeque<Spot>) -> u64
+fn last_head(spots: &Vec<Spot>) -> u64
     ensures { result ≡ last_head spots.now.items }
 {
-    match spots.back() {
+    match spots.last() {
         Some(spot) => spot.head,
         None => 0,
     }

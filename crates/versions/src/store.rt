@@ -1,11 +1,12 @@
 //! The versions of keys.
-ghost use Rattle.std.specs.Prelude.{◌≡◌, ℕ, ◌+◌, ◌<◌, ◌≤◌, ◌^◌, ◌++◌, ◌∷◌, [], List, length, IsTrue, IsOk, IfOk, IfErr, OnOk};
+ghost use Rattle.std.specs.Prelude.{◌≡◌, ℕ, ◌+◌, ◌-◌, ◌<◌, ◌≤◌, ◌^◌, ◌++◌, ◌∷◌, [], List, length, vec_len, vec_capacity, IsTrue, IsOk, IfOk, IfErr, OnOk};
 ghost use Rattle.std.specs.Option.{option_copied};
 ghost use Rattle.units.specs.Versions.{latest, at_time, versions, above_versions};
 ghost use Rattle.units.specs.declared.writes.Install.{Install};
 ghost use Rattle.units.specs.Keys.{write_before};
 ghost use Rattle.units.specs.Lists.{ascends};
-ghost use Rattle.versions.specs.Arranged.{arranged, AreWithin};
+ghost use Rattle.versions.specs.Arranged.{arranged, AreWithin, IsPlaced};
+ghost use Rattle.versions.specs.Heads.{AreHeads};
 ghost use Rattle.versions.specs.Next.{IsNextKey, IsNextVersion};
 ghost use Rattle.versions.specs.Ordered.{installed, all_installed, count_not_after, is_above, AscendsByVersion};
 ghost use Rattle.versions.specs.Orders.{Orders};
@@ -77,7 +78,7 @@ impl Versions {
             (λ versions. versions.installs ≡ arranged installs.now places.now.places) }
         ensures memory { IfErr result (λ fault. fault ≡ Fault.Memory) }
     {
-        Versions::in_order(alloc, installs, places)
+        Versions::in_order(alloc, installs, places, 0)
     }
 
     /// A copy, which shares the values.
@@ -85,25 +86,48 @@ impl Versions {
         ensures versions { IfOk result (λ copy. copy.installs ≡ self.now.installs) }
         ensures memory { IfErr result (λ fault. fault ≡ Fault.Memory) }
     {
-        Versions::in_order(alloc, &self.installs, &self.places)
+        Versions::in_order(alloc, &self.installs, &self.places, 0)
     }
 
-    // Copies of the versions at some places.
-    fn in_order(alloc: Global, installs: &[Install], places: &Places) -> Result<Versions, Fault>
+    // Copies of the versions at some places, with room for so many more.
+    fn in_order(
+        alloc: Global,
+        installs: &[Install],
+        places: &Places,
+        room: usize,
+    ) -> Result<Versions, Fault>
         requires within { AreWithin places.now.places (length installs.now) }
         requires order { AscendsByVersion (arranged installs.now places.now.places) }
         ensures versions { IfOk result
             (λ versions. versions.installs ≡ arranged installs.now places.now.places) }
+        ensures room { IfOk result (λ versions. room ≤ versions.room) }
         ensures memory { IfErr result (λ fault. fault ≡ Fault.Memory) }
     {
         let mut versions = Versions::none(alloc);
-        let Ok(()) = versions.reserve(places.len()) else {
+        let Some(all) = places.len().checked_add(room) else {
+            return Err(Fault::Memory);
+        };
+        let Ok(()) = versions.reserve(all) else {
             return Err(Fault::Memory);
         };
         for at in 0..places.len() {
             versions.append(&installs[places.get(at)])?;
         }
         Ok(versions)
+    }
+
+    // Gives the versions, and their places.
+    fn into_parts(self) -> (Vec<Install>, Places)
+        ensures items { arranged result.0.items result.1.places ≡ self.installs }
+        ensures placed { IsPlaced result.0.items result.1.places result.1.heads result.1.prefix
+            self.room (vec_capacity result.0 - vec_len result.0) result.1.room }
+    {
+        let Versions {
+            installs,
+            places,
+            room: _,
+        } = self;
+        (installs, places)
     }
 
     // Adds a copy of a version that comes after all others in order.
@@ -189,7 +213,8 @@ impl Versions {
     }
 
     /// Forgets the versions below a horizon: of each key all below it go, except the newest that is not above it. So values at the horizon or
-    /// later stay as they are, and so does what is taken as new. It takes no memory, and what goes leaves its room.
+    /// later stay as they are, and so does what is taken as new. What goes leaves its room. If there is memory, the others are copied, each in its
+    /// place, which is quicker than to move them there.
     pub fn forget(&mut self, horizon: Stamp)
         ensures installs { self.new.installs ≡ pruned horizon self.old.installs }
         ensures room { self.old.room ≤ self.new.room }
@@ -198,8 +223,8 @@ impl Versions {
     {
         let before = self.places.len();
         forget(&self.installs, &mut self.places, horizon);
-        gather(&mut self.installs, &mut self.places);
         self.room += before - self.places.len();
+        bring_together(&mut self.installs, &mut self.places, self.room);
     }
 
     /// Forgets the versions below a horizon (`forget`) if that is due: if there are twice as many as were left the last time, and 1,024 more.
@@ -253,5 +278,37 @@ impl Versions {
         ensures counted { compared.new.number ≡ compared.old.number + result.1 }
     {
         find(&self.installs, &self.places, key, at.micros(), compared)
+    }
+}
+
+// Brings the versions that have a place to the front, in the order of the places, and drops the others. There is room for so many more. If there
+// is memory they are copied, each to where it comes, which is quicker than to move them.
+fn bring_together(installs: &mut Vec<Install>, places: &mut Places, room: usize)
+    requires within { AreWithin places.old.places (length installs.old.items) }
+    requires order { AscendsByVersion (arranged installs.old.items places.old.places) }
+    requires heads { AreHeads places.old.prefix (arranged installs.old.items places.old.places)
+        places.old.heads }
+    requires few { length places.old.places ≤ vec_len installs.old }
+    requires room { (length places.old.places + room ≤ vec_capacity installs.old)
+        × (room ≤ places.old.room) }
+    ensures items { arranged installs.new.items places.new.places ≡
+        arranged installs.old.items places.old.places }
+    ensures within { AreWithin places.new.places (length installs.new.items) }
+    ensures heads { AreHeads places.new.prefix (arranged installs.new.items places.new.places)
+        places.new.heads }
+    ensures all { vec_len installs.new ≡ length places.new.places }
+    ensures room { (vec_len installs.new + room ≤ vec_capacity installs.new)
+        × (room ≤ places.new.room) }
+{
+    if places.len() >= installs.len() {
+        return;
+    }
+    match Versions::in_order(*installs.allocator(), installs, places, room) {
+        Ok(gathered) => {
+            let (all, order) = gathered.into_parts();
+            *installs = all;
+            *places = order;
+        }
+        Err(_) => gather(installs, places),
     }
 }

@@ -1,23 +1,22 @@
-use Rattle.std.proofs.Common.{◌≡◌, ◌∙◌, ◌∷◌, ◌++◌, ◌+◌, List, [], ap, sym, subst, arith, length}
-use Rattle.std.proofs.lemmas.List.{length-append}
-use Rattle.versions.specs.declared.chunk.Spot.{Spot}
-use Rattle.versions.specs.Pieces.{Laid, joined, IsLaid}
-use Rattle.versions.proofs.Pieces.{joined_more, laid_more}
+use Rattle.std.proofs.Common.{◌∙◌, length, sym, ap, subst, arith}
+use Rattle.versions.specs.Pieces.{joined, ends_from, IsLaid}
+use Rattle.versions.proofs.Pieces.{length-ends}
 use Rattle.versions.proofs.sequence.Sequence.grow.Goals as goal
 
 pub invariant_of-self-2 : goal.invariant_of-self-2
 invariant_of-self-2 c =
-    let items = c.self.inside.pieces.items in
-    let is : c.push.new.self.items ≡ items ++ [] ∷ [] = c.in_ok-push.ensures.items ∙ ap (λ (p : List Spot). items ++ p ∷ []) c.in_ok-piece.ensures.none in
-    let long : length c.push.new.self.items ≡ length items + 1 = ap length is ∙ length-append items ([] ∷ []) in (
-      subst IsLaid (sym is) (laid_more items c.self.invariant.0),
-      c.self.invariant.1 ∙ ap length (sym (ap joined is ∙ joined_more items)),
-      omega (arith, long, c.self.invariant, c.in-Some.ensures),
-      omega (arith, c.self.invariant, c.in-Some.ensures),
+    let i = c.self.invariant in
+    let pieces = c.in_ok-reserve.ensures in
+    let ends = c.in_ok-reserve-2.ensures in
+    let spare = c.in_ok-reserve-3.ensures in
+    let more = c.push_reserved.ensures in
+    let space = c.in-Some.ensures in (
+      subst IsLaid (sym pieces.items) i.0,
+      ends.items ∙ i.1 ∙ ap (ends_from 0) (sym pieces.items),
+      i.2 ∙ ap (λ ps. length (joined ps)) (sym pieces.items),
+      omega (arith, i, space, pieces.len, spare.len, more.len),
+      omega (arith, i, space),
+      omega (arith, pieces.len, pieces.ok, spare.len, more.len, c.len.ensures),
+      omega (arith, pieces.len, ends.len, ends.ok, spare.len, more.len, c.len-2.ensures, ap length i.1, length-ends c.self.inside.pieces.items 0),
+      omega (arith, pieces.len, spare.len, spare.ok, more.len, more.capacity, c.len-3.ensures),
     )
-
-pub returns-clause-spots : goal.returns-clause-spots
-returns-clause-spots c =
-    let items = c.self.inside.pieces.items in
-    let is : c.push.new.self.items ≡ items ++ [] ∷ [] = c.in_ok-push.ensures.items ∙ ap (λ (p : List Spot). items ++ p ∷ []) c.in_ok-piece.ensures.none in
-    ap joined is ∙ joined_more items ∙ ap (λ (l : Laid). l.spots) c.self.view_is

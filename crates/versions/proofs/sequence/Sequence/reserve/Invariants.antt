@@ -5,5 +5,5 @@ abbrev pub invariant-loop : goal.invariant-loop
 invariant-loop l = record {
   spots : l.self.spots ≡ l.fn.self.spots;
   keeps : l.fn.self.room ≤ l.self.room;
-  grown : l.counter * 4096 ≤ l.self.room;
+  grown : l.counter * 512 ≤ l.self.room;
 }
