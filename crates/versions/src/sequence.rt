@@ -1,5 +1,6 @@
 //! A long list of places, each with its head, in pieces, so that one more moves few of them.
-ghost use Rattle.std.specs.Prelude.{◌≡◌, ◌+◌, ◌-◌, ◌^◌, ◌<◌, ◌≤◌, ◌++◌, ◌∷◌, [], length, take, drop, vec_len, vec_capacity, IsOk, IfErr, OnOk, OnErr, slice_index_or, slice_set};
+ghost use Rattle.std.specs.Prelude.{◌≡◌, ◌+◌, ◌-◌, ◌^◌, ◌<◌, ◌≤◌, ◌++◌, ◌∷◌, [], length, take, drop, vec_len};
+ghost use Rattle.std.specs.Prelude.{vec_capacity, IsOk, IfErr, OnOk, OnErr, slice_index_or, slice_set};
 ghost use Rattle.std.specs.List.{insert};
 ghost use Rattle.versions.specs.Pieces.{heads_of, last_head, joined, ends_from, start_by, divided, IsLaid, IsWithin};
 

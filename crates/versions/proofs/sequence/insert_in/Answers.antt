@@ -28,7 +28,8 @@ still n m es old ps le lt is all =
 pub overflow_add-ends : goal.overflow_add-ends
 overflow_add-ends c =
     let i = c.loop-later.invariant in
-    let here = still c.args.number c.loop-later.later c.loop-later.ends c.args.ends.now c.args.pieces.now i.from c.loop-later-test.true i.ends c.requires.ends in
+    let here =
+    still c.args.number c.loop-later.later c.loop-later.ends c.args.ends.now c.args.pieces.now i.from c.loop-later-test.true i.ends c.requires.ends in
     omega (arith, here.1, c.requires.limit)
 
 pub loop-later-preserved : goal.loop-later-preserved

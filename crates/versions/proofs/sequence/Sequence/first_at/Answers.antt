@@ -23,7 +23,8 @@ returns-in-Some-clause-within c =
     let all : length (joined ps) ≡ length c.args.self.now.spots = ap (λ (v : Laid). length v.spots) c.self.view_is in
     let number = c.piece_at-number.result in
     let there : number < length ps = grind (arith, nat_tests, c.in-Some.ensures.lookup.0, ap length c.deref-2.ensures.value) in
-    let is = piece_is ps number c.in-Some.piece.now there (c.in-Some.ensures.lookup.1 ∙ ap (λ t. get_or t number c.in-Some.piece.now) c.deref-2.ensures.value) in
+    let is =
+    piece_is ps number c.in-Some.piece.now there (c.in-Some.ensures.lookup.1 ∙ ap (λ t. get_or t number c.in-Some.piece.now) c.deref-2.ensures.value) in
     let begins : c.start_of.result ≡ start ps number =
     c.start_of.ensures ∙ ap (λ es. start_by es number) (c.deref-in-Some.ensures.value ∙ c.self.invariant.1) ∙ start-is ps number (omega (arith, there)) in
     omega (arith, all, begins, ap length is, c.first_at.ensures.within, start-within ps number [] there)
@@ -41,12 +42,14 @@ returns-in-Some-clause-below c = λ some.
     let j = c.first_at.result in
     let head = c.args.head in
     let there : number < length ps = grind (arith, nat_tests, c.in-Some.ensures.lookup.0, ap length c.deref-2.ensures.value) in
-    let is = piece_is ps number c.in-Some.piece.now there (c.in-Some.ensures.lookup.1 ∙ ap (λ t. get_or t number c.in-Some.piece.now) c.deref-2.ensures.value) in
+    let is =
+    piece_is ps number c.in-Some.piece.now there (c.in-Some.ensures.lookup.1 ∙ ap (λ t. get_or t number c.in-Some.piece.now) c.deref-2.ensures.value) in
     let begins : c.start_of.result ≡ start ps number =
     c.start_of.ensures ∙ ap (λ es. start_by es number) (c.deref-in-Some.ensures.value ∙ c.self.invariant.1) ∙ start-is ps number (omega (arith, there)) in
     let within : j ≤ length (get_or ps number []) = omega (arith, ap length is, c.first_at.ensures.within) in
     let here = subst (λ (p : List Spot). 0 < j → get_or (heads_of p) (j - 1) 0 < head) is c.first_at.ensures.below in
-    let below = subst (λ (t : List (List Spot)). 0 < number → last_head (get_or t (number - 1) []) < head) c.deref.ensures.value c.piece_at-number.ensures.below in
+    let below =
+    subst (λ (t : List (List Spot)). 0 < number → last_head (get_or t (number - 1) []) < head) c.deref.ensures.value c.piece_at-number.ensures.below in
     let found = head_below ps number head c.self.invariant.0 below j there within here (omega (arith, begins, some)) in
     omega (
       arith,
@@ -63,7 +66,8 @@ returns-in-Some-clause-first c = λ lt.
     let j = c.first_at.result in
     let head = c.args.head in
     let there : number < length ps = grind (arith, nat_tests, c.in-Some.ensures.lookup.0, ap length c.deref-2.ensures.value) in
-    let is = piece_is ps number c.in-Some.piece.now there (c.in-Some.ensures.lookup.1 ∙ ap (λ t. get_or t number c.in-Some.piece.now) c.deref-2.ensures.value) in
+    let is =
+    piece_is ps number c.in-Some.piece.now there (c.in-Some.ensures.lookup.1 ∙ ap (λ t. get_or t number c.in-Some.piece.now) c.deref-2.ensures.value) in
     let begins : c.start_of.result ≡ start ps number =
     c.start_of.ensures ∙ ap (λ es. start_by es number) (c.deref-in-Some.ensures.value ∙ c.self.invariant.1) ∙ start-is ps number (omega (arith, there)) in
     let within : j ≤ length (get_or ps number []) = omega (arith, ap length is, c.first_at.ensures.within) in
@@ -87,7 +91,8 @@ returns-in-None-clause-below c = λ some.
     let head = c.args.head in
     let most : length ps ≤ number = grind (arith, nat_tests, c.in-None.ensures.lookup.0, ap length c.deref-2.ensures.value) in
     let all : number ≡ length ps = omega (arith, most, c.piece_at-number.ensures.within, ap length c.deref.ensures.value) in
-    let below = subst (λ (t : List (List Spot)). 0 < number → last_head (get_or t (number - 1) []) < head) c.deref.ensures.value c.piece_at-number.ensures.below in
+    let below =
+    subst (λ (t : List (List Spot)). 0 < number → last_head (get_or t (number - 1) []) < head) c.deref.ensures.value c.piece_at-number.ensures.below in
     let end : start ps number ≡ c.self.inside.len = ap (start ps) all ∙ start-all ps ∙ sym c.self.invariant.2 in
     let found = head_before ps number head c.self.invariant.0 below (omega (arith, all)) (omega (arith, end, some)) in
     omega (

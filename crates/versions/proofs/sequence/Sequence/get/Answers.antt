@@ -26,7 +26,8 @@ get-requires c =
     let f = found_at ps c.deref.result.now c.args.at number (c.deref.ensures.value ∙ c.self.invariant.1)
     (omega (arith, all, c.requires)) e.within e.below e.first in
     let is = piece_is ps number c.index.result.now f.there c.index.ensures in
-    let begins : c.start_of.result ≡ start ps number = c.start_of.ensures ∙ ap (λ es. start_by es number) (c.deref-2.ensures.value ∙ sym c.deref.ensures.value) ∙ f.begins in
+    let begins : c.start_of.result ≡ start ps number =
+    c.start_of.ensures ∙ ap (λ es. start_by es number) (c.deref-2.ensures.value ∙ sym c.deref.ensures.value) ∙ f.begins in
     omega (arith, ap length is, begins, f.from, f.to)
 
 pub returns : goal.returns
@@ -40,7 +41,8 @@ returns c =
     let f = found_at ps c.deref.result.now c.args.at number (c.deref.ensures.value ∙ c.self.invariant.1)
     (omega (arith, all, c.requires)) e.within e.below e.first in
     let is = piece_is ps number c.index.result.now f.there c.index.ensures in
-    let begins : c.start_of.result ≡ start ps number = c.start_of.ensures ∙ ap (λ es. start_by es number) (c.deref-2.ensures.value ∙ sym c.deref.ensures.value) ∙ f.begins in
+    let begins : c.start_of.result ≡ start ps number =
+    c.start_of.ensures ∙ ap (λ es. start_by es number) (c.deref-2.ensures.value ∙ sym c.deref.ensures.value) ∙ f.begins in
     let same : start ps number + (c.args.at - c.start_of.result) ≡ c.args.at = omega (arith, begins, f.from) in
     c.get.ensures
     ∙ ap (λ q. get_or q (c.args.at - c.start_of.result) d) is
