@@ -282,7 +282,7 @@ fn add_version(versions: &mut Versions, install: &Install, horizon: Stamp) -> Re
     Ok(())
 }
 
-// Forgets the versions below a horizon, if it is above the one before and that is due. It takes no memory.
+// Forgets the versions below a horizon, if it is above the one before and that is due. No want of memory refuses it.
 fn forget(versions: &mut Versions, left: &mut usize, before: Stamp, horizon: Stamp)
     ensures { Forgets versions.old.installs versions.new.installs before horizon }
 {
