@@ -1,9 +1,10 @@
 //! Clients of a store on threads: each runs transactions that read and write two keys, one behind the other. A line tells how they ended.
 //!
-//!     serving DISK SHARDS CLIENTS TRANSACTIONS KEYS EPSILON FOLDER [GIVE_UP [KEEP RENEW]]
+//!     serving DISK SHARDS CLIENTS TRANSACTIONS KEYS EPSILON FOLDER [GIVE_UP [KEEP RENEW [RETIRE]]]
 //!
 //! DISK is `memory`, `files` (in FOLDER), or how many microseconds a sync of a disk in memory takes. Clients wait for GIVE_UP milliseconds for a
 //! silent shard. With KEEP and RENEW each shard keeps the past for so many microseconds, and renews a log that has grown by so many bytes.
+//! With RETIRE it retires ids once there are so many.
 use disk::Disk;
 use gatelog::GateLog;
 use shim::alloc::Global;
@@ -161,6 +162,7 @@ fn main() {
     }
     if words.len() > 10 {
         (options.keep, options.renew) = (Some(number(9) as u64), Some(number(10) as u64));
+        options.retire = words.get(11).map(|_| number(11) as u64);
     }
     let mut disks = List::new(Global);
     for shard in 0..shards {

@@ -496,6 +496,14 @@ pub mod indexmap {
             let gone = self.entries.swap_remove(at);
             Some((gone.1, gone.2))
         }
+        pub fn retain(&mut self, mut keeps: impl FnMut(&K, &mut V) -> bool) {
+            self.entries.retain_mut(|(_, k, v)| keeps(k, v));
+            self.slots.fill(0);
+            for at in 0..self.entries.len() {
+                let slot = self.slot(self.entries[at].0, |_| false);
+                self.slots[slot] = at as u32 + 1;
+            }
+        }
         fn insert_at(&mut self, at: usize, hash: u32, k: K, v: V) -> Result<(), AllocError> {
             if self.capacity() == self.len() {
                 self.reserve(1)?;

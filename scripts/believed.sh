@@ -1,13 +1,13 @@
 #!/bin/sh
 # Lists what a reader must believe for the law of the store: the definitions that it reaches by imports, each behind those
 # that it uses, with its lines without imports, blank lines and comments, and their sum; then the sources of the types that
-# they match. The table of docs/DEFINITIONS.md has to say the same, in that order, and the sum may not be above 1,650:
-# what a turnover of a log writes is part of what a run is.
+# they match. The table of docs/DEFINITIONS.md has to say the same, in that order, and the sum may not be above 1,700:
+# what a turnover of a log writes, and which ids are retired, are part of what a run is.
 # With files, as `scripts/believed.sh crates/world/specs/Lawful.antt`, it lists what those reach, and compares nothing.
 set -eu
 cd "$(dirname "$(dirname "$(readlink -f "$0")")")"
 law=crates/world/specs/Headline.antt
-limit=1650
+limit=1700
 found=$(mktemp)
 told=$(mktemp)
 trap 'rm -f "$found" "$told"' EXIT

@@ -16,6 +16,7 @@ pub(crate) fn copy_input(alloc: Global, input: &Input) -> Result<Input, Fault>
         Input::Settle(txn) => Ok(Input::Settle(*txn)),
         Input::Advance(to) => Ok(Input::Advance(*to)),
         Input::Forget(at) => Ok(Input::Forget(*at)),
+        Input::Retire(below) => Ok(Input::Retire(*below)),
         Input::Nudge(txn) => Ok(Input::Nudge(*txn)),
     }
 }

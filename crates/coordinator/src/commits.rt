@@ -43,9 +43,10 @@ pub fn on_commit(
         Standing::Ended => state.aborts(alloc, commit.txn, commit.parts),
         Standing::Aborted => state.reply(alloc, done_to(Done::aborted(commit.txn))),
         Standing::Settled(settled) => state.reply(alloc, done_to(settled.done(commit.txn))),
-        Standing::WaitsPrepare(_) | Standing::Prepared(_) | Standing::Closed { .. } => {
-            Err(Fault::Stranger)
-        }
+        Standing::Retired
+        | Standing::WaitsPrepare(_)
+        | Standing::Prepared(_)
+        | Standing::Closed { .. } => Err(Fault::Stranger),
     }
 }
 

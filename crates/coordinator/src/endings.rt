@@ -1,35 +1,19 @@
-//! How a coordinator ends a transaction: a client gives it up, a participant asks for its outcome, or it is settled.
+//! How a coordinator ends a transaction: a participant asks for its outcome, or it is settled.
 ghost use Rattle.std.specs.Prelude.{◌≡◌, true, IfOk, IfErr};
 ghost use Rattle.protocol.specs.Outputs.{outcome_to};
-ghost use Rattle.memory.specs.CodeRows.{may_close, phase_of};
+ghost use Rattle.memory.specs.CodeRows.{may_close};
 ghost use Rattle.memory.specs.RowTable.{has_phase};
-ghost use Rattle.memory.specs.row.Row.{Row};
 ghost use Rattle.memory.specs.Carry.{IsFit, may_drop};
-ghost use Rattle.memory.specs.Standings.{standing_in, HasRowIn, MakesReply, PlansGiveUp};
+ghost use Rattle.memory.specs.Standings.{standing_in, MakesReply};
 ghost use Rattle.coordinator.specs.ByMessage.{PlansAsk, PlansSettle, MakesAbortFor, MakesSettled};
 
 use crate::parts::is_of_part;
-use memory::{RowCollecting, Standing, State, Step, done_to, outcome_to};
-use message::{Ask, Done, Envelope, GiveUp, Outcome};
+use memory::{Standing, State, Step, done_to, outcome_to};
+use message::{Ask, Done, Envelope, Outcome};
 use record::Record;
 use std::alloc::Global;
 use truetime::{Reading, Waited, pass};
 use units::{Fault, Parts, Stamp, TxnId};
-
-/// Plans the abort of a transaction that collects votes, because its client gives up. `participant::on_give_up` is for any other.
-pub fn give_up(
-    state: &State,
-    alloc: Global,
-    given: &GiveUp,
-    collecting: &RowCollecting,
-) -> Result<Step, Fault>
-    requires { HasRowIn state.now given.now.txn (phase_of (Row.Collecting collecting.now)) }
-    ensures planned { PlansGiveUp state.now given.now.txn (standing_in state.now given.now.txn)
-        result }
-    ensures fit { IfOk result (IsFit state.now) }
-{
-    state.aborts(alloc, given.txn, collecting.request().parts)
-}
 
 /// Plans the answer to a participant that asks how a transaction ended. One that is unknown, ended or only reads is aborted first;
 /// for one that still commits there is no answer yet. `Stranger` if this shard does not decide it, or the asker took no part in it.
@@ -51,9 +35,10 @@ pub fn on_ask(state: &State, alloc: Global, ask: &Ask) -> Result<Step, Fault>
         Standing::WaitsCommit(_) | Standing::Collecting(_) | Standing::Decided(_) => {
             Ok(state.idles(alloc))
         }
-        Standing::WaitsPrepare(_) | Standing::Prepared(_) | Standing::Closed { .. } => {
-            Err(Fault::Stranger)
-        }
+        Standing::Retired
+        | Standing::WaitsPrepare(_)
+        | Standing::Prepared(_)
+        | Standing::Closed { .. } => Err(Fault::Stranger),
     }
 }
 
@@ -108,7 +93,8 @@ pub fn settle(state: &State, alloc: Global, now: &Reading, txn: TxnId) -> Result
             };
             settle_at(state, alloc, txn, waited, decided.parts())
         }
-        Standing::Unknown
+        Standing::Retired
+        | Standing::Unknown
         | Standing::Ended
         | Standing::Idle
         | Standing::WaitsRead(_)

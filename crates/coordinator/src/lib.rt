@@ -8,5 +8,5 @@ mod parts;
 mod votes;
 
 pub use commits::{on_commit, resume_commit};
-pub use endings::{give_up, on_ask, settle};
+pub use endings::{on_ask, settle};
 pub use votes::on_vote;

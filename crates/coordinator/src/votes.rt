@@ -44,9 +44,10 @@ pub fn on_vote(state: &State, alloc: Global, vote: &Vote) -> Result<Step, Fault>
         | Standing::Idle
         | Standing::WaitsRead(_)
         | Standing::WaitsCommit(_) => Ok(state.idles(alloc)),
-        Standing::WaitsPrepare(_) | Standing::Prepared(_) | Standing::Closed { .. } => {
-            Err(Fault::Stranger)
-        }
+        Standing::Retired
+        | Standing::WaitsPrepare(_)
+        | Standing::Prepared(_)
+        | Standing::Closed { .. } => Err(Fault::Stranger),
     }
 }
 

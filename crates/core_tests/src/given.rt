@@ -34,6 +34,8 @@ pub enum Given {
     Nudge(u16),
     Advance(u64),
     Forget(u32),
+    // Each transaction of a lower number is retired.
+    Retire(u16),
     Resume,
 }
 
@@ -160,6 +162,7 @@ pub fn input_of(rt: &impl Abort, alloc: Global, given: Given) -> Input {
         Given::Nudge(number) => Input::Nudge(id(number)),
         Given::Advance(to) => Input::Advance(time(rt, to)),
         Given::Forget(at) => Input::Forget(stamp(at)),
+        Given::Retire(number) => Input::Retire(id(number)),
         Given::Resume => Input::Resume,
         _ => Input::Deliver(message_of(rt, alloc, given)),
     }

@@ -52,6 +52,8 @@ mod reopening;
 #[cfg(test)]
 mod restarts;
 #[cfg(test)]
+mod retiring;
+#[cfg(test)]
 mod served;
 #[cfg(test)]
 mod steady;

@@ -5,8 +5,8 @@ use record::Record;
 use simdisk::SimDisk;
 use std::alloc::Global;
 
-/// A record: an opening with its epoch, a ceiling, a horizon, an abort, or a promise, a decision or a commit of 1.number with its
-/// timestamp. Only a renewed log has a base, a version of a letter with a value of one, and what is settled or closed at a timestamp.
+/// A record: an opening with its epoch, a ceiling, a horizon, an abort, a retired id, or a promise, a decision or a commit of 1.number with
+/// its timestamp. Only a renewed log has a base, a version of a letter with a value of one, and what is settled or closed at a timestamp.
 #[derive(Clone, Copy)]
 pub enum Line {
     Opened(u64),
@@ -16,6 +16,7 @@ pub enum Line {
     Decided(u64, u64),
     Committed(u64, u64),
     Aborted(u64),
+    Retired(u64),
     Base(u64, u64, u64),
     Version(u64, u8, u8),
     Settled(u64, u64),
@@ -79,6 +80,7 @@ fn is_line(record: &Record, line: Line) -> bool {
             Line::Committed(number, micros),
         ) => txn.number() == number && at.micros() == micros,
         (Record::Abort { txn }, Line::Aborted(number)) => txn.number() == number,
+        (Record::Retired { below }, Line::Retired(number)) => below.number() == number,
         _ => is_renewed(record, line),
     }
 }

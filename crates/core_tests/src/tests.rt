@@ -5,8 +5,8 @@ use crate::turned_nodes::turning;
 use crate::verdict::end;
 use crate::viewed::viewed;
 use crate::{
-    damaged, grouped, grouped_nodes, nodes, one_commit, promising, reopening, restarts, served,
-    stories, together,
+    damaged, grouped, grouped_nodes, nodes, one_commit, promising, reopening, restarts, retiring,
+    served, stories, together,
 };
 use made::WrongRows;
 
@@ -34,6 +34,9 @@ fn cores(rt: HostRuntime) {
         reopening::unended(),
         reopening::armed(),
         reopening::refused(),
+        retiring::decided(),
+        retiring::promised(),
+        retiring::reopened(),
     ] {
         stories::tell(&mut wrong, &rt, rt.alloc(), table);
     }
@@ -55,6 +58,9 @@ fn cores_take_groups(rt: HostRuntime) {
         served::looks(),
         reopening::reopened(),
         reopening::unended(),
+        retiring::decided(),
+        retiring::promised(),
+        retiring::reopened(),
     ] {
         grouped::tell(&mut wrong, &rt, rt.alloc(), table);
     }

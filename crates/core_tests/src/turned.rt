@@ -5,6 +5,7 @@ use crate::forgetting::forgotten;
 use crate::given::Given;
 use crate::logs::Line;
 use crate::renewing::{raised, renewed};
+use crate::retiring::turned_over;
 use crate::turned_rows::{
     A, COMMIT, DONE, LEFT, NEW, OLD, SAID, SETTLE, left_row, looked, settled, standing,
 };
@@ -192,13 +193,15 @@ fn tell_spent<R: Wait + Abort>(wrong: &mut WrongRows, rt: &R, alloc: Global) {
     tell(wrong, rt, alloc, Kind::Desk, &SPENT_ROWS);
 }
 
-/// Shows that what the log held is still there after a turnover: what was settled, what looks see, and what stands.
+/// Shows that what the log held is still there after a turnover: what was settled, what looks see, what stands, and which ids are
+/// retired.
 #[test]
 fn logs_are_turned_over(rt: HostRuntime) {
     let mut wrong = WrongRows::none(rt.alloc());
     tell_both(&mut wrong, &rt, rt.alloc(), settled());
     tell_both(&mut wrong, &rt, rt.alloc(), looked());
     tell_both(&mut wrong, &rt, rt.alloc(), standing());
+    tell_both(&mut wrong, &rt, rt.alloc(), turned_over());
     end(&rt, wrong);
 }
 

@@ -20,7 +20,7 @@ use Rattle.record.specs.Records.{Ended, as_opened, prepared_of, committed_of, en
 use Rattle.record.specs.declared.record.Committed.{Committed}
 use Rattle.record.specs.declared.record.Prepared.{Prepared}
 use Rattle.record.specs.declared.record.Record.{Record}
-use Rattle.record.specs.declared.record.Record.TheVariants.{Opened, Ceiling, Prepare, Commit, Abort, Outcome, Horizon, Base, Version, Settled, Closed}
+use Rattle.record.specs.declared.record.Record.TheVariants.{Opened, Ceiling, Prepare, Commit, Abort, Outcome, Horizon, Base, Version, Settled, Closed, Retired}
 use Rattle.record.proofs.Sound.{Sound, sound_empty, sound_more, made, new_facts, prepare_new, commit_new, settled_new, closed_new, outcome_follows}
 use Rattle.record.proofs.Sound.{opened_follows}
 use Rattle.record.proofs.Sound.{prepared_more, committed_more, ended_more, single, next_last, base_first, version_next}
@@ -62,6 +62,7 @@ made_fresh : (shard : ℕ) (log : List Record) (r : Record) (t : Id) → follows
 unfolding made
 made_fresh shard log (Opened e) t h there = cc
 made_fresh shard log (Ceiling at) t h there = cc
+made_fresh shard log (Retired least) t h there = cc
 made_fresh shard log (Horizon at) t h there = cc
 made_fresh shard log (Prepare p) t h there =
     let same : p.txn ≡ t = same_id-is p.txn t (sym (single (same_id p.txn t) p) ∙ (sym (or-false _) ∙ there)) in
@@ -83,6 +84,7 @@ made_fresh shard log (Closed u coordinator outcome) t h there =
 one_single : (r : Record) (t : Id) → (is_there (prepared_of (r ∷ []) t) && is_there (committed_of (r ∷ []) t)) ≡ false
 one_single (Opened e) t = refl
 one_single (Ceiling at) t = refl
+one_single (Retired least) t = refl
 one_single (Horizon at) t = refl
 one_single (Prepare p) t = and-false _
 one_single (Commit c) t = refl
@@ -165,6 +167,7 @@ settles_by : (shard : ℕ) (log : List Record) (r : Record) → Kept log → fol
 unfolding made
 settles_by shard log (Opened e) k h t = plain _ _ (k.settles t)
 settles_by shard log (Ceiling at) k h t = plain _ _ (k.settles t)
+settles_by shard log (Retired least) k h t = plain _ _ (k.settles t)
 settles_by shard log (Horizon at) k h t = plain _ _ (k.settles t)
 settles_by shard log (Prepare p) k h t = plain _ _ (k.settles t)
 settles_by shard log (Commit c) k h t = decided (same_id c.txn t) (committed_of log t) (ended_of log t) c (k.settles t)
@@ -252,6 +255,7 @@ begun_more shard log r k b h = is_begun_more log r ∙ by_kind r b h ∙ ap (λ 
     by_kind : (q : Record) → begins log q ≡ true → follows shard log q ≡ true → true ≡ nat_lt 0 (learn (facts_of log) q).epoch
     by_kind (Opened e) b h = above_none (epoch_of log) ∙ ap (λ n. nat_lt 0 n) (sym (eqb-true _ _ (opened_follows shard log e h)))
     by_kind (Ceiling at) b h = begun_other log (Ceiling at) (begins_ceiling log at) b k.begun
+    by_kind (Retired least) b h = begun_other log (Retired least) (begins_none log (Retired least) refl) b k.begun
     by_kind (Horizon at) b h = begun_other log (Horizon at) (begins_horizon log at) b k.begun
     by_kind (Prepare p) b h = begun_other log (Prepare p) (begins_prepare log p) b k.begun
     by_kind (Commit c) b h = begun_other log (Commit c) (begins_commit log c) b k.begun
@@ -342,6 +346,7 @@ at_more shard log (Opened e) k b h = record {
   rising = λ heads. absurd (true≢false (sym heads ∙ ap is_head (stage_more log (Opened e))));
 }
 at_more shard log (Ceiling at) k b h = at_other shard log (Ceiling at) k b h refl refl refl (λ v. refl) refl
+at_more shard log (Retired least) k b h = at_other shard log (Retired least) k b h refl refl refl (λ v. refl) refl
 at_more shard log (Horizon at) k b h = at_other shard log (Horizon at) k b h refl refl refl (λ v. refl) refl
 at_more shard log (Prepare p) k b h = at_other shard log (Prepare p) k b h refl refl refl (λ v. refl) refl
 at_more shard log (Commit c) k b h = at_other shard log (Commit c) k b h refl refl refl (λ v. refl) refl

@@ -6,28 +6,28 @@ use Rattle.std.specs.Prelude.{option_map}
 use Rattle.std.proofs.lemmas.Bool.{and_parts, true≢false}
 use Rattle.std.specs.List.{list_all}
 use Rattle.std.proofs.lemmas.List.{append-nil}
-use Rattle.std.proofs.Math.Bool.{or-false, and-false}
+use Rattle.std.proofs.Math.Bool.{or-false, and-false, and-true}
 use Rattle.units.specs.Lists.{head, when}
 use Rattle.units.specs.Ids.{Id}
 use Rattle.units.specs.Versions.{of_key}
 use Rattle.units.specs.declared.writes.Install.{Install}
 use Rattle.units.proofs.Folds.{is_there}
-use Rattle.record.specs.Accepted.{begins, is_new, outcome_fits, follows, followed, followed_from, is_start, is_timed}
+use Rattle.record.specs.Accepted.{begins, is_new, is_kept, is_unrecorded, outcome_fits, follows, followed, followed_from, is_start, is_timed}
 use Rattle.record.specs.Installs.{installs_of}
 use Rattle.record.specs.Facts.{facts_of, learn, recorded}
 use Rattle.record.specs.Records.{Ended, Status, Unrecorded, StandsPrepared, StandsDecided, HasAborted, HasSettled, HasClosed, prepared_of}
-use Rattle.record.specs.Records.{committed_of, is_aborted, ended_of, epoch_of, status_by, status_of}
+use Rattle.record.specs.Records.{committed_of, is_aborted, ended_of, epoch_of, retired_of, is_below, status_by, status_of, status_written}
 use Rattle.record.specs.declared.record.Committed.{Committed}
 use Rattle.record.specs.declared.record.Prepared.{Prepared}
 use Rattle.record.specs.declared.record.Record.{Record}
-use Rattle.record.specs.declared.record.Record.TheVariants.{Opened, Ceiling, Prepare, Commit, Abort, Outcome, Horizon, Base, Version, Settled, Closed}
-use Rattle.record.proofs.Sound.{made}
+use Rattle.record.specs.declared.record.Record.TheVariants.{Opened, Ceiling, Prepare, Commit, Abort, Outcome, Horizon, Base, Version, Settled, Closed, Retired}
+use Rattle.record.proofs.Sound.{made, not_below}
 use Rattle.record.proofs.LearnAgrees.{learns, followed_more}
 use Rattle.record.proofs.Statuses.{recorded_is}
 use Rattle.facts.specs.Laws.{FollowsAsKnown, LearntAsFollowed, SaysOfRecords, SaysOf, StageAgrees, learnt_from}
 use Rattle.facts.specs.Stages.{stage_of, stage_after, follows_head, follows_next, is_head, is_open, comes_behind}
 use Rattle.facts.specs.Readers.{standing_promise, standing_decision, has_abort, outcome_in}
-use Rattle.facts.specs.Rules.{is_unrecorded, allows, follows_facts}
+use Rattle.facts.specs.Rules.{is_free, allows, follows_facts}
 use Rattle.facts.proofs.Heads.{behind_above}
 use Rattle.facts.proofs.Kept.{Kept, is_begun, stage_more, begins_none, Settles, kept_empty, kept_more, kept_followed, append_one, begins_ceiling}
 use Rattle.facts.proofs.Kept.{begins_horizon, begins_prepare, begins_commit}
@@ -35,16 +35,20 @@ use Rattle.facts.proofs.Kept.{begins_abort, begins_outcome}
 
 -- ---- the rules of one id
 
-new_by : (s : Status) → (elim s as (λ x. Bool) [ Unrecorded ↦ true | _ ↦ false ]) ≡ is_unrecorded s
-new_by Unrecorded = refl
-new_by (StandsPrepared p) = refl
-new_by (StandsDecided c) = refl
-new_by HasAborted = refl
-new_by (HasSettled at parts) = refl
-new_by (HasClosed coordinator outcome) = refl
+-- the status that the facts give of an id that is not retired is that which was written
+module _ (log : List Record) (t : Id) where
+  written : is_below (retired_of log) t ≡ false → recorded (facts_of log) t ≡ status_written log t
+  unfolding status_of
+  written kept = recorded_is log t ∙ ap (λ b. cond b Unrecorded (status_written log t)) kept
 
-new_known : (log : List Record) (t : Id) → is_new log t ≡ is_unrecorded (recorded (facts_of log) t)
-new_known log t = new_by (status_of log t) ∙ ap is_unrecorded (sym (recorded_is log t))
+  new_known : is_new log t ≡ is_free (facts_of log) t
+  unfolding facts_of
+  new_known = by_test (is_below (retired_of log) t) refl
+    where
+      by_test : (b : Bool) → is_below (retired_of log) t ≡ b
+          → (is_unrecorded (status_written log t) && not b) ≡ (is_unrecorded (recorded (facts_of log) t) && not b)
+      by_test true e = and-false _ ∙ sym (and-false _)
+      by_test false e = ap (λ s. is_unrecorded s && true) (sym (written e))
 
 no_fit : (o : Option ℕ) → outcome_fits None None o ≡ false
 no_fit None = refl
@@ -75,11 +79,26 @@ allowed_by false None None e None apart one = and-false (not (is_there e))
 allowed_by false None None e (Some s) apart one = and-false (not (is_there e))
 
 allowed_known : (log : List Record) (t : Id) (o : Option ℕ) → Kept log →
-    (not (is_there (ended_of log t)) && outcome_fits (prepared_of log t) (committed_of log t) o) ≡ allows (recorded (facts_of log) t) o
-unfolding status_of made
-allowed_known log t o k =
-    allowed_by (is_aborted log t) (committed_of log t) (prepared_of log t) (ended_of log t) o (k.sound.apart t) (k.one t)
-    ∙ ap (λ s. allows s o) (sym (recorded_is log t))
+    ((not (is_there (ended_of log t)) && outcome_fits (prepared_of log t) (committed_of log t) o) && is_kept (retired_of log) t)
+    ≡ allows (recorded (facts_of log) t) o
+unfolding status_of status_written made
+allowed_known log t o k = by_test (is_below (retired_of log) t) refl
+  where
+    none_allowed_of : (o : Option ℕ) → false ≡ allows Unrecorded o
+    none_allowed_of None = refl
+    none_allowed_of (Some s) = refl
+
+    fits : Bool
+    fits = not (is_there (ended_of log t)) && outcome_fits (prepared_of log t) (committed_of log t) o
+
+    by_test : (b : Bool) → is_below (retired_of log) t ≡ b → (fits && not b) ≡ allows (recorded (facts_of log) t) o
+    by_test true e =
+        and-false fits ∙ none_allowed_of o
+        ∙ sym (ap (λ s. allows s o) (recorded_is log t ∙ ap (λ b. cond b Unrecorded (status_written log t)) e))
+    by_test false e =
+        and-true fits
+        ∙ allowed_by (is_aborted log t) (committed_of log t) (prepared_of log t) (ended_of log t) o (k.sound.apart t) (k.one t)
+        ∙ ap (λ s. allows s o) (sym (written log t e))
 
 two : (a b c d : Bool) → a ≡ c → b ≡ d → (a && b) ≡ (c && d)
 two a b c d e f = λ i. e i && f i
@@ -116,6 +135,7 @@ known_next : (shard : ℕ) (log : List Record) (r : Record) → Kept log →
 unfolding follows follows_next follows_facts follows_head facts_of
 known_next shard log (Opened epoch) k = ap (λ b. b && nat_eq epoch (epoch_of log + 1)) (begins_opened log epoch) ∙ sym (or-false _)
 known_next shard log (Ceiling at) k = two _ _ _ _ (begins_ceiling log at ∙ k.begun) refl ∙ sym (or-false _)
+known_next shard log (Retired least) k = two _ _ _ _ (begins_none log (Retired least) refl ∙ k.begun) refl ∙ sym (or-false _)
 known_next shard log (Horizon at) k = two _ _ _ _ (begins_horizon log at ∙ k.begun) refl ∙ sym (or-false _)
 known_next shard log (Prepare p) k = two _ _ _ _ (begins_prepare log p ∙ k.begun)
     (ap (λ b. nat_lt 0 p.at && b && nat_lt p.coordinator shard) (new_known log p.txn)) ∙ sym (or-false _)
@@ -131,12 +151,12 @@ known_next shard log (Version v) k =
 known_next shard log (Settled t at parts) k =
     two _ _ _ _ (begins_none log (Settled t at parts) refl ∙ k.begun)
     (λ i. ((k.at.early i && nat_lt 0 at) && new_known log t i) && when (nat_eq shard) (head parts))
-    ∙ asks_more (nat_lt 0 (epoch_of log)) (not (is_open (stage_of log))) (nat_lt 0 at) (is_unrecorded (recorded (facts_of log) t))
+    ∙ asks_more (nat_lt 0 (epoch_of log)) (not (is_open (stage_of log))) (nat_lt 0 at) (is_free (facts_of log) t)
     (when (nat_eq shard) (head parts))
 known_next shard log (Closed t coordinator o) k =
     two _ _ _ _ (begins_none log (Closed t coordinator o) refl ∙ k.begun)
     (λ i. ((k.at.early i && is_timed o) && new_known log t i) && nat_lt coordinator shard)
-    ∙ asks_more (nat_lt 0 (epoch_of log)) (not (is_open (stage_of log))) (is_timed o) (is_unrecorded (recorded (facts_of log) t))
+    ∙ asks_more (nat_lt 0 (epoch_of log)) (not (is_open (stage_of log))) (is_timed o) (is_free (facts_of log) t)
     (nat_lt coordinator shard)
 
 pub follows_as_known : FollowsAsKnown
@@ -220,22 +240,22 @@ outcome_by false None (Some p) None apart closed settles = refl
 outcome_by false None None (Some e) apart closed settles = absurd (true≢false (sym (closed refl)))
 outcome_by false None None None apart closed settles = refl
 
-says : (log : List Record) → Kept log → (t : Id) → SaysOf log t
-unfolding status_of made
-says log k t =
+says : (log : List Record) → Kept log → (t : Id) → is_below (retired_of log) t ≡ false → SaysOf log t
+unfolding status_written made
+says log k t kept =
     let a = is_aborted log t in
     let c = committed_of log t in
     let p = prepared_of log t in
     let e = ended_of log t in
     record {
-      promise = λ none. ap standing_promise (recorded_is log t) ∙ promise_by a c p e (k.sound.apart t) (k.one t) none;
-      decision = λ none. ap standing_decision (recorded_is log t) ∙ decision_by a c p e (k.sound.apart t) none;
-      abort = ap has_abort (recorded_is log t) ∙ abort_by a c p e;
-      outcome = ap outcome_in (recorded_is log t) ∙ outcome_by a c p e (k.sound.apart t) (k.sound.closed t) (k.settles t);
+      promise = λ none. ap standing_promise (written log t kept) ∙ promise_by a c p e (k.sound.apart t) (k.one t) none;
+      decision = λ none. ap standing_decision (written log t kept) ∙ decision_by a c p e (k.sound.apart t) none;
+      abort = ap has_abort (written log t kept) ∙ abort_by a c p e;
+      outcome = ap outcome_in (written log t kept) ∙ outcome_by a c p e (k.sound.apart t) (k.sound.closed t) (k.settles t);
     }
 
 pub stage_agrees : StageAgrees
 stage_agrees log r = stage_more log r
 
 pub says_of_records : SaysOfRecords
-says_of_records shard log h t = says log (kept_followed shard log h) t
+says_of_records shard log h t kept = says log (kept_followed shard log h) t (not_below log t kept)

@@ -4,3 +4,4 @@ pub mod Heads
 pub mod Kept
 pub mod Known
 pub mod Nexts
+pub mod Retired

@@ -1,9 +1,9 @@
 -- What the facts alone tell of a log.
 use Rattle.std.specs.Prelude.{◌≡◌, ℕ, IsTrue, cond, List, [], ◌∷◌, ◌++◌, Option, Some, None, option_map}
 use Rattle.units.specs.Ids.{Id}
-use Rattle.record.specs.Accepted.{followed}
+use Rattle.record.specs.Accepted.{followed, is_kept}
 use Rattle.record.specs.Facts.{Facts, facts_of, learn, recorded}
-use Rattle.record.specs.Records.{prepared_of, committed_of, is_aborted, ended_of}
+use Rattle.record.specs.Records.{prepared_of, committed_of, is_aborted, ended_of, retired_of}
 use Rattle.record.specs.declared.record.Record.{Record}
 use Rattle.facts.specs.Readers.{standing_promise, standing_decision, has_abort, outcome_in}
 use Rattle.facts.specs.Stages.{follows_next, stage_of, stage_after}
@@ -38,6 +38,6 @@ pub record SaysOf (log : List Record) (t : Id) : Type 0 where
   pub abort : has_abort (recorded (facts_of log) t) ≡ is_aborted log t
   pub outcome : outcome_in (recorded (facts_of log) t) ≡ option_map (λ e. e.outcome) (ended_of log t)
 
--- so of each id, in a list whose records each follow those before it
+-- so of each id that is not retired, in a list whose records each follow those before it
 abbrev pub SaysOfRecords : Type 0
-SaysOfRecords = (shard : ℕ) (log : List Record) → IsTrue (followed shard log) → (t : Id) → SaysOf log t
+SaysOfRecords = (shard : ℕ) (log : List Record) → IsTrue (followed shard log) → (t : Id) → IsTrue (is_kept (retired_of log) t) → SaysOf log t

@@ -4,10 +4,10 @@ use Rattle.units.specs.Lists.{head, when}
 use Rattle.units.specs.Versions.{version_before}
 use Rattle.units.specs.declared.writes.Install.{Install}
 use Rattle.record.specs.Accepted.{is_timed}
-use Rattle.record.specs.Facts.{Facts, recorded}
+use Rattle.record.specs.Facts.{Facts}
 use Rattle.record.specs.declared.record.Record.{Record}
-use Rattle.record.specs.declared.record.Record.TheVariants.{Opened, Ceiling, Prepare, Commit, Abort, Outcome, Horizon, Base, Version, Settled, Closed}
-use Rattle.facts.specs.Rules.{is_unrecorded, follows_facts}
+use Rattle.record.specs.declared.record.Record.TheVariants.{Opened, Ceiling, Prepare, Commit, Abort, Outcome, Horizon, Base, Version, Settled, Closed, Retired}
+use Rattle.facts.specs.Rules.{is_free, follows_facts}
 use Rattle.facts.specs.declared.stage.Stage.{Stage}
 use Rattle.facts.specs.declared.stage.Stage.TheVariants.{Head, Early, Open}
 
@@ -21,6 +21,7 @@ past_head Open = Open
 abbrev pub stage_after : Stage → Record → Stage
 stage_after stage (Opened epoch) = Open
 stage_after stage (Ceiling at) = past_head stage
+stage_after stage (Retired least) = past_head stage
 stage_after stage (Horizon at) = past_head stage
 stage_after stage (Prepare p) = past_head stage
 stage_after stage (Commit c) = past_head stage
@@ -62,6 +63,7 @@ comes_behind (first ∷ second ∷ rest) install = comes_behind (second ∷ rest
 unfoldable pub follows_head : ℕ → Stage → Facts → Record → Bool
 follows_head shard stage facts (Opened epoch) = false
 follows_head shard stage facts (Ceiling at) = false
+follows_head shard stage facts (Retired least) = false
 follows_head shard stage facts (Horizon at) = false
 follows_head shard stage facts (Prepare p) = false
 follows_head shard stage facts (Commit c) = false
@@ -70,9 +72,9 @@ follows_head shard stage facts (Outcome t outcome) = false
 follows_head shard stage facts (Base epoch floor horizon) = nat_eq facts.epoch 0 && nat_lt 0 epoch && nat_le horizon floor
 follows_head shard stage facts (Version install) = (nat_lt 0 facts.epoch && is_head stage) && comes_behind facts.installs install
 follows_head shard stage facts (Settled t at parts) =
-    (nat_lt 0 facts.epoch && not (is_open stage)) && nat_lt 0 at && is_unrecorded (recorded facts t) && when (nat_eq shard) (head parts)
+    (nat_lt 0 facts.epoch && not (is_open stage)) && nat_lt 0 at && is_free facts t && when (nat_eq shard) (head parts)
 follows_head shard stage facts (Closed t coordinator outcome) =
-    (nat_lt 0 facts.epoch && not (is_open stage)) && is_timed outcome && is_unrecorded (recorded facts t) && nat_lt coordinator shard
+    (nat_lt 0 facts.epoch && not (is_open stage)) && is_timed outcome && is_free facts t && nat_lt coordinator shard
 
 -- the record may come next: by the rules of the kinds that steps log, or by those of a head
 unfoldable pub follows_next : ℕ → Stage → Facts → Record → Bool

@@ -5,16 +5,17 @@ ghost use Rattle.units.specs.ById.{IsById};
 ghost use Rattle.units.specs.Keys.{write_before};
 ghost use Rattle.units.specs.Lists.{ascends};
 ghost use Rattle.units.specs.declared.fault.Fault.TheVariants.{Memory, Damaged};
-ghost use Rattle.record.specs.Accepted.{is_timed};
+ghost use Rattle.record.specs.Accepted.{is_timed, rises};
 ghost use Rattle.record.specs.Facts.{facts_of, learn, recorded};
 ghost use Rattle.facts.specs.Given.{writes_given};
 ghost use Rattle.facts.specs.Readers.{standing_promise, standing_decision, has_abort, outcome_in};
-ghost use Rattle.facts.specs.Rules.{follows_facts, is_unrecorded, allows};
+ghost use Rattle.facts.specs.Rules.{follows_facts, is_free, allows};
+ghost use Rattle.record.specs.Records.{is_below};
 ghost use Rattle.facts.specs.Shown.{meaning, meant};
 ghost use Rattle.facts.specs.Stages.{comes_behind, follows_head, follows_next, is_open, stage_after, stage_of};
 
 use crate::blocks::Blocks;
-use crate::table::{close, ids, install, make_room, set};
+use crate::table::{close, ids, install, make_room, retire, set};
 use crate::{Stage, Status};
 use indexmap::IndexMap;
 use record::{Committed, Prepared, Record};
@@ -35,6 +36,8 @@ pub struct Facts {
     blocks: Blocks,
     installs: Vec<Install>,
     horizon: Stamp,
+    // The id below which all are retired: they have no entry.
+    retired: Option<TxnId>,
     stage: Stage,
 }
 
@@ -48,6 +51,7 @@ impl Drop for Facts {
             blocks: _,
             installs: _,
             horizon: _,
+            retired: _,
             stage: _,
         } = self;
     }
@@ -65,7 +69,7 @@ impl Model for Facts {
     ghost view = { λ f. record {
       shard = f.shard;
       facts = facts_with f.epoch f.floor
-          (shown_entries (by_id f.statuses.entries)) f.installs.items f.horizon;
+          (shown_entries (by_id f.statuses.entries)) f.installs.items f.horizon f.retired;
       stage = f.stage;
       room = min f.blocks
           (room_for (spare f.statuses) (vec_capacity f.installs - vec_len f.installs));
@@ -89,6 +93,7 @@ impl Facts {
             blocks: Blocks::none(),
             installs: Vec::new(alloc),
             horizon: Stamp::zero(),
+            retired: None,
             stage: Stage::Head,
         }
     }
@@ -136,7 +141,34 @@ impl Facts {
         self.horizon
     }
 
-    /// Gives how a transaction stands, if it has a record.
+    /// Gives the id below which all are retired, if there is one.
+    pub fn retired(&self) -> Option<TxnId>
+        ensures { result ≡ self.now.facts.retired }
+    {
+        self.retired
+    }
+
+    /// Tells whether an id is retired.
+    pub fn is_retired(&self, txn: TxnId) -> bool
+        ensures { result ≡ is_below self.now.facts.retired txn }
+    {
+        match &self.retired {
+            Some(below) => txn < *below,
+            None => false,
+        }
+    }
+
+    /// Tells whether an id is above that below which all are retired so far.
+    pub fn rises(&self, below: TxnId) -> bool
+        ensures { result ≡ rises self.now.facts.retired below }
+    {
+        match &self.retired {
+            Some(former) => *former < below,
+            None => true,
+        }
+    }
+
+    /// Gives how a transaction stands, if it has a record and is not retired.
     pub fn status(&self, txn: TxnId) -> Option<&Status>
         ensures { meant (option_copied result) ≡ recorded self.now.facts txn }
     {
@@ -228,6 +260,7 @@ impl Facts {
             Record::Abort { txn } => self.epoch > 0 && self.is_new(*txn),
             Record::Outcome { txn, outcome } => { self.epoch > 0 && self.allows(*txn, *outcome) }
             Record::Horizon { at } => { self.epoch > 0 && self.horizon < *at && *at <= self.floor }
+            Record::Retired { below } => self.epoch > 0 && self.rises(*below),
             _ => false,
         }
     }
@@ -294,11 +327,11 @@ impl Facts {
         }
     }
 
-    // Tells whether nothing is recorded of the transaction.
+    // Tells whether nothing is recorded of the transaction, and it is not retired.
     fn is_new(&self, txn: TxnId) -> bool
-        ensures { result ≡ is_unrecorded (recorded self.now.facts txn) }
+        ensures { result ≡ is_free self.now.facts txn }
     {
-        self.status(txn).is_none()
+        self.status(txn).is_none() && !self.is_retired(txn)
     }
 
     /// Learns the record that comes next in the log. It takes no memory. A record that may not come next is handed
@@ -388,6 +421,10 @@ impl Facts {
                     outcome,
                 };
                 set(&mut self.statuses, txn, closed);
+            }
+            Record::Retired { below } => {
+                retire(&mut self.statuses, below);
+                self.retired = Some(below);
             }
         }
     }

@@ -8,7 +8,7 @@ ghost use Rattle.units.specs.Keys.{write_before};
 ghost use Rattle.units.specs.Lists.{ascends};
 ghost use Rattle.units.specs.Versions.{versions};
 ghost use Rattle.units.specs.declared.fault.Fault.TheVariants.{Memory};
-ghost use Rattle.record.specs.Facts.{after_outcome, with_status, installs_at};
+ghost use Rattle.record.specs.Facts.{after_outcome, kept_entries, with_status, installs_at};
 ghost use Rattle.facts.specs.Readers.{writes_standing};
 ghost use Rattle.facts.specs.Rules.{allows};
 ghost use Rattle.facts.specs.Shown.{meaning, shown_entries, by_id, status_in};
@@ -57,6 +57,15 @@ pub fn set(statuses: &mut IndexMap<TxnId, Status>, txn: TxnId, status: Status)
         Ok(_) => {}
         Err(_) => unreachable!(),
     }
+}
+
+/// Drops how those stand that are below an id. It takes no memory, and what goes leaves its room.
+pub fn retire(statuses: &mut IndexMap<TxnId, Status>, below: TxnId)
+    ensures entries { shown_entries (by_id statuses.new.entries) ≡
+        kept_entries (Some below) (shown_entries (by_id statuses.old.entries)) }
+    ensures room { spare statuses.old ≤ spare statuses.new }
+{
+    statuses.retain(|txn, _| *txn >= below);
 }
 
 /// Ends a transaction by an outcome that may come next, and hands back how it stood. It takes no memory.

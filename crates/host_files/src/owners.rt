@@ -22,7 +22,7 @@ const MOST_FRONT: u64 = 1 << 16;
 /// - `settings`: it names a shard that the store does not have;
 /// - `Damaged` at its offset: only another shard could have logged it.
 ///
-/// Openings, ceilings, horizons, aborts, outcomes and the base of a renewed log fit every shard.
+/// Openings, ceilings, horizons, aborts, outcomes, ids that retire and the base of a renewed log fit every shard.
 pub fn misfit(splits: &Splits, shard: ShardNo, item: &Record, offset: u64) -> Option<Fault>
     ensures { IfSome result IsFolderFault }
 {
@@ -56,7 +56,8 @@ pub fn misfit(splits: &Splits, shard: ShardNo, item: &Record, offset: u64) -> Op
         Record::Opened { .. }
         | Record::Ceiling { .. }
         | Record::Horizon { .. }
-        | Record::Base { .. } => None,
+        | Record::Base { .. }
+        | Record::Retired { .. } => None,
         Record::Abort { .. } | Record::Outcome { .. } => None,
     }
 }
@@ -219,6 +220,7 @@ fn tells_its_shard(item: &Record) -> bool {
         | Record::Horizon { .. }
         | Record::Base { .. }
         | Record::Abort { .. }
-        | Record::Outcome { .. } => false,
+        | Record::Outcome { .. }
+        | Record::Retired { .. } => false,
     }
 }

@@ -110,6 +110,7 @@ module _ {D : Type 0} (keeps obeys : Type 0) (file : D → File) (clock : D → 
       refused_hold (Doing.Settle t now) fault l = stay_hold l
       refused_hold (Doing.Advance at now) fault l = stay_hold l
       refused_hold (Doing.Forget at now) fault l = stay_hold l
+      refused_hold (Doing.Retire below now) fault l = stay_hold l
       refused_hold (Doing.Nudge t now) fault l = stay_hold l
 
       did_hold : (doing : Doing) (st : Stepped) →

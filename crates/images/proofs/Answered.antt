@@ -65,6 +65,7 @@ refused_so w n s (Doing.Resume now) fault = record { reply = refl; bag = none-mo
 refused_so w n s (Doing.Settle t now) fault = record { reply = refl; bag = none-more w.bag }
 refused_so w n s (Doing.Advance at now) fault = record { reply = refl; bag = none-more w.bag }
 refused_so w n s (Doing.Forget at now) fault = record { reply = refl; bag = none-more w.bag }
+refused_so w n s (Doing.Retire below now) fault = record { reply = refl; bag = none-more w.bag }
 refused_so w n s (Doing.Nudge t now) fault = record { reply = refl; bag = none-more w.bag }
 
 did_so : (w : World) (n : ℕ) (s : ShardNow) (doing : Doing) (st : Stepped) → ComesSo w (did w n s doing st) (answer_in st)
@@ -202,5 +203,7 @@ module _ {D : Type 0} (keeps obeys : Type 0) (file : D → File) (clock : D → 
       what_answer (Doing.Advance at now) (input_of bag (Doing.Advance at now)) old new result (given (Doing.Advance at now) refl) refl k own h
   calls_answer (Doing.Forget at now) old new result k own quiet h =
       what_answer (Doing.Forget at now) (input_of bag (Doing.Forget at now)) old new result (given (Doing.Forget at now) refl) refl k own h
+  calls_answer (Doing.Retire below now) old new result k own quiet h =
+      what_answer (Doing.Retire below now) (input_of bag (Doing.Retire below now)) old new result (given (Doing.Retire below now) refl) refl k own h
   calls_answer (Doing.Nudge t now) old new result k own quiet h =
       what_answer (Doing.Nudge t now) (input_of bag (Doing.Nudge t now)) old new result (given (Doing.Nudge t now) refl) refl k own h

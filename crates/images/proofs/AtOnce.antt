@@ -103,6 +103,7 @@ module _ (w : World) (time n : ℕ) (image : List ℕ) (l : IsLeftIn w time n im
     same_may at (Doing.Advance to now) = refl
     same_may at (Doing.Nudge t now) = refl
     same_may at (Doing.Forget to now) = refl
+    same_may at (Doing.Retire below now) = refl
     same_may at Doing.Turn = refl
     same_may at Doing.Open = same_state _
 
@@ -113,6 +114,7 @@ module _ (w : World) (time n : ℕ) (image : List ℕ) (l : IsLeftIn w time n im
     same_crash (Doing.Advance to now) = same_state _
     same_crash (Doing.Nudge t now) = same_state _
     same_crash (Doing.Forget to now) = same_state _
+    same_crash (Doing.Retire below now) = same_state _
     same_crash Doing.Turn = same_state _
     same_crash Doing.Open = refl
 

@@ -301,6 +301,7 @@ module _ {D : Type 0} (keeps obeys : Type 0) (file : D → File) (clock : D → 
       doing_told (Doing.Settle t now) may k = inl (input_told (Doing.Settle t now) (given (Doing.Settle t now) refl) may k k)
       doing_told (Doing.Advance at now) may k = inl (input_told (Doing.Advance at now) (given (Doing.Advance at now) refl) may k k)
       doing_told (Doing.Forget at now) may k = inl (input_told (Doing.Forget at now) (given (Doing.Forget at now) refl) may k k)
+      doing_told (Doing.Retire below now) may k = inl (input_told (Doing.Retire below now) (given (Doing.Retire below now) refl) may k k)
       doing_told (Doing.Nudge t now) may k = inl (input_told (Doing.Nudge t now) (given (Doing.Nudge t now) refl) may k k)
 
 module _ {D : Type 0} (keeps obeys : Type 0) (file : D → File) (clock : D → ℕ) (since : D → ℕ → List ℕ → Type 0) (failures : D → ℕ)

@@ -78,6 +78,7 @@ refused_down s fate (Doing.Resume now) = (refl, refl)
 refused_down s fate (Doing.Settle t now) = (refl, refl)
 refused_down s fate (Doing.Advance at now) = (refl, refl)
 refused_down s fate (Doing.Forget at now) = (refl, refl)
+refused_down s fate (Doing.Retire below now) = (refl, refl)
 refused_down s fate (Doing.Nudge t now) = (refl, refl)
 
 pub crashed_down : (s : ShardNow) (call : ℕ) (fate : Fate) (doing : Doing) (st : Stepped) →
@@ -100,6 +101,7 @@ given (Doing.Resume now) has = record { has = refl; goes = refl; refused = λ s.
 given (Doing.Settle t now) has = record { has = refl; goes = refl; refused = λ s. refl; behind = λ s logged. refl }
 given (Doing.Advance at now) has = record { has = refl; goes = refl; refused = λ s. refl; behind = λ s logged. refl }
 given (Doing.Forget at now) has = record { has = refl; goes = refl; refused = λ s. refl; behind = λ s logged. refl }
+given (Doing.Retire below now) has = record { has = refl; goes = refl; refused = λ s. refl; behind = λ s logged. refl }
 given (Doing.Nudge t now) has = record { has = refl; goes = refl; refused = λ s. refl; behind = λ s logged. refl }
 given Doing.Turn has = absurd (false≢true has)
 given Doing.Open has = absurd (false≢true has)
@@ -246,6 +248,8 @@ module _ {D : Type 0} (keeps obeys : Type 0) (file : D → File) (clock : D → 
         what_comes (Doing.Advance at now) (input_of bag (Doing.Advance at now)) old new a.result (given (Doing.Advance at now) refl) refl a.called a.own h
     answers_comes (Doing.Forget at now) old new a h =
         what_comes (Doing.Forget at now) (input_of bag (Doing.Forget at now)) old new a.result (given (Doing.Forget at now) refl) refl a.called a.own h
+    answers_comes (Doing.Retire below now) old new a h =
+        what_comes (Doing.Retire below now) (input_of bag (Doing.Retire below now)) old new a.result (given (Doing.Retire below now) refl) refl a.called a.own h
     answers_comes (Doing.Nudge t now) old new a h =
         what_comes (Doing.Nudge t now) (input_of bag (Doing.Nudge t now)) old new a.result (given (Doing.Nudge t now) refl) refl a.called a.own h
 
@@ -267,6 +271,7 @@ module _ {D : Type 0} (keeps obeys : Type 0) (file : D → File) (clock : D → 
     goes_comes (Doing.Settle t now) old new (inr idle) h = idle_comes (Doing.Settle t now) old new refl refl idle.1 idle.2 h
     goes_comes (Doing.Advance at now) old new (inr idle) h = idle_comes (Doing.Advance at now) old new refl refl idle.1 idle.2 h
     goes_comes (Doing.Forget at now) old new (inr idle) h = idle_comes (Doing.Forget at now) old new refl refl idle.1 idle.2 h
+    goes_comes (Doing.Retire below now) old new (inr idle) h = idle_comes (Doing.Retire below now) old new refl refl idle.1 idle.2 h
     goes_comes (Doing.Nudge t now) old new (inr idle) h = idle_comes (Doing.Nudge t now) old new refl refl idle.1 idle.2 h
 
     -- ---- a call fails in it
@@ -364,6 +369,9 @@ module _ {D : Type 0} (keeps obeys : Type 0) (file : D → File) (clock : D → 
           f.told h
       fails_lives (Doing.Forget at now) old new memory out does f h =
           what_fails (Doing.Forget at now) (input_of bag (Doing.Forget at now)) old new f.fault refl refl refl memory out does f.called f.failed f.read f.told h
+      fails_lives (Doing.Retire below now) old new memory out does f h =
+          what_fails (Doing.Retire below now) (input_of bag (Doing.Retire below now)) old new f.fault refl refl refl memory out does f.called f.failed
+          f.read f.told h
       fails_lives (Doing.Nudge t now) old new memory out does f h =
           what_fails (Doing.Nudge t now) (input_of bag (Doing.Nudge t now)) old new f.fault refl refl refl memory out does f.called f.failed f.read f.told h
 
@@ -451,6 +459,7 @@ module _ {D : Type 0} (keeps obeys : Type 0) (file : D → File) (clock : D → 
     starves_lives (Doing.Settle t now) old new k h = what_starves (input_of bag (Doing.Settle t now)) old new k h
     starves_lives (Doing.Advance at now) old new k h = what_starves (input_of bag (Doing.Advance at now)) old new k h
     starves_lives (Doing.Forget at now) old new k h = what_starves (input_of bag (Doing.Forget at now)) old new k h
+    starves_lives (Doing.Retire below now) old new k h = what_starves (input_of bag (Doing.Retire below now)) old new k h
     starves_lives (Doing.Nudge t now) old new k h = what_starves (input_of bag (Doing.Nudge t now)) old new k h
 
     -- ---- a crash

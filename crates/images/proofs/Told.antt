@@ -369,6 +369,7 @@ module _ {D : Type 0} (keeps obeys : Type 0) (file : D → File) (clock : D → 
   may_be_in (Doing.Settle t now) logged memory out does = crash_may (Doing.Settle t now) logged memory out does refl
   may_be_in (Doing.Advance at now) logged memory out does = crash_may (Doing.Advance at now) logged memory out does refl
   may_be_in (Doing.Forget at now) logged memory out does = crash_may (Doing.Forget at now) logged memory out does refl
+  may_be_in (Doing.Retire below now) logged memory out does = crash_may (Doing.Retire below now) logged memory out does refl
   may_be_in (Doing.Nudge t now) logged memory out does = crash_may (Doing.Nudge t now) logged memory out does refl
 
   -- what a call that is under way has done

@@ -455,6 +455,9 @@ module _ {D : Type 0} (keeps obeys : Type 0) (file : D → File) (clock : D → 
     does_read (Doing.Forget at now) old new result logged memory out does k h image left =
         what_reads (Doing.Forget at now) (input_of w.bag (Doing.Forget at now)) old new result (given (Doing.Forget at now) refl) refl
         logged memory out does k h image left
+    does_read (Doing.Retire below now) old new result logged memory out does k h image left =
+        what_reads (Doing.Retire below now) (input_of w.bag (Doing.Retire below now)) old new result (given (Doing.Retire below now) refl) refl
+        logged memory out does k h image left
     does_read (Doing.Nudge t now) old new result logged memory out does k h image left =
         what_reads (Doing.Nudge t now) (input_of w.bag (Doing.Nudge t now)) old new result (given (Doing.Nudge t now) refl) refl
         logged memory out does k h image left
@@ -539,6 +542,9 @@ module _ {D : Type 0} (keeps obeys : Type 0) (file : D → File) (clock : D → 
         why refuses k h image left
     calls_before (Doing.Forget at now) old new result why refuses k h image left =
         what_before (Doing.Forget at now) (input_of w.bag (Doing.Forget at now)) old new result (given (Doing.Forget at now) refl) refl
+        why refuses k h image left
+    calls_before (Doing.Retire below now) old new result why refuses k h image left =
+        what_before (Doing.Retire below now) (input_of w.bag (Doing.Retire below now)) old new result (given (Doing.Retire below now) refl) refl
         why refuses k h image left
     calls_before (Doing.Nudge t now) old new result why refuses k h image left =
         what_before (Doing.Nudge t now) (input_of w.bag (Doing.Nudge t now)) old new result (given (Doing.Nudge t now) refl) refl why refuses k h image left

@@ -113,6 +113,7 @@ refused_first s fate (Doing.Resume now) h = left_crashed s fate h
 refused_first s fate (Doing.Settle t now) h = left_crashed s fate h
 refused_first s fate (Doing.Advance at now) h = left_crashed s fate h
 refused_first s fate (Doing.Forget at now) h = left_crashed s fate h
+refused_first s fate (Doing.Retire below now) h = left_crashed s fate h
 refused_first s fate (Doing.Nudge t now) h = left_crashed s fate h
 
 crashed_in_first : (s : ShardNow) (call : ℕ) (fate : Fate) (doing : Doing) (st : Stepped) → turns doing ≡ false → IsFirst s →
@@ -176,6 +177,7 @@ module _ (w : World) (h : AreFirst w) where
     refused_all (Doing.Settle t now) fault = h
     refused_all (Doing.Advance at now) fault = h
     refused_all (Doing.Forget at now) fault = h
+    refused_all (Doing.Retire below now) fault = h
     refused_all (Doing.Nudge t now) fault = h
 
     did_all : (doing : Doing) (st : Stepped) → turns doing ≡ false → AreFirst (did w n s doing st).0

@@ -9,7 +9,7 @@ use Rattle.record.specs.Records.{as_ended, closed_promise, is_aborted}
 use Rattle.record.specs.Whole.{Decision, fits_decision, is_promise_for, outcomes_fit, promises_of, turns_down}
 use Rattle.record.specs.declared.record.Prepared.{Prepared}
 use Rattle.record.specs.declared.record.Record.{Record}
-use Rattle.record.specs.declared.record.Record.TheVariants.{Opened, Ceiling, Prepare, Commit, Abort, Outcome, Horizon, Base, Version, Settled, Closed}
+use Rattle.record.specs.declared.record.Record.TheVariants.{Opened, Ceiling, Prepare, Commit, Abort, Outcome, Horizon, Base, Version, Settled, Closed, Retired}
 use Rattle.inspector.specs.declared.whole.Stand.TheVariants.{Nothing, Otherwise, Promised}
 use Rattle.inspector.specs.Tallies.{all_fit, stand_of}
 
@@ -87,6 +87,7 @@ each_fits own part found t d [] = none_left own part found d
 each_fits own part found t d (Opened e ∷ log) = each_fits own part found t d log
 each_fits own part found t d (Ceiling a ∷ log) = each_fits own part found t d log
 each_fits own part found t d (Horizon a ∷ log) = each_fits own part found t d log
+each_fits own part found t d (Retired b ∷ log) = each_fits own part found t d log
 each_fits own part found t d (Base e f h ∷ log) = each_fits own part found t d log
 each_fits own part found t d (Version v ∷ log) = each_fits own part found t d log
 each_fits own part found t d (Commit c ∷ log) = each_fits own part found t d log

@@ -9,7 +9,7 @@ use Rattle.record.specs.Records.{as_committed, as_prepared, closed_promise}
 use Rattle.record.specs.declared.record.Committed.{Committed}
 use Rattle.record.specs.declared.record.Prepared.{Prepared}
 use Rattle.record.specs.declared.record.Record.{Record}
-use Rattle.record.specs.declared.record.Record.TheVariants.{Opened, Ceiling, Prepare, Commit, Abort, Outcome, Horizon, Base, Version, Settled, Closed}
+use Rattle.record.specs.declared.record.Record.TheVariants.{Opened, Ceiling, Prepare, Commit, Abort, Outcome, Horizon, Base, Version, Settled, Closed, Retired}
 use Rattle.inspector.specs.Decided.{decided_in, promised_in, whole_in}
 use Rattle.inspector.specs.Entries.{About, about_in, entries, of_txn}
 use Rattle.inspector.proofs.WholeByEntries.{of_txn_append, own, those}
@@ -60,6 +60,7 @@ one_log t shard n [] = refl
 one_log t shard n (Opened e ∷ log) = one_log t shard n log
 one_log t shard n (Ceiling a ∷ log) = one_log t shard n log
 one_log t shard n (Horizon a ∷ log) = one_log t shard n log
+one_log t shard n (Retired b ∷ log) = one_log t shard n log
 one_log t shard n (Base e f h ∷ log) = one_log t shard n log
 one_log t shard n (Version v ∷ log) = one_log t shard n log
 one_log t shard n (Commit c ∷ log) = no_promise t c.txn shard n (Commit c) log refl (one_log t shard n log)

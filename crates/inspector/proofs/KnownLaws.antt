@@ -2,7 +2,7 @@
 use Rattle.std.specs.List.{list_any}
 use Rattle.std.specs.List.Sorted.{ties}
 use Rattle.std.specs.Prelude.{option_map}
-use Rattle.std.proofs.Common.{◌≡◌, ◌∙◌, ℕ, Bool, true, false, not, cond, ◌&&◌, List, [], ◌∷◌, Option, Some, None, filter, nat_eq, nat_le, refl}
+use Rattle.std.proofs.Common.{◌≡◌, ◌∙◌, ℕ, Bool, true, false, not, cond, ◌&&◌, ◌||◌, List, [], ◌∷◌, Option, Some, None, filter, nat_eq, nat_le, refl}
 use Rattle.std.proofs.Common.{sym, ap, arith}
 use Rattle.std.proofs.lemmas.Bool.Decides.{nat_tests}
 use Rattle.units.specs.Ids.{Id, ids_once, same_id}
@@ -13,6 +13,7 @@ use Rattle.units.specs.declared.line.Line.TheVariants.{Ack, Begin, Look, Read}
 use Rattle.record.specs.History.{Txn, before, find_txn, serial, serial_before, upto}
 use Rattle.record.specs.Verdict.{first_fault, first_lost, first_wrong_order, first_wrong_read, is_late_ack, late_acks, line_reads_right}
 use Rattle.record.specs.Lines.{is_in_at}
+use Rattle.record.specs.Records.{is_below}
 use Rattle.record.specs.Verdict.{lost_by, same_value}
 use Rattle.inspector.specs.Versions.{shown}
 use Rattle.inspector.specs.Known.{HaveSame, of_id}
@@ -28,12 +29,12 @@ same_find us vs same t = ap (λ (l : List Txn). head l) (same t)
 same_in_at : (us vs : List Txn) → HaveSame us vs → (t : Id) (at : ℕ) → is_in_at us t at ≡ is_in_at vs t at
 same_in_at us vs same t at = any_of_id us t at ∙ ap (λ l. list_any (λ u. nat_eq u.at at) l) (same t) ∙ sym (any_of_id vs t at)
 
-same_lost_by : (us vs : List Txn) → HaveSame us vs → (l : Line) → lost_by us l ≡ lost_by vs l
-same_lost_by us vs same (Ack t at m) = ap (λ b. cond b None (Some t)) (same_in_at us vs same t at)
-same_lost_by us vs same _ = refl
+same_lost_by : (us vs : List Txn) → HaveSame us vs → (retired : Option Id) (l : Line) → lost_by retired us l ≡ lost_by retired vs l
+same_lost_by us vs same retired (Ack t at m) = ap (λ b. cond (is_below retired t || b) None (Some t)) (same_in_at us vs same t at)
+same_lost_by us vs same retired _ = refl
 
-same_lost : (us vs : List Txn) → HaveSame us vs → (lines : List Line) → first_lost us lines ≡ first_lost vs lines
-same_lost us vs same lines = ap (λ (lost : Line → Option Id). head (ids_once (gather lost lines))) (λ i l. same_lost_by us vs same l i)
+same_lost : (us vs : List Txn) → HaveSame us vs → (retired : Option Id) (lines : List Line) → first_lost retired us lines ≡ first_lost retired vs lines
+same_lost us vs same retired lines = ap (λ (lost : Line → Option Id). head (ids_once (gather lost lines))) (λ i l. same_lost_by us vs same retired l i)
 
 -- those that tie in the serial order are of one id
 ties_of_id : (q : Txn) (us : List Txn) → filter (ties serial_before q) us ≡ filter (λ u. nat_eq u.at q.at) (of_id q.txn us)
@@ -91,6 +92,7 @@ same_wrong_order us vs same lines =
     ap (λ (late : Line → List ℕ). head (gather (λ (l : ℕ × Line). option_map (λ (j : ℕ). (l.0, j)) (head (late l.1))) (numbered 0 lines)))
     (λ i l. same_late_acks us vs same (numbered 0 lines) l i)
 
-pub same_fault : (renewed : Bool) (us vs : List Txn) → HaveSame us vs → (lines : List Line) → line_fault renewed us lines ≡ line_fault renewed vs lines
-same_fault renewed us vs same lines =
-    λ i. first_fault None (same_lost us vs same lines i) (cond renewed None (same_wrong_read us vs same lines i)) (same_wrong_order us vs same lines i)
+pub same_fault : (retired : Option Id) (renewed : Bool) (us vs : List Txn) → HaveSame us vs → (lines : List Line) →
+    line_fault retired renewed us lines ≡ line_fault retired renewed vs lines
+same_fault retired renewed us vs same lines =
+    λ i. first_fault None (same_lost us vs same retired lines i) (cond renewed None (same_wrong_read us vs same lines i)) (same_wrong_order us vs same lines i)

@@ -1,6 +1,6 @@
 -- The least transaction that is not whole, found among records that ascend.
 use Rattle.std.specs.List.{list_all, list_any}
-use Rattle.std.proofs.Common.{◌≡◌, ◌∙◌, ℕ, suc, Bool, true, false, not, cond, ◌||◌, List, [], ◌∷◌, ◌++◌, filter, flat_map, length, map, Option, Some}
+use Rattle.std.proofs.Common.{◌≡◌, ◌∙◌, ℕ, suc, Bool, true, false, not, cond, ◌&&◌, ◌||◌, List, [], ◌∷◌, ◌++◌, filter, flat_map, length, map, Option, Some}
 use Rattle.std.proofs.Common.{None, option_map, refl, sym, ap, subst}
 use Rattle.std.proofs.lemmas.Bool.{and_parts, and_from, false≢true}
 use Rattle.units.specs.Ids.{Id, same_id, older, with_id, ids_once}
@@ -8,8 +8,8 @@ use Rattle.units.specs.Lists.{first, gather, head, numbered}
 use Rattle.units.proofs.IdLaws.{older_not_same, older_total, same_id-is, same_id-refl}
 use Rattle.units.proofs.IdOrder.{above_more, any_once, rises, rises_once}
 use Rattle.record.specs.Records.{id_in}
-use Rattle.record.specs.Verdict.{first_torn}
-use Rattle.record.specs.Whole.{is_whole}
+use Rattle.record.specs.Accepted.{is_kept}
+use Rattle.record.specs.Whole.{all_ids, is_whole}
 use Rattle.record.specs.declared.record.Record.{Record}
 use Rattle.inspector.specs.Entries.{About, AscendsByTxn, about_in, entries, logs_from, of_txn}
 use Rattle.inspector.proofs.WholeByEntries.{whole_by_entries}
@@ -161,12 +161,13 @@ first_ascending test (e ∷ es) up =
     first_step test e.txn (map (λ e. e.txn) es) (ids_once (map (λ e. e.txn) es)) (first_ascending test es up.1)
     ∙ sym (first_with test e.txn (ids_once (map (λ e. e.txn) es)) (none_older_once e.txn (map (λ e. e.txn) es) (ids_none_older e.txn es up.0)))
 
--- ---- the least that is not whole
+-- ---- the least that is not whole, of those that are not retired
 
-pub torn_is : (logs : List (List Record)) (es : List About) → AscendsByTxn es → ((t : Id) → of_txn t es ≡ of_txn t (entries logs))
-    → first (λ t. not (is_whole t (logs_from (length logs) 0 (of_txn t es)))) (map (λ e. e.txn) es) ≡ first_torn logs
-torn_is logs es up same =
-    ap (λ (test : Id → Bool). first test (map (λ e. e.txn) es)) (λ i t. not
+pub torn_is : (retired : Option Id) (logs : List (List Record)) (es : List About) → AscendsByTxn es → ((t : Id) → of_txn t es ≡ of_txn t (entries logs))
+    → first (λ t. is_kept retired t && not (is_whole t (logs_from (length logs) 0 (of_txn t es)))) (map (λ e. e.txn) es)
+    ≡ first (λ t. is_kept retired t && not (is_whole t logs)) (all_ids logs)
+torn_is retired logs es up same =
+    ap (λ (test : Id → Bool). first test (map (λ e. e.txn) es)) (λ i t. is_kept retired t && not
     ((ap (λ fs. is_whole t (logs_from (length logs) 0 fs)) (same t) ∙ whole_by_entries t logs) i))
-    ∙ first_ascending (λ t. not (is_whole t logs)) es up
-    ∙ ap (first (λ t. not (is_whole t logs))) (once_same es (entries logs) same ∙ ap ids_once (ids_from 0 logs))
+    ∙ first_ascending (λ t. is_kept retired t && not (is_whole t logs)) es up
+    ∙ ap (first (λ t. is_kept retired t && not (is_whole t logs))) (once_same es (entries logs) same ∙ ap ids_once (ids_from 0 logs))

@@ -3,6 +3,7 @@ use Rattle.std.specs.Prelude.{ℕ, Bool, List, Option, None}
 use Rattle.units.specs.Lists.{head, numbered}
 use Rattle.units.specs.declared.line.Line.{Line}
 use Rattle.units.specs.declared.line.Verdict.{Verdict}
+use Rattle.units.specs.Ids.{Id}
 use Rattle.record.specs.History.{Txn}
 use Rattle.record.specs.Verdict.{first_fault, first_lost, first_wrong_order, late_acks, wrong_read}
 
@@ -10,6 +11,6 @@ use Rattle.record.specs.Verdict.{first_fault, first_lost, first_wrong_order, lat
 abbrev pub first_late : List Txn → List Line → Line → Option ℕ
 first_late h lines l = head (late_acks h (numbered 0 lines) l)
 
--- the verdict where no transaction is torn, over renewed logs or others
-abbrev pub line_fault : Bool → List Txn → List Line → Verdict
-line_fault renewed us lines = first_fault None (first_lost us lines) (wrong_read renewed us lines) (first_wrong_order us lines)
+-- the verdict where no transaction is torn, over renewed logs or others, which retired all ids below this one
+abbrev pub line_fault : Option Id → Bool → List Txn → List Line → Verdict
+line_fault retired renewed us lines = first_fault None (first_lost retired us lines) (wrong_read renewed us lines) (first_wrong_order us lines)

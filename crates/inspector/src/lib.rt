@@ -6,6 +6,7 @@ mod decisions;
 mod entries;
 mod history;
 mod lines;
+mod retired;
 mod torn;
 mod values;
 mod verdict;

@@ -16,7 +16,8 @@ use Rattle.units.proofs.KeyLaws.{same_key-refl}
 use Rattle.record.specs.Accepted.{Taken, Accepted, DamagedAt, StrangerAt, taken, taken_from, belongs, begins, follows, fits_beside, followed}
 use Rattle.record.specs.Facts.{Facts, facts_of, learn, recorded, installs_at}
 use Rattle.record.specs.Installs.{installs_of, installed_by, writes_by}
-use Rattle.record.specs.Records.{Ended, as_ended, as_version, as_committed, as_prepared, status_by, status_of, is_aborted, committed_of, prepared_of, ended_of}
+use Rattle.record.specs.Records.{Ended, Unrecorded, as_ended, as_version, as_committed, as_prepared, status_by, status_of, status_written, is_aborted}
+use Rattle.record.specs.Records.{committed_of, prepared_of, ended_of, is_below, retired_of}
 use Rattle.record.specs.declared.record.Committed.{Committed}
 use Rattle.record.specs.declared.record.Prepared.{Prepared}
 use Rattle.record.specs.declared.record.Record.{Record}
@@ -202,7 +203,7 @@ pub record IsNew (log : List Record) (r : Record) (i : Install) : Type 0 where
   pub value : i.value ≡ write.value
 
 pub new_from : (log : List Record) (r : Record) (i : Install) → is_logged r ≡ true → IsAmong (installs_by log r) i → IsNew log r i
-unfolding status_of
+unfolding status_of status_written
 new_from log (Version _) i l h = cc
 new_from log (Outcome t o) i l h =
     by_outcome o (subst (λ st. IsAmong (installs_at st o) i) (recorded_is log t) h)
@@ -238,9 +239,16 @@ new_from log (Outcome t o) i l h =
     none_installed false None (Some p) None k = k
     none_installed false None None e k = k
 
+    by_written : (q : Option ℕ) → IsAmong (installs_at (status_written log t) q) i → IsNew log (Outcome t q) i
+    by_written None k = absurd (none_installed (is_aborted log t) (committed_of log t) (prepared_of log t) (ended_of log t) k)
+    by_written (Some s) k = of_versions s (to_versions (is_aborted log t) (committed_of log t) (prepared_of log t) (ended_of log t) s k)
+
     by_outcome : (q : Option ℕ) → IsAmong (installs_at (status_of log t) q) i → IsNew log (Outcome t q) i
-    by_outcome None k = absurd (none_installed (is_aborted log t) (committed_of log t) (prepared_of log t) (ended_of log t) k)
-    by_outcome (Some s) k = of_versions s (to_versions (is_aborted log t) (committed_of log t) (prepared_of log t) (ended_of log t) s k)
+    by_outcome q k = by_test (is_below (retired_of log) t) k
+      where
+        by_test : (b : Bool) → IsAmong (installs_at (cond b Unrecorded (status_written log t)) q) i → IsNew log (Outcome t q) i
+        by_test true n = absurd n
+        by_test false n = by_written q n
 new_from log _ i l h = absurd h
 
 -- the writes of an id have one value of each key

@@ -56,6 +56,7 @@ module _ (sc : Scene) where
     record_same (Record.Opened epoch) is h = tt
     record_same (Record.Ceiling at) is h = tt
     record_same (Record.Horizon at) is h = tt
+    record_same (Record.Retired below) is h = tt
     record_same (Record.Prepare p) is h = h
     record_same (Record.Commit c) is h = record {
       asked = h.asked;

@@ -16,7 +16,7 @@ use Rattle.units.specs.declared.writes.Write.{Write}
 use Rattle.units.proofs.KeyLaws.{same_key-refl}
 use Rattle.record.specs.Facts.{Facts, facts_of, recorded}
 use Rattle.record.specs.Records.{Ended, Status, Unrecorded, StandsPrepared, StandsDecided, is_aborted}
-use Rattle.record.specs.Records.{committed_of, prepared_of, ended_of, status_by, status_of}
+use Rattle.record.specs.Records.{committed_of, prepared_of, ended_of, is_below, status_by, status_written}
 use Rattle.record.specs.declared.record.Committed.{Committed}
 use Rattle.record.specs.declared.record.Prepared.{Prepared}
 use Rattle.record.specs.declared.record.Record.{Record}
@@ -41,6 +41,7 @@ use Rattle.law.proofs.KeptRead.{IsAllowed, KeptRead, Tells, Told, tells_keeps, t
 use Rattle.law.proofs.Picked.{some_same}
 use Rattle.law.proofs.ReadBefore.{Claims}
 use Rattle.law.proofs.Resolved.{not_committed, not_prepared}
+use Rattle.law.proofs.Retired.{written_is}
 
 -- a lock that is taken is held
 holds_lock : (held : List Lock) (k : Bytes) (m : Mode) → holds (with_lock held (record { key = k; mode = m })) k ≡ true
@@ -109,12 +110,12 @@ told_row setup f m p a x fair = by_answer fair.held
 
 -- ---- a reader with an open row has no record
 
--- a promise or a decision is a status
+-- a promise or a decision of an id that is not retired is a status
 claimed_recorded : (log : List Record) (r : Record) (t : Id) (at : ℕ) (ks : List Bytes) (ws : List Write) → IsAmong log r → Claims r t at ks ws →
-    recorded (facts_of log) t ≡ Unrecorded → ⊥
-unfolding status_of
-claimed_recorded log r t at ks ws h c e = by_parts (is_aborted log t) (committed_of log t) refl (prepared_of log t) refl (ended_of log t)
-    (sym (recorded_is log t) ∙ e)
+    is_below (facts_of log).retired t ≡ false → recorded (facts_of log) t ≡ Unrecorded → ⊥
+unfolding status_written facts_of
+claimed_recorded log r t at ks ws h c kept e = by_parts (is_aborted log t) (committed_of log t) refl (prepared_of log t) refl (ended_of log t)
+    (sym (written_is log t kept) ∙ sym (recorded_is log t) ∙ e)
   where
     none_logged : (q : Record) → IsAmong log q → Claims q t at ks ws → committed_of log t ≡ None → prepared_of log t ≡ None → ⊥
     none_logged (Prepare p) j d hc hp = not_prepared log t p hp j d.0
@@ -186,9 +187,9 @@ module _ (n : ℕ) (t : Id) (k : Bytes) (e : ℕ) (x : Option Bytes) where
 
   -- a running shard that holds the read
   here_told : (setup : Setup) (log : List Record) (area : Area) (unsure : Unsure) (m : Memory) (views : List View) →
-      WellShard setup (shard_with log area unsure (Runs m) views) → Held t k e x (facts_of log) m → (recorded (facts_of log) t ≡ Unrecorded) →
-      ToldShard setup (shard_with log area unsure (Runs m) views)
-  here_told setup log area unsure m views h held none = record {
+      WellShard setup (shard_with log area unsure (Runs m) views) → Held t k e x (facts_of log) m → is_below (facts_of log).retired t ≡ false →
+      recorded (facts_of log) t ≡ Unrecorded → ToldShard setup (shard_with log area unsure (Runs m) views)
+  here_told setup log area unsure m views h held kept none = record {
     left = λ l may. elim may [
       | inl same ↦ subst (ToldLog setup) (sym same) (record {
         memory = m;
@@ -196,7 +197,7 @@ module _ (n : ℕ) (t : Id) (k : Bytes) (e : ℕ) (x : Option Bytes) where
         good = record {
           accepted = (h.left log (inl refl)).good;
           right = λ q front r back at ks ws split claims there. absurd (claimed_recorded log r t at ks ws
-              (subst (λ z. IsAmong z r) (sym split) (among_right front (r ∷ back) r (inl refl))) claims none);
+              (subst (λ z. IsAmong z r) (sym split) (among_right front (r ∷ back) r (inl refl))) claims kept none);
         };
       })
       | inr more ↦ absurd (subst (λ u. IsUnsure u more.0) h.state.1 more.1)
@@ -206,8 +207,8 @@ module _ (n : ℕ) (t : Id) (k : Bytes) (e : ℕ) (x : Option Bytes) where
 
   -- a shard that runs and holds a read keeps it
   pub held_is_kept : (w : World) (s : ShardNow) (m : Memory) → WellWorld w → slice_get w.shards n ≡ Some s → s.state ≡ Runs m →
-      Held t k e x (facts_of s.log) m → recorded (facts_of s.log) t ≡ Unrecorded → KeptRead n t k e x w
-  held_is_kept w s m well there runs held none j z at = elim (cases_eq j n) [
+      Held t k e x (facts_of s.log) m → is_below (facts_of s.log).retired t ≡ false → recorded (facts_of s.log) t ≡ Unrecorded → KeptRead n t k e x w
+  held_is_kept w s m well there runs held kept none j z at = elim (cases_eq j n) [
     | inl same ↦ by_place same
     | inr other ↦ apart_told (setup_of w.config j) z.log z.area z.unsure z.state z.views other (well j z at)
   ]
@@ -220,6 +221,6 @@ module _ (n : ℕ) (t : Id) (k : Bytes) (e : ℕ) (x : Option Bytes) where
           by_state : (st : State) → st ≡ Runs m → WellShard (setup_of w.config j) (shard_with s.log s.area s.unsure st s.views) →
               ToldShard (setup_of w.config j) (shard_with s.log s.area s.unsure st s.views)
           by_state (Runs q) q_is h = here_told (setup_of w.config j) s.log s.area s.unsure q s.views h
-              (subst (Held t k e x (facts_of s.log)) (sym (memory_is q m q_is)) held) none
+              (subst (Held t k e x (facts_of s.log)) (sym (memory_is q m q_is)) held) kept none
           by_state (IsStopped q) q_is h = cc
           by_state IsDown q_is h = cc

@@ -72,6 +72,7 @@ module _ (setup : Setup) (bag : List Envelope) (s : ShardNow) (c : Committed) (m
   up_if_wanted (Doing.Advance at now) e = up_if s.state refl _ e
   up_if_wanted (Doing.Nudge t now) e = up_if s.state refl _ e
   up_if_wanted (Doing.Forget at now) e = up_if s.state refl _ e
+  up_if_wanted (Doing.Retire below now) e = up_if s.state refl _ e
 
   up_if_effect : (doing : Doing) → Decides (effect setup bag s doing) → IsUp s
   unfolding effect

@@ -1,10 +1,11 @@
 -- What a log says names keys of its shard alone, where each of its records does.
 use Rattle.std.specs.List.{AllByRecursion, list_all}
 use Rattle.std.specs.Prelude.{IsTrue}
-use Rattle.std.proofs.Common.{◌≡◌, ◌&&◌, ◌∙◌, ℕ, true, nat_eq, List, [], ◌∷◌, ◌++◌, Option, Some, None, refl, sym, subst, append_assoc}
+use Rattle.std.proofs.Common.{◌≡◌, ◌&&◌, ◌∙◌, ℕ, Bool, true, false, not, cond, filter, nat_eq, List, [], ◌∷◌, ◌++◌, Option, Some, None, refl, sym, subst}
+use Rattle.std.proofs.Common.{append_assoc}
 use Rattle.std.proofs.lemmas.Bool.{and_from, and_parts}
 use Rattle.std.proofs.lemmas.List.{append-nil}
-use Rattle.units.specs.Ids.{Id, same_id}
+use Rattle.units.specs.Ids.{Id, same_id, older}
 use Rattle.units.specs.Keys.{shard_of}
 use Rattle.units.specs.Lists.{first}
 use Rattle.units.specs.Versions.{versions}
@@ -17,7 +18,7 @@ use Rattle.record.specs.Facts.{Facts, TxnStatus, after_outcome, facts_of, instal
 use Rattle.record.specs.Installs.{installs_of}
 use Rattle.record.specs.Records.{Status, Unrecorded, StandsPrepared, StandsDecided, HasAborted, HasSettled, HasClosed}
 use Rattle.record.specs.declared.record.Record.{Record}
-use Rattle.record.specs.declared.record.Record.TheVariants.{Prepare, Commit, Abort, Outcome, Base, Version, Settled, Closed}
+use Rattle.record.specs.declared.record.Record.TheVariants.{Prepare, Commit, Abort, Outcome, Base, Version, Settled, Closed, Retired}
 use Rattle.record.proofs.LearnAgrees.{followed_more, learn_agrees}
 use Rattle.ledger.specs.Keeps.{NamesOwn}
 use Rattle.ledger.proofs.Entries.{entry, id_of, with_status-is}
@@ -75,6 +76,15 @@ module _ (setup : Setup) where
 
   -- ---- one more record
 
+  all_kept : (left : TxnStatus → Bool) (es : List TxnStatus) → AllByRecursion (NamesOwn setup) es → AllByRecursion (NamesOwn setup) (filter left es)
+  all_kept left [] h = tt
+  all_kept left (e ∷ es) h = by_test (left e) (all_kept left es h.1)
+    where
+      by_test : (b : Bool) → AllByRecursion (NamesOwn setup) (filter left es) →
+          AllByRecursion (NamesOwn setup) (cond b (e ∷ filter left es) (filter left es))
+      by_test true rest = (h.0, rest)
+      by_test false rest = rest
+
   learn_own : (f : Facts) (r : Record) → belongs setup r ≡ true → NamesOwnKeys setup f → NamesOwnKeys setup (learn f r)
   unfolding learn belongs
   learn_own f (Prepare p) own h = record { installs = h.installs; entries = put f.entries p.txn (StandsPrepared p) own h.entries }
@@ -89,6 +99,7 @@ module _ (setup : Setup) where
   learn_own f (Version install) own h = record { installs = all_append (IsOwn setup) f.installs (install ∷ []) h.installs (own, tt); entries = h.entries }
   learn_own f (Settled t at parts) own h = record { installs = h.installs; entries = put f.entries t (HasSettled at parts) tt h.entries }
   learn_own f (Closed t coordinator outcome) own h = record { installs = h.installs; entries = put f.entries t (HasClosed coordinator outcome) tt h.entries }
+  learn_own f (Retired below) own h = record { installs = h.installs; entries = all_kept (λ e. not (older e.txn below)) f.entries h.entries }
   learn_own f _ own h = record { installs = h.installs; entries = h.entries }
 
   -- ---- a whole log

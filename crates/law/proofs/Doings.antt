@@ -21,7 +21,7 @@ use Rattle.message.specs.declared.message.Envelope.{Envelope}
 use Rattle.message.specs.declared.message.Input.{Input}
 use Rattle.message.specs.declared.message.Message.{Message}
 use Rattle.protocol.specs.Rows.{Memory, Row, rebuilt, without_row, without_rows}
-use Rattle.protocol.specs.Plan.{time_limit, start_of_step, Plan, Planned, Change, Keeps, Ends, Drops, Puts, carried, after_change}
+use Rattle.protocol.specs.Plan.{time_limit, start_of_step, Plan, Planned, Change, Keeps, Retires, Ends, Drops, Puts, carried, after_change}
 use Rattle.protocol.specs.Step.{step_within, Stepped, Refuses, Does, plan_input, stepped}
 use Rattle.protocol.proofs.RowTable.{with_row-is}
 use Rattle.world.specs.World.{ShardNow, Runs, Unsure, Nothing, Shown, read_log, shown_records, setup_of, step_of_opening, input_of, step_with}
@@ -81,6 +81,7 @@ module _ (sc : Scene) (log : List Record) (n : ℕ) where
   rows_changed : (c : Change) (rows : List Row) → ChangeEvidence sc log n c → RowsEvidence sc log n rows → RowsEvidence sc log n (after_change c rows)
   unfolding after_change
   rows_changed Keeps rows e h = h
+  rows_changed (Retires below) rows e h = h
   rows_changed (Ends t) rows e h = all-keep Fits _ rows h
   rows_changed (Drops t) rows e h = all-keep Fits _ rows h
   rows_changed (Puts t needs phase) rows e h =
@@ -167,6 +168,7 @@ given sc n (Doing.Resume now) h asks = let p = honest_given sc now h in (tt, p.0
 given sc n (Doing.Settle t now) h asks = let p = honest_given sc now h in (tt, p.0, p.1)
 given sc n (Doing.Advance at now) h asks = let p = honest_given sc now (and_parts _ _ h).0 in (tt, p.0, p.1)
 given sc n (Doing.Forget at now) h asks = let p = honest_given sc now (and_parts _ _ h).0 in (tt, p.0, p.1)
+given sc n (Doing.Retire below now) h asks = let p = honest_given sc now h in (tt, p.0, p.1)
 given sc n (Doing.Nudge t now) h asks = let p = honest_given sc now h in (tt, p.0, p.1)
 given sc n Doing.Turn h asks = tt
 given sc n Doing.Open h asks = tt

@@ -8,9 +8,9 @@ use Rattle.std.proofs.lemmas.Bool.{eqb-true, and_parts}
 use Rattle.units.specs.Ids.{Id}
 use Rattle.protocol.specs.Outputs.{done_to, vote_to, outcome_to, promise, decision, refused_vote}
 use Rattle.protocol.specs.Cells.{Cell, ToRefuse, ToRest, ToReply, Provided, ToRead, ToPrepare, ToCommit, ToEnd, ToAbort, ToAbortFor, ToCount, ToClose, ToGoOn}
-use Rattle.protocol.specs.Cells.{ToSettle, ToServe, ToForget, commit_stamp, other_parts, still_stand, plan_read_row, plan_prepare_fresh, plan_promise}
+use Rattle.protocol.specs.Cells.{ToSettle, ToServe, ToForget, ToRetire, commit_stamp, other_parts, still_stand, plan_read_row, plan_prepare_fresh, plan_promise}
 use Rattle.protocol.specs.Cells.{plan_commit_fresh, plan_commit_granted, plan_decide, plan_abort, plan_granted, plan_asks, plan_count, plan_advance}
-use Rattle.protocol.specs.Cells.{plan_forget, plan_cell, to_read, answers, refuses, tells}
+use Rattle.protocol.specs.Cells.{plan_forget, plan_retire, plan_cell, to_read, answers, refuses, tells}
 use Rattle.units.specs.Keys.{Bytes}
 use Rattle.units.specs.Locks.{exclusive, holds}
 use Rattle.units.specs.Versions.{latest}
@@ -19,25 +19,24 @@ use Rattle.units.specs.declared.lock.Lock.{Lock}
 use Rattle.units.specs.declared.setup.Setup.{Setup}
 use Rattle.units.specs.declared.writes.Write.{Write}
 use Rattle.truetime.specs.Interval.{Interval}
+use Rattle.record.specs.Records.{is_below}
 use Rattle.record.specs.declared.record.Record.{Record}
 use Rattle.message.specs.declared.message.Address.{Address}
 use Rattle.message.specs.declared.message.Answer.{Answer}
 use Rattle.message.specs.declared.message.Answer.TheVariants.{Holds, Refused}
 use Rattle.message.specs.declared.message.Envelope.{Envelope}
 use Rattle.message.specs.declared.message.Input.{Input}
-use Rattle.message.specs.declared.message.Commit.{Commit}
 use Rattle.message.specs.declared.message.Message.{Message}
-use Rattle.message.specs.declared.message.Prepare.{Prepare}
 use Rattle.message.specs.declared.message.ReadAnswer.{ReadAnswer}
 use Rattle.protocol.specs.Rows.{Row, Phase, Idle, WaitsRead, WaitsPrepare, WaitsCommit, Collecting, IsPrepared, IsDecided, Voted, Standing, IsUnknown}
-use Rattle.protocol.specs.Rows.{WasEnded, HasRow, WasAborted, WasSettled, WasClosed, find_row, with_vote}
+use Rattle.protocol.specs.Rows.{WasEnded, WasRetired, HasRow, WasAborted, WasSettled, WasClosed, find_row, standing, standing_kept, with_vote}
 use Rattle.protocol.specs.Step.{cell, plan_input}
 use Rattle.protocol.specs.Sound.{is_open}
 use Rattle.protocol.specs.Plan.{time_limit, Plan, Planned, Before, Change, Keeps, Puts, replies, serves, ends, drops, puts, votes_of, stands}
 use Rattle.protocol.proofs.Each.{Each, planned, refused, tested, either, within_room}
 use Rattle.protocol.proofs.CellsFrom.{IsHeard, IsLooseAt, IsIn, IsSaid, IsFrom, cell_is_from}
 use Rattle.protocol.proofs.Choices.{held_at, held_unknown, undecided_of_loose}
-use Rattle.protocol.proofs.Shapes.{is_loose}
+use Rattle.protocol.proofs.Shapes.{is_loose, not_retired}
 use Rattle.law.specs.Among.{IsAmong}
 use Rattle.law.proofs.Members.{all_append}
 
@@ -61,12 +60,13 @@ pub data Answered (b : Before) (p : Plan) (u : Id) (j : Bytes) : Type 0 where
       is_open phase ≡ true → holds held j ≡ true → Answered b p u j
   OfLock : p.change ≡ Puts u (to_read j) Idle → p.logged ≡ None → Answered b p u j
 
--- a value that is told is the latest, in this epoch
+-- a value that is told is the latest, in this epoch, and is told to an id that is not retired
 pub record AnswerFair (b : Before) (p : Plan) (a : ReadAnswer) (x : Option Bytes) : Type 0 where
   pub from : a.from ≡ b.shard
   pub epoch : a.epoch ≡ b.facts.epoch
   pub value : latest b.facts.installs a.key ≡ x
   pub held : Answered b p a.txn a.key
+  pub kept : is_below b.facts.retired a.txn ≡ false
 
 abbrev pub MessageFair : Before → Plan → Message → Type 0
 MessageFair b p m = elim m [ Message.ReadAnswer a ↦ elim a.answer [ Holds x ↦ AnswerFair b p a x | Refused ↦ Unit {0} ] | _ ↦ Unit {0} ]
@@ -110,9 +110,9 @@ IsFairInput t k e (Input.Deliver (Message.Commit c)) = c.txn ≡ t → IsAmong c
 IsFairInput t k e _ = Unit {0}
 
 module _ (t : Id) (k : Bytes) (e : ℕ) (b : Before) where
-  -- it was not ended, where it is this one
+  -- it was not ended, where it is this one, and is not retired
   abbrev Alive : Id → Type 0
-  Alive u = u ≡ t → stands b t ≡ WasEnded → ⊥
+  Alive u = (u ≡ t → stands b t ≡ WasEnded → ⊥) × (is_below b.facts.retired u ≡ false)
 
   -- where it is this one and reads the key, the epoch is this one
   abbrev pub Asked : Id → List Bytes → Type 0
@@ -159,12 +159,26 @@ module _ (t : Id) (k : Bytes) (e : ℕ) (b : Before) where
   none_asked : (u : Id) → Asked u []
   none_asked u same none = absurd none
 
+  -- who has a row is not retired
+  kept_by : (gone : Bool) (s : Standing) (held : List Lock) (phase : Phase) → cond gone WasRetired s ≡ HasRow held phase → gone ≡ false
+  kept_by true s held phase h = cc
+  kept_by false s held phase h = refl
+
+  row_kept : (u : Id) (held : List Lock) (phase : Phase) → stands b u ≡ HasRow held phase → is_below b.facts.retired u ≡ false
+  unfolding standing
+  row_kept u held phase h = kept_by (is_below b.facts.retired u) (standing_kept b.facts b.memory u) held phase h
+
   alive_in : (u : Id) (phase : Phase) → IsIn b u phase → Alive u
-  alive_in u phase row same ended = let z : HasRow row.held phase ≡ WasEnded = sym row.row ∙ ap (stands b) same ∙ ended in cc
+  alive_in u phase row = (
+    λ same ended. let z : HasRow row.held phase ≡ WasEnded = sym row.row ∙ ap (stands b) same ∙ ended in cc,
+    row_kept u row.held phase row.row,
+  )
 
   alive_loose : (u : Id) → is_loose (stands b u) ≡ true → Alive u
-  alive_loose u loose same ended =
-      let z : false ≡ true = ap is_loose (sym ended) ∙ ap (λ v. is_loose (stands b v)) (sym same) ∙ loose in cc
+  alive_loose u loose = (
+    λ same ended. let z : false ≡ true = ap is_loose (sym ended) ∙ ap (λ v. is_loose (stands b v)) (sym same) ∙ loose in cc,
+    not_retired b u (undecided_of_loose (stands b u) loose),
+  )
 
   -- ---- a lock and the answer
 
@@ -176,7 +190,7 @@ module _ (t : Id) (k : Bytes) (e : ℕ) (b : Before) where
         (votes_of b.shard b.memory.rows ended) (answers b u j ∷ [])
         (mute_fair b (puts b ended u (to_read j) Idle None b.memory.last (answers b u j ∷ [])) (votes_of b.shard b.memory.rows ended)
         (votes_mute b.shard b.memory.rows ended))
-        (record { from = refl; epoch = refl; value = refl; held = OfLock refl refl }, tt);
+        (record { from = refl; epoch = refl; value = refl; held = OfLock refl refl; kept = alive.1 }, tt);
   })
 
   -- a key that a transaction that may be ended holds is held by its row
@@ -199,10 +213,12 @@ module _ (t : Id) (k : Bytes) (e : ℕ) (b : Before) where
                 value = refl;
                 held =
                     OfRow refl refl refl held phase (is ∙ ap (λ ls. HasRow ls phase) same) (undecided_of_loose (HasRow own phase) loose) there;
+                kept = row_kept u own phase is;
               },
               tt,
             );
           }
+      by_standing WasRetired is loose = cc
       by_standing WasEnded is loose = cc
       by_standing WasAborted is loose = cc
       by_standing (WasSettled s ps) is loose = cc
@@ -281,6 +297,11 @@ module _ (t : Id) (k : Bytes) (e : ℕ) (b : Before) where
   unfolding plan_forget
   forgetting up = either _ _ _ (refused NotYet tt) (either _ _ _ (replying [] tt) (serving _ _ tt))
 
+  retiring : (below : Id) → Fair (plan_retire b below)
+  unfolding plan_retire
+  retiring below =
+      either _ _ _ (refused NotYet tt) (either _ _ _ (planned _ (record { change = tt; logged = tt; told = tt })) (replying [] tt))
+
   -- ---- all cells
 
   refuses_mute : (u : Id) (cs : List ℕ) → AllMute (map (refuses b u) cs)
@@ -329,6 +350,7 @@ module _ (t : Id) (k : Bytes) (e : ℕ) (b : Before) where
         (tt, tells_mute b u (Some s) (other_parts b.shard ps))) (refused Early tt)
     fair (ToServe latest_end stride up) from = advancing latest_end stride up
     fair (ToForget up) from = forgetting up
+    fair (ToRetire below) from = retiring below
 
   -- each input
   pub fairly : (rows : (u : Id) (held : List Lock) (phase : Phase) → stands b u ≡ HasRow held phase → Asked u (reads_of phase))

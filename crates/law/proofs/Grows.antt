@@ -158,6 +158,7 @@ module _ (a b : Scene) (g : Grows a b) where
     record_stays n (Record.Opened epoch) h = tt
     record_stays n (Record.Ceiling at) h = tt
     record_stays n (Record.Horizon at) h = tt
+    record_stays n (Record.Retired below) h = tt
     record_stays n (Record.Prepare p) h = prepare_asked_stays n p.txn p.coordinator p.reads p.writes h
     record_stays n (Record.Commit c) h = commit_stays n c h
     record_stays n (Record.Abort t) (inl h) = inl (record {

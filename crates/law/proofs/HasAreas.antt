@@ -57,15 +57,18 @@ use Rattle.world.proofs.Untouched.{run_settings}
 use Rattle.law.proofs.Acts.{acts_go, step_of}
 use Rattle.law.proofs.Areas.{IsLeft, logs_no_turn, no_more, read_may_leave}
 use Rattle.law.proofs.AreasAscend.{always_ascend, AllAscend, read_ascends}
+use Rattle.law.proofs.AreasDecide.{DecidesNoMore, more_decides, turned_decides}
 use Rattle.law.proofs.AreasOwn.{log_names_own}
 use Rattle.law.proofs.Every.{every_run_holds}
+use Rattle.law.proofs.Logged.{each_logged}
 use Rattle.law.proofs.Picked.{some_same}
 
--- an opening takes the area, and it is alike to the records, among which an opening is
+-- an opening takes the area, and it is alike to the records, among which an opening and all its decisions are
 pub record KeepsLog (setup : Setup) (log : List Record) (area : Area) : Type 0 where
   pub taken : taken setup area.records ≡ Accepted
   pub alike : Alike (facts_of log) (facts_of area.records)
   pub begun : 0 < (facts_of log).epoch
+  pub decides : DecidesNoMore log area.records
 
 -- each record of a log that is taken is of the shard
 belong_from : (setup : Setup) (before : List Record) (place : ℕ) (log : List Record) → taken_from setup before place log ≡ Accepted →
@@ -118,6 +121,7 @@ module _ (config : Config) (bag : List Envelope) (n : ℕ) (s : ShardNow) (well 
             (turned-fits n facts sound.memory sound.sound.sound sound.sound.few regular) (turned-belongs setup facts own.installs own.entries);
         alike = turned-log-keeps n facts kept.begun regular ids;
         begun = kept.begun;
+        decides = turned_decides (read_log s) (each_logged (read_log s) (good config bag n s well).1);
       }
 
   -- one more record
@@ -140,6 +144,7 @@ module _ (config : Config) (bag : List Envelope) (n : ℕ) (s : ShardNow) (well 
             (subst (λ f. Alike (learn (facts_of log) r) f) (sym (learn_agrees n old r (accepted_follows setup (old ++ r ∷ []) area_taken)))
             (alike-stays (facts_of log) (facts_of old) r kept.alike));
         begun = more_begun log r kept.begun;
+        decides = more_decides log old r kind kept.decides;
       }
 
 -- ---- a world
@@ -295,8 +300,16 @@ fresh_kept : (setup : Setup) → KeepsLog setup fresh_log fresh_area
 unfolding facts_of
 fresh_kept setup = record {
   taken = (fresh_taken setup).0;
-  alike = record { epoch = refl; floor = refl; horizon = refl; entries = refl; versions = record { now = λ k. refl; at = λ k t low. refl } };
+  alike = record {
+    epoch = refl;
+    floor = refl;
+    horizon = refl;
+    retired = refl;
+    entries = refl;
+    versions = record { now = λ k. refl; at = λ k t low. refl };
+  };
   begun = omega arith;
+  decides = λ c none. absurd none;
 }
 
 start_kept : (config : Config) → AreKept (start config)
@@ -324,22 +337,31 @@ pub always_kept : (config : Config) (es : List Event) → lawful config es ≡ t
 unfolding run lawful
 always_kept config es fair = run_kept (start config) es (start_kept config) fair (λ ds l. based config ds l)
 
+module _ (config : Config) (es : List Event) (fair : lawful config es ≡ true) where
+  abbrev w : World
+  w = run config es
+
+  base : Base w
+  base = based config es fair
+
+  read_is_kept : (n : ℕ) (s : ShardNow) → slice_get w.shards n ≡ Some s → KeepsLog (setup_of w.config n) (read_log s) (read_area s)
+  read_is_kept n s there = read_kept w base (always_kept config es fair) n s there
+
+  -- the decisions of the area are of the records
+  pub area_decides : (n : ℕ) (s : ShardNow) → slice_get w.shards n ≡ Some s → DecidesNoMore (read_log s) (read_area s).records
+  area_decides n s there = (read_is_kept n s there).decides
+
 -- every lawful run has its areas
 pub always_has_areas : AlwaysHasAreas
 always_has_areas config es fair = record {
-  takes = λ n s there. (read_is_kept n s there).taken;
-  alike = λ n s there. (read_is_kept n s there).alike;
-  lasting = λ n s there. taken-lasts (setup_of w.config n) (read_log s) (good w.config w.bag n s (base.well n s there)).0 (base.up n s there);
+  takes = λ n s there. (read_is_kept config es fair n s there).taken;
+  alike = λ n s there. (read_is_kept config es fair n s there).alike;
+  lasting = λ n s there. taken-lasts (setup_of w.config n) (read_log s) (good w.config w.bag n s ((base config es fair).well n s there)).0
+      ((base config es fair).up n s there);
 }
   where
     w : World
     w = run config es
-
-    base : Base w
-    base = based config es fair
-
-    read_is_kept : (n : ℕ) (s : ShardNow) → slice_get w.shards n ≡ Some s → KeepsLog (setup_of w.config n) (read_log s) (read_area s)
-    read_is_kept n s there = read_kept w base (always_kept config es fair) n s there
 
 -- and whatever a crash leaves of one keeps what was said
 pub areas_keep : AreasKeep

@@ -1,9 +1,9 @@
 -- A value that was told stands while its lock is held: nobody installs the key until the reader is logged or ended.
-use Rattle.std.proofs.Common.{◌≡◌, inl, inr, ℕ, ◌+◌, ◌≤◌, max, min, Bool, true, false, cond, ◌||◌, nat_lt, List, [], ◌∷◌, ◌++◌, Option, Some, None}
+use Rattle.std.proofs.Common.{◌≡◌, inl, inr, ℕ, ◌+◌, ◌≤◌, max, min, Bool, true, false, cond, ◌||◌, nat_lt, not, List, [], ◌∷◌, ◌++◌, filter, Option, Some, None}
 use Rattle.std.proofs.Common.{refl, sym, ap, subst, ◌∙◌}
 use Rattle.std.proofs.lemmas.List.Elements.{filter-append}
 use Rattle.std.specs.Prelude.{Ok}
-use Rattle.std.specs.List.{AllByRecursion}
+use Rattle.std.specs.List.{AllByRecursion, list_any}
 use Rattle.std.proofs.lemmas.Bool.{or_left, or_right}
 use Rattle.std.proofs.lemmas.List.{append-nil}
 use Rattle.units.specs.Limits.{most_rows}
@@ -19,27 +19,32 @@ use Rattle.units.specs.declared.setup.Setup.{Setup}
 use Rattle.units.specs.declared.writes.Install.{Install}
 use Rattle.units.specs.declared.writes.Write.{Write}
 use Rattle.units.proofs.IdLaws.{same_id-is, same_id-refl, same_id_comm}
+use Rattle.units.proofs.ByIdLaws.{found_all, found_is}
 use Rattle.units.proofs.KeyLaws.{same_key-is}
 use Rattle.truetime.specs.Interval.{Interval}
 use Rattle.record.specs.Facts.{Facts, learn, recorded, installs_at, after_outcome}
-use Rattle.record.specs.Records.{Status, Unrecorded, StandsPrepared, StandsDecided, HasAborted}
+use Rattle.record.specs.Records.{Status, Unrecorded, StandsPrepared, StandsDecided, HasAborted, is_below}
+use Rattle.record.specs.Accepted.{rises}
+use Rattle.record.proofs.Statuses.{first_kept}
 use Rattle.record.specs.declared.record.Committed.{Committed}
 use Rattle.record.specs.declared.record.Prepared.{Prepared}
 use Rattle.record.specs.declared.record.Record.{Record}
 use Rattle.message.specs.declared.message.Input.{Input}
 use Rattle.protocol.specs.Rows.{Memory, Row, Phase, IsPrepared, IsDecided, WasEnded, find_row}
-use Rattle.protocol.specs.Rows.{standing, standing_by, without_row, with_row, is_firm, held_by, held_in, without_rows}
+use Rattle.protocol.specs.Rows.{standing_by, without_row, with_row, is_firm, held_by, held_in, without_rows}
 use Rattle.protocol.specs.Plan.{time_limit, Plan, Before, start_of_step, carried, after_change, ended_by, in_way, stands, with_ids}
 use Rattle.protocol.specs.Sound.{IsSound, holds_alone, is_open}
 use Rattle.protocol.specs.Step.{plan_input, facts_after}
 use Rattle.protocol.proofs.AboveVersions.{rows_apart}
 use Rattle.protocol.proofs.Agreement.{Sound, unrecorded, promise_of, decision_of}
 use Rattle.protocol.proofs.Choices.{holds_later, others_gone, undecided_of_loose}
+use Rattle.protocol.proofs.KeptAgreement.{each_false}
 use Rattle.protocol.proofs.PlanShapes.{shape_of}
 use Rattle.protocol.proofs.RowChanges.{row_as, find-with_row_same, find-with_row_other, find-without_row_same, find-without_row_other}
 use Rattle.protocol.proofs.RowChanges.{find-without_rows, find-without_rows_other, by_id-claims}
-use Rattle.protocol.proofs.Shapes.{Shape, Answers, IsEnd, IsAbort, IsClose, IsSettle, IsLock, IsWait, IsPromise, IsDecision, IsLooseOther}
-use Rattle.protocol.proofs.Shapes.{is_undecided, ShapeOf, Acts, IsAdvance, IsForget}
+use Rattle.protocol.proofs.Shapes.{Shape, Answers, IsEnd, IsAbort, IsClose, IsSettle, IsLock, IsWait, IsPromise, IsDecision, IsLooseOther, not_retired}
+use Rattle.protocol.proofs.Shapes.{stands_kept}
+use Rattle.protocol.proofs.Shapes.{is_undecided, ShapeOf, Acts, IsAdvance, IsForget, IsRetire}
 use Rattle.protocol.proofs.StatusChanges.{Closing, closing, settling, installs_by, status_same, status_other}
 use Rattle.law.specs.Among.{IsAmong}
 use Rattle.law.proofs.Members.{all_among}
@@ -47,6 +52,7 @@ use Rattle.law.proofs.Accepts.{each_at}
 use Rattle.law.proofs.Fair.{PlanFair, reads_of}
 use Rattle.law.proofs.Picked.{some_same}
 use Rattle.law.proofs.ReadBefore.{Claims, reader_clashes}
+use Rattle.law.proofs.Retired.{below_more}
 
 -- ---- ended ids
 
@@ -81,6 +87,22 @@ has_among us [] t h = absurd h
 has_among us (v ∷ vs) t (inl same) = has_all_more (with_id us v) vs t (subst (λ z. has_id (with_id us v) z ≡ true) same (has_same us v))
 has_among us (v ∷ vs) t (inr later) = has_among (with_id us v) vs t later
 
+-- those below an id are dropped
+has_kept : (below : Id) (us : List Id) (t : Id) → older t below ≡ false → has_id us t ≡ true → has_id (filter (λ u. not (older u below)) us) t ≡ true
+has_kept below [] t apart e = cc
+has_kept below (u ∷ us) t apart e = by_tests (older u below) (same_id t u) refl refl e (λ k. has_kept below us t apart k)
+  where
+    rest : List Id
+    rest = filter (λ v. not (older v below)) us
+
+    by_tests : (a b : Bool) → older u below ≡ a → same_id t u ≡ b → (b || has_id us t) ≡ true → (has_id us t ≡ true → has_id rest t ≡ true) →
+        has_id (cond (not a) (u ∷ rest) rest) t ≡ true
+    by_tests true true under same h more =
+        let z : false ≡ true = sym apart ∙ ap (λ (v : Id). older v below) (same_id-is t u same) ∙ under in cc
+    by_tests true false under same h more = more h
+    by_tests false true under same h more = or_left (same_id t u) _ same
+    by_tests false false under same h more = or_right (same_id t u) _ (more h)
+
 -- ---- installs of other keys
 
 none_of_key : (ws : List Write) (s : ℕ) (k : Bytes) → ((w : Write) → IsAmong ws w → w.key ≡ k → ⊥) → of_key (versions ws s) k ≡ []
@@ -103,11 +125,12 @@ latest_other is ws (Some s) k none =
 -- ---- a value that was told
 
 module _ (t : Id) (k : Bytes) (e : ℕ) (x : Option Bytes) where
-  -- in its epoch the reader holds the key, whose latest value it is; or it is logged; or it is gone for good
+  -- in its epoch the reader holds the key, whose latest value it is; or it is logged; or it is gone for good; or it is retired
   pub data HeldIs (f : Facts) (m : Memory) : Type 0 where
     Reads : (row : Row) → find_row m.rows t ≡ Some row → is_open row.phase ≡ true → holds row.held k ≡ true → latest f.installs k ≡ x → HeldIs f m
     IsLogged : (recorded f t ≡ Unrecorded → ⊥) → HeldIs f m
     WasGone : find_row m.rows t ≡ None → has_id m.ended t ≡ true → HeldIs f m
+    IsPast : find_row m.rows t ≡ None → is_below f.retired t ≡ true → HeldIs f m
 
   pub record Held (f : Facts) (m : Memory) : Type 0 where
     pub late : e ≤ f.epoch
@@ -123,15 +146,25 @@ module _ (t : Id) (k : Bytes) (e : ℕ) (x : Option Bytes) where
     Goes : find_row m.rows t ≡ None → has_id m.ended t ≡ true → Fate b f m
     Ends : (recorded f t ≡ Unrecorded → ⊥) → ((row : Row) → find_row m.rows t ≡ Some row → reads_of row.phase ≡ []) → Fate b f m
     Grows : (row : Row) → find_row m.rows t ≡ Some row → is_open row.phase ≡ true → (holds (held_in b.memory.rows t) k ≡ true →
-        holds row.held k ≡ true) → recorded b.facts t ≡ Unrecorded
+        holds row.held k ≡ true) → recorded b.facts t ≡ Unrecorded → is_below b.facts.retired t ≡ false
         → (stands b t ≡ WasEnded → ⊥) → (IsAmong (reads_of row.phase) k → b.facts.epoch ≡ e) → latest f.installs k ≡ latest b.facts.installs k → Fate b f m
 
   no_row : (r : Row) → None ≡ Some r → ⊥
   no_row r q = cc
 
-  held_by_fate : (b : Before) (f : Facts) (m : Memory) → f.epoch ≡ b.facts.epoch → Held b.facts b.memory → Fate b f m → Held f m
-  unfolding standing
-  held_by_fate b f m same h (Stays row ended status values) = record {
+  -- who is neither recorded nor retired, has no row and is among the ended ids counts as ended
+  ended_stands : (b : Before) → is_below b.facts.retired t ≡ false → recorded b.facts t ≡ Unrecorded → find_row b.memory.rows t ≡ None →
+      has_id b.memory.ended t ≡ true → stands b t ≡ WasEnded
+  ended_stands b kept status none gone =
+      stands_kept b t kept ∙ ap (λ o. standing_by o (recorded b.facts t) (has_id b.memory.ended t)) none
+      ∙ ap (λ s. standing_by None s (has_id b.memory.ended t)) status ∙ ap (λ z. standing_by None Unrecorded z) gone
+
+  -- who is retired stays so
+  abbrev StaysPast : Before → Facts → Type 0
+  StaysPast b f = is_below b.facts.retired t ≡ true → is_below f.retired t ≡ true
+
+  held_by_fate : (b : Before) (f : Facts) (m : Memory) → f.epoch ≡ b.facts.epoch → StaysPast b f → Held b.facts b.memory → Fate b f m → Held f m
+  held_by_fate b f m same past h (Stays row ended status values) = record {
     late = subst (λ n. e ≤ n) (sym same) h.late;
     asked = λ r found there. same ∙ h.asked r (sym row ∙ found) there;
     held = λ now. by_held (h.held (sym same ∙ now));
@@ -141,17 +174,18 @@ module _ (t : Id) (k : Bytes) (e : ℕ) (x : Option Bytes) where
       by_held (Reads r found opened there value) = Reads r (row ∙ found) opened there (values r found there opened ∙ value)
       by_held (IsLogged logged) = IsLogged (λ q. logged (sym status ∙ q))
       by_held (WasGone none gone) = WasGone (row ∙ none) (ended gone)
-  held_by_fate b f m same h (Goes none gone) = record {
+      by_held (IsPast none gone) = IsPast (row ∙ none) (past gone)
+  held_by_fate b f m same past h (Goes none gone) = record {
     late = subst (λ n. e ≤ n) (sym same) h.late;
     asked = λ r found there. absurd (no_row r (sym none ∙ found));
     held = λ now. WasGone none gone;
   }
-  held_by_fate b f m same h (Ends logged quiet) = record {
+  held_by_fate b f m same past h (Ends logged quiet) = record {
     late = subst (λ n. e ≤ n) (sym same) h.late;
     asked = λ r found there. absurd (subst (λ l. IsAmong l k) (quiet r found) there);
     held = λ now. IsLogged logged;
   }
-  held_by_fate b f m same h (Grows row found opened grows status alive asked value) = record {
+  held_by_fate b f m same past h (Grows row found opened grows status kept alive asked value) = record {
     late = subst (λ n. e ≤ n) (sym same) h.late;
     asked = λ r there in_it. same ∙ asked (subst (λ (z : Row). IsAmong (reads_of z.phase) k) (some_same r row (sym there ∙ found)) in_it);
     held = λ now. by_held (h.held (sym same ∙ now));
@@ -160,8 +194,8 @@ module _ (t : Id) (k : Bytes) (e : ℕ) (x : Option Bytes) where
       by_held : HeldIs b.facts b.memory → HeldIs f m
       by_held (Reads r before_it opened_before there is) = Reads row found opened (grows (ap (λ o. holds (held_by o) k) before_it ∙ there)) (value ∙ is)
       by_held (IsLogged logged) = absurd (logged status)
-      by_held (WasGone none gone) = absurd (alive (ap (λ o. standing_by o (recorded b.facts t) (has_id b.memory.ended t)) none
-          ∙ ap (λ s. standing_by None s (has_id b.memory.ended t)) status ∙ ap (λ z. standing_by None Unrecorded z) gone))
+      by_held (WasGone none gone) = absurd (alive (ended_stands b kept status none gone))
+      by_held (IsPast none gone) = let z : true ≡ false = sym gone ∙ kept in cc
 
   -- ---- by the shapes of a step
 
@@ -261,7 +295,8 @@ module _ (t : Id) (k : Bytes) (e : ℕ) (x : Option Bytes) where
           (λ h. holds_later needs (held_in (without_rows b.memory.rows ended) u) k (ap (λ o. holds (held_by o) k)
           (find-without_rows_other b.memory.rows ended u (others_gone b.memory.rows u ended gone))
           ∙ subst (λ z. holds (held_in b.memory.rows z) k ≡ true) (sym is) h))
-          (subst (λ z. recorded b.facts z ≡ Unrecorded) is (unrecorded b u sound undecided)) (alive is) (asked is) refl
+          (subst (λ z. recorded b.facts z ≡ Unrecorded) is (unrecorded b u sound undecided))
+          (subst (λ (z : Id). is_below b.facts.retired z ≡ false) is (not_retired b u undecided)) (alive is) (asked is) refl
       by_test false differ = others_fate b u ended (row_as u (with_locks (held_in (without_rows b.memory.rows ended) u) needs) phase) b.facts last
           refl differ refl refl
 
@@ -298,55 +333,82 @@ module _ (t : Id) (k : Bytes) (e : ℕ) (x : Option Bytes) where
 
   next : (b : Before) (p : Plan) → Sound b → Shape b p → HeldNext b p
   unfolding HeldNext carried after_change ended_by learn
-  next b p sound (Answers out is) = subst (HeldNext b) (sym is) (λ fair h. held_by_fate b b.facts _ refl h
+  next b p sound (Answers out is) = subst (HeldNext b) (sym is) (λ fair h. held_by_fate b b.facts _ refl (λ g. g) h
       (Stays refl (λ g. g) refl (λ r found there opened. refl)))
-  next b p sound (IsEnd u out fresh is) = subst (HeldNext b) (sym is) (λ fair h. held_by_fate b b.facts _ refl h (ended_fate b u b.memory.last))
-  next b p sound (IsAbort u out fresh is) = subst (HeldNext b) (sym is) (λ fair h. held_by_fate b _ _ refl h
+  next b p sound (IsEnd u out fresh is) = subst (HeldNext b) (sym is) (λ fair h. held_by_fate b b.facts _ refl (λ g. g) h (ended_fate b u b.memory.last))
+  next b p sound (IsAbort u out fresh is) = subst (HeldNext b) (sym is) (λ fair h. held_by_fate b _ _ refl (λ g. g) h
       (dropped_fate b u (facts_after b.facts (Some (Record.Abort u))) HasAborted b.memory.last (status_same b.facts.entries u HasAborted) not_unrecorded_aborted
       (λ differ. status_other b.facts.entries u t HasAborted differ) (λ r differ found there opened. refl)))
-  next b p sound (IsClose u n c at held outcome out found allowed is) = subst (HeldNext b) (sym is) (λ fair h. held_by_fate b _ _ refl h
+  next b p sound (IsClose u n c at held outcome out found allowed is) = subst (HeldNext b) (sym is) (λ fair h. held_by_fate b _ _ refl (λ g. g) h
       (dropped_fate b u (facts_after b.facts (Some (Record.Outcome u outcome))) (after_outcome (recorded b.facts u) outcome)
       (raised b.memory.last outcome) (status_same b.facts.entries u (after_outcome (recorded b.facts u) outcome))
       (λ q. closed_some (promise_of b u held c at sound found).promise outcome (ap (λ s. after_outcome s outcome)
       (sym (promise_of b u held c at sound found).is) ∙ q))
       (λ differ. status_other b.facts.entries u t (after_outcome (recorded b.facts u) outcome) differ)
       (λ r differ mine there opened. closed_values b u outcome sound (closing b u c at held outcome sound found) r differ mine there)))
-  next b p sound (IsSettle u at ps held out found is) = subst (HeldNext b) (sym is) (λ fair h. held_by_fate b _ _ refl h
+  next b p sound (IsSettle u at ps held out found is) = subst (HeldNext b) (sym is) (λ fair h. held_by_fate b _ _ refl (λ g. g) h
       (dropped_fate b u (facts_after b.facts (Some (Record.Outcome u (Some at)))) (after_outcome (recorded b.facts u) (Some at)) b.memory.last
       (status_same b.facts.entries u (after_outcome (recorded b.facts u) (Some at)))
       (λ q. settled_some (decision_of b u held at ps sound found).decision (Some at) (ap (λ s. after_outcome s (Some at))
       (sym (decision_of b u held at ps sound found).is) ∙ q))
       (λ differ. status_other b.facts.entries u t (after_outcome (recorded b.facts u) (Some at)) differ)
       (λ r differ mine there opened. closed_values b u (Some at) sound (settling b u at ps held sound found) r differ mine there)))
-  next b p sound (IsLock u ended needs phase out l is) = subst (HeldNext b) (sym is) (λ fair h. held_by_fate b b.facts _ refl h
-      (open_fate b u ended needs phase b.memory.last sound l.cleared.gone l.opened l.undecided fair.change.0 fair.change.1))
-  next b p sound (IsWait u needs phase out w is) = subst (HeldNext b) (sym is) (λ fair h. held_by_fate b b.facts _ refl h
+  next b p sound (IsLock u ended needs phase out l is) = subst (HeldNext b) (sym is) (λ fair h. held_by_fate b b.facts _ refl (λ g. g) h
+      (open_fate b u ended needs phase b.memory.last sound l.cleared.gone l.opened l.undecided fair.change.0.0 fair.change.1))
+  next b p sound (IsWait u needs phase out w is) = subst (HeldNext b) (sym is) (λ fair h. held_by_fate b b.facts _ refl (λ g. g) h
       (open_fate b u (in_way b u needs) [] phase b.memory.last sound w.gone (slack_open phase w.slack)
-      (undecided_of_loose (stands b u) w.loose) fair.change.0 fair.change.1))
-  next b p sound (IsPromise u ended c at rs ws out l is) = subst (HeldNext b) (sym is) (λ fair h. held_by_fate b _ _ refl h
+      (undecided_of_loose (stands b u) w.loose) fair.change.0.0 fair.change.1))
+  next b p sound (IsPromise u ended c at rs ws out l is) = subst (HeldNext b) (sym is) (λ fair h. held_by_fate b _ _ refl (λ g. g) h
       (logged_fate b u ended (with_locks (held_in (without_rows b.memory.rows ended) u) (exclusive ws)) (IsPrepared c at)
       (facts_after b.facts (Some (promise u c at rs ws)))
       (StandsPrepared (record { txn = u; coordinator = c; at = at; reads = rs; writes = ws })) (max b.memory.last at) refl
       (status_same b.facts.entries u (StandsPrepared (record { txn = u; coordinator = c; at = at; reads = rs; writes = ws }))) (λ q. cc)
       (λ differ. status_other b.facts.entries u t (StandsPrepared (record { txn = u; coordinator = c; at = at; reads = rs; writes = ws })) differ) refl))
-  next b p sound (IsDecision u ended needs at ps rs ws out l is) = subst (HeldNext b) (sym is) (λ fair h. held_by_fate b _ _ refl h
+  next b p sound (IsDecision u ended needs at ps rs ws out l is) = subst (HeldNext b) (sym is) (λ fair h. held_by_fate b _ _ refl (λ g. g) h
       (logged_fate b u ended (with_locks (held_in (without_rows b.memory.rows ended) u) needs) (IsDecided at ps)
       (facts_after b.facts (Some (decision u at ps rs ws))) (StandsDecided (record { txn = u; at = at; parts = ps; reads = rs; writes = ws }))
       (max b.memory.last at) refl
       (status_same b.facts.entries u (StandsDecided (record { txn = u; at = at; parts = ps; reads = rs; writes = ws }))) (λ q. cc)
       (λ differ. status_other b.facts.entries u t (StandsDecided (record { txn = u; at = at; parts = ps; reads = rs; writes = ws })) differ) refl))
 
+  -- all ids below one are retired
+  retired_next : (b : Before) (below : Id) → list_any (λ r. older r.txn below) b.memory.rows ≡ false → rises b.facts.retired below ≡ true →
+      Held b.facts b.memory →
+      Held (facts_after b.facts (Some (Record.Retired below)))
+      (record { last = b.memory.last; rows = b.memory.rows; ended = filter (λ u. not (older u below)) b.memory.ended })
+  unfolding learn
+  retired_next b below none up h = by_test (older t below) refl
+    where
+      gone_row : older t below ≡ true → find_row b.memory.rows t ≡ None
+      gone_row under = by_row (find_row b.memory.rows t) refl
+        where
+          by_row : (o : Option Row) → find_row b.memory.rows t ≡ o → o ≡ None
+          by_row None found = refl
+          by_row (Some r) found =
+              let apart : older r.txn below ≡ false = found_all (λ (q : Row). older q.txn below ≡ false) (λ (q : Row). q.txn) b.memory.rows t r
+              (each_false (λ (q : Row). older q.txn below) b.memory.rows none) found in
+              let own : r.txn ≡ t = same_id-is r.txn t (found_is (λ (q : Row). q.txn) b.memory.rows t r found) in
+              let z : true ≡ false = sym under ∙ ap (λ (v : Id). older v below) (sym own) ∙ apart in cc
+
+      by_test : (c : Bool) → older t below ≡ c → Held (facts_after b.facts (Some (Record.Retired below)))
+          (record { last = b.memory.last; rows = b.memory.rows; ended = filter (λ u. not (older u below)) b.memory.ended })
+      by_test true gone = record { late = h.late; asked = h.asked; held = λ now. IsPast (gone_row gone) gone }
+      by_test false apart = held_by_fate b _ _ refl (below_more b.facts.retired below t up) h (Stays refl (has_kept below b.memory.ended t apart)
+          (first_kept (λ u. not (older u below)) t b.facts.entries ∙ ap (λ c. cond (not c) (recorded b.facts t) Unrecorded) apart)
+          (λ r found there opened. refl))
+
   next_of : (b : Before) (i : Input) (p : Plan) → Sound b → ShapeOf b i p → HeldNext b p
   unfolding HeldNext carried after_change ended_by learn
   next_of b i p sound (Acts shape) = next b p sound shape
   next_of b i p sound (IsForget at k2 served higher is) =
-      subst (HeldNext b) (sym is) (λ fair h. held_by_fate b _ _ refl h (Stays refl (λ g. g) refl (λ r found there opened. refl)))
+      subst (HeldNext b) (sym is) (λ fair h. held_by_fate b _ _ refl (λ g. g) h (Stays refl (λ g. g) refl (λ r found there opened. refl)))
+  next_of b i p sound (IsRetire below k2 none up is) = subst (HeldNext b) (sym is) (λ fair h. retired_next b below none up h)
   next_of b i p sound (IsAdvance stride at k2 is) = subst (HeldNext b) (sym is) (λ fair h. by_test (nat_lt b.facts.floor at) h)
     where
       by_test : (c : Bool) → Held b.facts b.memory → Held (facts_after b.facts (cond c (Some (Record.Ceiling (min (at + stride) time_limit))) None))
           (record { last = max b.memory.last at; rows = b.memory.rows; ended = b.memory.ended })
-      by_test true h = held_by_fate b _ _ refl h (Stays refl (λ g. g) refl (λ r found there opened. refl))
-      by_test false h = held_by_fate b b.facts _ refl h (Stays refl (λ g. g) refl (λ r found there opened. refl))
+      by_test true h = held_by_fate b _ _ refl (λ g. g) h (Stays refl (λ g. g) refl (λ r found there opened. refl))
+      by_test false h = held_by_fate b b.facts _ refl (λ g. g) h (Stays refl (λ g. g) refl (λ r found there opened. refl))
 
   -- a step keeps it
   pub held_keeps : (setup : Setup) (f : Facts) (m : Memory) (now : Interval) (i : Input) (p : Plan) → IsSound setup.shard f m →
@@ -365,17 +427,19 @@ module _ (t : Id) (k : Bytes) (e : ℕ) (x : Option Bytes) where
   -- who is logged was neither logged nor ended before
   told_latest : (b : Before) (u : Id) (rs : List Bytes) → Sound b → is_undecided (stands b u) ≡ true → (u ≡ t → stands b t ≡ WasEnded → ⊥) →
       (u ≡ t → IsAmong rs k → b.facts.epoch ≡ e) → u ≡ t → IsAmong rs k → Held b.facts b.memory → latest b.facts.installs k ≡ x
-  unfolding standing
   told_latest b u rs sound undecided alive asked is there h = by_held (h.held (asked is there))
     where
       status : recorded b.facts t ≡ Unrecorded
       status = subst (λ z. recorded b.facts z ≡ Unrecorded) is (unrecorded b u sound undecided)
 
+      kept : is_below b.facts.retired t ≡ false
+      kept = subst (λ (z : Id). is_below b.facts.retired z ≡ false) is (not_retired b u undecided)
+
       by_held : HeldIs b.facts b.memory → latest b.facts.installs k ≡ x
       by_held (Reads r found opened holds_it value) = value
       by_held (IsLogged logged) = absurd (logged status)
-      by_held (WasGone none gone) = absurd (alive is (ap (λ o. standing_by o (recorded b.facts t) (has_id b.memory.ended t)) none
-          ∙ ap (λ s. standing_by None s (has_id b.memory.ended t)) status ∙ ap (λ z. standing_by None Unrecorded z) gone))
+      by_held (WasGone none gone) = absurd (alive is (ended_stands b kept status none gone))
+      by_held (IsPast none gone) = let z : true ≡ false = sym gone ∙ kept in cc
 
   right : (b : Before) (p : Plan) → Sound b → Shape b p → ReadsRight b p
   unfolding ReadsRight
@@ -391,16 +455,18 @@ module _ (t : Id) (k : Bytes) (e : ℕ) (x : Option Bytes) where
   right b p sound (IsWait u needs phase out w is) = subst (ReadsRight b) (sym is) (λ fair h r at ks ws logged claims there. cc)
   right b p sound (IsPromise u ended c s rs vs out l is) = subst (ReadsRight b) (sym is) (λ fair h r at ks ws logged claims there.
       let mine = subst (λ z. Claims z t at ks ws) (sym (some_same (promise u c s rs vs) r logged)) claims in
-      told_latest b u rs sound l.undecided fair.change.0 fair.logged mine.0 (subst (λ l. IsAmong l k) (sym mine.2) there) h)
+      told_latest b u rs sound l.undecided fair.change.0.0 fair.logged mine.0 (subst (λ l. IsAmong l k) (sym mine.2) there) h)
   right b p sound (IsDecision u ended needs s ps rs vs out l is) = subst (ReadsRight b) (sym is) (λ fair h r at ks ws logged claims there.
       let mine = subst (λ z. Claims z t at ks ws) (sym (some_same (decision u s ps rs vs) r logged)) claims in
-      told_latest b u rs sound l.undecided fair.change.0 fair.logged mine.0 (subst (λ l. IsAmong l k) (sym mine.2) there) h)
+      told_latest b u rs sound l.undecided fair.change.0.0 fair.logged mine.0 (subst (λ l. IsAmong l k) (sym mine.2) there) h)
 
   right_of : (b : Before) (i : Input) (p : Plan) → Sound b → ShapeOf b i p → ReadsRight b p
   unfolding ReadsRight
   right_of b i p sound (Acts shape) = right b p sound shape
   right_of b i p sound (IsForget up k2 served higher is) = subst (ReadsRight b) (sym is) (λ fair h r at ks ws logged claims there. absurd
       (subst (λ z. Claims z t at ks ws) (sym (some_same (Record.Horizon up) r logged)) claims))
+  right_of b i p sound (IsRetire below k2 none up is) = subst (ReadsRight b) (sym is) (λ fair h r at ks ws logged claims there. absurd
+      (subst (λ z. Claims z t at ks ws) (sym (some_same (Record.Retired below) r logged)) claims))
   right_of b i p sound (IsAdvance stride up k2 is) = subst (ReadsRight b) (sym is) (λ fair h r at ks ws logged claims there. by_test
       (nat_lt b.facts.floor up) r at ks ws logged claims)
     where

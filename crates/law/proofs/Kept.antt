@@ -15,7 +15,8 @@ use Rattle.truetime.specs.Interval.{Interval}
 use Rattle.record.specs.Accepted.{followed}
 use Rattle.record.specs.Facts.{Facts, facts_of, learn}
 use Rattle.record.specs.Installs.{installs_of}
-use Rattle.record.specs.Records.{Ended, StandsPrepared, StandsDecided, as_ended, is_aborted, committed_of, prepared_of, ended_of, status_by, status_of}
+use Rattle.record.specs.Records.{Ended, StandsPrepared, StandsDecided, as_ended, is_aborted, committed_of, prepared_of, ended_of, is_below, retired_of}
+use Rattle.record.specs.Records.{status_by, status_written}
 use Rattle.record.specs.declared.record.Committed.{Committed}
 use Rattle.record.specs.declared.record.Prepared.{Prepared}
 use Rattle.record.specs.declared.record.Record.{Record}
@@ -39,6 +40,7 @@ use Rattle.law.proofs.Logged.{AreLogged, each_logged}
 use Rattle.law.proofs.Quiet.{HasEnd, IsQuiet, IsAbove, above_logged, quiet_stays, answer_stays}
 use Rattle.law.proofs.Recorded.{among_first, outcome_among, is_aborted_among}
 use Rattle.law.proofs.Resolved.{committed_is, prepared_is, not_committed, not_prepared}
+use Rattle.law.proofs.Retired.{NoneStand, is_standing, none_stand, written_is}
 use Rattle.law.proofs.Rising.{Rises, LoggedAbove, rising}
 use Rattle.world.proofs.Sounds.{SoundLog, SoundShard, SoundWorld}
 use Rattle.world.proofs.EveryRun.{InLimit, IsTaken, IsWell, WellShard, WellWorld, keeps, opening_keeps, opens, logs, shard_with}
@@ -142,7 +144,7 @@ safe_below m r at h e =
     least_below m.last (map (λ s. s - 1) (gather (λ (q : Row). held_stamp q.phase) m.rows)) (at - 1)
     (map_among (λ s. s - 1) (gather (λ (q : Row). held_stamp q.phase) m.rows) at (gather_among (λ (q : Row). held_stamp q.phase) m.rows r at h e))
 
-module _ (shard : ℕ) (log : List Record) (m : Memory) (sound : IsSound shard (facts_of log) m) (o : IsOrderly log) where
+module _ (shard : ℕ) (log : List Record) (m : Memory) (sound : IsSound shard (facts_of log) m) (o : IsOrderly log) (gone : NoneStand log) where
   ended_there : (t : Id) (e : Ended) → ended_of log t ≡ Some e → HasEnd log t
   ended_there t e is = record {
     outcome = e.outcome;
@@ -158,16 +160,30 @@ module _ (shard : ℕ) (log : List Record) (m : Memory) (sound : IsSound shard (
       let back = safe_below m r at (among_first (λ (x : Row). same_id x.txn t) m.rows r found) (ap held_stamp (row r refl) ∙ stamp) in
       omega (arith, back, zero, low)
 
+  -- who stands is not retired
+  kept_there : (t : Id) → is_standing (status_written log t) ≡ true → is_below (retired_of log) t ≡ false
+  kept_there t stands = by_test (is_below (retired_of log) t) refl
+    where
+      by_test : (b : Bool) → is_below (retired_of log) t ≡ b → b ≡ false
+      by_test true below = let z : true ≡ false = sym stands ∙ gone t below in cc
+      by_test false below = refl
+
   agrees_at : (t : Id) (a : Bool) (c : Option Committed) (p : Option Prepared) (e : Option Ended) → is_aborted log t ≡ a → committed_of log t ≡ c →
-      prepared_of log t ≡ p → ended_of log t ≡ e →
+      prepared_of log t ≡ p → ended_of log t ≡ e → is_standing (status_by a c p e) ≡ true →
       Agrees (installs_of log) m.last (status_by a c p e) (find_row m.rows t)
-  unfolding status_of facts_of
-  agrees_at t a c p e ha hc hp he =
-      subst (λ z. Agrees (installs_of log) m.last (status_by a c p z) (find_row m.rows t)) he
-      (subst (λ z. Agrees (installs_of log) m.last (status_by a c z (ended_of log t)) (find_row m.rows t)) hp
-      (subst (λ z. Agrees (installs_of log) m.last (status_by a z (prepared_of log t) (ended_of log t)) (find_row m.rows t)) hc
-      (subst (λ z. Agrees (installs_of log) m.last (status_by z (committed_of log t) (prepared_of log t) (ended_of log t)) (find_row m.rows t)) ha
-      (subst (λ st. Agrees (installs_of log) m.last st (find_row m.rows t)) (recorded_is log t) (sound.agrees t)))))
+  unfolding status_written facts_of
+  agrees_at t a c p e ha hc hp he stands =
+      subst (λ z. Agrees (installs_of log) m.last z (find_row m.rows t)) parts
+      (subst (λ st. Agrees (installs_of log) m.last st (find_row m.rows t)) (recorded_is log t ∙ written_is log t kept) (sound.agrees t))
+    where
+      parts : status_written log t ≡ status_by a c p e
+      parts =
+          ap (λ z. status_by z (committed_of log t) (prepared_of log t) (ended_of log t)) ha
+          ∙ ap (λ z. status_by a z (prepared_of log t) (ended_of log t)) hc ∙ ap (λ z. status_by a c z (ended_of log t)) hp
+          ∙ ap (λ z. status_by a c p z) he
+
+      kept : is_below (retired_of log) t ≡ false
+      kept = kept_there t (ap is_standing parts ∙ stands)
 
   promise_ends : (p : Prepared) → IsAmong log (Prepare p) → p.at ≤ safe m → HasEnd log p.txn
   promise_ends p h low = by_parts (is_aborted log p.txn) refl (committed_of log p.txn) refl (prepared_of log p.txn) refl (ended_of log p.txn) refl
@@ -192,7 +208,7 @@ module _ (shard : ℕ) (log : List Record) (m : Memory) (sound : IsSound shard (
       by_parts false ha None hc None hq None he = absurd (not_prepared log p.txn p hq h refl)
       by_parts false ha None hc (Some q) hq None he =
           let i = prepared_is log o.1 p.txn q hq in
-          absurd (standing q (one_promise log o p q h i.0 i.1) (agrees_at p.txn false None (Some q) None ha hc hq he))
+          absurd (standing q (one_promise log o p q h i.0 i.1) (agrees_at p.txn false None (Some q) None ha hc hq he refl))
 
   decision_ends : (c : Committed) → IsAmong log (Commit c) → c.at ≤ safe m → HasEnd log c.txn
   decision_ends c h low = by_parts (is_aborted log c.txn) refl (committed_of log c.txn) refl (prepared_of log c.txn) refl (ended_of log c.txn) refl
@@ -215,7 +231,7 @@ module _ (shard : ℕ) (log : List Record) (m : Memory) (sound : IsSound shard (
       by_parts false ha None hd q hq None he = absurd (not_committed log c.txn c hd h refl)
       by_parts false ha (Some d) hd q hq None he =
           let i = committed_is log o.1 c.txn d hd in
-          absurd (standing d (one_decision log o c d h i.0 i.1) (agrees_at c.txn false (Some d) q None ha hd hq he))
+          absurd (standing d (one_decision log o c d h i.0 i.1) (agrees_at c.txn false (Some d) q None ha hd hq he refl))
 
   -- what it serves is quiet
   pub safe_is_quiet : IsQuiet log (safe m)
@@ -269,7 +285,8 @@ shown_now : (setup : Setup) (log : List Record) (m : Memory) → IsWell setup (f
     IsShown log (view_of (facts_of log) m)
 unfolding facts_of
 shown_now setup log m well e = record {
-  quiet = safe_is_quiet setup.shard log m well.sound (orderly setup.shard log (accepted_follows setup log e.0) (each_logged log e.1));
+  quiet = safe_is_quiet setup.shard log m well.sound (orderly setup.shard log (accepted_follows setup log e.0) (each_logged log e.1))
+      (none_stand setup log e.0 (each_logged log e.1));
   same = λ k at low. refl;
 }
 

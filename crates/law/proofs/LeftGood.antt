@@ -13,8 +13,8 @@ use Rattle.message.specs.declared.message.Envelope.{Envelope}
 use Rattle.message.specs.declared.message.Input.{Input}
 use Rattle.protocol.specs.Rows.{Memory, rebuilt}
 use Rattle.protocol.specs.Plan.{Plan, start_of_step, carried}
-use Rattle.protocol.specs.Step.{facts_after, plan_input}
-use Rattle.world.specs.World.{World, read_log, setup_of, start, run}
+use Rattle.protocol.specs.Step.{Does, facts_after, plan_input}
+use Rattle.world.specs.World.{World, ShardNow, effect, read_log, setup_of, start, run}
 use Rattle.world.specs.Headline.{AllAccepted, MayBeLeft, MayLeaveLog, MayHaveLogged, doing_of}
 use Rattle.world.specs.Lawful.{lawful, may_happen}
 use Rattle.world.specs.declared.event.Act.{Act}
@@ -62,6 +62,35 @@ allowed_of Allowed w (Act.Deliver m now) n doing h e = by_message (slice_get w.b
     by_message (Some z) is same = by_address z is z.to refl same
 allowed_of Allowed w _ n doing h e = cc
 
+module _ (Allowed : Setup → Input → Type 0) (Good : Setup → List Record → Type 0) (config : Config) (es : List Event) (ls : List (List Record))
+    (may : MayBeLeft config es ls)
+    (left : (n : ℕ) (s : ShardNow) (log : List Record) → slice_get (run config es).shards n ≡ Some s → MayLeaveLog s log →
+    Good (setup_of (run config es).config n) log)
+    (logged : (n : ℕ) (s : ShardNow) (doing : Doing) (r : Record) (memory : Memory) (out : List Envelope) → slice_get (run config es).shards n ≡ Some s →
+    DoingAllowed Allowed (setup_of (run config es).config n) (run config es).bag doing →
+    effect (setup_of (run config es).config n) (run config es).bag s doing ≡ Does (Some r) memory out →
+    Good (setup_of (run config es).config n) (read_log s ++ r ∷ []))
+    (allowed : (e : Event) → may_happen (run config es) e ≡ true → ActAllowed Allowed (run config es) e.act) where
+  pub left_are_good : (k : ℕ) (log : List Record) → slice_get ls k ≡ Some log → Good (setup_of (run config es).config k) log
+  unfolding run lawful
+  left_are_good k log is = elim may [
+    | inl plain ↦ (let s = left_get (run config es).shards ls k log plain is in left k s.shard log s.there s.fits)
+    | inr within ↦ by_place within.1 within.2 (allowed_of Allowed (run config es) within.0.act within.1 within.2
+        (allowed within.0 (last_may (start config) es within.0 within.3)) within.4)
+        (within_get (run config es) within.1 within.2 within.1 (run config es).shards ls k log within.5 is)
+  ]
+    where
+      by_place : (i : ℕ) (doing : Doing) → DoingAllowed Allowed (setup_of (run config es).config i) (run config es).bag doing →
+          ShardOf (run config es).shards k (λ s. MayLeaveLog s log ⊎ ((k ≡ i) × MayHaveLogged (run config es) s i doing log)) →
+          Good (setup_of (run config es).config k) log
+      by_place i doing ok p = elim p.fits [
+        | inl plain ↦ left k p.shard log p.there plain
+        | inr here ↦ subst (Good (setup_of (run config es).config k)) (sym here.1.1.1)
+            (subst (λ z. Good (setup_of (run config es).config z) (read_log p.shard ++ here.1.0 ∷ [])) (sym here.0)
+            (logged i p.shard doing here.1.0 here.1.1.0.0 here.1.1.0.1
+            (subst (λ z. slice_get (run config es).shards z ≡ Some p.shard) here.0 p.there) ok here.1.1.0.2))
+      ]
+
 module _ (Allowed : Setup → Input → Type 0) (Sound : Setup → Facts → Memory → Type 0) (Good : Setup → List Record → Type 0)
     (keeps : (setup : Setup) (f : Facts) (m : Memory) (now : Interval) (i : Input) (p : Plan) → Allowed setup i → Sound setup f m →
     plan_input setup (start_of_step most_rows setup f m) now i ≡ Ok p → Sound setup (facts_after f p.logged) (carried p m))
@@ -75,25 +104,9 @@ module _ (Allowed : Setup → Input → Type 0) (Sound : Setup → Facts → Mem
     (sound : SoundWorld Allowed Sound Good keeps opens follows logs good_opens (run config es))
     (allowed : (e : Event) → may_happen (run config es) e ≡ true → ActAllowed Allowed (run config es) e.act) where
   pub left_is_good : (k : ℕ) (log : List Record) → slice_get ls k ≡ Some log → Good (setup_of (run config es).config k) log
-  unfolding run lawful
-  left_is_good k log is = elim may [
-    | inl plain ↦ (let s = left_get (run config es).shards ls k log plain is in
-        left_good Allowed Sound Good keeps opens follows logs good_opens (run config es) sound k s.shard log s.there s.fits)
-    | inr within ↦ by_place within.1 within.2 (allowed_of Allowed (run config es) within.0.act within.1 within.2
-        (allowed within.0 (last_may (start config) es within.0 within.3)) within.4)
-        (within_get (run config es) within.1 within.2 within.1 (run config es).shards ls k log within.5 is)
-  ]
-    where
-      by_place : (i : ℕ) (doing : Doing) → DoingAllowed Allowed (setup_of (run config es).config i) (run config es).bag doing →
-          ShardOf (run config es).shards k (λ s. MayLeaveLog s log ⊎ ((k ≡ i) × MayHaveLogged (run config es) s i doing log)) →
-          Good (setup_of (run config es).config k) log
-      by_place i doing ok p = elim p.fits [
-        | inl plain ↦ left_good Allowed Sound Good keeps opens follows logs good_opens (run config es) sound k p.shard log p.there plain
-        | inr here ↦ subst (Good (setup_of (run config es).config k)) (sym here.1.1.1)
-            (subst (λ z. Good (setup_of (run config es).config z) (read_log p.shard ++ here.1.0 ∷ [])) (sym here.0)
-            (logged_good Allowed Sound Good keeps opens follows logs good_opens (run config es) sound i p.shard doing here.1.0 here.1.1.0.0 here.1.1.0.1
-            (subst (λ z. slice_get (run config es).shards z ≡ Some p.shard) here.0 p.there) ok here.1.1.0.2))
-      ]
+  left_is_good = left_are_good Allowed Good config es ls may
+      (left_good Allowed Sound Good keeps opens follows logs good_opens (run config es) sound)
+      (logged_good Allowed Sound Good keeps opens follows logs good_opens (run config es) sound) allowed
 
 -- each log is taken by an opening of its shard, and of the kinds that steps log
 left_taken : (config : Config) (es : List Event) (ls : List (List Record)) → lawful config es ≡ true → MayBeLeft config es ls →

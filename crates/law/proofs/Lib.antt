@@ -6,6 +6,7 @@ pub mod Answering
 pub mod Appended
 pub mod Areas
 pub mod AreasAscend
+pub mod AreasDecide
 pub mod AreasOwn
 pub mod Changed
 pub mod Changes
@@ -42,6 +43,7 @@ pub mod ReadsHold
 pub mod Recorded
 pub mod Resolved
 pub mod Rests
+pub mod Retired
 pub mod Rising
 pub mod Said
 pub mod Says

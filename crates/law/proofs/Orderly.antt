@@ -8,8 +8,9 @@ use Rattle.units.specs.Lists.{gather}
 use Rattle.units.specs.Ids.{Id, same_id}
 use Rattle.units.proofs.IdLaws.{same_id-is, same_id-refl}
 use Rattle.units.proofs.Folds.{is_there, there_first}
-use Rattle.record.specs.Accepted.{followed, followed_from, follows, is_new}
-use Rattle.record.specs.Records.{Ended, Status, Unrecorded, as_committed, as_prepared, status_by, status_of, is_aborted, committed_of, prepared_of, ended_of}
+use Rattle.record.specs.Accepted.{followed, followed_from, follows, is_new, is_unrecorded}
+use Rattle.record.specs.Records.{Ended, as_committed, as_prepared, status_by, status_written, is_aborted, committed_of, prepared_of}
+use Rattle.record.specs.Records.{ended_of}
 use Rattle.record.specs.declared.record.Committed.{Committed}
 use Rattle.record.specs.declared.record.Prepared.{Prepared}
 use Rattle.record.specs.declared.record.Record.{Record}
@@ -62,10 +63,7 @@ none_of t (Commit q ∷ rs) a c p = dropped (same_id q.txn t) (Commit q) (claims
 none_of t (Abort u ∷ rs) a c p = dropped (same_id t u) (Abort u) (claims_of rs t) (or_parts _ _ a).0 (none_of t rs (or_parts _ _ a).1 c p)
 none_of t (_ ∷ rs) a c p = none_of t rs a c p
 
-abbrev unrecorded : Status → Bool
-unrecorded s = elim s [ Unrecorded ↦ true | _ ↦ false ]
-
-by_status : (a : Bool) (c : Option Committed) (p : Option Prepared) (e : Option Ended) → unrecorded (status_by a c p e) ≡ true → (a ≡ false)
+by_status : (a : Bool) (c : Option Committed) (p : Option Prepared) (e : Option Ended) → is_unrecorded (status_by a c p e) ≡ true → (a ≡ false)
     × (c ≡ None) × (p ≡ None)
 by_status true c p e h = cc
 by_status false (Some c) p (Some e) h = cc
@@ -75,9 +73,9 @@ by_status false None (Some p) None h = cc
 by_status false None None e h = (refl, refl, refl)
 
 new_none : (log : List Record) (t : Id) → is_new log t ≡ true → claims_of log t ≡ []
-unfolding status_of
+unfolding status_written
 new_none log t h =
-    let k = by_status (is_aborted log t) (committed_of log t) (prepared_of log t) (ended_of log t) h in
+    let k = by_status (is_aborted log t) (committed_of log t) (prepared_of log t) (ended_of log t) (and_parts _ _ h).0 in
     none_of t log k.0
     (sym (there_first (λ (c : Committed). same_id c.txn t) (gather as_committed log)) ∙ ap is_there k.1)
     (sym (there_first (λ (p : Prepared). same_id p.txn t) (gather as_prepared log)) ∙ ap is_there k.2)

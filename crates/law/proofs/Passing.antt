@@ -30,9 +30,7 @@ use Rattle.law.specs.Passes.{ShardsAreOfTheirLogs, UndisturbedOnceLogged, WasTak
 use Rattle.law.proofs.Answering.{open_unrecorded}
 use Rattle.law.proofs.Every.{every_run_holds}
 use Rattle.law.proofs.Fair.{IsFairInput}
-use Rattle.law.proofs.HeldRead.{HeldIs, Reads, IsLogged, WasGone}
-use Rattle.law.proofs.Homes.{log_in, outcome_stamp}
-use Rattle.law.proofs.Decisions.{log_in-is}
+use Rattle.law.proofs.HeldRead.{HeldIs, Reads, IsLogged, WasGone, IsPast}
 use Rattle.law.proofs.Instants.{Moment, all_or_nothing, moment}
 use Rattle.law.proofs.KeptRead.{IsAllowed, KeptRead, Tells, Told as Right, tells_keeps, tells_opens, told_follows, told_logs, told_opens}
 use Rattle.law.proofs.LeftGood.{all_logged, left_is_good, recovered}
@@ -197,6 +195,10 @@ module _ (config : Config) (es : List Event) (ls : List (List Record)) (fair : l
               }
               by_case (IsLogged recorded_there) =
                   absurd (recorded_there (open_unrecorded a.from (facts_of log) z a.txn row h.state.0.well.sound found_there opened))
+              by_case (IsPast gone past) = absurd (none_some row (sym gone ∙ found_there))
+                where
+                  none_some : (y : Row) → None ≡ Some y → ⊥
+                  none_some y e = cc
               by_case (WasGone gone ended) = absurd (none_some row (sym gone ∙ found_there))
                 where
                   none_some : (y : Row) → None ≡ Some y → ⊥
@@ -206,14 +208,11 @@ module _ (config : Config) (es : List Event) (ls : List (List Record)) (fair : l
   once_logged log is front r back at ks split claim reads =
       let c = with_writes r a.txn at ks claim in
       let stamped = left_stamped config es ls fair may a.from log is in
-      let place : log_in ls a.from ≡ log = log_in-is ls a.from log is in
       record {
         value = (right log is).right refl front r back at ks c.0 split c.1 reads;
         above = (stamped front r back a.txn at ks c.0 split c.1).versions;
         between = undisturbed (setup_of config a.from) log (recovered config es ls fair may a.from log is)
             (all_logged config es ls fair may a.from log is) stamped
-            (λ d s h k. outcome_stamp m.scene m.holds ls m.left a.from a.from d s (subst (λ l. IsAmong l (Commit d)) (sym place) h)
-            (subst (λ l. IsAmong l (Outcome d.txn (Some s))) (sym place) k))
             front r back split a.txn at ks c.0 c.1 a.key reads;
       }
 

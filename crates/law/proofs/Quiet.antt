@@ -161,10 +161,9 @@ answer_stays shard log r k at logged of_step h q =
         none_installed (HasSettled x ps) = refl
         none_installed (HasClosed c o) = refl
     by_kind (Outcome t (Some s)) l e =
+        let fits = and_parts (not (when (λ x. true) (ended_of log t))) (outcome_fits (prepared_of log t) (committed_of log t) (Some s))
+        (and_parts _ _ e).0 in
         same_answer (installs_of log) (installs_at (recorded (facts_of log) t) (Some s)) k at
         (installed_unseen (recorded (facts_of log) t) at s
-        (outcome_above log logged at t s q (and_parts (not (when (λ x. true) (ended_of log t)))
-        (outcome_fits (prepared_of log t) (committed_of log t) (Some s)) e).0
-        (prepared_of log t) refl (committed_of log t) refl (and_parts (not (when (λ x. true) (ended_of log t)))
-        (outcome_fits (prepared_of log t) (committed_of log t) (Some s)) e).1))
+        (outcome_above log logged at t s q fits.0 (prepared_of log t) refl (committed_of log t) refl fits.1))
     by_kind _ l e = refl

@@ -24,8 +24,8 @@ use Rattle.locks.proofs.Clashes.{clash_comm}
 use Rattle.record.specs.Accepted.{Accepted, taken, belongs, fits_beside, locks_standing, standing_locks}
 use Rattle.record.specs.History.{Txn, history, before, serial_before}
 use Rattle.record.specs.Installs.{installs_of}
-use Rattle.record.specs.Records.{Ended, Status, HasSettled, HasClosed, as_ended, id_in, ids_of, is_aborted, committed_of, prepared_of, ended_of}
-use Rattle.record.specs.Records.{status_by, status_of, horizon_of}
+use Rattle.record.specs.Records.{Ended, Status, as_ended, id_in, ids_of, is_aborted, committed_of, prepared_of, ended_of}
+use Rattle.record.specs.Records.{StandsPrepared, StandsDecided, is_below, retired_of, status_by, status_of, status_written, horizon_of}
 use Rattle.record.specs.declared.record.Committed.{Committed}
 use Rattle.record.specs.declared.record.Prepared.{Prepared}
 use Rattle.record.specs.declared.record.Record.{Record}
@@ -40,8 +40,9 @@ use Rattle.law.specs.Evidence.{Scene, Holds}
 use Rattle.law.specs.Left.{AreLeft}
 use Rattle.law.proofs.Members.{among_left, among_right, some_passes}
 use Rattle.law.proofs.Orderly.{IsOrderly, orderly, same_claim, one_decision, one_promise, decided_not_promised}
-use Rattle.law.proofs.Picked.{any_of, gather_among, some_same}
+use Rattle.law.proofs.Picked.{any_of, gather_among}
 use Rattle.law.proofs.Logged.{AreLogged}
+use Rattle.law.proofs.Retired.{NoneStand, is_standing, none_stand, written_is}
 use Rattle.law.proofs.Recorded.{among_first, is_aborted_among, outcome_among}
 use Rattle.law.proofs.Resolved.{committed_is, prepared_is, not_committed, not_prepared}
 use Rattle.law.proofs.Decisions.{left_logged}
@@ -61,16 +62,10 @@ Claims (Prepare p) t at ks ws = (p.txn ≡ t) × (p.at ≡ at) × (p.reads ≡ k
 Claims (Commit c) t at ks ws = (c.txn ≡ t) × (c.at ≡ at) × (c.reads ≡ ks) × (c.writes ≡ ws)
 Claims _ t at ks ws = ⊥
 
--- the timestamp at which an id ended at a shard
-abbrev pub end_stamp : Status → Option ℕ
-end_stamp (HasSettled s ps) = Some s
-end_stamp (HasClosed c o) = o
-end_stamp _ = None
-
--- a timestamp is above the versions of a log and above the ends of its ids
+-- a timestamp is above the versions of a log and above the outcomes that it has
 pub record IsAboveAll (log : List Record) (at : ℕ) : Type 0 where
   pub versions : (i : Install) → IsAmong (installs_of log) i → i.at < at
-  pub ends : (u : Id) (s : ℕ) → end_stamp (status_of log u) ≡ Some s → s < at
+  pub ends : (u : Id) (s : ℕ) → IsAmong log (Outcome u (Some s)) → s < at
 
 -- each promise and each decision is above what is before it
 abbrev pub IsStamped : List Record → Type 0
@@ -170,11 +165,11 @@ end_or_none log logged t = by_value (ended_of log t) refl
           (outcome_among log logged x (among_first (λ (y : Ended). same_id y.txn t) (gather as_ended log) x e));
     })
 
--- a promise or a decision without outcome stands
+-- a promise or a decision without outcome stands, unless it is retired
 stands_there : (log : List Record) → IsOrderly log → (r : Record) (t : Id) (at : ℕ) (ks : List Bytes) (ws : List Write) → IsAmong log r →
     Claims r t at ks ws → ended_of log t ≡ None →
-    standing_locks (status_of log t) ≡ Some (locks_of ks ws)
-unfolding status_of
+    standing_locks (status_written log t) ≡ Some (locks_of ks ws)
+unfolding status_written
 stands_there log o (Prepare p) t at ks ws h c none = by_parts (is_aborted log t) refl (committed_of log t) refl (prepared_of log t) refl (ended_of log t) none
   where
     by_parts : (a : Bool) → is_aborted log t ≡ a → (d : Option Committed) → committed_of log t ≡ d → (q : Option Prepared) → prepared_of log t ≡ q →
@@ -204,48 +199,31 @@ stands_there log o (Commit p) t at ks ws h c none = by_parts (is_aborted log t) 
         ap (λ (z : Committed). Some (locks_of z.reads z.writes)) (sym same) ∙ ap (λ l. Some (locks_of l p.writes)) c.2 ∙ ap (λ l. Some (locks_of ks l)) c.3
 stands_there log o _ t at ks ws h c none = absurd c
 
--- the end of a promise or a decision is at its outcome's timestamp
-pub stamp_of_end : (log : List Record) → IsOrderly log → (r : Record) (t : Id) (at : ℕ) (ks : List Bytes) (ws : List Write) (s : ℕ) → IsAmong log r →
-    Claims r t at ks ws → (x : EndIs log t) → x.ended.outcome ≡ Some s →
-    ((c : Committed) → r ≡ Commit c → c.at ≡ s) → end_stamp (status_of log t) ≡ Some s
-unfolding status_of
-stamp_of_end log o (Prepare p) t at ks ws s h c x is own = by_parts (is_aborted log t) refl (committed_of log t) refl (prepared_of log t) refl
-    (ended_of log t) x.is
-  where
-    by_parts : (a : Bool) → is_aborted log t ≡ a → (d : Option Committed) → committed_of log t ≡ d → (q : Option Prepared) → prepared_of log t ≡ q →
-        (e : Option Ended) → e ≡ Some x.ended → end_stamp (status_by a d q e) ≡ Some s
-    by_parts a ha d hd q hq None he = cc
-    by_parts true ha d hd q hq (Some e) he =
-        absurd (let same = same_claim log o t (Prepare p) (Abort t) h (is_aborted_among log t ha)
-        (subst (λ u. same_id u t ≡ true) (sym c.0) (same_id-refl t)) (same_id-refl t) in cc)
-    by_parts false ha (Some d) hd q hq (Some e) he = let i = committed_is log o.1 t d hd in absurd (decided_not_promised log o d p i.0 h (c.0 ∙ sym i.1))
-    by_parts false ha None hd None hq (Some e) he = absurd (not_prepared log t p hq h c.0)
-    by_parts false ha None hd (Some q) hq (Some e) he = ap (λ (z : Ended). z.outcome) (some_same e x.ended he) ∙ is
-stamp_of_end log o (Commit p) t at ks ws s h c x is own = by_parts (is_aborted log t) refl (committed_of log t) refl (prepared_of log t) refl
-    (ended_of log t) x.is
-  where
-    by_parts : (a : Bool) → is_aborted log t ≡ a → (d : Option Committed) → committed_of log t ≡ d → (q : Option Prepared) → prepared_of log t ≡ q →
-        (e : Option Ended) → e ≡ Some x.ended → end_stamp (status_by a d q e) ≡ Some s
-    by_parts a ha d hd q hq None he = cc
-    by_parts true ha d hd q hq (Some e) he =
-        absurd (let same = same_claim log o t (Commit p) (Abort t) h (is_aborted_among log t ha)
-        (subst (λ u. same_id u t ≡ true) (sym c.0) (same_id-refl t)) (same_id-refl t) in cc)
-    by_parts false ha None hd q hq (Some e) he = absurd (not_committed log t p hd h c.0)
-    by_parts false ha (Some d) hd q hq (Some e) he =
-        let i = committed_is log o.1 t d hd in
-        ap (λ z. Some z) (sym (ap (λ (z : Committed). z.at) (one_decision log o p d h i.0 (i.1 ∙ sym c.0))) ∙ own p refl)
-stamp_of_end log o _ t at ks ws s h c x is own = absurd c
-
 claim_id : (r : Record) (t : Id) (at : ℕ) (ks : List Bytes) (ws : List Write) → Claims r t at ks ws → id_in r ≡ Some t
 claim_id (Prepare p) t at ks ws c = ap (λ u. Some u) c.0
 claim_id (Commit p) t at ks ws c = ap (λ u. Some u) c.0
 claim_id _ t at ks ws c = absurd c
 
--- its locks are among those that stand
-locks_stand : (log : List Record) → IsOrderly log → (r : Record) (t : Id) (at : ℕ) (ks : List Bytes) (ws : List Write) → IsAmong log r →
+-- so it is not retired, where nothing of a retired id stands
+kept_there : (log : List Record) → IsOrderly log → NoneStand log → (r : Record) (t : Id) (at : ℕ) (ks : List Bytes) (ws : List Write) → IsAmong log r →
+    Claims r t at ks ws → ended_of log t ≡ None → is_below (retired_of log) t ≡ false
+kept_there log o gone r t at ks ws h c none = by_test (is_below (retired_of log) t) refl
+  where
+    not_standing : (s : Status) → standing_locks s ≡ Some (locks_of ks ws) → is_standing s ≡ false → ⊥
+    not_standing (StandsPrepared p) e f = cc
+    not_standing (StandsDecided d) e f = cc
+    not_standing _ e f = cc
+
+    by_test : (b : Bool) → is_below (retired_of log) t ≡ b → b ≡ false
+    by_test true below = absurd (not_standing (status_written log t) (stands_there log o r t at ks ws h c none) (gone t below))
+    by_test false below = refl
+
+-- and its locks are among those that stand
+locks_stand : (log : List Record) → IsOrderly log → NoneStand log → (r : Record) (t : Id) (at : ℕ) (ks : List Bytes) (ws : List Write) → IsAmong log r →
     Claims r t at ks ws → ended_of log t ≡ None → IsAmong (locks_standing log) (locks_of ks ws)
-locks_stand log o r t at ks ws h c none =
-    gather_among (λ u. standing_locks (status_of log u)) (ids_of log) t (locks_of ks ws) id_there (stands_there log o r t at ks ws h c none)
+locks_stand log o gone r t at ks ws h c none =
+    gather_among (λ u. standing_locks (status_of log u)) (ids_of log) t (locks_of ks ws) id_there
+    (ap standing_locks (written_is log t (kept_there log o gone r t at ks ws h c none)) ∙ stands_there log o r t at ks ws h c none)
   where
     id_there : IsAmong (ids_of log) t
     id_there =
@@ -294,6 +272,10 @@ module _ (setup : Setup) (log : List Record) (accepted : taken setup log ≡ Acc
       (front_taken setup front back (subst (λ l. taken setup l ≡ Accepted) same accepted)))
       (λ r h. logged r (subst (λ l. IsAmong l r) (sym same) (among_left front back r h)))
 
+  front_none : (front back : List Record) → log ≡ front ++ back → NoneStand front
+  front_none front back same = none_stand setup front (front_taken setup front back (subst (λ l. taken setup l ≡ Accepted) same accepted))
+      (front_orderly front back same).1
+
   -- of two in conflict the first has its outcome before the second is logged
   pub ended_between : (f mid b : List Record) (r q : Record) (t u : Id) (at bt : ℕ) (rs ks : List Bytes) (vs ws : List Write) →
       log ≡ (f ++ r ∷ mid) ++ q ∷ b → Claims r t at rs vs → Claims q u bt ks ws →
@@ -302,7 +284,8 @@ module _ (setup : Setup) (log : List Record) (accepted : taken setup log ≡ Acc
     | inl end ↦ end
     | inr none ↦ absurd (clashes_none (locks_of ks ws) (locks_standing (f ++ r ∷ mid)) (locks_of rs vs)
         (free_beside (f ++ r ∷ mid) q u bt ks ws cq (each_taken setup (f ++ r ∷ mid) q b (subst (λ l. taken setup l ≡ Accepted) same accepted)).fits)
-        (locks_stand (f ++ r ∷ mid) (front_orderly (f ++ r ∷ mid) (q ∷ b) same) r t at rs vs (among_right f (r ∷ mid) r (inl refl)) cr none) clashes)
+        (locks_stand (f ++ r ∷ mid) (front_orderly (f ++ r ∷ mid) (q ∷ b) same) (front_none (f ++ r ∷ mid) (q ∷ b) same) r t at rs vs
+        (among_right f (r ∷ mid) r (inl refl)) cr none) clashes)
   ]
 
 -- ---- a read
@@ -380,23 +363,12 @@ module _ (sc : Scene) (h : Holds sc) (logs : List (List Record)) (left : AreLeft
           (ap (λ (z : Txn). z.txn) f.is ∙ sym ids ∙ sym (ap (λ (z : Txn). z.txn) d.is)) in
           before_itself v u (sym (ap (λ (z : Txn). z.at) f.is) ∙ sym (ap (λ (z : Committed). z.at) one.1) ∙ ap (λ (z : Txn). z.at) d.is) (sym ids) earlier
 
-      -- the decision at this shard is its own
-      own_commit : (g : Committed) → r ≡ Commit g → g.at ≡ u.at
-      own_commit g e =
-          let mine = subst (λ z. Claims z u.txn at ks ws) e claims in
-          let here : IsAmong (log_in logs n) (Commit g) = subst (λ z. IsAmong (log_in logs n) z) e
-          (subst (λ l. IsAmong l r) (sym same) (among_right front (r ∷ back) r (inl refl))) in
-          let one = one_place sc h logs left d.shard n d.commit g d.among here (mine.0 ∙ sym (ap (λ (z : Txn). z.txn) d.is)) in
-          sym (ap (λ (z : Committed). z.at) one.1) ∙ ap (λ (z : Txn). z.at) d.is
-
       later_end : (mid : List Record) → p.front ≡ front ++ r ∷ mid → EndIs (front ++ r ∷ mid) u.txn → ⊥
       later_end mid is end =
           let split : log_in logs n ≡ (front ++ r ∷ mid) ++ q ∷ p.back = p.same ∙ ap (λ l. l ++ q ∷ p.back) is in
           let o : end.ended.outcome ≡ Some u.at = outcome_is end.ended.outcome (subst (λ l. IsAmong l (Outcome u.txn end.ended.outcome)) (sym split)
           (among_left (front ++ r ∷ mid) (q ∷ p.back) (Outcome u.txn end.ended.outcome) end.among)) in
-          let stamp = stamp_of_end (front ++ r ∷ mid) (front_orderly (setup_of config n) (log_in logs n) accepted (log_logged sc h logs left n)
-          (front ++ r ∷ mid)
-          (q ∷ p.back) split) r u.txn at ks ws u.at (among_right front (r ∷ mid) r (inl refl)) claims end o own_commit in
+          let stamp = subst (λ z. IsAmong (front ++ r ∷ mid) (Outcome u.txn z)) o end.among in
           let above = (stamped (front ++ r ∷ mid) q p.back v.txn c.0 c.1 c.2 split c.3).ends u.txn u.at stamp in
           let below = c.4 in
           before_above v u (omega (arith, above, below)) earlier

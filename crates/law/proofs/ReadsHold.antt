@@ -161,6 +161,8 @@ module _ (to : Address) (a : ReadAnswer) (x : Option Bytes) (holds : a.answer �
             (and_parts (is_honest time now) (nat_le at time_limit) may).1;
         fair = λ here. tt;
       }) same
+  doing_allowed w time n (Doing.Retire below now) within may p same = given (setup_of w.config n) now (Input.Retire below) p
+      (record { limit = tt; fair = λ here. tt }) same
   doing_allowed w time n (Doing.Nudge u now) within may p same = given (setup_of w.config n) now (Input.Nudge u) p
       (record { limit = tt; fair = λ here. tt }) same
   doing_allowed w time n Doing.Turn within may p same = cc
@@ -191,7 +193,7 @@ module _ (to : Address) (a : ReadAnswer) (x : Option Bytes) (holds : a.answer �
   -- what is told now is kept
   now_kept : (w : World) → WellWorld w → HoldsNow w a x → KeptRead a.from a.txn a.key a.epoch x w
   now_kept w well now =
-      held_is_kept a.from a.txn a.key a.epoch x w now.shard now.holds.memory well now.there now.holds.runs now.holds.held
+      held_is_kept a.from a.txn a.key a.epoch x w now.shard now.holds.memory well now.there now.holds.runs now.holds.held now.holds.kept
       (by_state now.shard.log now.shard.area now.shard.unsure now.shard.state now.shard.views now.holds.runs (well a.from now.shard now.there))
     where
       by_state : (log : List Record) (area : Area) (unsure : Unsure) (st : State) (views : List View) → st ≡ Runs now.holds.memory →

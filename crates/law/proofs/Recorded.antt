@@ -1,11 +1,13 @@
 -- What the facts of a log say of an id rests on its records, and so do the rows that an opening finds.
-use Rattle.std.proofs.Common.{◌≡◌, ◌⊎◌, inl, inr, ℕ, ◌<◌, Bool, true, false, cond, List, [], ◌∷◌, Option, Some, None, refl, sym, ap, subst, ◌∙◌, map, filter}
+use Rattle.std.proofs.Common.{◌≡◌, ◌⊎◌, inl, inr, ℕ, ◌<◌, Bool, true, false, not, cond, List, [], ◌∷◌, Option, Some, None, refl, sym, ap, subst, ◌∙◌, map}
+use Rattle.std.proofs.Common.{filter}
 use Rattle.units.specs.Lists.{gather, first, head}
 use Rattle.units.specs.Ids.{Id, same_id}
 use Rattle.units.proofs.IdLaws.{same_id-is}
 use Rattle.units.proofs.ByIdLaws.{first_passes}
-use Rattle.record.specs.Facts.{facts_of, recorded}
-use Rattle.record.specs.Records.{Ended, Status, StandsPrepared, StandsDecided, HasAborted, HasSettled, as_committed}
+use Rattle.record.specs.Facts.{TxnStatus, facts_of, kept_entries, recorded}
+use Rattle.record.specs.Records.{Ended, Status, Unrecorded, is_below, retired_of, status_written, StandsPrepared, StandsDecided, HasAborted, HasSettled}
+use Rattle.record.specs.Records.{as_committed}
 use Rattle.record.specs.Records.{as_prepared, as_aborted, as_ended, as_version, status_by, status_of, is_aborted, committed_of, prepared_of, ended_of, ids_of}
 use Rattle.record.proofs.Statuses.{recorded_is}
 use Rattle.units.specs.declared.writes.Install.{Install}
@@ -63,7 +65,7 @@ prepare_is : (r : Record) (p : Prepared) → is_logged r ≡ true → as_prepare
 prepare_is (Prepare q) p l e = cc
 prepare_is _ p l e = cc
 
-commit_is : (r : Record) (c : Committed) → is_logged r ≡ true → as_committed r ≡ Some c → r ≡ Commit c
+pub commit_is : (r : Record) (c : Committed) → is_logged r ≡ true → as_committed r ≡ Some c → r ≡ Commit c
 commit_is (Commit q) c l e = cc
 commit_is _ c l e = cc
 
@@ -136,9 +138,17 @@ module _ (log : List Record) (logged : AreLogged log) where
         (outcome_among e (among_first (λ (x : Ended). same_id x.txn t) (gather as_ended log) e he));
   }
 
+  rests_written : (t : Id) → Rests t (status_written log t)
+  unfolding status_written
+  rests_written t = by_parts t (is_aborted log t) (committed_of log t) (prepared_of log t) (ended_of log t) refl refl refl refl
+
   pub rests : (t : Id) → Rests t (status_of log t)
   unfolding status_of
-  rests t = by_parts t (is_aborted log t) (committed_of log t) (prepared_of log t) (ended_of log t) refl refl refl refl
+  rests t = by_test (is_below (retired_of log) t) (rests_written t)
+    where
+      by_test : (b : Bool) → Rests t (status_written log t) → Rests t (cond b Unrecorded (status_written log t))
+      by_test true h = tt
+      by_test false h = h
 
   -- ---- the rows that an opening finds
 
@@ -152,24 +162,27 @@ module _ (log : List Record) (logged : AreLogged log) where
       subst (λ (x : Row). PhaseEvidence sc log n x.txn x.phase) (some_same _ r e) evidence
   standing_evidence sc n t _ r h e = cc
 
-  found_rows : (sc : Scene) (n : ℕ) (ts : List Id) → RowsEvidence sc log n (gather standing_row (map (λ t. record { txn = t; status = status_of log t }) ts))
-  found_rows sc n [] = tt
-  found_rows sc n (t ∷ ts) = by_row (standing_row (record { txn = t; status = status_of log t })) refl (found_rows sc n ts)
+  found_rows : (sc : Scene) (n : ℕ) (retired : Option Id) (ts : List Id) →
+      RowsEvidence sc log n (gather standing_row (kept_entries retired (map (λ t. record { txn = t; status = status_written log t }) ts)))
+  found_rows sc n retired [] = tt
+  found_rows sc n retired (t ∷ ts) = by_test (is_below retired t) (found_rows sc n retired ts)
     where
-      by_row : (o : Option Row) → standing_row (record { txn = t; status = status_of log t }) ≡ o →
-          RowsEvidence sc log n (gather standing_row (map (λ u. record { txn = u; status = status_of log u }) ts)) →
-          RowsEvidence sc log n (elim o as (λ q. List Row) [
-            | None ↦ gather standing_row (map
-                (λ u. record { txn = u; status = status_of log u }) ts)
-            | Some y ↦ y ∷ gather standing_row
-                (map (λ u. record { txn = u; status = status_of log u }) ts)
-          ])
-      by_row None e rest = rest
-      by_row (Some r) e rest = (standing_evidence sc n t (status_of log t) r (rests t) e, rest)
+      rest : List TxnStatus
+      rest = kept_entries retired (map (λ u. record { txn = u; status = status_written log u }) ts)
+
+      by_row : (o : Option Row) → standing_row (record { txn = t; status = status_written log t }) ≡ o → RowsEvidence sc log n (gather standing_row rest) →
+          RowsEvidence sc log n (elim o as (λ q. List Row) [ None ↦ gather standing_row rest | Some y ↦ y ∷ gather standing_row rest ])
+      by_row None e h = h
+      by_row (Some r) e h = (standing_evidence sc n t (status_written log t) r (rests_written t) e, h)
+
+      by_test : (b : Bool) → RowsEvidence sc log n (gather standing_row rest) →
+          RowsEvidence sc log n (gather standing_row (cond (not b) (record { txn = t; status = status_written log t } ∷ rest) rest))
+      by_test true h = h
+      by_test false h = by_row (standing_row (record { txn = t; status = status_written log t })) refl h
 
   pub rebuilt_rows : (sc : Scene) (n : ℕ) → RowsEvidence sc log n (rebuilt (facts_of log)).rows
   unfolding rebuilt facts_of
-  rebuilt_rows sc n = found_rows sc n (ids_of log)
+  rebuilt_rows sc n = found_rows sc n (retired_of log) (ids_of log)
 
 -- ---- the statuses of an orderly log whose records rest on something
 

@@ -12,7 +12,8 @@ use Rattle.protocol.specs.Cells.{ceiling_for}
 use Rattle.protocol.specs.Step.{plan_input}
 use Rattle.protocol.proofs.KeptFacts.{raised_up}
 use Rattle.protocol.proofs.PlanShapes.{shape_of}
-use Rattle.protocol.proofs.Shapes.{Shape, ShapeOf, Answers, IsEnd, IsAbort, IsClose, IsSettle, IsLock, IsWait, IsPromise, IsDecision, Acts, IsAdvance, IsForget}
+use Rattle.protocol.proofs.Shapes.{Shape, ShapeOf, Answers, IsEnd, IsAbort, IsClose, IsSettle, IsLock, IsWait, IsPromise, IsDecision, Acts, IsAdvance}
+use Rattle.protocol.proofs.Shapes.{IsForget, IsRetire}
 use Rattle.law.proofs.Quiet.{IsAbove}
 
 -- what is logged is above a time
@@ -51,6 +52,7 @@ module _ (at : ℕ) (b : Before) (low : at ≤ b.memory.last) where
   by_shape_of i p (Acts shape) = by_shape p shape
   by_shape_of i p (IsAdvance stride s k e) = subst (Rises at) (sym e) (omega (arith, low), ceiling_too b.facts.floor stride s)
   by_shape_of i p (IsForget s k served higher e) = subst (Rises at) (sym e) (low, tt)
+  by_shape_of i p (IsRetire below k none up e) = subst (Rises at) (sym e) (low, tt)
 
 pub rising : (rows at : ℕ) (setup : Setup) (f : Facts) (m : Memory) (now : Interval) (i : Input) (p : Plan) → IsById (λ r. r.txn) m.rows
     → plan_input setup (start_of_step rows setup f m) now i ≡ Ok p → at ≤ m.last → Rises at p

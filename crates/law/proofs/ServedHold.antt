@@ -57,7 +57,8 @@ comes_above shard log r at logged h q above = by_kind r (and_parts _ _ (and_part
     by_kind (Settled _ _ _) e high = absurd high
     by_kind (Closed _ _ _) e high = absurd high
     by_kind (Outcome t (Some s)) e high =
-        let p = and_parts (not (when (λ x. true) (ended_of log t))) (outcome_fits (prepared_of log t) (committed_of log t) (Some s)) e in
+        let p = and_parts (not (when (λ x. true) (ended_of log t))) (outcome_fits (prepared_of log t) (committed_of log t) (Some s))
+        (and_parts _ _ e).0 in
         outcome_above log logged at t s q p.0 (prepared_of log t) refl (committed_of log t) refl p.1
     by_kind _ e high = tt
 

@@ -135,6 +135,7 @@ module _ (sc : Scene) (h : Holds sc) (steady : IsSteady sc.world) (present : sli
   wanted_evidence (Doing.Settle t now) heard = running (input_of sc.world.bag (Doing.Settle t now)) heard s.state refl
   wanted_evidence (Doing.Advance at now) heard = running (input_of sc.world.bag (Doing.Advance at now)) heard s.state refl
   wanted_evidence (Doing.Forget at now) heard = running (input_of sc.world.bag (Doing.Forget at now)) heard s.state refl
+  wanted_evidence (Doing.Retire below now) heard = running (input_of sc.world.bag (Doing.Retire below now)) heard s.state refl
   wanted_evidence (Doing.Nudge t now) heard = running (input_of sc.world.bag (Doing.Nudge t now)) heard s.state refl
   wanted_evidence Doing.Turn heard = turned_over s.state refl
 

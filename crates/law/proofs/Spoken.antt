@@ -9,6 +9,7 @@ use Rattle.units.specs.declared.fault.Fault.TheVariants.{Stopped, TimeSpent}
 use Rattle.units.specs.declared.setup.Setup.{Setup}
 use Rattle.truetime.specs.Interval.{Interval}
 use Rattle.record.specs.Facts.{Facts, facts_of}
+use Rattle.record.specs.Records.{is_below}
 use Rattle.record.specs.declared.record.Record.{Record}
 use Rattle.message.specs.declared.message.Address.{Address}
 use Rattle.message.specs.declared.message.Answer.TheVariants.{Holds, Refused}
@@ -60,7 +61,7 @@ told_fairly setup f m now i p to a x is there holds =
     (all_at (λ (e : Envelope). MessageFair (start_of_step most_rows setup f m) p e.message) p.outbox
     (record { to = to; message = Message.ReadAnswer a }) fair.told there)
 
--- a shard that runs holds a read, by an open row of the reader
+-- a shard that runs holds a read, by an open row of the reader, which is not retired
 pub record HoldsRead (s : ShardNow) (a : ReadAnswer) (x : Option Bytes) : Type 0 where
   pub memory : Memory
   pub runs : s.state ≡ Runs memory
@@ -68,6 +69,7 @@ pub record HoldsRead (s : ShardNow) (a : ReadAnswer) (x : Option Bytes) : Type 0
   pub row : Row
   pub found : find_row memory.rows a.txn ≡ Some row
   pub opened : is_open row.phase ≡ true
+  pub kept : is_below (facts_of s.log).retired a.txn ≡ false
 
 parts_of_does : (l1 l2 : Option Record) (m1 m2 : Memory) (o1 o2 : List Envelope) → Does l1 m1 o1 ≡ Does l2 m2 o2 → (l1 ≡ l2) × (m1 ≡ m2) × (o1 ≡ o2)
 parts_of_does l1 l2 m1 m2 o1 o2 e = (cc, cc, cc)
@@ -112,6 +114,7 @@ step_holds setup log area unsure (Runs m) views (Some q) doing logged memory out
             row = row.0;
             found = subst (λ z. find_row z.rows a.txn ≡ Some row.0) same.1 row.1;
             opened = row.2;
+            kept = subst (λ (z : Facts). is_below z.retired a.txn ≡ false) (sym (ap facts_of log_is)) fair.kept;
           },
         )
 
@@ -147,6 +150,9 @@ wanted_holds setup bag s (Doing.Advance at now) logged memory out to a x well e 
     there holds
 wanted_holds setup bag s (Doing.Forget at now) logged memory out to a x well e there holds =
     step_holds setup s.log s.area s.unsure s.state s.views (input_of bag (Doing.Forget at now)) (Doing.Forget at now) logged memory out to a x well e
+    there holds
+wanted_holds setup bag s (Doing.Retire below now) logged memory out to a x well e there holds =
+    step_holds setup s.log s.area s.unsure s.state s.views (input_of bag (Doing.Retire below now)) (Doing.Retire below now) logged memory out to a x well e
     there holds
 wanted_holds setup bag s (Doing.Nudge t now) logged memory out to a x well e there holds =
     step_holds setup s.log s.area s.unsure s.state s.views (input_of bag (Doing.Nudge t now)) (Doing.Nudge t now) logged memory out to a x well e there holds

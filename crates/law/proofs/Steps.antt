@@ -1,5 +1,5 @@
 -- A step does only what something stands behind, given that of what it starts from.
-use Rattle.std.proofs.Common.{◌≡◌, ◌⊎◌, inr, ℕ, ◌<◌, ◌≤◌, Bool, true, false, List, [], ◌∷◌, Option, Some, None, refl, sym, subst}
+use Rattle.std.proofs.Common.{◌≡◌, ◌⊎◌, inr, ℕ, ◌<◌, ◌≤◌, Bool, true, false, cond, List, [], ◌∷◌, Option, Some, None, refl, sym, subst}
 use Rattle.units.specs.Ids.{Id, has_id}
 use Rattle.units.specs.Keys.{Bytes}
 use Rattle.units.specs.declared.fault.Fault.TheVariants.{Stranger, TimeSpent}
@@ -9,7 +9,7 @@ use Rattle.units.proofs.IdLaws.{same_id-is}
 use Rattle.units.proofs.ByIdLaws.{found_is, found_all}
 use Rattle.truetime.specs.Interval.{Interval}
 use Rattle.record.specs.Facts.{recorded}
-use Rattle.record.specs.Records.{Status, Unrecorded, StandsPrepared, StandsDecided, HasAborted, HasSettled, HasClosed}
+use Rattle.record.specs.Records.{Status, Unrecorded, StandsPrepared, StandsDecided, HasAborted, HasSettled, HasClosed, is_below}
 use Rattle.record.specs.declared.record.Record.{Record}
 use Rattle.message.specs.declared.message.Address.{Address}
 use Rattle.message.specs.declared.message.Commit.{Commit}
@@ -17,11 +17,12 @@ use Rattle.message.specs.declared.message.Input.{Input}
 use Rattle.message.specs.declared.message.Message.{Message}
 use Rattle.message.specs.declared.message.Outcome.{Outcome}
 use Rattle.message.specs.declared.message.Vote.{Vote}
-use Rattle.protocol.specs.Rows.{Row, Phase, WaitsRead, WaitsPrepare, WaitsCommit, IsPrepared, standing, standing_by, find_row}
+use Rattle.protocol.specs.Rows.{Row, Phase, WaitsRead, WaitsPrepare, WaitsCommit, IsPrepared, WasRetired, standing, standing_by, standing_kept, find_row}
 use Rattle.protocol.specs.Outputs.{outcome_to}
 use Rattle.protocol.specs.Plan.{Before, stands}
 use Rattle.protocol.specs.Cells.{Cell, ToRefuse, ToRest, ToReply, Provided, ToRead, ToPrepare, ToCommit, ToEnd, ToAbort, ToAbortFor, ToCount, ToClose, ToGoOn}
-use Rattle.protocol.specs.Cells.{ToSettle, ToServe, ToForget, plan_read_row, plan_prepare_fresh, plan_commit_fresh, plan_cell, answers, refuses, raised}
+use Rattle.protocol.specs.Cells.{ToSettle, ToServe, ToForget, ToRetire, plan_read_row, plan_prepare_fresh, plan_commit_fresh, plan_cell, answers, refuses}
+use Rattle.protocol.specs.Cells.{raised}
 use Rattle.protocol.specs.Step.{cell, plan_input}
 use Rattle.protocol.proofs.CellsFrom.{IsHeard, IsIn, HasEnded, IsSaid, MayAbort, AtCommit, AtRow, IsFrom, cell_is_from}
 use Rattle.protocol.proofs.Each.{refused, tested, either}
@@ -31,7 +32,7 @@ use Rattle.law.specs.Evidence.{Scene, Sent, CommitAsked, BeganBy, HasOutcome, Re
 use Rattle.law.specs.Evidence.{Told, VoteEvidence}
 use Rattle.law.proofs.Members.{among_last}
 use Rattle.law.proofs.Moves.{PlannedEvidence, StandingEvidence, replying, ending, dropping}
-use Rattle.law.proofs.Table.{granting, asking, aborting, was_asked, counting, closing_told, refusals_told, settling, advancing, forgetting}
+use Rattle.law.proofs.Table.{granting, asking, aborting, was_asked, counting, closing_told, refusals_told, settling, advancing, forgetting, retiring}
 
 -- what a shard knows when it steps
 pub record Knows (sc : Scene) (log : List Record) (b : Before) (now : Interval) : Type 0 where
@@ -79,7 +80,11 @@ module _ (sc : Scene) (log : List Record) (b : Before) (now : Interval) (knows :
 
   stands_by_evidence : (t : Id) → StandingEvidence sc log b.shard t (stands b t)
   unfolding standing
-  stands_by_evidence t = by_parts t (find_row b.memory.rows t) (recorded b.facts t) (has_id b.memory.ended t) (row_evidence t) (knows.statuses t)
+  stands_by_evidence t = by_test (is_below b.facts.retired t)
+    where
+      by_test : (c : Bool) → StandingEvidence sc log b.shard t (cond c WasRetired (standing_kept b.facts b.memory t))
+      by_test true = tt
+      by_test false = by_parts t (find_row b.memory.rows t) (recorded b.facts t) (has_id b.memory.ended t) (row_evidence t) (knows.statuses t)
 
   module _ (setup : Setup) (i : Input) (heard : Heard sc b.shard now i) where
     -- ---- what stands behind what a cell comes from
@@ -175,6 +180,7 @@ module _ (sc : Scene) (log : List Record) (b : Before) (now : Interval) (knows :
         settling sc log b earliest t s ps (subst (λ at. at ≤ sc.now) (sym from.1) knows.honest) (in_row t _ from.0)
     evidence (ToServe latest stride at) from = advancing sc log b latest stride at
     evidence (ToForget at) from = forgetting sc log b at
+    evidence (ToRetire below) from = retiring sc log b below
 
   -- each input is planned with evidence
   pub planned : (setup : Setup) (i : Input) → Heard sc b.shard now i → PlannedEvidence sc log b.shard (plan_input setup b now i)

@@ -17,8 +17,8 @@ use Rattle.protocol.specs.Rows.{Phase, Idle, WaitsRead, WaitsPrepare, WaitsCommi
 use Rattle.protocol.specs.Outputs.{promise, decision, done_to}
 use Rattle.protocol.specs.Plan.{time_limit, Before}
 use Rattle.protocol.specs.Cells.{ToSettle, commit_stamp, other_parts, all_voted, is_outcome_for, plan_promise, plan_commit_granted, plan_decide, plan_abort}
-use Rattle.protocol.specs.Cells.{plan_granted, plan_asks, plan_count, plan_advance, plan_forget, plan_cell, tells, answers, to_read, refuses}
-use Rattle.protocol.proofs.Each.{refused, tested, either, within_room}
+use Rattle.protocol.specs.Cells.{plan_granted, plan_asks, plan_count, plan_advance, plan_forget, plan_retire, plan_cell, tells, answers, to_read, refuses}
+use Rattle.protocol.proofs.Each.{planned, refused, tested, either, within_room}
 use Rattle.law.specs.Among.{IsAmong}
 use Rattle.law.specs.Evidence.{Scene, Sent, PrepareAsked, CommitAsked, VotedYes, VoteBelow, HasPromise, HasDecision, HasOutcome, WasTold, WasAsked}
 use Rattle.law.specs.Evidence.{WasQuestioned, RecordEvidence, Remembers, PhaseEvidence, AllTold}
@@ -241,3 +241,9 @@ module _ (sc : Scene) (log : List Record) (b : Before) where
   unfolding plan_forget
   forgetting at =
       either _ _ _ (refused NotYet tt) (either _ _ _ (replying sc log b [] tt) (serving sc log b _ _ tt))
+
+  pub retiring : (below : Id) → PlannedEvidence sc log b.shard (plan_retire b below)
+  unfolding plan_retire
+  retiring below =
+      either _ _ _ (refused NotYet tt)
+      (either _ _ _ (planned _ (record { logged = tt; change = tt; told = tt })) (replying sc log b [] tt))

@@ -29,7 +29,6 @@ use Rattle.law.proofs.Orderly.{IsOrderly, orderly, decided_not_promised}
 use Rattle.law.proofs.Picked.{some_same}
 use Rattle.law.proofs.Quiet.{not_ended}
 use Rattle.law.proofs.ReadBefore.{Claims, EndIs, IsStamped, Order, IsSame, IsEarlier, IsLater, ended_between, order, read_clashes, same_claim_id}
-use Rattle.law.proofs.ReadBefore.{stamp_of_end}
 use Rattle.law.proofs.Resolved.{committed_is, prepared_is}
 
 -- the promise or the decision behind a write that an outcome installs
@@ -86,8 +85,6 @@ claim_of log u at w o = by_parts (committed_of log u) refl (prepared_of log u) r
     by_parts None hc None hp fits h = cc
 
 module _ (setup : Setup) (log : List Record) (accepted : taken setup log ≡ Accepted) (of_steps : AreLogged log) (stamped : IsStamped log)
-    -- a decision's outcome has its timestamp
-    (own_stamp : (c : Committed) (s : ℕ) → IsAmong log (Commit c) → IsAmong log (Outcome c.txn (Some s)) → c.at ≡ s)
     -- a promise or a decision of a transaction that read a key
     (front : List Record) (r : Record) (back : List Record) (same : log ≡ front ++ r ∷ back) (t : Id) (at : ℕ) (ks : List Bytes) (ws : List Write)
     (claims : Claims r t at ks ws) (k : Bytes) (reads : IsAmong ks k) where
@@ -114,8 +111,8 @@ module _ (setup : Setup) (log : List Record) (accepted : taken setup log ≡ Acc
         × (outcome_fits (prepared_of before new.txn) (committed_of before new.txn) (Some new.stamp) ≡ true)
     unfolding follows
     may_follow =
-        and_parts _ _ (subst (λ z. follows setup.shard before z ≡ true) new.is
-        (each_taken setup before q rest (subst (λ l. taken setup l ≡ Accepted) split accepted)).follows)
+        and_parts _ _ (and_parts _ _ (subst (λ z. follows setup.shard before z ≡ true) new.is
+        (each_taken setup before q rest (subst (λ l. taken setup l ≡ Accepted) split accepted)).follows)).0
 
     c : ClaimOf before new.txn new.stamp new.write
     c = claim_of before new.txn new.stamp new.write (front_orderly before (q ∷ rest) split) may_follow.1 new.among
@@ -151,8 +148,7 @@ module _ (setup : Setup) (log : List Record) (accepted : taken setup log ≡ Acc
       outcome = end.ended.outcome;
       among = within (front ++ r ∷ m) (c.claim ∷ (p.back ++ q ∷ rest)) place (Outcome t end.ended.outcome) end.among;
       below = λ s is.
-          let stamp = stamp_of_end (front ++ r ∷ m) (front_orderly (front ++ r ∷ m) (c.claim ∷ (p.back ++ q ∷ rest)) place) r t at ks ws s
-          (among_right front (r ∷ m) r (inl refl)) claims end is (own s is) in
+          let stamp = subst (λ o. IsAmong (front ++ r ∷ m) (Outcome t o)) is end.among in
           let above = (stamped (front ++ r ∷ m) c.claim (p.back ++ q ∷ rest) new.txn c.stamp c.reads c.writes place c.claims).ends t s stamp in
           let up = c.below in
           let at_stamp = new.at in
@@ -166,14 +162,6 @@ module _ (setup : Setup) (log : List Record) (accepted : taken setup log ≡ Acc
         end = ended_between setup log accepted of_steps front m (p.back ++ q ∷ rest) r c.claim t new.txn at c.stamp ks c.reads ws c.writes place claims c.claims
             (clash_comm (locks_of c.reads c.writes) (locks_of ks ws)
             ∙ read_clashes ks c.reads ws c.writes k new.write reads c.within (sym new.key ∙ key))
-
-        own : (s : ℕ) → end.ended.outcome ≡ Some s → (g : Committed) → r ≡ Commit g → g.at ≡ s
-        own s is g e2 =
-            let mine = subst (λ z. Claims z t at ks ws) e2 claims in
-            own_stamp g s (subst (λ z. IsAmong log z) e2 (within (front ++ r ∷ m) (c.claim ∷ (p.back ++ q ∷ rest)) place r
-            (among_right front (r ∷ m) r (inl refl))))
-            (subst (λ u. IsAmong log (Outcome u (Some s))) (sym mine.0) (subst (λ o. IsAmong log (Outcome t o)) is
-            (within (front ++ r ∷ m) (c.claim ∷ (p.back ++ q ∷ rest)) place (Outcome t end.ended.outcome) end.among)))
 
     new_is_past : IsPastEnd log t i.at
     new_is_past = by_order (order front r mid p.front c.claim p.back p.same)

@@ -151,6 +151,7 @@ abbrev pub RecordEvidence : Scene → List Record → ℕ → Record → Type 0
 RecordEvidence sc log n (Record.Opened epoch) = Unit {0}
 RecordEvidence sc log n (Record.Ceiling at) = Unit {0}
 RecordEvidence sc log n (Record.Horizon at) = Unit {0}
+RecordEvidence sc log n (Record.Retired below) = Unit {0}
 RecordEvidence sc log n (Record.Prepare p) = PrepareAsked sc.world n p.txn p.coordinator p.reads p.writes
 RecordEvidence sc log n (Record.Commit c) = CommitEvidence sc n c
 RecordEvidence sc log n (Record.Abort t) = WasAsked sc.world n t ⊎ WasQuestioned sc.world n t

@@ -56,6 +56,7 @@ held-lasting facts l =
         rising = ascending-rises [] (versions_held facts) (ordered facts r) (none-before (versions_held facts));
         covered = covered-held facts r;
         under = r.under;
+        kept = r.kept;
       };
       entries = l.entries;
     }

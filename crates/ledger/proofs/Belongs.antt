@@ -1,7 +1,7 @@
 -- The records of a renewed log name keys of the shard alone, where the log did.
 use Rattle.std.specs.List.{AllByRecursion, list_all}
 use Rattle.std.specs.Prelude.{IsTrue, nat_eq}
-use Rattle.std.proofs.Common.{◌≡◌, true, List, [], ◌∷◌, ◌++◌, map, refl, ◌∙◌}
+use Rattle.std.proofs.Common.{◌≡◌, true, List, [], ◌∷◌, ◌++◌, map, Option, Some, None, refl, ◌∙◌}
 use Rattle.std.proofs.lemmas.Bool.{and_from}
 use Rattle.std.proofs.lemmas.List.Folds.{list_all-append}
 use Rattle.units.specs.Ids.{Id}
@@ -17,7 +17,7 @@ use Rattle.record.specs.declared.record.Record.TheVariants.{Version}
 use Rattle.versions.specs.Pruned.{pruned}
 use Rattle.ledger.specs.Keeps.{NamesOwn}
 use Rattle.ledger.specs.Laws.{TurnedBelongs}
-use Rattle.ledger.specs.Turned.{turned, versions_held, ended_item, standing_item}
+use Rattle.ledger.specs.Turned.{turned, versions_held, ended_item, retired_item, standing_item}
 use Rattle.ledger.proofs.Entries.{entry}
 use Rattle.ledger.proofs.Said.{all-in_order}
 
@@ -55,11 +55,18 @@ standing-own setup (x ∷ es) all = by_status x.txn x.status all.0 (standing-own
     by_status t (StandsDecided c) own rest = and_from _ _ own rest
     by_status t _ own rest = rest
 
+retired-own : (setup : Setup) (below : Option Id) → list_all (belongs setup) (retired_item below) ≡ true
+unfolding belongs
+retired-own setup None = refl
+retired-own setup (Some below) = refl
+
 pub turned-belongs : TurnedBelongs
 unfolding turned belongs
 turned-belongs setup facts versions entries =
     let es = facts.entries in
-    list_all-append (belongs setup) (map Version (versions_held facts)) (gather ended_item es ++ gather standing_item es)
+    list_all-append (belongs setup) (map Version (versions_held facts)) (retired_item facts.retired ++ (gather ended_item es ++ gather standing_item es))
     ∙ and_from _ _ (versions-own setup (versions_held facts) (own-held setup facts versions))
+    (list_all-append (belongs setup) (retired_item facts.retired) (gather ended_item es ++ gather standing_item es)
+    ∙ and_from _ _ (retired-own setup facts.retired)
     (list_all-append (belongs setup) (gather ended_item es) (gather standing_item es)
-    ∙ and_from _ _ (ended-own setup es) (standing-own setup es entries))
+    ∙ and_from _ _ (ended-own setup es) (standing-own setup es entries)))

@@ -1,11 +1,11 @@
 -- The records of a renewed log each have their place beside what stands by those before them.
-use Rattle.std.specs.List.{AllByRecursion, list_any}
+use Rattle.std.specs.List.{AllByRecursion, list_all, list_any}
 use Rattle.std.proofs.Common.{◌≡◌, ℕ, ◌<◌, ◌≤◌, ◌-◌, true, false, not, max, List, [], ◌∷◌, ◌++◌, length, map, filter, Option, Some, None, refl, sym}
 use Rattle.std.proofs.Common.{ap, subst, ◌∙◌, arith}
 use Rattle.std.proofs.lemmas.Bool.{and_from, lt-ltb, not_from_false}
 use Rattle.units.specs.Limits.{most_rows}
 use Rattle.units.specs.Lists.{follow, gather}
-use Rattle.units.specs.Ids.{Id, same_id}
+use Rattle.units.specs.Ids.{Id, older, same_id}
 use Rattle.units.specs.ById.{IsById, find_member, with_member}
 use Rattle.units.specs.Keys.{Bytes}
 use Rattle.units.specs.Locks.{clash, locks_of}
@@ -36,10 +36,10 @@ use Rattle.ledger.specs.Keeps.{Alike, IsPlaced, IsRegular}
 use Rattle.ledger.specs.Laws.{TurnedFits}
 use Rattle.protocol.specs.Beside.{stands_in}
 use Rattle.ledger.specs.Rules.{AllFit}
-use Rattle.ledger.specs.Turned.{turned, versions_held, ended_item, standing_item}
+use Rattle.ledger.specs.Turned.{turned, versions_held, ended_item, retired_item, standing_item}
 use Rattle.ledger.proofs.Come.{Fresh, not-among, still-fresh}
 use Rattle.ledger.proofs.Entries.{entry, id_of, is_ended, put_all, with_status-is}
-use Rattle.ledger.proofs.Said.{based, covered-held, ended-all, max-covers, turned-keeps, turned-says, versions-all}
+use Rattle.ledger.proofs.Said.{based, covered-held, ended-all, max-covers, retired-one, turned-keeps, turned-says, versions-all}
 use Rattle.ledger.proofs.Takes.{above-alike}
 
 -- ---- one that stands, beside others of the shard
@@ -103,10 +103,10 @@ module _ (shard : ℕ) (facts : Facts) (memory : Memory) (sound : IsSound shard 
         omega (arith, others, fewer, all, room)
 
     -- so it has its place
-    has-place : (e f : ℕ) (vs : List Install) (at : ℕ) (rs : List Bytes) (ws : List Write) → length memory.rows ≤ most_rows
+    has-place : (e f : ℕ) (rt : Option Id) (vs : List Install) (at : ℕ) (rs : List Bytes) (ws : List Write) → length memory.rows ≤ most_rows
         → new.held ≡ locks_of rs ws → facts.horizon < at → above_versions vs at ws ≡ true
-        → stands_in (facts_with e f acc vs facts.horizon) at rs ws ≡ true
-    has-place e f vs at rs ws room locks high above =
+        → stands_in (facts_with e f acc vs facts.horizon rt) at rs ws ≡ true
+    has-place e f rt vs at rs ws room locks high above =
         and_from _ _ (and_from _ _ (and_from _ _ (lt-ltb _ _ (few room))
         (not_from_false _ (ap (λ ls. list_any (clash ls) (map (λ r. r.held) (gather standing_row acc))) (sym locks)
         ∙ none-clashes new.held (gather standing_row acc) clear)))
@@ -146,23 +146,23 @@ module _ (shard : ℕ) (facts : Facts) (memory : Memory) (sound : IsSound shard 
       sym (above-alike facts.horizon facts.installs (versions_held facts) at ws
       (subst (Alike facts) (turned-says facts regular) (turned-keeps facts regular)).versions) ∙ above
 
-  prepared-fits : (e f : ℕ) (acc : List TxnStatus) (t : Id) (p : Prepared) → IsById id_of acc → AllByRecursion (IsIn facts) acc
+  prepared-fits : (e f : ℕ) (rt : Option Id) (acc : List TxnStatus) (t : Id) (p : Prepared) → IsById id_of acc → AllByRecursion (IsIn facts) acc
       → IsIn facts (entry t (StandsPrepared p)) → find_member id_of acc t ≡ None
-      → stands_in (facts_with e f acc (versions_held facts) facts.horizon) p.at p.reads p.writes ≡ true
-  prepared-fits e f acc t p up mine here fresh =
+      → stands_in (facts_with e f acc (versions_held facts) facts.horizon rt) p.at p.reads p.writes ≡ true
+  prepared-fits e f rt acc t p up mine here fresh =
       let row : Row = record { txn = p.txn; held = locks_of p.reads p.writes; phase = IsPrepared p.coordinator p.at } in
       let stands = promised facts.installs memory.last p (find_row memory.rows t) (agrees t (StandsPrepared p) here) in
-      has-place shard facts memory sound acc up mine (entry t (StandsPrepared p)) row here refl fresh e f (versions_held facts) p.at p.reads p.writes room
+      has-place shard facts memory sound acc up mine (entry t (StandsPrepared p)) row here refl fresh e f rt (versions_held facts) p.at p.reads p.writes room
       refl (over-horizon facts.horizon (safe memory) p.at sound.horizon (over (entry t (StandsPrepared p)) row here refl) stands.above_zero)
       (above-held p.at p.writes stands.above)
 
-  decided-fits : (e f : ℕ) (acc : List TxnStatus) (t : Id) (c : Committed) → IsById id_of acc → AllByRecursion (IsIn facts) acc
+  decided-fits : (e f : ℕ) (rt : Option Id) (acc : List TxnStatus) (t : Id) (c : Committed) → IsById id_of acc → AllByRecursion (IsIn facts) acc
       → IsIn facts (entry t (StandsDecided c)) → find_member id_of acc t ≡ None
-      → stands_in (facts_with e f acc (versions_held facts) facts.horizon) c.at c.reads c.writes ≡ true
-  decided-fits e f acc t c up mine here fresh =
+      → stands_in (facts_with e f acc (versions_held facts) facts.horizon rt) c.at c.reads c.writes ≡ true
+  decided-fits e f rt acc t c up mine here fresh =
       let row : Row = record { txn = c.txn; held = locks_of c.reads c.writes; phase = IsDecided c.at c.parts } in
       let stands = decided facts.installs memory.last c (find_row memory.rows t) (agrees t (StandsDecided c) here) in
-      has-place shard facts memory sound acc up mine (entry t (StandsDecided c)) row here refl fresh e f (versions_held facts) c.at c.reads c.writes room
+      has-place shard facts memory sound acc up mine (entry t (StandsDecided c)) row here refl fresh e f rt (versions_held facts) c.at c.reads c.writes room
       refl (over-horizon facts.horizon (safe memory) c.at sound.horizon (over (entry t (StandsDecided c)) row here refl) stands.above_zero)
       (above-held c.at c.writes stands.above)
 
@@ -176,6 +176,10 @@ versions-fit : (x : Facts) (vs : List Install) → AllFit x (map Version vs)
 versions-fit x [] = tt
 versions-fit x (v ∷ vs) = (refl, versions-fit (learn x (Version v)) vs)
 
+retired-fit : (x : Facts) (rt : Option Id) → gather standing_row x.entries ≡ [] → AllFit x (retired_item rt)
+retired-fit x None none = tt
+retired-fit x (Some below) none = (ap (list_all (λ r. not (older r.txn below))) none, tt)
+
 ended-fit : (x : Facts) (es : List TxnStatus) → AllFit x (gather ended_item es)
 ended-fit x [] = tt
 ended-fit x (e ∷ es) = by_status e.txn e.status (λ y. ended-fit y es)
@@ -186,15 +190,15 @@ ended-fit x (e ∷ es) = by_status e.txn e.status (λ y. ended-fit y es)
     by_status t (HasClosed c o) rest = (refl, rest _)
     by_status t _ rest = rest x
 
-put-parts : (e f : ℕ) (acc : List TxnStatus) (vs : List Install) (h : ℕ) (t u : Id) (s : Status) (at : ℕ) → u ≡ t → at ≤ f
-    → facts_with e f (with_member id_of acc (entry t s)) vs h ≡ facts_with e (max f at) (with_status acc u s) vs h
-put-parts e f acc vs h t u s at same le =
-    λ i. facts_with e (sym (max-covers f at le) i) (sym (ap (λ v. with_status acc v s) same ∙ with_status-is acc t s) i) vs h
+put-parts : (e f : ℕ) (acc : List TxnStatus) (vs : List Install) (h : ℕ) (rt : Option Id) (t u : Id) (s : Status) (at : ℕ) → u ≡ t → at ≤ f
+    → facts_with e f (with_member id_of acc (entry t s)) vs h rt ≡ facts_with e (max f at) (with_status acc u s) vs h rt
+put-parts e f acc vs h rt t u s at same le =
+    λ i. facts_with e (sym (max-covers f at le) i) (sym (ap (λ v. with_status acc v s) same ∙ with_status-is acc t s) i) vs h rt
 
 standing-fit : (shard : ℕ) (facts : Facts) (memory : Memory) → IsSound shard facts memory → length memory.rows ≤ most_rows → IsRegular facts
     → (es acc : List TxnStatus) → AllByRecursion (IsIn facts) es → AllByRecursion (IsPlaced facts.floor) es → IsById id_of es
     → IsById id_of acc → AllByRecursion (IsIn facts) acc → Fresh acc (filter (λ x. not (is_ended x)) es)
-    → AllFit (facts_with facts.epoch facts.floor acc (versions_held facts) facts.horizon) (gather standing_item es)
+    → AllFit (facts_with facts.epoch facts.floor acc (versions_held facts) facts.horizon facts.retired) (gather standing_item es)
 unfolding learn
 standing-fit shard facts memory sound room regular [] acc here placed order up mine fresh = tt
 standing-fit shard facts memory sound room regular (x ∷ es) acc here placed order up mine fresh =
@@ -204,21 +208,21 @@ standing-fit shard facts memory sound room regular (x ∷ es) acc here placed or
     by_status : (t : Id) (s : Status) → IsIn facts (entry t s) → IsPlaced facts.floor (entry t s) → AllYounger id_of t es
         → Fresh acc (filter (λ x. not (is_ended x)) (entry t s ∷ es))
         → ((more : List TxnStatus) → IsById id_of more → AllByRecursion (IsIn facts) more → Fresh more (filter (λ x. not (is_ended x)) es)
-        → AllFit (facts_with facts.epoch facts.floor more (versions_held facts) facts.horizon) (gather standing_item es))
-        → AllFit (facts_with facts.epoch facts.floor acc (versions_held facts) facts.horizon) (gather standing_item (entry t s ∷ es))
+        → AllFit (facts_with facts.epoch facts.floor more (versions_held facts) facts.horizon facts.retired) (gather standing_item es))
+        → AllFit (facts_with facts.epoch facts.floor acc (versions_held facts) facts.horizon facts.retired) (gather standing_item (entry t s ∷ es))
     by_status t Unrecorded there p young fr rest = absurd p
     by_status t (StandsPrepared q) there p young fr rest = (
-      prepared-fits shard facts memory sound room regular facts.epoch facts.floor acc t q up mine there fr.0,
+      prepared-fits shard facts memory sound room regular facts.epoch facts.floor facts.retired acc t q up mine there fr.0,
       subst (λ y. AllFit y (gather standing_item es))
-          (put-parts facts.epoch facts.floor acc (versions_held facts) facts.horizon t q.txn (StandsPrepared q) q.at p.0 p.1)
+          (put-parts facts.epoch facts.floor acc (versions_held facts) facts.horizon facts.retired t q.txn (StandsPrepared q) q.at p.0 p.1)
           (rest (with_member id_of acc (entry t (StandsPrepared q))) (by_id-with id_of acc (entry t (StandsPrepared q)) up)
           (all-with (IsIn facts) id_of acc (entry t (StandsPrepared q)) there mine)
           (still-fresh acc (filter (λ x. not (is_ended x)) es) t (StandsPrepared q) (all-keep _ (λ x. not (is_ended x)) es young) fr.1)),
     )
     by_status t (StandsDecided c) there p young fr rest = (
-      decided-fits shard facts memory sound room regular facts.epoch facts.floor acc t c up mine there fr.0,
+      decided-fits shard facts memory sound room regular facts.epoch facts.floor facts.retired acc t c up mine there fr.0,
       subst (λ y. AllFit y (gather standing_item es))
-          (put-parts facts.epoch facts.floor acc (versions_held facts) facts.horizon t c.txn (StandsDecided c) c.at p.0 p.1)
+          (put-parts facts.epoch facts.floor acc (versions_held facts) facts.horizon facts.retired t c.txn (StandsDecided c) c.at p.0 p.1)
           (rest (with_member id_of acc (entry t (StandsDecided c))) (by_id-with id_of acc (entry t (StandsDecided c)) up)
           (all-with (IsIn facts) id_of acc (entry t (StandsDecided c)) there mine)
           (still-fresh acc (filter (λ x. not (is_ended x)) es) t (StandsDecided c) (all-keep _ (λ x. not (is_ended x)) es young) fr.1)),
@@ -239,15 +243,19 @@ turned-fits shard facts memory sound room r =
     let h = facts.horizon in
     let es = facts.entries in
     let vs = versions_held facts in
+    let rt = facts.retired in
+    let ids = gather ended_item es ++ gather standing_item es in
     let each : AllByRecursion (IsIn facts) es = find_members id_of es r.order in
     let ended = put-keeps (IsIn facts) [] (filter is_ended es) tt tt (all-keep (IsIn facts) is_ended es each) in (
       refl,
-      subst (λ x. AllFit x (map Version vs ++ (gather ended_item es ++ gather standing_item es))) (sym (based e f h))
-          (fit-append (facts_with e f [] [] h) (map Version vs) (gather ended_item es ++ gather standing_item es)
-          (versions-fit (facts_with e f [] [] h) vs)
-          (subst (λ x. AllFit x (gather ended_item es ++ gather standing_item es)) (sym (versions-all e f [] [] h vs (covered-held facts r)))
-          (fit-append (facts_with e f [] vs h) (gather ended_item es) (gather standing_item es) (ended-fit (facts_with e f [] vs h) es)
-          (subst (λ x. AllFit x (gather standing_item es)) (sym (ended-all e f [] vs h es r.placed))
+      subst (λ x. AllFit x (map Version vs ++ (retired_item rt ++ ids))) (sym (based e f h))
+          (fit-append (facts_with e f [] [] h None) (map Version vs) (retired_item rt ++ ids)
+          (versions-fit (facts_with e f [] [] h None) vs)
+          (subst (λ x. AllFit x (retired_item rt ++ ids)) (sym (versions-all e f [] [] h None vs (covered-held facts r)))
+          (fit-append (facts_with e f [] vs h None) (retired_item rt) ids (retired-fit (facts_with e f [] vs h None) rt refl)
+          (subst (λ x. AllFit x ids) (sym (retired-one e f vs h rt))
+          (fit-append (facts_with e f [] vs h rt) (gather ended_item es) (gather standing_item es) (ended-fit (facts_with e f [] vs h rt) es)
+          (subst (λ x. AllFit x (gather standing_item es)) (sym (ended-all e f [] vs h rt es r.placed))
           (standing-fit shard facts memory sound room r es (put_all [] (filter is_ended es)) each r.placed r.order ended.0 ended.1
-          (not-among es r.order)))))),
+          (not-among es r.order)))))))),
     )

@@ -1,6 +1,6 @@
 -- A log of all kinds may be renewed, where each record may come next and has its place.
 use Rattle.std.specs.List.{AllByRecursion, list_all}
-use Rattle.std.proofs.Common.{◌≡◌, ℕ, ◌≤◌, Bool, true, false, ◌&&◌, ◌||◌, max, List, [], ◌∷◌, ◌++◌, Some, None, refl, sym, ap, subst, ◌∙◌}
+use Rattle.std.proofs.Common.{◌≡◌, ℕ, ◌≤◌, Bool, true, false, ◌&&◌, ◌||◌, max, List, [], ◌∷◌, ◌++◌, Option, Some, None, refl, sym, ap, subst, ◌∙◌}
 use Rattle.std.proofs.Common.{append_assoc, append-nil, arith}
 use Rattle.std.proofs.lemmas.Bool.{and_parts}
 use Rattle.units.specs.Ids.{Id}
@@ -8,11 +8,11 @@ use Rattle.units.specs.declared.writes.Install.{Install}
 use Rattle.units.proofs.ByIdLaws.{all-with}
 use Rattle.units.proofs.ListLaws.{all_of_each, each_of_all}
 use Rattle.record.specs.Records.{Status, HasSettled, HasClosed}
-use Rattle.record.specs.Accepted.{begins, follows, followed, followed_from}
+use Rattle.record.specs.Accepted.{begins, follows, followed, followed_from, is_kept, is_new}
 use Rattle.record.specs.Facts.{Facts, TxnStatus, no_facts, facts_of, learn, with_status}
 use Rattle.record.specs.Installs.{installs_of}
 use Rattle.record.specs.declared.record.Record.{Record}
-use Rattle.record.specs.declared.record.Record.TheVariants.{Opened, Ceiling, Prepare, Commit, Abort, Outcome, Horizon, Base, Version, Settled, Closed}
+use Rattle.record.specs.declared.record.Record.TheVariants.{Opened, Ceiling, Prepare, Commit, Abort, Outcome, Horizon, Base, Version, Settled, Closed, Retired}
 use Rattle.record.proofs.LearnAgrees.{accepted_follows, followed_more, learn_agrees}
 use Rattle.record.proofs.Sound.{base_first}
 use Rattle.facts.specs.Rules.{follows_facts}
@@ -38,10 +38,10 @@ put-ascends es t s one all =
     ap (list_all writes_ascend) (with_status-is es t s)
     ∙ each_of_all writes_ascend _ (all-with (λ e. writes_ascend e ≡ true) id_of es (entry t s) one (all_of_each writes_ascend es all))
 
-ended-lasting : (facts : Facts) (floor : ℕ) (t : Id) (s : Status) → IsLasting facts → facts.floor ≤ floor → IsPlaced floor (entry t s)
+ended-lasting : (facts : Facts) (floor : ℕ) (t : Id) (s : Status) → IsLasting facts → facts.floor ≤ floor → is_kept facts.retired t ≡ true → IsPlaced floor (entry t s)
     → writes_ascend (entry t s) ≡ true → IsLasting (record facts { floor = floor; entries = with_status facts.entries t s })
-ended-lasting facts floor t s l le p up = record {
-  regular = regular _ (put-bounded facts (bounded facts l.regular) floor le t s p) l.regular.rising;
+ended-lasting facts floor t s l le here p up = record {
+  regular = regular _ (put-bounded facts (bounded facts l.regular) floor le t s here p) l.regular.rising;
   entries = put-ascends facts.entries t s up l.entries;
 }
 
@@ -52,7 +52,7 @@ under-floor shard log e f n h = at-most n f ((and_parts _ _ h).1)
 based-lasting : (e f h : ℕ) → h ≤ f → IsLasting (learn no_facts (Base e f h))
 unfolding learn
 based-lasting e f h le = record {
-  regular = record { order = tt; placed = tt; rising = rise_none []; covered = tt; under = omega (arith, le) };
+  regular = record { order = tt; placed = tt; rising = rise_none []; covered = tt; under = omega (arith, le); kept = tt };
   entries = refl;
 }
 
@@ -79,6 +79,21 @@ record Lasts (shard : ℕ) (log : List Record) : Type 0 where
   so_far : followed shard log ≡ true
   lasting : IsLasting (facts_of log)
 
+-- an id that is new is not retired
+new-kept : (log : List Record) (t : Id) → is_new log t ≡ true → is_kept (facts_of log).retired t ≡ true
+unfolding facts_of
+new-kept log t h = (and_parts _ _ h).1
+
+settled-kept : (shard : ℕ) (log : List Record) (t : Id) (at : ℕ) (ps : List ℕ) → follows shard log (Settled t at ps) ≡ true
+    → is_kept (facts_of log).retired t ≡ true
+unfolding follows
+settled-kept shard log t at ps h = new-kept log t ((and_parts _ _ ((and_parts _ _ h).0)).1)
+
+closed-kept : (shard : ℕ) (log : List Record) (t : Id) (c : ℕ) (o : Option ℕ) → follows shard log (Closed t c o) ≡ true
+    → is_kept (facts_of log).retired t ≡ true
+unfolding follows
+closed-kept shard log t c o h = new-kept log t ((and_parts _ _ ((and_parts _ _ h).0)).1)
+
 -- what a step logs follows by the rules of one id
 by-step : (a b : Bool) → b ≡ false → (a || b) ≡ true → a ≡ true
 by-step true b none h = refl
@@ -92,6 +107,8 @@ lasts-item shard log (Opened e) l h known fits up =
     step-lasting shard (facts_of log) (Opened e) l.lasting up (step-of shard (facts_of log) (Opened e) (by-step _ _ refl known)) fits
 lasts-item shard log (Ceiling at) l h known fits up =
     step-lasting shard (facts_of log) (Ceiling at) l.lasting up (step-of shard (facts_of log) (Ceiling at) (by-step _ _ refl known)) fits
+lasts-item shard log (Retired below) l h known fits up =
+    step-lasting shard (facts_of log) (Retired below) l.lasting up (step-of shard (facts_of log) (Retired below) (by-step _ _ refl known)) fits
 lasts-item shard log (Horizon at) l h known fits up =
     step-lasting shard (facts_of log) (Horizon at) l.lasting up (step-of shard (facts_of log) (Horizon at) (by-step _ _ refl known)) fits
 lasts-item shard log (Prepare p) l h known fits up =
@@ -108,11 +125,12 @@ lasts-item shard log (Base e f n) l h known fits up =
 lasts-item shard log (Version v) l h known fits up =
     version-lasting (facts_of log) v l.lasting (version_above shard log v l.so_far known)
 lasts-item shard log (Settled t at ps) l h known fits up =
-    ended-lasting (facts_of log) (max (facts_of log).floor at) t (HasSettled at ps) l.lasting (omega arith) (omega arith) refl
+    ended-lasting (facts_of log) (max (facts_of log).floor at) t (HasSettled at ps) l.lasting (omega arith) (settled-kept shard log t at ps h) (omega arith) refl
 lasts-item shard log (Closed t c None) l h known fits up =
-    ended-lasting (facts_of log) (facts_of log).floor t (HasClosed c None) l.lasting (omega arith) tt refl
+    ended-lasting (facts_of log) (facts_of log).floor t (HasClosed c None) l.lasting (omega arith) (closed-kept shard log t c None h) tt refl
 lasts-item shard log (Closed t c (Some at)) l h known fits up =
-    ended-lasting (facts_of log) (max (facts_of log).floor at) t (HasClosed c (Some at)) l.lasting (omega arith) (omega arith) refl
+    ended-lasting (facts_of log) (max (facts_of log).floor at) t (HasClosed c (Some at)) l.lasting (omega arith)
+    (closed-kept shard log t c (Some at) h) (omega arith) refl
 
 -- a list of records that is followed, with one more
 on : (shard : ℕ) (log : List Record) (r : Record) → followed shard log ≡ true → (begins log r && follows shard log r) ≡ true
@@ -143,7 +161,7 @@ lasts-all shard before (r ∷ rs) l h fits up =
 
 nothing-lasting : IsLasting no_facts
 nothing-lasting = record {
-  regular = record { order = tt; placed = tt; rising = rise_none []; covered = tt; under = omega arith };
+  regular = record { order = tt; placed = tt; rising = rise_none []; covered = tt; under = omega arith; kept = tt };
   entries = refl;
 }
 
@@ -161,17 +179,19 @@ log-lasts shard log h fits up =
 -- ---- a log that is taken
 
 none-bounded : IsBounded no_facts
-none-bounded = record { order = tt; placed = tt; covered = tt; under = omega arith }
+none-bounded = record { order = tt; placed = tt; covered = tt; under = omega arith; kept = tt }
 
 based-bounded : (e f h : ℕ) → h ≤ f → IsBounded (learn no_facts (Base e f h))
 unfolding learn
-based-bounded e f h le = record { order = tt; placed = tt; covered = tt; under = omega (arith, le) }
+based-bounded e f h le = record { order = tt; placed = tt; covered = tt; under = omega (arith, le); kept = tt }
 
 bounded-item : (shard : ℕ) (log : List Record) (r : Record) → IsBounded (facts_of log) → follows shard log r ≡ true
     → follows_next shard (stage_of log) (facts_of log) r ≡ true → IsBounded (learn (facts_of log) r)
 unfolding follows_next follows_head learn
 bounded-item shard log (Opened e) b h known = bounded-stays shard (facts_of log) (Opened e) b refl
 bounded-item shard log (Ceiling at) b h known = bounded-stays shard (facts_of log) (Ceiling at) b refl
+bounded-item shard log (Retired below) b h known =
+    bounded-stays shard (facts_of log) (Retired below) b (step-of shard (facts_of log) (Retired below) (by-step _ _ refl known))
 bounded-item shard log (Horizon at) b h known =
     bounded-stays shard (facts_of log) (Horizon at) b (step-of shard (facts_of log) (Horizon at) (by-step _ _ refl known))
 bounded-item shard log (Prepare p) b h known =
@@ -188,11 +208,13 @@ bounded-item shard log (Base e f n) b h known =
 bounded-item shard log (Version v) b h known =
     more-bounded (facts_of log) b (max (facts_of log).floor v.at) (omega arith) (v ∷ []) (omega arith, tt)
 bounded-item shard log (Settled t at ps) b h known =
-    put-bounded (facts_of log) b (max (facts_of log).floor at) (omega arith) t (HasSettled at ps) (omega arith)
+    put-bounded (facts_of log) b (max (facts_of log).floor at) (omega arith) t (HasSettled at ps) (settled-kept shard log t at ps h)
+    (omega arith)
 bounded-item shard log (Closed t c None) b h known =
-    put-bounded (facts_of log) b (facts_of log).floor (omega arith) t (HasClosed c None) tt
+    put-bounded (facts_of log) b (facts_of log).floor (omega arith) t (HasClosed c None) (closed-kept shard log t c None h) tt
 bounded-item shard log (Closed t c (Some at)) b h known =
-    put-bounded (facts_of log) b (max (facts_of log).floor at) (omega arith) t (HasClosed c (Some at)) (omega arith)
+    put-bounded (facts_of log) b (max (facts_of log).floor at) (omega arith) t (HasClosed c (Some at))
+    (closed-kept shard log t c (Some at) h) (omega arith)
 
 bounded-all : (shard : ℕ) (before log : List Record) → followed shard before ≡ true → followed_from shard before log ≡ true
     → IsBounded (facts_of before) → IsBounded (facts_of (before ++ log))
@@ -230,6 +252,8 @@ shard-item shard log (Abort t) known all =
     step-of-shard shard (facts_of log) (Abort t) all ((and_parts _ _ (by-step _ _ refl known)).1)
 shard-item shard log (Outcome t o) known all =
     step-of-shard shard (facts_of log) (Outcome t o) all ((and_parts _ _ (by-step _ _ refl known)).1)
+shard-item shard log (Retired below) known all =
+    step-of-shard shard (facts_of log) (Retired below) all ((and_parts _ _ (by-step _ _ refl known)).1)
 shard-item shard log (Settled t at ps) known all =
     let p = and_parts _ _ known in
     put shard (facts_of log).entries t (HasSettled at ps) ((and_parts _ _ ((and_parts _ _ p.0).0)).1, p.1) all

@@ -10,7 +10,7 @@ use Rattle.record.specs.Facts.{Facts, facts_of, learn, recorded, installs_at}
 use Rattle.record.specs.Installs.{installs_of}
 use Rattle.record.specs.Records.{Status, Unrecorded, StandsPrepared, StandsDecided, HasAborted, HasSettled, HasClosed}
 use Rattle.record.specs.declared.record.Record.{Record}
-use Rattle.record.specs.declared.record.Record.TheVariants.{Opened, Ceiling, Prepare, Commit, Abort, Outcome, Horizon, Base, Version, Settled, Closed}
+use Rattle.record.specs.declared.record.Record.TheVariants.{Opened, Ceiling, Prepare, Commit, Abort, Outcome, Horizon, Base, Version, Settled, Closed, Retired}
 use Rattle.versions.specs.Headed.{Headed}
 use Rattle.versions.specs.Orders.{Orders, AreBehind}
 use Rattle.versions.proofs.Orders.{orders_more, behind_written}
@@ -81,6 +81,7 @@ pub installs : (shard : ℕ) (stage : Stage) (facts : Facts) (item : Record) →
 unfolding learn
 installs shard stage facts (Opened e) rising may can = nothing facts (Opened e) refl refl
 installs shard stage facts (Ceiling at) rising may can = nothing facts (Ceiling at) refl refl
+installs shard stage facts (Retired below) rising may can = nothing facts (Retired below) refl refl
 installs shard stage facts (Horizon at) rising may can = nothing facts (Horizon at) refl refl
 installs shard stage facts (Prepare p) rising may can = nothing facts (Prepare p) refl refl
 installs shard stage facts (Commit c) rising may can = nothing facts (Commit c) refl refl
@@ -115,6 +116,7 @@ pub still_rising : (shard : ℕ) (stage : Stage) (facts : Facts) (item : Record)
 unfolding learn
 still_rising shard stage facts (Opened e) rising may = refl
 still_rising shard stage facts (Ceiling at) rising may = past_head_rises stage _
+still_rising shard stage facts (Retired below) rising may = past_head_rises stage _
 still_rising shard stage facts (Horizon at) rising may = past_head_rises stage _
 still_rising shard stage facts (Prepare p) rising may = past_head_rises stage _
 still_rising shard stage facts (Commit c) rising may = past_head_rises stage _
@@ -152,6 +154,7 @@ horizon_rises : (facts : Facts) (item : Record) → facts.horizon ≤ (learn fac
 unfolding learn
 horizon_rises facts (Opened e) = omega arith
 horizon_rises facts (Ceiling at) = omega arith
+horizon_rises facts (Retired below) = omega arith
 horizon_rises facts (Prepare p) = omega arith
 horizon_rises facts (Commit c) = omega arith
 horizon_rises facts (Abort t) = omega arith

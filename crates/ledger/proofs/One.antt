@@ -22,7 +22,7 @@ use Rattle.protocol.proofs.Rising.{rise_parts}
 use Rattle.versions.specs.Places.{SameVersions}
 use Rattle.ledger.specs.Keeps.{Alike, IsRegular}
 use Rattle.ledger.specs.Laws.{AlikeTurned, HeldInOrder}
-use Rattle.ledger.specs.Turned.{ended_item, standing_item, turned, versions_held}
+use Rattle.ledger.specs.Turned.{ended_item, retired_item, standing_item, turned, versions_held}
 use Rattle.versions.proofs.Pruned.{ascending-keep, pruned-part, same-pruned}
 use Rattle.versions.proofs.SameMore.{above-same, same-one}
 use Rattle.ledger.proofs.InOrder.{IsUnder, rising-some, same-in_order, under-last}
@@ -340,4 +340,5 @@ pub one-turnover : AlikeTurned
 unfolding turned
 one-turnover a b h r s =
     λ i. Base (h.epoch i) (h.floor i) (h.horizon i)
-    ∷ (map Version (one-versions a b h r s i) ++ (gather ended_item (h.entries i) ++ gather standing_item (h.entries i)))
+    ∷ (map Version (one-versions a b h r s i)
+    ++ (retired_item (h.retired i) ++ (gather ended_item (h.entries i) ++ gather standing_item (h.entries i))))

@@ -8,6 +8,7 @@ use Rattle.units.specs.Ids.{Id}
 use Rattle.units.specs.ById.{IsById}
 use Rattle.units.specs.declared.writes.Install.{Install}
 use Rattle.record.specs.Records.{Status, Unrecorded, StandsPrepared, StandsDecided, HasAborted, HasSettled, HasClosed}
+use Rattle.record.specs.Accepted.{is_kept}
 use Rattle.record.specs.Facts.{Facts, TxnStatus}
 use Rattle.protocol.specs.Showable.{rises_by_key}
 use Rattle.ledger.specs.Keeps.{IsLasting, IsPlaced, IsRegular, writes_ascend}
@@ -32,6 +33,7 @@ regular-prop facts x y = λ i. record {
   rising = rising-prop x.rising y.rising i;
   covered = AllByRecursion-prop (λ (v : Install). v.at ≤ facts.floor) (λ v. hlevel props) facts.installs x.covered y.covered i;
   under = under-prop x.under y.under i;
+  kept = AllByRecursion-prop (λ (e : TxnStatus). IsTrue (is_kept facts.retired e.txn)) (λ e. hlevel props) facts.entries x.kept y.kept i;
 }
   where
     rising-prop : IsProp (IsTrue (rises_by_key [] facts.installs))

@@ -13,7 +13,7 @@ use Rattle.record.specs.Records.{Status, Unrecorded, StandsPrepared, StandsDecid
 use Rattle.record.specs.Facts.{Facts, TxnStatus, or_unrecorded, recorded}
 use Rattle.record.specs.declared.record.Record.{Record}
 use Rattle.record.specs.declared.record.Record.TheVariants.{Base, Version}
-use Rattle.ledger.specs.Turned.{ended_item, standing_item, turned, versions_held}
+use Rattle.ledger.specs.Turned.{ended_item, retired_item, standing_item, turned, versions_held}
 
 abbrev id_of : TxnStatus → Id
 id_of e = e.txn
@@ -86,19 +86,21 @@ module _ (make : Id → Option Record) (ids : List Id) (k : ℕ) (t : Id) (lt : 
       sym (one_more ∙ ap (λ (o : Option Record). elim o [ None ↦ gather make (drop (k + 1) ids) | Some r ↦ r ∷ gather make (drop (k + 1) ids) ]) is)
 
 -- all of it, part by part
-pub handed_all : {E : Type 0} (r : Result (Unit {0}) E) (facts : Facts) (before based listed ended now : List Record)
+pub handed_all : {E : Type 0} (r : Result (Unit {0}) E) (facts : Facts) (before based listed gone_by ended now : List Record)
     → based ≡ before ++ Base facts.epoch facts.floor facts.horizon ∷ [] → listed ≡ based ++ map Version (versions_held facts)
-    → ended ≡ listed ++ gather ended_item facts.entries → OnOk r (now ≡ ended ++ gather standing_item facts.entries)
+    → gone_by ≡ listed ++ retired_item facts.retired → ended ≡ gone_by ++ gather ended_item facts.entries → OnOk r (now ≡ ended ++ gather standing_item facts.entries)
     → OnOk r (now ≡ before ++ turned facts)
 unfolding turned
-handed_all (Err fault) facts before based listed ended now e f g h = h
-handed_all (Ok done) facts before based listed ended now e f g h =
+handed_all (Err fault) facts before based listed gone_by ended now e f k g h = h
+handed_all (Ok done) facts before based listed gone_by ended now e f k g h =
     let base = Base facts.epoch facts.floor facts.horizon in
     let versions = map Version (versions_held facts) in
     let gone = gather ended_item facts.entries in
     let stands = gather standing_item facts.entries in
-    h ∙ (λ i. g i ++ stands) ∙ append_assoc listed gone stands ∙ (λ i. f i ++ (gone ++ stands)) ∙ append_assoc based versions (gone ++ stands)
-    ∙ (λ i. e i ++ (versions ++ (gone ++ stands))) ∙ append_assoc before (base ∷ []) (versions ++ (gone ++ stands))
+    let retired = retired_item facts.retired in
+    h ∙ (λ i. g i ++ stands) ∙ append_assoc gone_by gone stands ∙ (λ i. k i ++ (gone ++ stands)) ∙ append_assoc listed retired (gone ++ stands)
+    ∙ (λ i. f i ++ (retired ++ (gone ++ stands))) ∙ append_assoc based versions (retired ++ (gone ++ stands))
+    ∙ (λ i. e i ++ (versions ++ (retired ++ (gone ++ stands)))) ∙ append_assoc before (base ∷ []) (versions ++ (retired ++ (gone ++ stands)))
 
 -- one that ended does not stand
 pub ended_not_standing : (e : TxnStatus) (r : Record) → ended_item e ≡ Some r → standing_item e ≡ None

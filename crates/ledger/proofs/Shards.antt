@@ -1,15 +1,16 @@
 -- What a log says of its ids is of its shard, behind each record that is taken.
 use Rattle.std.specs.List.{AllByRecursion}
-use Rattle.std.proofs.Common.{◌≡◌, ◌⊎◌, inl, inr, ℕ, true, nat_le, nat_lt, arith, List, Option, Some, None, refl, sym, subst}
+use Rattle.std.proofs.Common.{◌≡◌, ◌⊎◌, inl, inr, ℕ, true, not, nat_le, nat_lt, arith, List, Option, Some, None, refl, sym, subst}
 use Rattle.std.proofs.lemmas.Bool.{and_parts, false≢true}
 use Rattle.std.proofs.lemmas.Bool.Decides.{nat_tests}
 use Rattle.units.specs.Lists.{first}
 use Rattle.units.specs.Ids.{Id, same_id}
 use Rattle.units.proofs.ByIdLaws.{all-with, first_all}
-use Rattle.record.specs.Records.{Status, Unrecorded, StandsPrepared, StandsDecided, HasAborted}
+use Rattle.units.proofs.ListLaws.{all-keep}
+use Rattle.record.specs.Records.{is_below, Status, Unrecorded, StandsPrepared, StandsDecided, HasAborted}
 use Rattle.record.specs.Facts.{Facts, TxnStatus, learn, recorded, or_unrecorded, with_status, after_outcome}
 use Rattle.record.specs.declared.record.Record.{Record}
-use Rattle.record.specs.declared.record.Record.TheVariants.{Opened, Ceiling, Prepare, Commit, Abort, Outcome, Horizon}
+use Rattle.record.specs.declared.record.Record.TheVariants.{Opened, Ceiling, Prepare, Commit, Abort, Outcome, Horizon, Retired}
 use Rattle.facts.specs.Rules.{allows, id_follows}
 use Rattle.ledger.specs.Keeps.{IsOfShard}
 use Rattle.ledger.specs.Laws.{OfShardStays}
@@ -57,6 +58,7 @@ unfolding learn
 step-of-shard shard facts (Opened e) all f = all
 step-of-shard shard facts (Ceiling at) all f = all
 step-of-shard shard facts (Horizon at) all f = all
+step-of-shard shard facts (Retired below) all f = all-keep (IsOfShard shard) (λ e. not (is_below (Some below) e.txn)) facts.entries all
 step-of-shard shard facts (Prepare p) all f =
     let g = and_parts _ _ f in put shard facts.entries p.txn (StandsPrepared p) ((and_parts _ _ g.0).0, g.1) all
 step-of-shard shard facts (Commit c) all f =

@@ -1,5 +1,5 @@
 -- Steps over logs that are alike are the same: a step reads versions by the latest value of a key alone.
-use Rattle.std.proofs.Common.{◌≡◌, ℕ, cond, List, [], ◌∷◌, None, refl, sym, ap, ◌∙◌}
+use Rattle.std.proofs.Common.{◌≡◌, ℕ, cond, List, [], ◌∷◌, Option, None, refl, sym, ap, ◌∙◌}
 use Rattle.std.specs.Prelude.{Ok, Err}
 use Rattle.units.specs.Lists.{follow}
 use Rattle.units.specs.Ids.{Id}
@@ -19,18 +19,18 @@ use Rattle.protocol.specs.Outputs.{answer_to}
 use Rattle.protocol.specs.Step.{stepped, step_within, cell, plan_input}
 use Rattle.protocol.specs.Plan.{Before, Plan, start_of_step, in_way, opens, is_crowded, roomed, puts, replies, idles}
 use Rattle.protocol.specs.Cells.{Cell, Provided, ToRead, ToGoOn, answers, to_read, plan_read_row, plan_prepare_fresh, plan_promise, plan_abort, plan_decide}
-use Rattle.protocol.specs.Cells.{plan_commit_granted, plan_commit_fresh, plan_count, plan_advance, plan_forget, plan_granted, plan_asks, plan_cell}
+use Rattle.protocol.specs.Cells.{plan_commit_granted, plan_commit_fresh, plan_count, plan_advance, plan_forget, plan_retire, plan_granted, plan_asks, plan_cell}
 use Rattle.versions.proofs.Newest.{latest_is}
 use Rattle.versions.specs.Places.{SameVersions}
 use Rattle.ledger.specs.Laws.{AlikeSteps}
 
-module _ (rows shard epoch floor : ℕ) (es : List TxnStatus) (is js : List Install) (horizon : ℕ) (memory : Memory)
+module _ (rows shard epoch floor : ℕ) (es : List TxnStatus) (is js : List Install) (horizon : ℕ) (retired : Option Id) (memory : Memory)
     (same : (k : Bytes) → latest is k ≡ latest js k) where
   abbrev one : Before
-  one = record { capacity = rows; shard = shard; facts = facts_with epoch floor es is horizon; memory = memory }
+  one = record { capacity = rows; shard = shard; facts = facts_with epoch floor es is horizon retired; memory = memory }
 
   abbrev other : Before
-  other = record { capacity = rows; shard = shard; facts = facts_with epoch floor es js horizon; memory = memory }
+  other = record { capacity = rows; shard = shard; facts = facts_with epoch floor es js horizon retired; memory = memory }
 
   same-answer : (t : Id) (k : Bytes) → answers one t k ≡ answers other t k
   same-answer t k = ap (λ v. answer_to shard t k epoch (Holds v)) (same k)
@@ -49,7 +49,7 @@ module _ (rows shard epoch floor : ℕ) (es : List TxnStatus) (is js : List Inst
 
   same-plan : (c : Cell) → plan_cell one c ≡ plan_cell other c
   unfolding plan_read_row plan_prepare_fresh plan_promise plan_commit_fresh plan_commit_granted plan_decide plan_abort plan_asks plan_granted plan_count
-      plan_advance plan_forget
+      plan_advance plan_forget plan_retire
   same-plan (Provided test c) = λ i. cond test (same-plan c i) (Err Stranger)
   same-plan (ToRead t k held waits) =
       λ i. cond (holds held k) (Ok (replies one (same-answer t k i ∷ []))) (cond waits (Ok (idles one)) (same-asks 0 t (WaitsRead k) i))
@@ -74,6 +74,6 @@ unfolding step_within
 same-step rows setup a b memory now i h =
     ap (stepped memory)
     ((λ j. plan_input setup
-    (start_of_step rows setup (facts_with (h.epoch j) (h.floor j) (h.entries j) a.installs (h.horizon j)) memory) now i)
-    ∙ same-input rows setup.shard b.epoch b.floor b.entries a.installs b.installs b.horizon memory
+    (start_of_step rows setup (facts_with (h.epoch j) (h.floor j) (h.entries j) a.installs (h.horizon j) (h.retired j)) memory) now i)
+    ∙ same-input rows setup.shard b.epoch b.floor b.entries a.installs b.installs b.horizon b.retired memory
     (same-latest a.horizon a.installs b.installs h.versions) setup now i)

@@ -1,7 +1,8 @@
 -- Logs that are alike take the same records.
 use Rattle.std.specs.List.{list_all, list_any}
-use Rattle.std.proofs.Common.{◌≡◌, ℕ, not, ◌&&◌, nat_lt, List, length, map, Some, refl, sym, ap, ◌∙◌}
+use Rattle.std.proofs.Common.{◌≡◌, ℕ, not, ◌&&◌, nat_lt, List, length, map, Option, Some, refl, sym, ap, ◌∙◌}
 use Rattle.units.specs.Limits.{most_rows}
+use Rattle.units.specs.Ids.{Id, older}
 use Rattle.units.specs.Lists.{gather}
 use Rattle.units.specs.Keys.{Bytes}
 use Rattle.units.specs.Locks.{clash, locks_of}
@@ -12,7 +13,7 @@ use Rattle.units.proofs.ListLaws.{each-alike}
 use Rattle.record.specs.Accepted.{belongs}
 use Rattle.record.specs.Facts.{Facts, TxnStatus, facts_with, recorded}
 use Rattle.record.specs.declared.record.Record.{Record}
-use Rattle.record.specs.declared.record.Record.TheVariants.{Opened, Prepare, Commit, Outcome, Horizon}
+use Rattle.record.specs.declared.record.Record.TheVariants.{Opened, Prepare, Commit, Outcome, Horizon, Retired}
 use Rattle.facts.specs.Rules.{follows_facts}
 use Rattle.facts.specs.Shown.{status_in}
 use Rattle.protocol.specs.Rows.{held_stamp, standing_row}
@@ -25,16 +26,16 @@ use Rattle.protocol.specs.Beside.{fits_facts, stands_in}
 use Rattle.ledger.specs.Rules.{takes}
 
 -- the rules of one id, of openings and of a horizon read no versions
-no-versions : (shard : ℕ) (e f : ℕ) (es : List TxnStatus) (is js : List Install) (n : ℕ) (r : Record)
-    → follows_facts shard (facts_with e f es is n) r ≡ follows_facts shard (facts_with e f es js n) r
+no-versions : (shard : ℕ) (e f : ℕ) (es : List TxnStatus) (is js : List Install) (n : ℕ) (rt : Option Id) (r : Record)
+    → follows_facts shard (facts_with e f es is n rt) r ≡ follows_facts shard (facts_with e f es js n rt) r
 unfolding follows_facts
-no-versions shard e f es is js n (Opened epoch) = refl
-no-versions shard e f es is js n _ = refl
+no-versions shard e f es is js n rt (Opened epoch) = refl
+no-versions shard e f es is js n rt _ = refl
 
 follows-alike : (shard : ℕ) (a b : Facts) (r : Record) → Alike a b → follows_facts shard a r ≡ follows_facts shard b r
 follows-alike shard a b r h =
-    (λ i. follows_facts shard (facts_with (h.epoch i) (h.floor i) (h.entries i) a.installs (h.horizon i)) r)
-    ∙ no-versions shard b.epoch b.floor b.entries a.installs b.installs b.horizon r
+    (λ i. follows_facts shard (facts_with (h.epoch i) (h.floor i) (h.entries i) a.installs (h.horizon i) (h.retired i)) r)
+    ∙ no-versions shard b.epoch b.floor b.entries a.installs b.installs b.horizon b.retired r
 
 -- a timestamp is above the versions of the same keys
 pub above-alike : (h : ℕ) (a b : List Install) (at : ℕ) (ws : List Write) → SameVersions h a b → above_versions a at ws ≡ above_versions b at ws
@@ -50,6 +51,7 @@ stands-alike a b at rs ws h =
 
 fits-alike : (a b : Facts) (r : Record) → Alike a b → fits_facts a r ≡ fits_facts b r
 fits-alike a b (Horizon at) h = ap (λ es. list_all (nat_lt at) (gather (λ r. held_stamp r.phase) (gather standing_row es))) h.entries
+fits-alike a b (Retired below) h = ap (λ es. list_all (λ r. not (older r.txn below)) (gather standing_row es)) h.entries
 fits-alike a b (Prepare p) h = stands-alike a b p.at p.reads p.writes h
 fits-alike a b (Commit c) h = stands-alike a b c.at c.reads c.writes h
 fits-alike a b (Outcome t (Some at)) h =

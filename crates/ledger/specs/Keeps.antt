@@ -7,18 +7,19 @@ use Rattle.units.specs.Keys.{Bytes, write_before}
 use Rattle.units.specs.Versions.{at_time}
 use Rattle.units.specs.declared.setup.Setup.{Setup}
 use Rattle.record.specs.Records.{Unrecorded, StandsPrepared, StandsDecided, HasAborted, HasSettled, HasClosed}
-use Rattle.record.specs.Accepted.{is_timed, keys_belong}
+use Rattle.record.specs.Accepted.{is_kept, is_timed, keys_belong}
 use Rattle.record.specs.Facts.{Facts, TxnStatus}
 use Rattle.versions.specs.Places.{SameVersions}
 use Rattle.protocol.specs.Sound.{writes_standing}
 use Rattle.protocol.specs.Showable.{rises_by_key}
 
--- Both say the same epoch, floor and horizon, the same status of every id with its standing record, and the same value of
+-- Both say the same epoch, floor and horizon, the same id below which all are retired, the same status of every id with its standing record, and the same value of
 -- every key at every timestamp from the horizon up.
 pub record Keeps (a b : Facts) : Type 0 where
   pub epoch : a.epoch ≡ b.epoch
   pub floor : a.floor ≡ b.floor
   pub horizon : a.horizon ≡ b.horizon
+  pub retired : a.retired ≡ b.retired
   pub entries : a.entries ≡ b.entries
   pub values : (k : Bytes) (t : ℕ) → a.horizon ≤ t → at_time a.installs k t ≡ at_time b.installs k t
 
@@ -27,6 +28,7 @@ pub record Alike (a b : Facts) : Type 0 where
   pub epoch : a.epoch ≡ b.epoch
   pub floor : a.floor ≡ b.floor
   pub horizon : a.horizon ≡ b.horizon
+  pub retired : a.retired ≡ b.retired
   pub entries : a.entries ≡ b.entries
   pub versions : SameVersions a.horizon a.installs b.installs
 
@@ -45,13 +47,14 @@ IsPlaced floor e =
       | HasClosed coordinator (Some at) ↦ at ≤ floor
     ]
 
--- entries by id, each in its place; versions that rise by key, none above the floor, and the horizon neither
+-- entries by id, each in its place, none retired; versions that rise by key, none above the floor, and the horizon neither
 pub record IsRegular (facts : Facts) : Type 0 where
   pub order : IsById (λ e. e.txn) facts.entries
   pub placed : AllByRecursion (IsPlaced facts.floor) facts.entries
   pub rising : IsTrue (rises_by_key [] facts.installs)
   pub covered : AllByRecursion (λ i. i.at ≤ facts.floor) facts.installs
   pub under : facts.horizon ≤ facts.floor
+  pub kept : AllByRecursion (λ e. IsTrue (is_kept facts.retired e.txn)) facts.entries
 
 -- the entry is one that a log of this shard has
 abbrev pub IsOfShard : ℕ → TxnStatus → Type 0

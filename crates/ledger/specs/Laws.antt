@@ -7,7 +7,8 @@ use Rattle.units.specs.Limits.{most_rows}
 use Rattle.units.specs.declared.setup.Setup.{Setup}
 use Rattle.units.specs.declared.writes.Install.{Install}
 use Rattle.truetime.specs.Interval.{Interval}
-use Rattle.record.specs.Accepted.{Accepted, belongs, followed, taken}
+use Rattle.record.specs.Accepted.{Accepted, belongs, followed, is_kept, taken}
+use Rattle.record.specs.Records.{retired_of}
 use Rattle.record.specs.FactLaws.{learnt}
 use Rattle.record.specs.Facts.{Facts, no_facts, facts_of, learn}
 use Rattle.record.specs.Whole.{stands_at}
@@ -93,11 +94,11 @@ AlikeSteps =
     (rows : ℕ) (setup : Setup) (a b : Facts) (memory : Memory) (now : Interval) (i : Input) → Alike a b →
     step_within rows setup a memory now i ≡ step_within rows setup b memory now i
 
--- they resolve a transaction alike, beside any other logs: where it stands is told from its status
+-- they resolve a transaction that is not retired alike, beside any other logs: where it stands is told from its status
 abbrev pub AlikeStands : Type 0
 AlikeStands =
     (shard : ℕ) (one other : List Record) (logs : List (List Record)) (t : Id) → IsTrue (followed shard one) → IsTrue (followed shard other) →
-    Alike (facts_of one) (facts_of other) → stands_at logs one t ≡ stands_at logs other t
+    Alike (facts_of one) (facts_of other) → IsTrue (is_kept (retired_of one) t) → stands_at logs one t ≡ stands_at logs other t
 
 -- both are turned over into the same records
 abbrev pub AlikeTurned : Type 0

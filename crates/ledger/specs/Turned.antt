@@ -1,5 +1,6 @@
 -- The records of a renewed log, made of what the log says.
 use Rattle.std.specs.Prelude.{List, [], ◌∷◌, ◌++◌, map, Option, Some, None}
+use Rattle.units.specs.Ids.{Id}
 use Rattle.units.specs.Lists.{gather}
 use Rattle.units.specs.declared.writes.Install.{Install}
 use Rattle.record.specs.Records.{Unrecorded, StandsPrepared, StandsDecided, HasAborted, HasSettled, HasClosed}
@@ -37,8 +38,14 @@ standing_item e =
       | HasClosed coordinator outcome ↦ None
     ]
 
--- the records of the renewed log: the numbers, the versions, who ended, who stands
+-- the id below which all are retired, by its record
+abbrev pub retired_item : Option Id → List Record
+retired_item None = []
+retired_item (Some below) = records.Retired below ∷ []
+
+-- the records of the renewed log: the numbers, the versions, the id below which all are retired, who ended, who stands
 unfoldable pub turned : Facts → List Record
 turned facts =
     records.Base facts.epoch facts.floor facts.horizon
-    ∷ (map records.Version (versions_held facts) ++ (gather ended_item facts.entries ++ gather standing_item facts.entries))
+    ∷ (map records.Version (versions_held facts)
+    ++ (retired_item facts.retired ++ (gather ended_item facts.entries ++ gather standing_item facts.entries)))

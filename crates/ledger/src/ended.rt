@@ -1,5 +1,5 @@
 //! The ids of the transactions that were ended.
-ghost use Rattle.std.specs.Prelude.{◌≡◌, ◌+◌, ◌≤◌, ◌<◌, [], IsOk, IfErr, OnOk, length, vec_len, vec_capacity};
+ghost use Rattle.std.specs.Prelude.{◌≡◌, ◌+◌, ◌≤◌, ◌<◌, [], IsOk, IfErr, OnOk, filter, length, not, vec_len, vec_capacity};
 ghost use Rattle.units.specs.Fronts.{front};
 ghost use Rattle.units.specs.ById.{IsById};
 ghost use Rattle.units.specs.Ids.{older, has_id, with_id};
@@ -58,6 +58,14 @@ impl Ended {
         put(&mut self.ids, txn);
     }
 
+    /// Drops the ids below one. It takes no memory.
+    pub fn retire(&mut self, below: TxnId)
+        ensures ids { self.new.ids ≡ filter (λ t. not (older t below)) self.old.ids }
+        ensures room { self.old.room ≤ self.new.room }
+    {
+        keep_from(&mut self.ids, below);
+    }
+
     /// Tells whether the id is in the list, by a binary search.
     pub fn has(&self, txn: TxnId) -> bool
         ensures { result ≡ has_id self.now.ids txn }
@@ -90,6 +98,17 @@ fn is_among(ids: &[TxnId], txn: TxnId) -> bool
 {
     let place = place_of(ids, txn);
     place < ids.len() && ids[place] == txn
+}
+
+// Drops the ids below one.
+fn keep_from(ids: &mut Vec<TxnId>, below: TxnId)
+    requires { IsById (λ id. id) ids.old.items }
+    ensures items { ids.new.items ≡ filter (λ t. not (older t below)) ids.old.items }
+    ensures order { IsById (λ id. id) ids.new.items }
+    ensures len { vec_len ids.new ≤ vec_len ids.old }
+    ensures capacity { vec_capacity ids.new ≡ vec_capacity ids.old }
+{
+    ids.retain(|txn| *txn >= below);
 }
 
 // Puts an id in its place, unless it is there. The list has room.

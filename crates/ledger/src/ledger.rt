@@ -2,7 +2,9 @@
 ghost use Rattle.std.specs.Prelude.{◌≡◌, ℕ, ◌<◌, ◌≤◌, ◌^◌, ◌++◌, [], length, IsTrue, IsOk, IfErr, OnOk};
 ghost use Rattle.std.specs.Option.{option_copied};
 ghost use Rattle.units.specs.Versions.{latest, at_time, above_versions};
+ghost use Rattle.record.specs.Accepted.{rises};
 ghost use Rattle.record.specs.Facts.{facts_of, learn, recorded};
+ghost use Rattle.record.specs.Records.{is_below};
 ghost use Rattle.facts.specs.Rules.{follows_facts};
 ghost use Rattle.facts.specs.Shown.{meant};
 ghost use Rattle.facts.specs.Stages.{follows_head, follows_next, stage_after, stage_of};
@@ -103,6 +105,20 @@ impl Ledger {
         ensures { meant (option_copied result) ≡ recorded self.now.facts txn }
     {
         self.facts.status(txn)
+    }
+
+    /// Tells whether an id is retired.
+    pub fn is_retired(&self, txn: TxnId) -> bool
+        ensures { result ≡ is_below self.now.facts.retired txn }
+    {
+        self.facts.is_retired(txn)
+    }
+
+    /// Tells whether an id is above that below which all are retired so far.
+    pub fn rises(&self, below: TxnId) -> bool
+        ensures { result ≡ rises self.now.facts.retired below }
+    {
+        self.facts.rises(below)
     }
 
     /// Returns the versions, in the log's order.
@@ -223,7 +239,8 @@ impl Ledger {
         self.places.follow(self.facts.installs(), known, horizon);
     }
 
-    /// Hands on the records of the renewed log: its base, the versions that it holds, then the transactions that ended or stand.
+    /// Hands on the records of the renewed log: its base, the versions that it holds, the id below which all are retired, then the
+    /// transactions that ended or stand.
     pub fn renew<R: Recorder>(&self, alloc: Global, recorder: &mut R) -> Result<(), Fault>
         requires { 0 < self.now.facts.epoch }
         ensures all { OnOk result

@@ -11,7 +11,7 @@ ghost use Rattle.versions.specs.Orders.{Orders};
 ghost use Rattle.versions.specs.Pruned.{first_left};
 ghost use Rattle.protocol.specs.Showable.{rises_by_key};
 ghost use Rattle.ledger.specs.Handed.{standing_of};
-ghost use Rattle.ledger.specs.Turned.{ended_item, standing_item, turned, versions_held};
+ghost use Rattle.ledger.specs.Turned.{ended_item, retired_item, standing_item, turned, versions_held};
 
 use facts::{Facts, Status};
 use record::{Committed, Prepared, Record};
@@ -49,6 +49,7 @@ pub fn renew<R: Recorder>(
     let ids = facts.ids(alloc)?;
     hand_base(alloc, facts, recorder)?;
     hand_versions(alloc, facts, places, recorder)?;
+    hand_retired(alloc, facts, recorder)?;
     let rest = hand_ended(alloc, facts, &ids, recorder)?;
     hand_standing(alloc, facts, &rest, recorder)
 }
@@ -112,6 +113,18 @@ fn held<'f>(facts: &'f Facts, places: &Places, at: usize) -> Option<&'f Install>
         (drop at (arranged facts.now.facts.installs places.now.places)) }
 {
     places.left(facts.installs(), at, facts.horizon())
+}
+
+// Hands on the id below which all are retired, if there is one.
+fn hand_retired<R: Recorder>(alloc: Global, facts: &Facts, recorder: &mut R) -> Result<(), Fault>
+    ensures added { OnOk result (R.records recorder.new ≡ R.records recorder.old
+        ++ retired_item facts.now.facts.retired) }
+    ensures memory { IfErr result (λ fault. fault ≡ Fault.Memory) }
+{
+    match facts.retired() {
+        Some(below) => hand(alloc, Record::Retired { below }, recorder),
+        None => Ok(()),
+    }
 }
 
 // Hands on those of these ids that ended, and lists the others, which stand: they are few.

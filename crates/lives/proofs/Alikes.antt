@@ -15,6 +15,7 @@ alike_back a b h = record {
   epoch = sym h.epoch;
   floor = sym h.floor;
   horizon = sym h.horizon;
+  retired = sym h.retired;
   entries = sym h.entries;
   versions = record {
     now = λ k. sym (h.versions.now k);

@@ -93,7 +93,7 @@ some_record a b m q out more e = cc
 none_lasts : IsLasting (facts_of [])
 unfolding facts_of installs_of rises_by_key
 none_lasts = record {
-  regular = record { order = tt; placed = tt; rising = refl; covered = tt; under = omega arith };
+  regular = record { order = tt; placed = tt; rising = refl; covered = tt; under = omega arith; kept = tt };
   entries = refl;
 }
 

@@ -73,6 +73,7 @@ left_by_refusal s (Doing.Resume now) = s
 left_by_refusal s (Doing.Settle t now) = s
 left_by_refusal s (Doing.Advance at now) = s
 left_by_refusal s (Doing.Forget at now) = s
+left_by_refusal s (Doing.Retire below now) = s
 left_by_refusal s (Doing.Nudge t now) = s
 left_by_refusal s Doing.Turn = s
 left_by_refusal s Doing.Open = unopened s s.state

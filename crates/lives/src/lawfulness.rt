@@ -107,6 +107,7 @@ fn may_do(known: Known, bag: &Bag, time: u64, shard: ShardNo, doing: &Doing) -> 
         Doing::Advance(at, now) => is_honest(time, now) && at.micros() <= Stamp::MAX,
         Doing::Nudge(_, now) => is_honest(time, now),
         Doing::Forget(at, now) => is_honest(time, now) && at.micros() <= Stamp::MAX,
+        Doing::Retire(_, now) => is_honest(time, now),
         Doing::Turn => true,
         Doing::Open => known.rests,
     }

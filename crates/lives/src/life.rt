@@ -202,7 +202,7 @@ pub fn opens(doing: &Doing) -> bool
         Doing::Open => true,
         Doing::Take(_, _) | Doing::Resume(_) | Doing::Settle(_, _) => false,
         Doing::Advance(_, _) | Doing::Nudge(_, _) | Doing::Forget(_, _) => false,
-        Doing::Turn => false,
+        Doing::Retire(_, _) | Doing::Turn => false,
     }
 }
 
@@ -214,7 +214,7 @@ fn turns(doing: &Doing) -> bool
         Doing::Turn => true,
         Doing::Take(_, _) | Doing::Resume(_) | Doing::Settle(_, _) => false,
         Doing::Advance(_, _) | Doing::Nudge(_, _) | Doing::Forget(_, _) => false,
-        Doing::Open => false,
+        Doing::Retire(_, _) | Doing::Open => false,
     }
 }
 
@@ -237,6 +237,7 @@ fn input_of(alloc: Global, bag: &[Envelope], doing: &Doing) -> Result<(Reading, 
         Doing::Advance(at, now) => Ok((*now, Input::Advance(*at))),
         Doing::Nudge(txn, now) => Ok((*now, Input::Nudge(*txn))),
         Doing::Forget(at, now) => Ok((*now, Input::Forget(*at))),
+        Doing::Retire(below, now) => Ok((*now, Input::Retire(*below))),
         Doing::Turn | Doing::Open => unreachable!(),
     }
 }

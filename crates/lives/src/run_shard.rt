@@ -345,6 +345,7 @@ fn makes_view(doing: &Doing) -> bool
     match doing {
         Doing::Open | Doing::Advance(_, _) => true,
         Doing::Take(_, _) | Doing::Resume(_) | Doing::Settle(_, _) => false,
-        Doing::Nudge(_, _) | Doing::Forget(_, _) | Doing::Turn => false,
+        Doing::Nudge(_, _) | Doing::Forget(_, _) | Doing::Retire(_, _) => false,
+        Doing::Turn => false,
     }
 }

@@ -32,7 +32,7 @@ pub struct Renewal {
     handed: &'static str,
 }
 
-static HANDED: [Renewal; 8] = [
+static HANDED: [Renewal; 12] = [
     Renewal {
         what: "a commit that settled",
         shard: 0,
@@ -95,6 +95,37 @@ static HANDED: [Renewal; 8] = [
         handed: "base 3 120 20\nversion 10 a=1\nversion 30 a!\nversion 5 b=1\nabort 1.1\n\
             closed 1.7 0 committed 100\nprepare 1.6 0 120 - b=1",
     },
+    // Versions stay, whoever wrote them.
+    Renewal {
+        what: "those who ended below a retired id, and those who did not",
+        shard: 0,
+        lines: "opened 1\ncommit 1.1 111 0 - a=1\noutcome 1.1 committed 111\nabort 1.2\n\
+            commit 1.6 120 0 - c=1\noutcome 1.6 committed 120\nabort 1.9\nretired 1.5\n\
+            commit 1.7 130 0 - b=1",
+        handed: "base 1 130 0\nversion 111 a=1\nversion 120 c=1\nretired 1.5\nsettled 1.6 120 0\n\
+            abort 1.9\ncommit 1.7 130 0 - b=1",
+    },
+    Renewal {
+        what: "promises that were closed below a retired id",
+        shard: 1,
+        lines: "opened 1\nprepare 1.4 0 70 - c=1\noutcome 1.4 committed 80\n\
+            prepare 1.5 0 90 - d=1\noutcome 1.5 aborted\nretired 1.5\nhorizon 80",
+        handed: "base 1 90 80\nversion 80 c=1\nretired 1.5\nclosed 1.5 0 aborted",
+    },
+    Renewal {
+        what: "ids of which none has ended",
+        shard: 0,
+        lines: "opened 1\nretired 3.0",
+        handed: "base 1 0 0\nretired 3.0",
+    },
+    // The last retired id alone is kept.
+    Renewal {
+        what: "a renewed log of which more is retired",
+        shard: 1,
+        lines: "base 2 200 50\nversion 111 z=1\nretired 1.5\nclosed 1.7 0 committed 100\n\
+            closed 1.9 0 aborted\nopened 3\nretired 1.8",
+        handed: "base 3 200 50\nversion 111 z=1\nretired 1.8\nclosed 1.9 0 aborted",
+    },
 ];
 
 // Tells whether an outcome is above the versions of the keys that it writes.
@@ -113,7 +144,7 @@ fn can_install(ledger: &Ledger, item: &Record) -> bool
         Record::Opened { .. } | Record::Ceiling { .. } | Record::Horizon { .. } => true,
         Record::Prepare(_) | Record::Commit(_) | Record::Abort { .. } => true,
         Record::Base { .. } | Record::Version(_) => true,
-        Record::Settled { .. } | Record::Closed { .. } => true,
+        Record::Settled { .. } | Record::Closed { .. } | Record::Retired { .. } => true,
     }
 }
 

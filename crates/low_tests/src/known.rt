@@ -1,11 +1,11 @@
 //! What a log determines, and which records may come next.
 use crate::checks::{Row, go_over_all};
-use crate::text_logs::record_of;
+use crate::text_logs::{record_of, txn_of};
 use facts::{Facts, Status};
 use made::{WrongRows, id, key, shard};
 use record::{Committed, Prepared};
 use std::alloc::Global;
-use units::{Fault, Install, Stamp};
+use units::{Fault, Install, Stamp, TxnId};
 
 // Learns a record if it may come next, and tells whether this is as wanted. If it may not come, it is refused as
 // damage, handed back, and does not follow.
@@ -60,11 +60,13 @@ const UNKNOWN: Known = Known {
     settled: false,
 };
 
-// What a log determines, whatever the order of the ids in it. An install is its timestamp and the letter of its key.
+// What a log determines, whatever the order of the ids in it. All ids below that of `retired` are retired, if there is one. An install is
+// its timestamp and the letter of its key.
 struct Determined {
     epoch: u64,
     floor: u64,
     horizon: u64,
+    retired: Option<&'static str>,
     installs: &'static [(u64, u8)],
     known: &'static [Known],
 }
@@ -89,6 +91,7 @@ static TRANSACTIONS: [Case; 5] = [
             epoch: 1,
             floor: 111,
             horizon: 0,
+            retired: None,
             installs: &[],
             known: &[Known {
                 number: 1,
@@ -106,6 +109,7 @@ static TRANSACTIONS: [Case; 5] = [
             epoch: 1,
             floor: 111,
             horizon: 0,
+            retired: None,
             installs: &[(111, b'a')],
             known: &[Known {
                 number: 1,
@@ -126,6 +130,7 @@ static TRANSACTIONS: [Case; 5] = [
             epoch: 2,
             floor: 300,
             horizon: 0,
+            retired: None,
             installs: &[(250, b'a')],
             known: &[
                 Known {
@@ -151,6 +156,7 @@ static TRANSACTIONS: [Case; 5] = [
             epoch: 1,
             floor: 300,
             horizon: 0,
+            retired: None,
             installs: &[],
             known: &[
                 Known {
@@ -194,6 +200,7 @@ static TRANSACTIONS: [Case; 5] = [
             epoch: 1,
             floor: 200,
             horizon: 0,
+            retired: None,
             installs: &[],
             known: &[
                 Known {
@@ -217,7 +224,8 @@ static HORIZONS: [Case; 7] = [
         what: "behind nothing",
         shard: 0,
         lines: "",
-        refused: "opened 2\nabort 1.1\nceiling 5\nhorizon 0\nversion 5 a=1\nsettled 1.1 5 0",
+        refused: "opened 2\nabort 1.1\nceiling 5\nhorizon 0\nversion 5 a=1\nsettled 1.1 5 0\n\
+            retired 1.5",
         determined: None,
     },
     Case {
@@ -252,6 +260,7 @@ static HORIZONS: [Case; 7] = [
             epoch: 1,
             floor: 300,
             horizon: 200,
+            retired: None,
             installs: &[],
             known: &[],
         }),
@@ -265,6 +274,7 @@ static HORIZONS: [Case; 7] = [
             epoch: 2,
             floor: 300,
             horizon: 300,
+            retired: None,
             installs: &[],
             known: &[],
         }),
@@ -280,6 +290,7 @@ static HORIZONS: [Case; 7] = [
             epoch: 1,
             floor: 9,
             horizon: 9,
+            retired: None,
             installs: &[(5, b'a'), (9, b'a')],
             known: &[Known {
                 number: 1,
@@ -356,6 +367,7 @@ static RENEWED: [Case; 3] = [
             epoch: 3,
             floor: 111,
             horizon: 50,
+            retired: None,
             installs: &[],
             known: &[UNKNOWN],
         }),
@@ -370,6 +382,7 @@ static RENEWED: [Case; 3] = [
             epoch: 1,
             floor: 111,
             horizon: 0,
+            retired: None,
             installs: &[(111, b'a')],
             known: &[Known {
                 number: 1,
@@ -390,6 +403,7 @@ static RENEWED: [Case; 3] = [
             epoch: 3,
             floor: 211,
             horizon: 50,
+            retired: None,
             installs: &[(100, b'y'), (90, b'z')],
             known: &[
                 Known {
@@ -403,6 +417,172 @@ static RENEWED: [Case; 3] = [
                     ..UNKNOWN
                 },
             ],
+        }),
+    },
+];
+
+// What logs determine of ids that are retired.
+static RETIRED: [Case; 7] = [
+    // Nothing is known of 1.1 and 1.2, whose version stays. They end no more, and nothing new is said of them.
+    Case {
+        what: "ids that are retired",
+        shard: 0,
+        lines: "opened 1\ncommit 1.1 5 0 - a=1\noutcome 1.1 committed 5\nabort 1.2\nabort 1.9\n\
+            retired 1.5",
+        refused: "commit 1.1 5 0 - a=1\noutcome 1.1 committed 5\nabort 1.1\nabort 1.2\n\
+            abort 1.4\ncommit 1.4 6 0 - a=1\noutcome 1.4 aborted\nabort 1.9",
+        determined: Some(Determined {
+            epoch: 1,
+            floor: 5,
+            horizon: 0,
+            retired: Some("1.5"),
+            installs: &[(5, b'a')],
+            known: &[
+                Known {
+                    number: 1,
+                    ..UNKNOWN
+                },
+                Known {
+                    number: 2,
+                    ..UNKNOWN
+                },
+                Known {
+                    number: 9,
+                    aborted: true,
+                    ..UNKNOWN
+                },
+            ],
+        }),
+    },
+    Case {
+        what: "what may not follow retired ids at another shard",
+        shard: 1,
+        lines: "opened 1\nprepare 1.2 0 200 - a=1\noutcome 1.2 committed 250\n\
+            prepare 1.7 0 300 - b=1\nretired 1.5",
+        refused: "prepare 1.2 0 260 - a=1\nprepare 1.4 0 310 - c=1\noutcome 1.2 committed 250\n\
+            outcome 1.2 aborted\nprepare 1.7 0 310 - b=1",
+        determined: Some(Determined {
+            epoch: 1,
+            floor: 300,
+            horizon: 0,
+            retired: Some("1.5"),
+            installs: &[(250, b'a')],
+            known: &[
+                Known {
+                    number: 2,
+                    ..UNKNOWN
+                },
+                Known {
+                    number: 7,
+                    prepared: Some(300),
+                    ..UNKNOWN
+                },
+            ],
+        }),
+    },
+    // It is not below itself.
+    Case {
+        what: "the id to which ids are retired",
+        shard: 0,
+        lines: "opened 1\nretired 1.5\ncommit 1.5 7 0 - a=1",
+        refused: "retired 1.5\nretired 1.4\ncommit 1.4 8 0 - b=1\nabort 1.5",
+        determined: Some(Determined {
+            epoch: 1,
+            floor: 7,
+            horizon: 0,
+            retired: Some("1.5"),
+            installs: &[],
+            known: &[Known {
+                number: 5,
+                decided: Some(7),
+                ..UNKNOWN
+            }],
+        }),
+    },
+    Case {
+        what: "retired ids that rise",
+        shard: 0,
+        lines: "opened 1\nabort 1.3\nretired 1.3\nabort 1.5\nretired 1.6\nopened 2",
+        refused: "retired 1.3\nretired 1.5\nretired 1.6\nabort 1.3\nabort 1.5",
+        determined: Some(Determined {
+            epoch: 2,
+            floor: 0,
+            horizon: 0,
+            retired: Some("1.6"),
+            installs: &[],
+            known: &[
+                Known {
+                    number: 3,
+                    ..UNKNOWN
+                },
+                Known {
+                    number: 5,
+                    ..UNKNOWN
+                },
+            ],
+        }),
+    },
+    // A run comes before the number in it.
+    Case {
+        what: "ids of an earlier run",
+        shard: 0,
+        lines: "opened 1\nabort 1.9\nabort 2.3\nretired 2.1\nabort 2.1\nabort 3.0",
+        refused: "abort 1.9\nabort 1.4611686018427387903\nabort 2.0\nabort 2.3\nretired 1.10\n\
+            retired 2.0\nretired 2.1",
+        determined: Some(Determined {
+            epoch: 1,
+            floor: 0,
+            horizon: 0,
+            retired: Some("2.1"),
+            installs: &[],
+            known: &[Known {
+                number: 9,
+                ..UNKNOWN
+            }],
+        }),
+    },
+    Case {
+        what: "a renewed log with retired ids",
+        shard: 1,
+        lines: "base 2 200 50\nversion 100 y=1\nretired 1.5\nabort 1.6\n\
+            closed 1.7 0 committed 100",
+        refused: "version 110 y=1\nversion 90 z!\nclosed 1.4 0 aborted\nabort 1.4\n\
+            settled 1.4 100 1\nclosed 1.6 0 aborted\nretired 1.4\nretired 1.5\nbase 2 200 50",
+        determined: Some(Determined {
+            epoch: 2,
+            floor: 200,
+            horizon: 50,
+            retired: Some("1.5"),
+            installs: &[(100, b'y')],
+            known: &[
+                Known {
+                    number: 6,
+                    aborted: true,
+                    ..UNKNOWN
+                },
+                Known {
+                    number: 7,
+                    outcome: Some(Some(100)),
+                    ..UNKNOWN
+                },
+            ],
+        }),
+    },
+    Case {
+        what: "a renewed log of which more is retired",
+        shard: 1,
+        lines: "base 2 200 50\nretired 1.5\nclosed 1.7 0 committed 100\nopened 3\nretired 1.8",
+        refused: "closed 1.9 0 aborted\nabort 1.7\noutcome 1.7 committed 100\nretired 1.8",
+        determined: Some(Determined {
+            epoch: 3,
+            floor: 200,
+            horizon: 50,
+            retired: Some("1.8"),
+            installs: &[],
+            known: &[Known {
+                number: 7,
+                ..UNKNOWN
+            }],
         }),
     },
 ];
@@ -462,6 +642,23 @@ fn are_installs(installs: &[Install], rows: &[(u64, u8)]) -> bool {
     installs.len() == rows.len()
 }
 
+// Tells whether these are retired, and the last of them, which is one less in its run.
+fn is_retired(facts: &Facts, row: Option<&str>) -> bool {
+    match row {
+        Some(word) => {
+            let below = txn_of(word);
+            let last = TxnId::new(below.run(), below.number().saturating_sub(1));
+            facts.retired() == Some(below)
+                && !facts.is_retired(below)
+                && match last {
+                    Some(last) => facts.is_retired(last) && !facts.rises(last),
+                    None => false,
+                }
+        }
+        None => facts.retired().is_none() && !facts.is_retired(id(0)),
+    }
+}
+
 fn is_determined(facts: &Facts, row: &Determined) -> bool {
     for known in row.known {
         if !is_known(facts, known) {
@@ -470,6 +667,7 @@ fn is_determined(facts: &Facts, row: &Determined) -> bool {
     }
     let (floor, horizon) = (facts.floor().micros(), facts.horizon().micros());
     (facts.epoch(), floor, horizon) == (row.epoch, row.floor, row.horizon)
+        && is_retired(facts, row.retired)
         && are_installs(facts.installs(), row.installs)
 }
 
@@ -508,12 +706,16 @@ fn renewed() -> &'static [Case] {
     &RENEWED
 }
 
+fn retired() -> &'static [Case] {
+    &RETIRED
+}
+
 /// Checks what logs determine, and which records may come next.
 pub fn tell_cases(wrong: &mut WrongRows, rt: &HostRuntime) {
     go_over_all(
         wrong,
         rt,
         "what logs determine",
-        &[transactions(), horizons(), ends(), renewed()],
+        &[transactions(), horizons(), ends(), renewed(), retired()],
     );
 }

@@ -1,5 +1,5 @@
 //! Logs that are opened again: what they leave, and which are refused.
-use crate::checks::{Row, go_over};
+use crate::checks::{Row, go_over_all};
 use crate::files::put_lines;
 use gatelog::{Entry, GateLog};
 use made::{FIRST_GATE, WrongRows, key};
@@ -300,6 +300,129 @@ static REOPENED: [Reopened; 23] = [
     },
 ];
 
+// Logs with retired ids. The frame of one has 22 bytes, that of an opening 14, of a promise 41, of a decision 42, of an outcome
+// committed 31.
+static RETIRED: [Reopened; 12] = [
+    Reopened {
+        what: "those who ended are retired",
+        shard: 1,
+        lines: "opened 1\nprepare 1.2 0 200 - z=1\noutcome 1.2 committed 201\nretired 1.5\n\
+            opened 2",
+        promises: 0,
+        left: Ok(Some(Shown {
+            last: 201,
+            safe: 201,
+            epoch: 2,
+            installs: 1,
+            ..NOTHING
+        })),
+    },
+    Reopened {
+        what: "a promise stands above the retired ids",
+        shard: 1,
+        lines: "opened 1\nprepare 1.7 0 200 - z=1\nretired 1.5",
+        promises: 0,
+        left: Ok(Some(Shown {
+            prepared: (7, 200),
+            last: 200,
+            safe: 199,
+            ..NOTHING
+        })),
+    },
+    Reopened {
+        what: "the id to which ids are retired stands",
+        shard: 1,
+        lines: "opened 1\nprepare 1.5 0 200 - z=1\nretired 1.5",
+        promises: 0,
+        left: Ok(Some(Shown {
+            prepared: (5, 200),
+            last: 200,
+            safe: 199,
+            ..NOTHING
+        })),
+    },
+    Reopened {
+        what: "a retired id is above a promise that stands",
+        shard: 1,
+        lines: "opened 1\nprepare 1.2 0 200 - z=1\nretired 1.3",
+        promises: 0,
+        left: Err(Fault::Damaged {
+            offset: FIRST_GATE + 55,
+        }),
+    },
+    Reopened {
+        what: "a retired id is above a decision that stands",
+        shard: 0,
+        lines: "opened 1\ncommit 1.1 111 0 - a=1\nretired 2.0",
+        promises: 0,
+        left: Err(Fault::Damaged {
+            offset: FIRST_GATE + 56,
+        }),
+    },
+    Reopened {
+        what: "a retired id that does not rise",
+        shard: 1,
+        lines: "opened 1\nretired 1.3\nretired 1.3",
+        promises: 0,
+        left: Err(Fault::Damaged {
+            offset: FIRST_GATE + 36,
+        }),
+    },
+    Reopened {
+        what: "a retired id that falls",
+        shard: 1,
+        lines: "opened 1\nretired 2.0\nretired 1.3",
+        promises: 0,
+        left: Err(Fault::Damaged {
+            offset: FIRST_GATE + 36,
+        }),
+    },
+    Reopened {
+        what: "a retired id behind nothing",
+        shard: 1,
+        lines: "retired 1.3",
+        promises: 0,
+        left: Err(Fault::Damaged { offset: FIRST_GATE }),
+    },
+    Reopened {
+        what: "a promise of a retired id",
+        shard: 1,
+        lines: "opened 1\nretired 1.3\nprepare 1.2 0 200 - z=1",
+        promises: 0,
+        left: Err(Fault::Damaged {
+            offset: FIRST_GATE + 36,
+        }),
+    },
+    Reopened {
+        what: "a decision of a retired id",
+        shard: 0,
+        lines: "opened 1\nretired 1.3\ncommit 1.2 111 0 - a=1",
+        promises: 0,
+        left: Err(Fault::Damaged {
+            offset: FIRST_GATE + 36,
+        }),
+    },
+    Reopened {
+        what: "an abort of a retired id",
+        shard: 0,
+        lines: "opened 1\nretired 1.3\nabort 1.2",
+        promises: 0,
+        left: Err(Fault::Damaged {
+            offset: FIRST_GATE + 36,
+        }),
+    },
+    Reopened {
+        what: "an outcome of a retired id",
+        shard: 0,
+        lines: "opened 1\ncommit 1.1 111 0 - a=1\noutcome 1.1 committed 111\nretired 1.3\n\
+            outcome 1.1 committed 111",
+        promises: 0,
+        left: Err(Fault::Damaged {
+            offset: FIRST_GATE + 109,
+        }),
+    },
+];
+
 // Logs promises at 200, each of a transaction 1.number that writes a key of its own of five bytes.
 fn put_promises(alloc: Global, log: &mut GateLog<SimDisk>, count: u16) -> bool {
     for number in 0..count {
@@ -365,7 +488,21 @@ impl Row for Reopened {
     }
 }
 
+// A body that names a table costs much to prove, so a function hands each on.
+fn opened_again() -> &'static [Reopened] {
+    &REOPENED
+}
+
+fn retired() -> &'static [Reopened] {
+    &RETIRED
+}
+
 /// Checks what logs leave that are opened again, and which are refused.
 pub fn tell_reopened(wrong: &mut WrongRows, rt: &HostRuntime) {
-    go_over(wrong, rt, "logs that are opened again", &REOPENED);
+    go_over_all(
+        wrong,
+        rt,
+        "logs that are opened again",
+        &[opened_again(), retired()],
+    );
 }

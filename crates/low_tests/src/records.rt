@@ -26,6 +26,8 @@ settled 1.1 111 0
 settled 7.3 200 1,15
 closed 1.2 0 committed 200
 closed 7.3 15 aborted
+retired 1.9
+retired 7.0
 ";
 
 // How many lines a text has, or else the number of the line that is refused, from 1.
@@ -107,7 +109,7 @@ fn is_read(alloc: Global, row: &Row) -> bool {
 /// Checks all rows.
 pub fn go_over(wrong: &mut WrongRows, alloc: Global) {
     let mut log = Vec::new(alloc);
-    let printed = reads(alloc, RECORDS, &mut log) && log.len() == 19;
+    let printed = reads(alloc, RECORDS, &mut log) && log.len() == 21;
     drop(log);
     wrong.unless(printed, "a record of each kind");
     for row in &ROWS {

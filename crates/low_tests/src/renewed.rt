@@ -5,7 +5,7 @@ use made::{FIRST_GATE, WrongRows};
 use units::Fault;
 
 // A frame has 5 bytes and its record. An opening takes 14, a base 30, a version of one letter 20, what is settled 32,
-// what is closed by an abort 24. An abort takes 22, a decision of one letter 42, and a promise of one letter 41.
+// what is closed by an abort 24. An abort and a retired id take 22, a decision of one letter 42, and a promise of one letter 41.
 
 // Renewed logs that leave something.
 static LEFT: [Reopened; 11] = [
@@ -484,6 +484,99 @@ static MISPLACED: [Reopened; 10] = [
     },
 ];
 
+// Retired ids of a renewed log.
+static RETIRED: [Reopened; 9] = [
+    Reopened {
+        what: "who ended above the retired ids",
+        shard: 0,
+        lines: "base 1 111 0\nversion 111 a=1\nretired 1.5\nsettled 1.7 111 0\nabort 1.9\nopened 2",
+        promises: 0,
+        left: Ok(Some(Shown {
+            last: 111,
+            safe: 111,
+            epoch: 2,
+            installs: 1,
+            ..NOTHING
+        })),
+    },
+    Reopened {
+        what: "who stands above the retired ids, and more that are retired",
+        shard: 1,
+        lines: "base 2 200 50\nretired 1.5\nclosed 1.7 0 aborted\nprepare 1.9 0 150 - z=1\n\
+            opened 3\nretired 1.8\nretired 1.9",
+        promises: 0,
+        left: Ok(Some(Shown {
+            prepared: (9, 150),
+            last: 200,
+            safe: 149,
+            horizon: 50,
+            epoch: 3,
+            ..NOTHING
+        })),
+    },
+    Reopened {
+        what: "a retired id without a base",
+        shard: 0,
+        lines: "retired 1.5\nbase 1 111 0",
+        promises: 0,
+        left: Err(Fault::Damaged { offset: FIRST_GATE }),
+    },
+    Reopened {
+        what: "a base behind a retired id",
+        shard: 0,
+        lines: "base 1 111 0\nretired 1.5\nbase 1 111 0",
+        promises: 0,
+        left: Err(Fault::Damaged {
+            offset: FIRST_GATE + 52,
+        }),
+    },
+    Reopened {
+        what: "a version behind a retired id",
+        shard: 0,
+        lines: "base 1 111 0\nretired 1.5\nversion 111 a=1",
+        promises: 0,
+        left: Err(Fault::Damaged {
+            offset: FIRST_GATE + 52,
+        }),
+    },
+    Reopened {
+        what: "settled below the retired ids",
+        shard: 0,
+        lines: "base 1 111 0\nretired 1.5\nsettled 1.4 111 0",
+        promises: 0,
+        left: Err(Fault::Damaged {
+            offset: FIRST_GATE + 52,
+        }),
+    },
+    Reopened {
+        what: "closed below the retired ids",
+        shard: 1,
+        lines: "base 1 111 0\nretired 1.5\nclosed 1.4 0 aborted",
+        promises: 0,
+        left: Err(Fault::Damaged {
+            offset: FIRST_GATE + 52,
+        }),
+    },
+    Reopened {
+        what: "promised below the retired ids",
+        shard: 1,
+        lines: "base 1 111 0\nretired 1.5\nprepare 1.4 0 112 - z=1",
+        promises: 0,
+        left: Err(Fault::Damaged {
+            offset: FIRST_GATE + 52,
+        }),
+    },
+    Reopened {
+        what: "a promise that stands below the retired ids",
+        shard: 1,
+        lines: "base 1 111 0\nprepare 1.4 0 112 - z=1\nretired 1.5",
+        promises: 0,
+        left: Err(Fault::Damaged {
+            offset: FIRST_GATE + 71,
+        }),
+    },
+];
+
 // A body that names a table costs much to prove, so a function hands each on.
 fn left() -> &'static [Reopened] {
     &LEFT
@@ -501,12 +594,16 @@ fn misplaced() -> &'static [Reopened] {
     &MISPLACED
 }
 
+fn retired() -> &'static [Reopened] {
+    &RETIRED
+}
+
 /// Checks renewed logs that are opened again.
 pub fn tell_renewed(wrong: &mut WrongRows, rt: &HostRuntime) {
     go_over_all(
         wrong,
         rt,
         "renewed logs",
-        &[left(), heads(), ended(), misplaced()],
+        &[left(), heads(), ended(), misplaced(), retired()],
     );
 }

@@ -41,7 +41,7 @@ const READS: &[u8] = &[
     0x61, 1, 0x62, 0, 0,
 ];
 
-static VECTORS: [Vector; 15] = [
+static VECTORS: [Vector; 17] = [
     Vector {
         what: "an opening",
         line: "opened 1",
@@ -130,6 +130,17 @@ static VECTORS: [Vector; 15] = [
             0x0b, 0, 0, 0, 0, 0, 0, 0, 1, 0, 0, 0, 0, 0, 0, 0, 2, 0x0f, 0,
         ],
     },
+    // It may come anywhere behind an opening or a base.
+    Vector {
+        what: "ids that are retired",
+        line: "retired 1.5",
+        bytes: &[0x0c, 0, 0, 0, 0, 0, 0, 0, 1, 0, 0, 0, 0, 0, 0, 0, 5],
+    },
+    Vector {
+        what: "ids of earlier runs that are retired",
+        line: "retired 300.0",
+        bytes: &[0x0c, 0, 0, 0, 0, 0, 0, 1, 0x2c, 0, 0, 0, 0, 0, 0, 0, 0],
+    },
 ];
 
 fn copy_is_spelled(alloc: Global, item: &Record, bytes: &[u8]) -> bool {
@@ -186,8 +197,8 @@ static NUMBERS: [Read; 15] = [
         is_record: false,
     },
     Read {
-        what: "kind 12",
-        bytes: &[12, 0, 0, 0, 0, 0, 0, 0, 1],
+        what: "kind 13",
+        bytes: &[13, 0, 0, 0, 0, 0, 0, 0, 1, 0, 0, 0, 0, 0, 0, 0, 5],
         is_record: false,
     },
     Read {
@@ -526,6 +537,58 @@ static ENDED: [Read; 14] = [
     },
 ];
 
+// Ids that are retired.
+static RETIRED: [Read; 9] = [
+    Read {
+        what: "a retired id of its kind alone",
+        bytes: &[0x0c],
+        is_record: false,
+    },
+    Read {
+        what: "a retired id with a byte too few",
+        bytes: &[0x0c, 0, 0, 0, 0, 0, 0, 0, 1, 0, 0, 0, 0, 0, 0, 0],
+        is_record: false,
+    },
+    Read {
+        what: "a retired id with a byte left over",
+        bytes: &[0x0c, 0, 0, 0, 0, 0, 0, 0, 1, 0, 0, 0, 0, 0, 0, 0, 5, 0],
+        is_record: false,
+    },
+    Read {
+        what: "a retired id of its run alone",
+        bytes: &[0x0c, 0, 0, 0, 0, 0, 0, 0, 1],
+        is_record: false,
+    },
+    Read {
+        what: "a retired id of run 0",
+        bytes: &[0x0c, 0, 0, 0, 0, 0, 0, 0, 0, 0, 0, 0, 0, 0, 0, 0, 5],
+        is_record: false,
+    },
+    Read {
+        what: "a retired id of run 2^62",
+        bytes: &[0x0c, 0x40, 0, 0, 0, 0, 0, 0, 0, 0, 0, 0, 0, 0, 0, 0, 5],
+        is_record: false,
+    },
+    Read {
+        what: "a retired id of number 2^62",
+        bytes: &[0x0c, 0, 0, 0, 0, 0, 0, 0, 1, 0x40, 0, 0, 0, 0, 0, 0, 0],
+        is_record: false,
+    },
+    Read {
+        what: "the first id, which retires none",
+        bytes: &[0x0c, 0, 0, 0, 0, 0, 0, 0, 1, 0, 0, 0, 0, 0, 0, 0, 0],
+        is_record: true,
+    },
+    Read {
+        what: "the last id is retired to",
+        bytes: &[
+            0x0c, 0x3f, 0xff, 0xff, 0xff, 0xff, 0xff, 0xff, 0xff, 0x3f, 0xff, 0xff, 0xff, 0xff,
+            0xff, 0xff, 0xff,
+        ],
+        is_record: true,
+    },
+];
+
 impl Row for Read {
     fn tell(&self, wrong: &mut WrongRows, rt: &HostRuntime) {
         let right = match decode(rt.alloc(), self.bytes) {
@@ -561,6 +624,10 @@ fn ended() -> &'static [Read] {
     &ENDED
 }
 
+fn retired() -> &'static [Read] {
+    &RETIRED
+}
+
 /// Checks how records are spelled.
 pub fn tell_vectors(wrong: &mut WrongRows, rt: &HostRuntime) {
     go_over(wrong, rt, "spellings", &VECTORS);
@@ -572,6 +639,13 @@ pub fn tell_read(wrong: &mut WrongRows, rt: &HostRuntime) {
         wrong,
         rt,
         "bytes that are read",
-        &[numbers(), decisions(), bases(), versions(), ended()],
+        &[
+            numbers(),
+            decisions(),
+            bases(),
+            versions(),
+            ended(),
+            retired(),
+        ],
     );
 }

@@ -57,6 +57,9 @@ fn read(alloc: Global, line: &str) -> Record {
         "horizon" => Record::Horizon {
             at: stamp_of(first),
         },
+        "retired" => Record::Retired {
+            below: txn_of(first),
+        },
         "prepare" => Record::Prepare(Prepared {
             txn: txn_of(first),
             coordinator: coordinator_of(second),

@@ -376,6 +376,103 @@ static ENDED: [Case; 7] = [
     },
 ];
 
+// Ids that are retired in a log are no more looked for in any, and all others are.
+static RETIRED: [Case; 12] = [
+    Case {
+        name: "a retired commit, of which a version is left",
+        logs: &["base 1 111 0\nversion 111 a=1\nretired 1.2\n"],
+        lines: "begin 1.1 0\nack 1.1 111 5\nlook a 111 =1\n",
+        verdict: "yes",
+    },
+    Case {
+        name: "a commit that is not retired, and is lost",
+        logs: &["base 1 111 0\nversion 111 a=1\nretired 1.1\n"],
+        lines: "ack 1.1 111 5\n",
+        verdict: "no lost 1.1",
+    },
+    Case {
+        name: "the least lost that is not retired",
+        logs: &["opened 1\nretired 1.3\n"],
+        lines: "ack 1.4 5 5\nack 1.3 5 6\nack 1.2 5 7\n",
+        verdict: "no lost 1.3",
+    },
+    Case {
+        name: "a retired commit at another timestamp than was acknowledged",
+        logs: &["opened 1\ncommit 1.1 111 0 - a=1\noutcome 1.1 committed 111\nretired 1.2\n"],
+        lines: "ack 1.1 110 5\n",
+        verdict: "yes",
+    },
+    Case {
+        name: "retired at one shard, and kept at another",
+        logs: &[
+            "base 1 200 0\nversion 200 a=1\nretired 1.3\n",
+            "base 1 200 0\nversion 200 z=2\nclosed 1.2 0 committed 200\n",
+        ],
+        lines: "ack 1.2 200 7\n",
+        verdict: "yes",
+    },
+    Case {
+        name: "kept where it was decided, and retired at the other shard",
+        logs: &[
+            "base 1 200 0\nversion 200 a=1\nsettled 1.2 200 0,1\n",
+            "base 1 200 0\nversion 200 z=2\nretired 1.3\n",
+        ],
+        lines: "ack 1.2 200 7\n",
+        verdict: "yes",
+    },
+    Case {
+        name: "torn above the retired ids",
+        logs: &[
+            "base 1 200 0\nretired 1.2\n",
+            "base 1 200 0\nclosed 1.1 0 committed 100\nclosed 1.2 0 committed 200\n",
+        ],
+        lines: "",
+        verdict: "no torn 1.2",
+    },
+    // The greatest retired id of all logs counts, whichever log has it.
+    Case {
+        name: "retired further in the second log",
+        logs: &[
+            "base 1 200 0\nretired 1.1\n",
+            "base 1 200 0\nretired 1.2\nretired 1.3\nclosed 1.4 0 aborted\n",
+            "base 1 200 0\nretired 1.2\nclosed 1.2 0 committed 200\n",
+        ],
+        lines: "ack 1.2 200 7\n",
+        verdict: "yes",
+    },
+    Case {
+        name: "retired by its run",
+        logs: &[
+            "base 1 200 0\nretired 2.0\n",
+            "base 1 200 0\nclosed 1.9 0 committed 200\nclosed 2.0 0 aborted\n",
+        ],
+        lines: "ack 1.9 200 7\n",
+        verdict: "yes",
+    },
+    Case {
+        name: "lost in a run that is not retired",
+        logs: &["base 1 200 0\nretired 2.0\n"],
+        lines: "ack 1.9 200 7\nack 2.0 201 8\n",
+        verdict: "no lost 2.0",
+    },
+    // What a log shows is what was committed, retired or not, as long as no log was renewed.
+    Case {
+        name: "a value of a retired commit",
+        logs: &["opened 1\ncommit 1.1 111 0 - a=1\noutcome 1.1 committed 111\nretired 1.2\n"],
+        lines: "look a 111 =1\nlook a 111 none\n",
+        verdict: "no read 1",
+    },
+    Case {
+        name: "retired commits out of order",
+        logs: &[
+            "opened 1\ncommit 1.1 111 0 - a=1\noutcome 1.1 committed 111\nretired 1.3\n",
+            "opened 1\ncommit 1.2 105 1 - z=2\noutcome 1.2 committed 105\n",
+        ],
+        lines: "ack 1.1 111 5\nbegin 1.2 9\n",
+        verdict: "no order 1 0",
+    },
+];
+
 // Reads the logs of all shards.
 fn read_logs(alloc: Global, texts: &[&str], logs: &mut Vec<Vec<Record>>) -> bool {
     let mut read = true;
@@ -430,6 +527,10 @@ fn ended() -> &'static [Case] {
     &ENDED
 }
 
+fn retired() -> &'static [Case] {
+    &RETIRED
+}
+
 /// Checks all rows.
 pub fn go_over(wrong: &mut WrongRows, alloc: Global) {
     let tables = [
@@ -439,6 +540,7 @@ pub fn go_over(wrong: &mut WrongRows, alloc: Global) {
         looked(),
         renewed_logs(),
         ended(),
+        retired(),
     ];
     for cases in &tables {
         for case in *cases {

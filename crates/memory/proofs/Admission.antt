@@ -16,7 +16,7 @@ use Rattle.rows.specs.RowTable.{put_row}
 use Rattle.memory.specs.Carry.{AdmissionIsUnseen, FitStepsMayAsk, ReadyIsCarriable, FitsRows, MayAsk, MayFollow, MayInstall, Asks, asker, admitted}
 use Rattle.memory.specs.Plans.{change_of, phase_logged, collecting}
 use Rattle.memory.specs.declared.plan.Change.{Change}
-use Rattle.memory.specs.declared.plan.Change.TheVariants.{Keeps, Ends, Drops, Reads, Waits, Collects, Counts, Stands, Decides}
+use Rattle.memory.specs.declared.plan.Change.TheVariants.{Keeps, Ends, Drops, Reads, Waits, Collects, Counts, Stands, Decides, Retires}
 
 -- ---- a row that was taken in
 
@@ -124,6 +124,7 @@ ended_the_same one other needs logged (Collects t c) ids = refl
 ended_the_same one other needs logged (Counts t n p) ids = refl
 ended_the_same one other needs logged (Stands t) ids = refl
 ended_the_same one other needs logged (Decides t) ids = refl
+ended_the_same one other needs logged (Retires below) ids = refl
 
 -- who asks by a change that fits may ask
 asks_by : (rows : List Row) (us : List Id) (needs : List Lock) (logged : Option Record) (h : Change) → FitsRows rows us needs logged h

@@ -13,15 +13,15 @@ use Rattle.units.specs.declared.lock.Lock.{Lock}
 use Rattle.units.specs.declared.writes.Write.{Write}
 use Rattle.units.specs.declared.lock.Mode.TheVariants.{Exclusive}
 use Rattle.units.specs.declared.fault.Fault.{Fault}
-use Rattle.record.specs.Records.{Status, HasAborted, HasSettled, HasClosed}
+use Rattle.record.specs.Records.{is_below, Status, HasAborted, HasSettled, HasClosed}
 use Rattle.record.specs.Facts.{recorded}
-use Rattle.protocol.specs.Rows.{Row, Standing, HasRow, standing, standing_by, claims, find_row}
+use Rattle.protocol.specs.Rows.{Row, Standing, HasRow, WasRetired, standing, standing_by, standing_kept, claims, find_row, held_in}
 use Rattle.protocol.specs.Plan.{Before, Plan, Planned, stands, opens, is_crowded, in_way}
 use Rattle.protocol.proofs.RowTable.{claims-by_id}
 use Rattle.rows.proofs.Steps.{claims-without_rows}
 use Rattle.rows.specs.CodeRows.{is_collecting, is_reading, may_abort, may_close}
 use Rattle.memory.specs.Carry.{may_drop, may_end}
-use Rattle.memory.specs.Standings.{standing_of, row_by, Allows}
+use Rattle.memory.specs.Standings.{standing_of, row_by, Allows, TellsRow}
 use Rattle.memory.specs.declared.standing.Standing.{Standing as CodeStanding}
 use Rattle.memory.specs.Kept.{Kept, start_of, IsPlanned, IsRefusal}
 use Rattle.memory.specs.Plans.{plan_of}
@@ -30,15 +30,24 @@ use Rattle.rows.proofs.OpensEach.{opens_in, opens-none, opens-more}
 
 -- ---- how a transaction stands
 
-pub stands-row : (b : Before) (t : Id) (r : Row) → find_row b.memory.rows t ≡ Some r → stands b t ≡ HasRow r.held r.phase
+-- one that is retired, and one that is not
+pub stands-retired : (b : Before) (t : Id) → is_below b.facts.retired t ≡ true → stands b t ≡ WasRetired
 unfolding standing
-stands-row b t r e = ap (λ o. standing_by o (recorded b.facts t) (has_id b.memory.ended t)) e
+stands-retired b t gone = ap (λ (x : Bool). cond x WasRetired (standing_kept b.facts b.memory t)) gone
 
-pub stands-past : (b : Before) (t : Id) (status : Status) (ended : Bool) → find_row b.memory.rows t ≡ None → recorded b.facts t ≡ status
-    → has_id b.memory.ended t ≡ ended → stands b t ≡ standing_by None status ended
+stands-kept : (b : Before) (t : Id) → is_below b.facts.retired t ≡ false → stands b t ≡ standing_kept b.facts b.memory t
 unfolding standing
-stands-past b t status ended e recorded_so ended_so =
-    ap (λ o. standing_by o (recorded b.facts t) (has_id b.memory.ended t)) e
+stands-kept b t kept = ap (λ (x : Bool). cond x WasRetired (standing_kept b.facts b.memory t)) kept
+
+pub stands-row : (b : Before) (t : Id) (r : Row) → is_below b.facts.retired t ≡ false → find_row b.memory.rows t ≡ Some r
+    → stands b t ≡ HasRow r.held r.phase
+stands-row b t r kept e = stands-kept b t kept ∙ ap (λ o. standing_by o (recorded b.facts t) (has_id b.memory.ended t)) e
+
+pub stands-past : (b : Before) (t : Id) (status : Status) (ended : Bool) → is_below b.facts.retired t ≡ false → find_row b.memory.rows t ≡ None
+    → recorded b.facts t ≡ status → has_id b.memory.ended t ≡ ended → stands b t ≡ standing_by None status ended
+stands-past b t status ended kept e recorded_so ended_so =
+    stands-kept b t kept
+    ∙ ap (λ o. standing_by o (recorded b.facts t) (has_id b.memory.ended t)) e
     ∙ ap (λ s. standing_by None s (has_id b.memory.ended t)) recorded_so
     ∙ ap (standing_by None status) ended_so
 
@@ -60,6 +69,7 @@ drops_by : (rows : List Row) (t : Id) (o : Option Row) → find_row rows t ≡ o
 drops_by rows t o e = ap (λ (o : Option Row). elim o as (λ _. Bool) [ None ↦ true | Some r ↦ may_abort r.phase ]) e
 
 pub allows : (rows : List Row) (t : Id) (held : List Lock) (s : CodeStanding) → find_row rows t ≡ row_by t (standing_of held s) → Allows rows t s
+allows rows t held CodeStanding.Retired e = tt
 allows rows t held CodeStanding.Unknown e = (ends_by rows t _ e, drops_by rows t _ e)
 allows rows t held CodeStanding.Ended e = (ends_by rows t _ e, drops_by rows t _ e)
 allows rows t held CodeStanding.Idle e = (ends_by rows t _ e, drops_by rows t _ e)
@@ -72,6 +82,10 @@ allows rows t held (CodeStanding.Decided s) e = ap (when (λ r. may_close r.phas
 allows rows t held CodeStanding.Aborted e = (ends_by rows t _ e, drops_by rows t _ e)
 allows rows t held (CodeStanding.Settled c) e = (ends_by rows t _ e, drops_by rows t _ e)
 allows rows t held (CodeStanding.Closed outcome) e = (ends_by rows t _ e, drops_by rows t _ e)
+
+pub tells : (rows : List Row) (t : Id) (s : CodeStanding) → find_row rows t ≡ row_by t (standing_of (held_in rows t) s) → TellsRow rows t s
+tells rows t CodeStanding.Retired e = tt
+tells rows t _ e = e
 
 -- ---- plans by how a transaction stands
 
@@ -90,9 +104,9 @@ pub refused-by : (planned : Planned) (fault : Fault) → planned ≡ Err fault �
 refused-by planned fault is = subst (λ q. IsRefusal q fault) (sym is) refl
 
 -- by the row
-pub planned-row : (k : Kept) (t : Id) (plan : Standing → Planned) (r : Row) (result : Result Step Fault) → find_row k.memory.rows t ≡ Some r
-    → IsPlanned k (plan (HasRow r.held r.phase)) result → IsPlanned k (plan (stands (start_of k) t)) result
-planned-row k t plan r result e made = subst (λ s. IsPlanned k (plan s) result) (sym (stands-row (start_of k) t r e)) made
+pub planned-row : (k : Kept) (t : Id) (plan : Standing → Planned) (r : Row) (result : Result Step Fault) → is_below k.facts.retired t ≡ false
+    → find_row k.memory.rows t ≡ Some r → IsPlanned k (plan (HasRow r.held r.phase)) result → IsPlanned k (plan (stands (start_of k) t)) result
+planned-row k t plan r result kept e made = subst (λ s. IsPlanned k (plan s) result) (sym (stands-row (start_of k) t r kept e)) made
 
 -- ---- whether there is room
 

@@ -63,6 +63,11 @@ abbrev pub IsDecision : Id → Option Record → Type 0
 IsDecision t (Some (Record.Commit c)) = c.txn ≡ t
 IsDecision t _ = ⊥
 
+-- ids are retired by their record
+abbrev pub MayRetire : Id → Option Record → Type 0
+MayRetire below (Some (Record.Retired b)) = b ≡ below
+MayRetire below _ = ⊥
+
 -- a change that may be made of these rows
 abbrev pub FitsRows : List Row → List Id → List Lock → Option Record → Change → Type 0
 FitsRows rows ended needs logged Change.Keeps = (ended ≡ []) × IsServing logged
@@ -74,6 +79,7 @@ FitsRows rows ended needs logged (Change.Collects t c) = Asks rows t ended needs
 FitsRows rows ended needs logged (Change.Counts t n p) = (ended ≡ []) × (logged ≡ None) × (has_phase is_collecting rows t ≡ true)
 FitsRows rows ended needs logged (Change.Stands t) = Asks rows t ended needs true × MayStand t logged
 FitsRows rows ended needs logged (Change.Decides t) = (ended ≡ []) × IsDecision t logged × (has_phase is_collecting rows t ≡ true)
+FitsRows rows ended needs logged (Change.Retires below) = (ended ≡ []) × MayRetire below logged
 
 -- a step whose plan may be carried out once its record is logged: its change may be made of the rows, and the greatest timestamp does not fall
 abbrev pub IsFit : Kept → Step → Type 0

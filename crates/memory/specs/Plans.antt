@@ -38,6 +38,7 @@ change_of rows needs logged (Change.Collects t c) = protocol.Puts t needs (colle
 change_of rows needs logged (Change.Counts t n p) = protocol.Puts t [] (counted n p (find_row rows t))
 change_of rows needs logged (Change.Stands t) = protocol.Puts t needs (phase_logged logged)
 change_of rows needs logged (Change.Decides t) = protocol.Puts t [] (phase_logged logged)
+change_of rows needs logged (Change.Retires below) = protocol.Retires below
 
 -- a step's plan with its record as one of the protocol, where these are the rows before it
 abbrev pub plan_of : List Row → Step → protocol.Plan

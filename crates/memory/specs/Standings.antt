@@ -6,7 +6,7 @@ use Rattle.units.specs.declared.fault.Fault.{Fault}
 use Rattle.units.specs.declared.lock.Lock.{Lock}
 use Rattle.units.specs.declared.writes.Write.{Write}
 use Rattle.message.specs.declared.message.Envelope.{Envelope}
-use Rattle.protocol.specs.Rows.{Phase, Row, Standing, HasRow, IsUnknown, WasEnded, WasAborted, WasSettled, WasClosed, find_row, held_in}
+use Rattle.protocol.specs.Rows.{Phase, Row, Standing, HasRow, IsUnknown, WasEnded, WasAborted, WasRetired, WasSettled, WasClosed, find_row, held_in}
 use Rattle.protocol.specs.Rows.{Idle, WaitsRead, WaitsPrepare, WaitsCommit, IsPrepared, IsDecided}
 use Rattle.protocol.specs.Cells.{plan_cell}
 use Rattle.protocol.specs.Table.{give_up_cell}
@@ -25,6 +25,7 @@ standing_in k t = protocol.stands (start_of k) t
 
 -- how a transaction stands by what the code tells of it, where it holds these locks
 abbrev pub standing_of : List Lock → CodeStanding → Standing
+standing_of held CodeStanding.Retired = WasRetired
 standing_of held CodeStanding.Unknown = IsUnknown
 standing_of held CodeStanding.Ended = WasEnded
 standing_of held CodeStanding.Idle = HasRow held Idle
@@ -43,9 +44,15 @@ abbrev pub row_by : Id → Standing → Option Row
 row_by t (HasRow held phase) = Some (record { txn = t; held = held; phase = phase })
 row_by t _ = None
 
+-- what the standing of a transaction tells of its row: of a retired id's nothing
+abbrev pub TellsRow : List Row → Id → CodeStanding → Type 0
+TellsRow rows t CodeStanding.Retired = Unit {0}
+TellsRow rows t s = find_row rows t ≡ row_by t (standing_of (held_in rows t) s)
+
 -- what the standing of a transaction allows: whoever reads or has no row may be ended and aborted, whoever collects votes may
 -- be aborted, and a promise or a decision may be closed
 abbrev pub Allows : List Row → Id → CodeStanding → Type 0
+Allows rows t CodeStanding.Retired = Unit {0}
 Allows rows t (CodeStanding.Collecting s) = (has_phase is_collecting rows t ≡ true) × (may_drop rows t ≡ true)
 Allows rows t (CodeStanding.Prepared s) = has_phase may_close rows t ≡ true
 Allows rows t (CodeStanding.Decided s) = has_phase may_close rows t ≡ true

@@ -256,6 +256,10 @@ fn make_change(
             Some(stand(rows, times, txn, there(logged)))
         }
         Change::Decides(txn) => Some(stand(rows, times, txn, there(logged))),
+        Change::Retires(below) => {
+            ended.retire(below);
+            spend(logged)
+        }
     }
 }
 
@@ -352,7 +356,10 @@ fn stamp_in(item: &Record) -> Option<Stamp>
     ensures { result ≡ stamp_in item.now }
 {
     match item {
-        Record::Opened { .. } | Record::Abort { .. } | Record::Horizon { .. } => None,
+        Record::Opened { .. }
+        | Record::Abort { .. }
+        | Record::Horizon { .. }
+        | Record::Retired { .. } => None,
         Record::Ceiling { at } => Some(*at),
         Record::Prepare(prepared) => Some(prepared.at),
         Record::Commit(committed) => Some(committed.at),

@@ -28,6 +28,8 @@ pub enum Change {
     Stands(TxnId),
     /// All votes are there, and the row stands by the decision that is logged.
     Decides(TxnId),
+    /// All ids below this one are retired by the record that is logged, and none of them counts as ended.
+    Retires(TxnId),
 }
 
 /// A request for locks: the transactions that it wounds, the locks that it needs beside those that are held, and what then happens

@@ -2,7 +2,7 @@
 ghost use Rattle.std.specs.Prelude.{◌≡◌, ◌≤◌, ◌++◌, ◌∷◌, [], true, Some, None, Ok, IfOk, IfErr, OnOk, map, option_to_list};
 ghost use Rattle.protocol.specs.Rows.{find_row, held_in};
 ghost use Rattle.protocol.specs.Outputs.{outcome_to, refused_vote};
-ghost use Rattle.protocol.specs.Plan.{Keeps, replies, ends, drops, votes_of};
+ghost use Rattle.protocol.specs.Plan.{Keeps, replies, ends, drops, retires, votes_of};
 ghost use Rattle.protocol.specs.Cells.{other_parts, answers, tells, plan_abort, still_stand};
 ghost use Rattle.memory.specs.Carry.{FitsRows, IsFit, IsServing, MayDrop, may_drop, may_end};
 ghost use Rattle.memory.specs.Kept.{start_of};
@@ -11,10 +11,10 @@ ghost use Rattle.memory.specs.Standings.{MakesPlan, MakesReply};
 
 use crate::envelopes::{answer_to, done_to, outcome_to, vote_to};
 use crate::plan::{Change, Plan, Request, Step};
-use crate::standing::Standing;
 use crate::state::State;
 use message::{Answer, Done, Envelope, Outbox, Outcome, Reads};
 use record::Record;
+use rows::{Row, Wait};
 use std::alloc::Global;
 use units::{Fault, Ids, Key, Parts, ShardNo, Stamp, TxnId};
 
@@ -124,6 +124,17 @@ impl State {
         Step {
             plan: Plan::quiet(alloc, Vec::new(alloc), Change::Keeps, last),
             logged: ceiling,
+        }
+    }
+
+    /// Makes a step that retires all ids below one, by a record of that.
+    pub fn retires(&self, alloc: Global, below: TxnId) -> Step
+        ensures plan { plan_of self.now.memory.rows result ≡ retires below self.now.memory.last }
+        ensures fit { IsFit self.now result }
+    {
+        Step {
+            plan: Plan::quiet(alloc, Vec::new(alloc), Change::Retires(below), self.last()),
+            logged: Some(Record::Retired { below }),
         }
     }
 
@@ -260,19 +271,12 @@ impl State {
         ensures { refused_vote self.now.setup.shard (find_row self.now.memory.rows txn) ≡
             refusal self.now.setup.shard txn result }
     {
-        match self.standing(txn) {
-            Standing::WaitsPrepare(request) => Some(request.coordinator),
-            Standing::Unknown
-            | Standing::Ended
-            | Standing::Idle
-            | Standing::WaitsRead(_)
-            | Standing::WaitsCommit(_)
-            | Standing::Collecting(_)
-            | Standing::Prepared(_)
-            | Standing::Decided(_)
-            | Standing::Aborted
-            | Standing::Settled(_)
-            | Standing::Closed { .. } => None,
+        match self.row(txn) {
+            Some(Row::Reading(reading)) => match reading.wait() {
+                Some(Wait::Prepare(request)) => Some(request.coordinator),
+                Some(Wait::Read(_) | Wait::Commit(_)) | None => None,
+            },
+            Some(Row::Collecting(_) | Row::Prepared(_) | Row::Decided(_)) | None => None,
         }
     }
 

@@ -17,6 +17,8 @@ use units::{Key, Parts, Stamp, TxnId};
 /// what it waits with.
 #[derive(Clone, Copy)]
 pub enum Standing<'a> {
+    /// Its id is retired: all that is said of it is refused.
+    Retired,
     /// It has no row and no record of its end, and was not ended since the opening.
     Unknown,
     /// It was ended since the opening, and has no record of its end.

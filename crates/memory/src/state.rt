@@ -1,5 +1,6 @@
 //! The state that a shard keeps in memory.
-ghost use Rattle.std.specs.List.{list_all};
+ghost use Rattle.std.specs.List.{list_all, list_any};
+ghost use Rattle.units.specs.Ids.{older};
 ghost use Rattle.std.specs.Prelude.{◌≡◌, ◌≤◌, ◌^◌, ◌<◌, ◌++◌, [], true, false, Some, None, MatchOption, IfSome, IfOk, IfErr, OnOk};
 ghost use Rattle.std.specs.Option.{option_copied};
 ghost use Rattle.units.specs.LockLaws.{IsLawfulTable};
@@ -7,6 +8,7 @@ ghost use Rattle.units.specs.Locks.{exclusive, holds, ready};
 ghost use Rattle.units.specs.Versions.{latest, at_time, above_versions};
 ghost use Rattle.facts.specs.Rules.{follows_facts};
 ghost use Rattle.facts.specs.Stages.{follows_next};
+ghost use Rattle.record.specs.Accepted.{rises};
 ghost use Rattle.record.specs.Facts.{recorded};
 ghost use Rattle.protocol.specs.Rows.{safe, claims, find_row, held_in};
 ghost use Rattle.protocol.specs.Plan.{in_way, opens, is_crowded};
@@ -18,7 +20,7 @@ ghost use Rattle.rows.specs.RowTable.{needs_in};
 ghost use Rattle.memory.specs.Carry.{Asks, may_ask, may_end};
 ghost use Rattle.memory.specs.Kept.{start_of};
 ghost use Rattle.protocol.specs.Sound.{writes_standing};
-ghost use Rattle.memory.specs.Standings.{standing_in, standing_of, row_by, Allows, HasRowIn};
+ghost use Rattle.memory.specs.Standings.{standing_in, standing_of, TellsRow, Allows, HasRowIn};
 
 use crate::standing::{Standing, by_records, by_row};
 use ledger::{Ended, Ledger, Places, Recorder};
@@ -194,14 +196,30 @@ impl State {
         self.rows.find(txn)
     }
 
+    /// Tells whether a transaction of a lower id has a row.
+    pub fn has_row_below(&self, below: TxnId) -> bool
+        ensures { result ≡ list_any (λ r. older r.txn below) self.now.memory.rows }
+    {
+        self.rows.has_below(below)
+    }
+
+    /// Tells whether an id is above that below which all are retired so far.
+    pub fn rises(&self, below: TxnId) -> bool
+        ensures { result ≡ rises self.now.facts.retired below }
+    {
+        self.ledger.rises(below)
+    }
+
     /// Returns how a transaction stands.
     pub fn standing(&self, txn: TxnId) -> Standing<'_>
         ensures standing { standing_in self.now txn ≡
             standing_of (held_in self.now.memory.rows txn) result }
-        ensures row { find_row self.now.memory.rows txn ≡
-            row_by txn (standing_of (held_in self.now.memory.rows txn) result) }
+        ensures row { TellsRow self.now.memory.rows txn result }
         ensures allows { Allows self.now.memory.rows txn result }
     {
+        if self.ledger.is_retired(txn) {
+            return Standing::Retired;
+        }
         match self.row(txn) {
             Some(row) => by_row(row),
             None => by_records(self.ledger.status(txn), self.ended.has(txn)),

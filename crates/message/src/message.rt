@@ -231,6 +231,8 @@ pub enum Input {
     Nudge(TxnId),
     /// Raises the horizon to this time: no value below it is read any more.
     Forget(Stamp),
+    /// Retires all ids below this one: the shard refuses what is said of them, and keeps nothing of how they ended.
+    Retire(TxnId),
 }
 
 impl Drop for Input {
@@ -241,7 +243,8 @@ impl Drop for Input {
             | Input::Settle(_)
             | Input::Advance(_)
             | Input::Nudge(_)
-            | Input::Forget(_) => {}
+            | Input::Forget(_)
+            | Input::Retire(_) => {}
         }
     }
 }

@@ -6,6 +6,8 @@ use Rattle.std.specs.Result.{is_ok}
 use Rattle.units.specs.Ids.{Id}
 use Rattle.units.specs.declared.fault.Fault.{Fault}
 use Rattle.disk.specs.File.{File}
+use Rattle.record.specs.Accepted.{is_kept}
+use Rattle.record.specs.Verdict.{retired_in}
 use Rattle.record.specs.Whole.{is_whole}
 use Rattle.record.specs.declared.record.Record.{Record}
 use Rattle.compaction.specs.Compacted.{Holds, records_in}
@@ -72,10 +74,11 @@ only_logs : {D : Type 0} (seen : D → List ℕ) (disks : List D) (logs others :
 only_logs seen disks logs others have has =
     sym (all_read logs) ∙ ap (λ rs. map records_of rs) (sym have ∙ has) ∙ all_read others
 
--- logs over which each transaction is whole
+-- logs over which each transaction is whole that none of them retired
 pub whole_by : {D : Type 0} (seen : D → List ℕ) (disks : List D) (logs : List (List Record)) → HaveLogs seen disks logs
-    → ((t : Id) → IsTrue (is_whole t logs)) → AreWhole seen disks
+    → ((t : Id) → IsTrue (is_kept (retired_in logs) t) → IsTrue (is_whole t logs)) → AreWhole seen disks
 whole_by seen disks logs have each = record {
   held = all_held seen disks logs have;
-  whole = λ others has t. subst (λ (ls : List (List Record)). IsTrue (is_whole t ls)) (only_logs seen disks logs others have has) (each t);
+  whole = λ others has t. subst (λ (ls : List (List Record)). IsTrue (is_kept (retired_in ls) t) → IsTrue (is_whole t ls))
+      (only_logs seen disks logs others have has) (each t);
 }

@@ -1,4 +1,4 @@
-//! Logs over which each transaction is whole, and their copies on new disks.
+//! Logs over which each transaction is whole that none of them retired, and their copies on new disks.
 ghost use Rattle.std.specs.Prelude.{◌≡◌, ◌∷◌, ◌++◌, [], IfOk, OnOk, length, map};
 ghost use Rattle.disk.specs.File.{surface};
 ghost use Rattle.compaction.specs.Compacted.{Holds, records_in};
@@ -12,7 +12,8 @@ use record::a_yes_is_sound;
 use std::alloc::Global;
 use units::{Fault, Reason, Verdict};
 
-/// The logs of shards 0, 1 and so on, over which each transaction is whole: it is on all its shards at one timestamp, or on none.
+/// The logs of shards 0, 1 and so on, over which each transaction that no log retired is whole: it is on all its shards at one timestamp, or on
+/// none. Of a retired one a log that was renewed may have kept nothing, so that no log can tell whether it was whole.
 #[derive(Drop)]
 pub struct Whole<D: Disk> {
     logs: Vec<D>,
@@ -31,8 +32,8 @@ pub struct Uncopied {
 }
 
 impl<D: Disk + Drop> Whole<D> {
-    /// Judges some logs. They are refused as `Damaged` at 0 if a transaction is not whole over them. They are also refused for memory, if a device
-    /// fails, or if one of the disks holds no log.
+    /// Judges some logs. They are refused as `Damaged` at 0 if a transaction that no log retired is not whole over them. They are also refused for
+    /// memory, if a device fails, or if one of the disks holds no log.
     pub fn of(alloc: Global, logs: Vec<D>) -> Result<Whole<D>, Fault>
         // They read as they did.
         ensures same { IfOk result (λ whole. D.keeps_model
@@ -57,7 +58,7 @@ impl<D: Disk + Drop> Whole<D> {
         // Each copy holds the records of its log, whatever crash comes.
         ensures copies { IfOk result (λ copies. D.keeps_model → E.keeps_model → AreCopies E.file
             (map (λ log. (surface (D.file log)).seen) self.logs.items) copies.items) }
-        // And each transaction is whole over these logs.
+        // And each transaction that no log retired is whole over these logs.
         ensures whole { D.keeps_model
             → AreWhole (λ log. (surface (D.file log)).seen) self.logs.items }
         ensures count { IfOk result (λ copies. length copies.items ≡ length self.logs.items) }

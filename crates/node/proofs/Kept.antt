@@ -38,6 +38,7 @@ horizon_rises facts (Some (Record.Base epoch floor horizon)) = omega arith
 horizon_rises facts (Some (Record.Version install)) = omega arith
 horizon_rises facts (Some (Record.Settled txn at parts)) = omega arith
 horizon_rises facts (Some (Record.Closed txn coordinator outcome)) = omega arith
+horizon_rises facts (Some (Record.Retired below)) = omega arith
 
 module _ {D : Type 0} (file : D → File) (old new : CoreView D) (now : Interval) (i : Input) (law : StepKeepsShowable) (limit : IsInLimit i)
     (ordered : WritesAscend i)

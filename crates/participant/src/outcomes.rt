@@ -38,7 +38,8 @@ pub fn on_outcome(state: &State, alloc: Global, told: &Outcome) -> Result<Step, 
             Some(_) => Err(Fault::Stranger),
         },
         Standing::Ended | Standing::Closed { .. } => Ok(state.idles(alloc)),
-        Standing::WaitsCommit(_)
+        Standing::Retired
+        | Standing::WaitsCommit(_)
         | Standing::Collecting(_)
         | Standing::Decided(_)
         | Standing::Aborted
@@ -89,7 +90,8 @@ pub fn on_nudge(state: &State, alloc: Global, txn: TxnId) -> Result<Step, Fault>
             let ask = ask_to(state.setup().shard, prepared.coordinator(), txn);
             state.reply(alloc, ask)
         }
-        Standing::Unknown
+        Standing::Retired
+        | Standing::Unknown
         | Standing::Ended
         | Standing::Idle
         | Standing::WaitsRead(_)

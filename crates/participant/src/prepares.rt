@@ -39,7 +39,8 @@ pub fn on_prepare(
         Standing::Prepared(prepared) => vote(state, alloc, prepare, Some(prepared.at())),
         Standing::Closed { outcome: None } => vote(state, alloc, prepare, None),
         Standing::Closed { outcome: Some(_) } => Ok(state.idles(alloc)),
-        Standing::WaitsCommit(_)
+        Standing::Retired
+        | Standing::WaitsCommit(_)
         | Standing::Collecting(_)
         | Standing::Decided(_)
         | Standing::Aborted

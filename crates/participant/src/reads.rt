@@ -33,6 +33,7 @@ pub fn on_read(state: &State, alloc: Global, read: &Read) -> Result<Step, Fault>
         Standing::Ended | Standing::Aborted | Standing::Settled(_) | Standing::Closed { .. } => {
             refuse(state, alloc, read.txn, &read.key)
         }
+        Standing::Retired => Err(Fault::Stranger),
     }
 }
 

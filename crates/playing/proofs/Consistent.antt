@@ -1,13 +1,14 @@
 -- The logs that a run ends with are some that a crash may leave, the lines that count are some of its lines, and the areas of its disks
 -- are judged as all its records are.
-use Rattle.std.proofs.Common.{◌≡◌, inl, inr, ℕ, zero, suc, Bool, true, false, cond, IsFalse, IsTrue, List, [], ◌∷◌, ◌++◌, length, map, filter, slice_get}
+use Rattle.std.proofs.Common.{◌≡◌, inl, inr, ℕ, zero, suc, Bool, true, false, not, cond, IsFalse, IsTrue, List, [], ◌∷◌, ◌++◌, length, map, filter, slice_get}
 use Rattle.std.proofs.Common.{nat_lt, option_map, Option, Some, None, refl, sym, ap, ◌∙◌, subst}
 use Rattle.std.specs.List.{AllByRecursion}
 use Rattle.std.proofs.lemmas.List.{append-nil}
 use Rattle.std.proofs.lemmas.Option.{slice_get-map}
-use Rattle.record.specs.Accepted.{Accepted, taken}
+use Rattle.record.specs.Accepted.{Accepted, is_kept, taken}
 use Rattle.record.specs.Facts.{facts_of}
-use Rattle.record.specs.Verdict.{are_renewed, verdict}
+use Rattle.record.specs.Records.{is_below, retired_of}
+use Rattle.record.specs.Verdict.{are_renewed, retired_in, verdict}
 use Rattle.record.specs.Lines.{IsLine}
 use Rattle.record.specs.VerdictLaws.{IsBorneOut, SoundIsYes}
 use Rattle.units.specs.Ids.{Id}
@@ -25,12 +26,14 @@ use Rattle.world.specs.Lawful.{lawful}
 use Rattle.world.specs.World.{World, ShardNow, Unsure, Shown, areas_of, counted_lines, line_counts, logs_of}
 use Rattle.world.specs.World.{read_area, read_log, run, setup_of, shown_records}
 use Rattle.world.specs.Headline.{IsExternallyConsistent, IsUnsure, MayLeaveLog, MayLeaveLogs}
-use Rattle.law.proofs.HasAreas.{always_has_areas}
+use Rattle.law.proofs.HasAreas.{always_has_areas, area_decides}
 use Rattle.law.proofs.Picked.{some_same}
 use Rattle.law.proofs.WholeLaw.{externally_consistent}
 use Rattle.playing.specs.Reported.{ReportsAreConsistent}
 use Rattle.playing.proofs.Plain.{plain_logs}
-use Rattle.playing.proofs.SameStatus.{SayTheSame, found_at, found_same, in_at_same, same_entries, whole_same}
+use Rattle.playing.proofs.InAll.{found_in_all}
+use Rattle.playing.proofs.KeptIds.{NotRetired, kept_in_each}
+use Rattle.playing.proofs.SameStatus.{SayTheSame, found_same, in_at_same, same_entries, whole_same}
 use Rattle.world.specs.declared.event.Config.{Config}
 use Rattle.world.specs.declared.event.Event.{Event}
 
@@ -144,6 +147,20 @@ each_shard : (P : ShardNow → Type 0) (ss : List ShardNow) → ((n : ℕ) (s : 
 each_shard P [] all = tt
 each_shard P (s ∷ ss) all = (all 0 s refl, each_shard P ss (λ n x there. all (suc n) x there))
 
+-- what holds of all that is made of shards holds of what is made of one
+at_shard : (P : List Record → Type 0) (f : ShardNow → List Record) (ss : List ShardNow) (n : ℕ) (s : ShardNow) → AllByRecursion P (map f ss) →
+    slice_get ss n ≡ Some s → P (f s)
+at_shard P f [] n s all there = cc
+at_shard P f (x ∷ ss) zero s all there = subst (λ z. P (f z)) (some_same x s there) all.0
+at_shard P f (x ∷ ss) (suc n) s all there = at_shard P f ss n s all.1 there
+
+not_below : (below : Option Id) (t : Id) → is_kept below t ≡ true → is_below below t ≡ false
+not_below below t h = by_test (is_below below t) h
+  where
+    by_test : (b : Bool) → not b ≡ true → b ≡ false
+    by_test true e = cc
+    by_test false e = refl
+
 module _ (config : Config) (es : List Event) (fair : IsTrue (lawful config es)) where
   abbrev shards : List ShardNow
   shards = (run config es).shards
@@ -153,33 +170,38 @@ module _ (config : Config) (es : List Event) (fair : IsTrue (lawful config es)) 
   unfolding logs_of
   lawfully = externally_consistent config es (logs_of (run config es)) fair (inl (all_may_leave shards))
 
-  all_say : (t : Id) → AllByRecursion (λ s. SayTheSame t (read_log s) (area_of s)) shards
-  unfolding logs_of
-  all_say t = each_shard _ shards (λ n s there.
+  -- no log retired the id
+  abbrev IsKept : Id → Type 0
+  IsKept t = IsTrue (is_kept (retired_in (map area_of shards)) t)
+
+  all_say : (t : Id) → IsKept t → AllByRecursion (λ s. SayTheSame t (read_log s) (area_of s)) shards
+  unfolding logs_of facts_of
+  all_say t kept = each_shard _ shards (λ n s there.
+      let alike = (always_has_areas config es fair).alike n s there in
+      let here : is_below (retired_of (area_of s)) t ≡ false =
+      at_shard (NotRetired t) area_of shards n s (kept_in_each None (map area_of shards) t (not_below (retired_in (map area_of shards)) t kept)).1 there in
       same_entries n n (read_log s) (area_of s)
       (accepted_follows (setup_of config n) (read_log s)
       (lawfully.recovered n (read_log s) (slice_get-map read_log shards n ∙ ap (option_map read_log) there)))
       (accepted_follows (setup_of (run config es).config n) (area_of s) ((always_has_areas config es fair).takes n s there))
-      ((always_has_areas config es fair).alike n s there).entries t)
+      alike.entries t (ap (λ below. is_below below t) alike.retired ∙ here) here)
 
-  lines_same : (ls : List Line) → counted_lines (areas_of (run config es)) ls ≡ counted_lines (logs_of (run config es)) ls
-  unfolding counted_lines logs_of areas_of
-  lines_same ls = λ i. filter (λ l. counts l i) ls
-    where
-      counts : (l : Line) → line_counts (history (map area_of shards)) l ≡ line_counts (history (map read_log shards)) l
-      counts (Line.Read t k x) = sym (found_same read_log area_of t shards (all_say t))
-      counts _ = refl
+  -- an answered read counts by the areas as it does by all records
+  counts_same : (t : Id) (k : Bytes) (x : Option Bytes) → IsTrue (is_kept (retired_in (areas_of (run config es))) t) →
+      line_counts (history (areas_of (run config es))) (Line.Read t k x) ≡ line_counts (history (logs_of (run config es))) (Line.Read t k x)
+  unfolding logs_of areas_of
+  counts_same t k x kept = sym (found_same read_log area_of t shards (all_say t kept))
 
   -- what is borne out by all records is borne out by the areas
   borne_out : (lines : List Line) → IsExternallyConsistent config (logs_of (run config es)) lines → IsBorneOut (areas_of (run config es)) lines
   unfolding logs_of areas_of
   borne_out lines h = record {
-    whole = λ t. sym (whole_same read_log area_of t shards (all_say t)) ∙ (h.all_or_nothing t).0;
-    acknowledged = λ t at m is. sym (in_at_same read_log area_of t shards (all_say t) at) ∙ (h.acknowledged t at m is).0;
+    whole = λ t kept. sym (whole_same read_log area_of t shards (all_say t kept)) ∙ (h.all_or_nothing t).0;
+    acknowledged = λ t at m is kept. sym (in_at_same read_log area_of t shards (all_say t kept) at) ∙ (h.acknowledged t at m is).0;
     looks = λ none. (plain none).looks;
     reads = λ none. (plain none).reads;
     order = λ t u at m n x ack began before found.
-        let y = found_at read_log area_of u shards (all_say u) x found in
+        let y = found_in_all read_log area_of shards (area_decides config es fair) (λ v. (h.all_or_nothing v).0) u x found in
         subst (λ s. IsTrue (nat_lt at s)) y.2 (h.order t u at m n y.0 ack began before y.1);
   }
     where
@@ -201,7 +223,10 @@ consistent sound_is_yes config es r h =
     record {
       on_disks = h.disks;
       consistent = subst (IsExternallyConsistent config logs) (sym h.lines) ends;
-      lines = h.lines ∙ lines_same config es h.fair w.lines;
+      lines = h.lines ∙ sym (ap (λ ls. counted_lines ls w.lines) h.logs);
+      counted = λ t k x kept.
+          ap (λ ls. line_counts (history ls) (Line.Read t k x)) h.logs
+          ∙ counts_same config es h.fair t k x (subst (λ ls. IsTrue (is_kept (retired_in ls) t)) h.logs kept);
       count = ap length h.logs ∙ as_many area_of read_log w.shards;
       keeps = λ n all log of_all of_log. each_keeps config es h.fair n all log of_all (sym (ap (λ ls. slice_get ls n) h.logs) ∙ of_log);
       plain = λ none. h.logs ∙ plain_logs config es h.fair (sym (ap are_renewed h.logs) ∙ none);

@@ -14,12 +14,13 @@ use Rattle.record.specs.Facts.{facts_of, or_unrecorded}
 use Rattle.record.specs.History.{Txn, by_shard, find_txn, history, whole_txn}
 use Rattle.record.specs.Lines.{is_in_at}
 use Rattle.record.specs.Records.{Ended, Status, HasSettled, HasClosed, as_committed, as_ended}
-use Rattle.record.specs.Records.{is_aborted, settled_decision, status_of}
+use Rattle.record.specs.Records.{is_aborted, is_below, retired_of, settled_decision, status_written}
 use Rattle.record.specs.Whole.{Decision, decisions, fits_decision, is_promise_for, is_whole, is_whole_by, outcomes_fit, promises_of}
 use Rattle.record.specs.declared.record.Committed.{Committed}
 use Rattle.record.specs.declared.record.Prepared.{Prepared}
 use Rattle.record.specs.declared.record.Record.{Record}
 use Rattle.record.proofs.Statuses.{recorded_is}
+use Rattle.law.proofs.Retired.{written_is}
 use Rattle.playing.proofs.Seen.{Seen, IsNotBelow, IsToldBy, end_of, seen, seen_by, told, with_seen}
 
 -- ---- what is asked of a log
@@ -106,14 +107,17 @@ decided_told t _ x h = ap (λ y. left_of t y.decided) h
 abbrev pub SayTheSame : Id → List Record → List Record → Type 0
 SayTheSame t log other = (s : Status) × IsToldBy t s (seen log t) × IsToldBy t s (seen other t)
 
--- so do logs whose facts have the same entries
+-- so do logs whose facts have the same entries, of an id that neither retired
 pub same_entries : (n m : ℕ) (log other : List Record) → IsTrue (followed n log) → IsTrue (followed m other) →
-    (facts_of log).entries ≡ (facts_of other).entries → (t : Id) → SayTheSame t log other
-same_entries n m log other h k same t =
-    (status_of log t, told n log t h, subst (λ s. IsToldBy t s (seen other t)) (sym status) (told m other t k))
+    (facts_of log).entries ≡ (facts_of other).entries → (t : Id) → is_below (retired_of log) t ≡ false → is_below (retired_of other) t ≡ false →
+    SayTheSame t log other
+same_entries n m log other h k same t kept too =
+    (status_written log t, told n log t h, subst (λ s. IsToldBy t s (seen other t)) (sym status) (told m other t k))
   where
-    status : status_of log t ≡ status_of other t
-    status = sym (recorded_is log t) ∙ ap (λ es. or_unrecorded (first (λ e. same_id e.txn t) es)) same ∙ recorded_is other t
+    status : status_written log t ≡ status_written other t
+    status =
+        sym (written_is log t kept) ∙ sym (recorded_is log t) ∙ ap (λ es. or_unrecorded (first (λ e. same_id e.txn t) es)) same
+        ∙ recorded_is other t ∙ written_is other t too
 
 -- what is made of a list whose parts are joined
 join_then : {A B C : Type 0} (f : List B → List C) (g : A → List B) → f [] ≡ [] → ((xs ys : List B) → f (xs ++ ys) ≡ f xs ++ f ys) →
@@ -281,11 +285,3 @@ module _ {S : Type 0} (one other : S → List Record) (t : Id) where
         by_stamps : (us : List Txn) → when (λ u. true) (head us) ≡ when (λ s. true) (head (map (λ u. u.at) us))
         by_stamps [] = refl
         by_stamps (u ∷ us) = refl
-
-    pub found_at : (v : Txn) → find_txn (history others) t ≡ Some v → (u : Txn) × (find_txn (history logs) t ≡ Some u) × (u.at ≡ v.at)
-    found_at v e = of_lists (filter (λ x. same_id x.txn t) (history logs)) (filter (λ x. same_id x.txn t) (history others)) stamps_same e
-      where
-        of_lists : (us vs : List Txn) → map (λ x. x.at) us ≡ map (λ x. x.at) vs → head vs ≡ Some v → (u : Txn) × (head us ≡ Some u) × (u.at ≡ v.at)
-        of_lists us [] same is = cc
-        of_lists [] (y ∷ vs) same is = cc
-        of_lists (x ∷ us) (y ∷ vs) same is = (x, refl, cc)

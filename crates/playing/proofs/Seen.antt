@@ -1,4 +1,4 @@
--- What a log whose records follow one another has of an id is told from the id's status: at most one of an abort, a decision and a
+-- What a log whose records follow one another has of an id is told from the id's written status: at most one of an abort, a decision and a
 -- promise, and an outcome behind the latter two alone.
 use Rattle.std.specs.List.{list_any}
 use Rattle.std.proofs.Common.{◌≡◌, ℕ, Bool, true, false, not, cond, ◌||◌, nat_eq, nat_le, IsTrue, List, [], ◌∷◌, ◌++◌, filter}
@@ -12,10 +12,10 @@ use Rattle.units.specs.Ids.{Id, same_id}
 use Rattle.units.specs.Lists.{gather, head, when}
 use Rattle.units.proofs.Folds.{gather_append}
 use Rattle.units.proofs.IdLaws.{same_id-is, same_id-refl, same_id_comm}
-use Rattle.record.specs.Accepted.{followed, followed_from, follows, is_new, outcome_fits}
+use Rattle.record.specs.Accepted.{followed, followed_from, follows, is_new, is_unrecorded, outcome_fits}
 use Rattle.record.specs.Records.{Ended, Status, Unrecorded, StandsPrepared, StandsDecided, HasAborted, HasSettled, HasClosed, as_committed, as_ended}
 use Rattle.record.specs.Records.{as_prepared, closed_promise, id_in, is_aborted, or_least, settled_decision, status_by}
-use Rattle.record.specs.Records.{status_of}
+use Rattle.record.specs.Records.{status_written}
 use Rattle.record.specs.Whole.{promises_of}
 use Rattle.record.specs.declared.record.Committed.{Committed}
 use Rattle.record.specs.declared.record.Prepared.{Prepared}
@@ -114,7 +114,7 @@ of_another _ t e = refl
 -- ---- a record of this id
 
 -- an id that is new has none
-new_none : (t : Id) (s : Status) (x : Seen) → (elim s [ Unrecorded ↦ true | _ ↦ false ]) ≡ true → IsToldBy t s x → x ≡ with_seen false [] [] []
+new_none : (t : Id) (s : Status) (x : Seen) → is_unrecorded s ≡ true → IsToldBy t s x → x ≡ with_seen false [] [] []
 new_none t Unrecorded x e h = h
 new_none t _ x e h = cc
 
@@ -170,10 +170,10 @@ module _ (shard : ℕ) (log : List Record) (t : Id) (told_before : IsTold t (see
 
   -- the first one
   starts : (u : Id) (x y : Seen) → (same_id t u || false) ≡ true → is_new log u ≡ true → x ≡ y → IsTold t y → IsTold t (together (seen log t) x)
-  unfolding status_of
+  unfolding status_written
   starts u x y e new same told =
       let none : seen log t ≡ with_seen false [] [] [] =
-      new_none t (status_by_seen (seen log t)) (seen log t) (subst (λ v. is_new log v ≡ true) (this u e) new) told_before in
+      new_none t (status_by_seen (seen log t)) (seen log t) (and_parts _ _ (subst (λ v. is_new log v ≡ true) (this u e) new)).0 told_before in
       subst (λ z. IsTold t (together z x)) (sym none) (subst (IsTold t) (sym same) told)
 
   ends_it : (u : Id) (o : Option ℕ) → (same_id t u || false) ≡ true → follows shard log (Outcome u o) ≡ true →
@@ -232,6 +232,6 @@ told_from shard before (r ∷ rs) t h k =
     (told_from shard (before ++ r ∷ []) rs t p.1 (one_more shard before t k r (and_parts _ _ p.0).1))
 
 -- so it is where each record follows those before it
-pub told : (shard : ℕ) (log : List Record) (t : Id) → IsTrue (followed shard log) → IsToldBy t (status_of log t) (seen log t)
-unfolding followed status_of
+pub told : (shard : ℕ) (log : List Record) (t : Id) → IsTrue (followed shard log) → IsToldBy t (status_written log t) (seen log t)
+unfolding followed status_written
 told shard log t h = told_from shard [] log t h refl

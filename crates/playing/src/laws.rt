@@ -11,7 +11,8 @@ use record::sound_is_yes;
 /// - what began after an acknowledgement has the larger timestamp.
 ///
 /// Each image that a crash may leave of the run's own disks holds their logs. These keep what the records say, and openings take them. If no
-/// log has a base, they are these records. The verdict on them is yes, and the lines that count by them count by all records.
+/// log has a base, they are these records. The verdict on them is yes. The lines are those that count by them: an answered read counts as it
+/// does by all records, unless its transaction is retired.
 pub fn reports()
     ensures { ReportsAreConsistent }
 {

@@ -136,75 +136,75 @@ static COUNTED: [Asked; 9] = [
     Asked {
         lines: &["stats done.log"],
         printed: "log done.log\nbytes 9312\ndead bytes 0\nturnovers 0\nturnovers left 1024\nrecords 3\nopened 1\nceiling 0\nprepare 0\ncommit 1\nabort 0\noutcome 1\n\
-            horizon 0\nbase 0\nversion 0\nsettled 0\nclosed 0\n\
+            horizon 0\nbase 0\nversion 0\nsettled 0\nclosed 0\nretired 0\n\
             keys 1\nversions 1\nepoch 1\nfloor 200\nin doubt 0\n",
         ..TAKEN
     },
     Asked {
         lines: &["stats promised.log done.log"],
         printed: "log promised.log\nbytes 9274\ndead bytes 0\nturnovers 0\nturnovers left 1024\nrecords 2\nopened 1\nceiling 0\nprepare 1\ncommit 0\nabort 0\noutcome 0\n\
-            horizon 0\nbase 0\nversion 0\nsettled 0\nclosed 0\n\
+            horizon 0\nbase 0\nversion 0\nsettled 0\nclosed 0\nretired 0\n\
             keys 0\nversions 0\nepoch 1\nfloor 200\nin doubt 1\npromised 1.2 200\n\
             log done.log\nbytes 9312\ndead bytes 0\nturnovers 0\nturnovers left 1024\nrecords 3\nopened 1\nceiling 0\nprepare 0\ncommit 1\nabort 0\noutcome 1\n\
-            horizon 0\nbase 0\nversion 0\nsettled 0\nclosed 0\n\
+            horizon 0\nbase 0\nversion 0\nsettled 0\nclosed 0\nretired 0\n\
             keys 1\nversions 1\nepoch 1\nfloor 200\nin doubt 0\n\
             all 2\nbytes 18586\ndead bytes 0\nturnovers 0\nrecords 5\nopened 2\nceiling 0\nprepare 1\ncommit 1\nabort 0\noutcome 1\n\
-            horizon 0\nbase 0\nversion 0\nsettled 0\nclosed 0\n\
+            horizon 0\nbase 0\nversion 0\nsettled 0\nclosed 0\nretired 0\n\
             keys 1\nversions 1\nin doubt 1\n",
         ..TAKEN
     },
     Asked {
         lines: &["stats forgotten.log"],
         printed: "log forgotten.log\nbytes 9267\ndead bytes 0\nturnovers 0\nturnovers left 1024\nrecords 3\nopened 1\nceiling 1\nprepare 0\ncommit 0\nabort 0\noutcome 0\n\
-            horizon 1\nbase 0\nversion 0\nsettled 0\nclosed 0\n\
+            horizon 1\nbase 0\nversion 0\nsettled 0\nclosed 0\nretired 0\n\
             keys 0\nversions 0\nepoch 1\nfloor 300\nin doubt 0\n",
         ..TAKEN
     },
     Asked {
         lines: &["stats one/shard-0.log", "stats one"],
         printed: "log one/shard-0.log\nbytes 9312\ndead bytes 0\nturnovers 0\nturnovers left 1024\nrecords 3\nopened 1\nceiling 0\nprepare 0\ncommit 1\nabort 0\noutcome 1\n\
-            horizon 0\nbase 0\nversion 0\nsettled 0\nclosed 0\n\
+            horizon 0\nbase 0\nversion 0\nsettled 0\nclosed 0\nretired 0\n\
             keys 1\nversions 1\nepoch 1\nfloor 111\nin doubt 0\n",
         ..TAKEN
     },
     Asked {
         lines: &["stats two/shard-0.log two/shard-1.log", "stats two"],
         printed: "log two/shard-0.log\nbytes 9425\ndead bytes 0\nturnovers 0\nturnovers left 1024\nrecords 6\nopened 1\nceiling 0\nprepare 0\ncommit 3\nabort 0\noutcome 2\n\
-            horizon 0\nbase 0\nversion 0\nsettled 0\nclosed 0\n\
+            horizon 0\nbase 0\nversion 0\nsettled 0\nclosed 0\nretired 0\n\
             keys 1\nversions 2\nepoch 1\nfloor 400\nin doubt 1\ndecided 1.4 400\n\
             log two/shard-1.log\nbytes 9416\ndead bytes 0\nturnovers 0\nturnovers left 1024\nrecords 6\nopened 1\nceiling 0\nprepare 3\ncommit 0\nabort 0\noutcome 2\n\
-            horizon 0\nbase 0\nversion 0\nsettled 0\nclosed 0\n\
+            horizon 0\nbase 0\nversion 0\nsettled 0\nclosed 0\nretired 0\n\
             keys 1\nversions 1\nepoch 1\nfloor 510\nin doubt 1\npromised 1.5 500\n\
             all 2\nbytes 18841\ndead bytes 0\nturnovers 0\nrecords 12\nopened 2\nceiling 0\nprepare 3\ncommit 3\nabort 0\noutcome 4\n\
-            horizon 0\nbase 0\nversion 0\nsettled 0\nclosed 0\n\
+            horizon 0\nbase 0\nversion 0\nsettled 0\nclosed 0\nretired 0\n\
             keys 2\nversions 3\nin doubt 2\n",
         ..TAKEN
     },
     Asked {
         lines: &["stats kinds.log"],
         printed: "log kinds.log\nbytes 9334\ndead bytes 0\nturnovers 0\nturnovers left 1024\nrecords 5\nopened 2\nceiling 1\nprepare 0\ncommit 1\nabort 1\noutcome 0\n\
-            horizon 0\nbase 0\nversion 0\nsettled 0\nclosed 0\n\
+            horizon 0\nbase 0\nversion 0\nsettled 0\nclosed 0\nretired 0\n\
             keys 0\nversions 0\nepoch 2\nfloor 300\nin doubt 1\ndecided 1.2 200\n",
         ..TAKEN
     },
     Asked {
         lines: &["stats keys.log"],
         printed: "log keys.log\nbytes 9315\ndead bytes 0\nturnovers 0\nturnovers left 1024\nrecords 3\nopened 1\nceiling 0\nprepare 0\ncommit 1\nabort 0\noutcome 1\n\
-            horizon 0\nbase 0\nversion 0\nsettled 0\nclosed 0\n\
+            horizon 0\nbase 0\nversion 0\nsettled 0\nclosed 0\nretired 0\n\
             keys 2\nversions 2\nepoch 1\nfloor 100\nin doubt 0\n",
         ..TAKEN
     },
     Asked {
         lines: &["stats passed.log"],
         printed: "log passed.log\nbytes 9354\ndead bytes 0\nturnovers 0\nturnovers left 1024\nrecords 6\nopened 1\nceiling 1\nprepare 0\ncommit 1\nabort 0\noutcome 1\n\
-            horizon 2\nbase 0\nversion 0\nsettled 0\nclosed 0\n\
+            horizon 2\nbase 0\nversion 0\nsettled 0\nclosed 0\nretired 0\n\
             keys 1\nversions 1\nepoch 1\nfloor 300\nin doubt 0\n",
         ..TAKEN
     },
     Asked {
         lines: &["stats bare.log"],
         printed: "log bare.log\nbytes 9225\ndead bytes 0\nturnovers 0\nturnovers left 1024\nrecords 0\nopened 0\nceiling 0\nprepare 0\ncommit 0\nabort 0\noutcome 0\n\
-            horizon 0\nbase 0\nversion 0\nsettled 0\nclosed 0\n\
+            horizon 0\nbase 0\nversion 0\nsettled 0\nclosed 0\nretired 0\n\
             keys 0\nversions 0\nepoch 0\nfloor 0\nin doubt 0\n",
         ..TAKEN
     },
@@ -314,6 +314,41 @@ static TOLD: [Asked; 12] = [
 ];
 
 // What is told of renewed logs.
+static RETIRED: [Asked; 5] = [
+    Asked {
+        lines: &["history gone a"],
+        printed: "111 1.1 =1\n",
+        ..TAKEN
+    },
+    Asked {
+        lines: &["get gone a", "get gone a 111"],
+        printed: "=1\n",
+        ..TAKEN
+    },
+    Asked {
+        lines: &["dump gone/shard-0.log"],
+        printed: "9224 opened 1\n9238 commit 1.1 111 0 - a=1\n9280 outcome 1.1 committed 111\n9311 retired 1.2\nclosed at 9333\n",
+        ..TAKEN
+    },
+    Asked {
+        lines: &["dump --json gone/shard-0.log"],
+        printed: "{\"offset\":9224,\"record\":\"opened\",\"epoch\":1}\n\
+            {\"offset\":9238,\"record\":\"commit\",\"txn\":\"1.1\",\"at\":111,\"date\":\"1970-01-01T00:00:00.000111Z\",\"parts\":[0],\
+            \"reads\":[],\"writes\":[{\"key\":\"a\",\"value\":\"1\"}]}\n\
+            {\"offset\":9280,\"record\":\"outcome\",\"txn\":\"1.1\",\"outcome\":\"committed\",\"at\":111,\"date\":\"1970-01-01T00:00:00.000111Z\"}\n\
+            {\"offset\":9311,\"record\":\"retired\",\"below\":\"1.2\"}\n{\"closed at\":9333}\n",
+        ..TAKEN
+    },
+    Asked {
+        lines: &["stats gone"],
+        printed: "log gone/shard-0.log\nbytes 9334\ndead bytes 0\nturnovers 0\nturnovers left 1024\nrecords 4\nopened 1\nceiling 0\nprepare 0\ncommit 1\nabort 0\noutcome 1\n\
+            horizon 0\nbase 0\nversion 0\nsettled 0\nclosed 0\nretired 1\n\
+            keys 1\nversions 1\nepoch 1\nfloor 111\nin doubt 0\n",
+        ..TAKEN
+    },
+];
+
+// What is told of renewed logs.
 static RENEWED: [Asked; 8] = [
     Asked {
         lines: &["history renewed a"],
@@ -345,14 +380,14 @@ static RENEWED: [Asked; 8] = [
     Asked {
         lines: &["stats renewed/shard-0.log"],
         printed: "log renewed/shard-0.log\nbytes 9412\ndead bytes 0\nturnovers 0\nturnovers left 1024\nrecords 7\nopened 1\nceiling 0\nprepare 0\ncommit 1\nabort 0\noutcome 0\n\
-            horizon 0\nbase 1\nversion 2\nsettled 2\nclosed 0\n\
+            horizon 0\nbase 1\nversion 2\nsettled 2\nclosed 0\nretired 0\n\
             keys 1\nversions 2\nepoch 2\nfloor 400\nin doubt 1\ndecided 1.4 400\n",
         ..TAKEN
     },
     Asked {
         lines: &["stats renewed/shard-1.log"],
         printed: "log renewed/shard-1.log\nbytes 9386\ndead bytes 0\nturnovers 0\nturnovers left 1024\nrecords 6\nopened 1\nceiling 0\nprepare 1\ncommit 0\nabort 0\noutcome 0\n\
-            horizon 0\nbase 1\nversion 1\nsettled 0\nclosed 2\n\
+            horizon 0\nbase 1\nversion 1\nsettled 0\nclosed 2\nretired 0\n\
             keys 1\nversions 1\nepoch 2\nfloor 500\nin doubt 1\npromised 1.5 500\n",
         ..TAKEN
     },
@@ -677,6 +712,10 @@ fn renewed() -> &'static [Asked] {
     &RENEWED
 }
 
+fn retired() -> &'static [Asked] {
+    &RETIRED
+}
+
 fn helped() -> &'static [Asked] {
     &HELP
 }
@@ -709,6 +748,7 @@ pub fn go_over_answers(wrong: &mut WrongRows, alloc: Global) {
         dumped(),
         counted(),
         told(),
+        retired(),
         renewed(),
         helped(),
         failing(),

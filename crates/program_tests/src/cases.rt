@@ -2,7 +2,7 @@
 use crate::comparing::Case;
 
 // Promises, outcomes, questions and votes.
-static MESSAGES: [Case; 6] = [
+static MESSAGES: [Case; 7] = [
     // A promise at 200 holds the served time of its shard below it.
     Case {
         name: "a promise holds the served time",
@@ -33,6 +33,51 @@ prepare 1.2 0 200 - z=2
 lines
 begin 1.2 0
 look z 199 none
+verdict yes
+",
+    },
+    // Ids below 1.2 retire once nothing stands of them: what is said of 1.1 is refused from then on, also after crashes and in the renewed log. One
+    // that does not rise does nothing.
+    Case {
+        name: "ids retire",
+        schedule: "shards 1
+stride 0
+100 begin 1.1
+100 write 1.1 a 1
+100 close 1.1
+105 deliver 0 100 110
+106 retire 0 1.2 100 110
+115 settle 0 1.1 112 121
+116 retire 0 1.2 112 121
+117 retire 0 1.2 112 121
+118 deliver 0 112 121
+119 look 0 a 111
+120 crash 0 1 new retire 0 1.3 112 121
+121 open 0
+122 deliver 0 112 122
+123 fail 0 3 retire 0 1.4 112 123
+124 open 0
+125 retire 0 1.1 112 125
+126 turn 0
+127 deliver 0 122 131
+",
+        report: "event 4 refused 9 NotYet
+event 8 refused 14 Stranger
+event 9 =1
+event 10 crashed
+event 12 refused 14 Stranger
+event 13 refused 2 Device
+event 17 refused 14 Stranger
+put 0 shard 0 commit 1.1 0 0 - a=1
+put 1 session 1.1 done 1.1 committed 111
+log 0
+base 3 111 0
+version 111 a=1
+retired 1.4
+lines
+begin 1.1 0
+ack 1.1 111 5
+look a 111 =1
 verdict yes
 ",
     },

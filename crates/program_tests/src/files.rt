@@ -293,6 +293,22 @@ static COUNTED: [File<'static>; 5] = [
 ];
 
 // Renewed logs, and what is asked of them.
+static RETIRED: [File<'static>; 2] = [
+    File {
+        path: "gone/store.toml",
+        bytes: ONE_SHARD,
+    },
+    // Opened 1; Commit 1.1 at 111 by shard 0, with a=1; its outcome; Retired 1.2.
+    File {
+        path: "gone/shard-0.log",
+        bytes: b"SPNLOG02\xa5\0\0\0\x09\x01\0\0\0\0\0\0\0\x01\
+            \xa5\0\0\0\x25\x04\0\0\0\0\0\0\0\x01\0\0\0\0\0\0\0\x01\0\0\0\0\0\0\0o\0\x01\0\0\0\x01\x01a\x01\0\x011\
+            \xa5\0\0\0\x1a\x06\0\0\0\0\0\0\0\x01\0\0\0\0\0\0\0\x01\x01\0\0\0\0\0\0\0o\
+            \xa5\0\0\0\x11\x0c\0\0\0\0\0\0\0\x01\0\0\0\0\0\0\0\x02\0",
+    },
+];
+
+// Stores whose logs were renewed.
 static RENEWED: [File<'static>; 6] = [
     File {
         path: "renewed/store.toml",
@@ -394,12 +410,16 @@ fn renewed() -> &'static [File<'static>] {
     &RENEWED
 }
 
+fn retired() -> &'static [File<'static>] {
+    &RETIRED
+}
+
 fn given() -> &'static [File<'static>] {
     &GIVEN
 }
 
 /// Gives all files. No two have one path.
-pub fn all_files() -> [&'static [File<'static>]; 8] {
+pub fn all_files() -> [&'static [File<'static>]; 9] {
     [
         lists(),
         logs(),
@@ -407,6 +427,7 @@ pub fn all_files() -> [&'static [File<'static>]; 8] {
         stores(),
         faulty(),
         counted(),
+        retired(),
         renewed(),
         given(),
     ]

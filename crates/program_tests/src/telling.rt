@@ -142,7 +142,7 @@ fn put_record(told: &mut Vec<Told>, shard: usize, item: &Record) -> bool {
     let mut one = NOTHING;
     one.shard = shard;
     match item {
-        Record::Opened { .. } | Record::Ceiling { .. } => return true,
+        Record::Opened { .. } | Record::Ceiling { .. } | Record::Retired { .. } => return true,
         Record::Base { .. } | Record::Version(_) => return false,
         Record::Settled { .. } | Record::Closed { .. } => return false,
         Record::Commit(committed) => {
@@ -195,7 +195,10 @@ fn put_log(told: &mut Vec<Told>, shard: usize, log: &[Record]) -> bool {
             }
             Record::Prepare(promise) => promise.at.micros() > horizon,
             Record::Commit(committed) => committed.at.micros() > horizon,
-            Record::Ceiling { .. } | Record::Abort { .. } | Record::Outcome { .. } => true,
+            Record::Ceiling { .. }
+            | Record::Abort { .. }
+            | Record::Outcome { .. }
+            | Record::Retired { .. } => true,
             Record::Base { .. } | Record::Version(_) => false,
             Record::Settled { .. } | Record::Closed { .. } => false,
         };

@@ -95,7 +95,7 @@ static AS_JSON: [Asked; 9] = [
         lines: &["stats --json promised.log"],
         printed: "{\"logs\":[{\"log\":\"promised.log\",\"bytes\":9274,\"dead bytes\":0,\"turnovers\":0,\"turnovers left\":1024,\"records\":2,\
             \"opened\":1,\"ceiling\":0,\"prepare\":1,\"commit\":0,\"abort\":0,\"outcome\":0,\"horizon\":0,\"base\":0,\"version\":0,\
-            \"settled\":0,\"closed\":0,\"keys\":0,\"versions\":0,\"epoch\":1,\"floor\":200,\"in doubt\":1,\
+            \"settled\":0,\"closed\":0,\"retired\":0,\"keys\":0,\"versions\":0,\"epoch\":1,\"floor\":200,\"in doubt\":1,\
             \"doubts\":[{\"at\":200,\"date\":\"1970-01-01T00:00:00.0002Z\",\"txn\":\"1.2\",\"standing\":\"promised\"}]}]}\n",
         ..TAKEN
     },
@@ -103,13 +103,13 @@ static AS_JSON: [Asked; 9] = [
         lines: &["stats --json bare.log bare.log"],
         printed: "{\"logs\":[{\"log\":\"bare.log\",\"bytes\":9225,\"dead bytes\":0,\"turnovers\":0,\"turnovers left\":1024,\"records\":0,\
             \"opened\":0,\"ceiling\":0,\"prepare\":0,\"commit\":0,\"abort\":0,\"outcome\":0,\"horizon\":0,\"base\":0,\"version\":0,\
-            \"settled\":0,\"closed\":0,\"keys\":0,\"versions\":0,\"epoch\":0,\"floor\":0,\"in doubt\":0,\"doubts\":[]},\
+            \"settled\":0,\"closed\":0,\"retired\":0,\"keys\":0,\"versions\":0,\"epoch\":0,\"floor\":0,\"in doubt\":0,\"doubts\":[]},\
             {\"log\":\"bare.log\",\"bytes\":9225,\"dead bytes\":0,\"turnovers\":0,\"turnovers left\":1024,\"records\":0,\
             \"opened\":0,\"ceiling\":0,\"prepare\":0,\"commit\":0,\"abort\":0,\"outcome\":0,\"horizon\":0,\"base\":0,\"version\":0,\
-            \"settled\":0,\"closed\":0,\"keys\":0,\"versions\":0,\"epoch\":0,\"floor\":0,\"in doubt\":0,\"doubts\":[]}],\
+            \"settled\":0,\"closed\":0,\"retired\":0,\"keys\":0,\"versions\":0,\"epoch\":0,\"floor\":0,\"in doubt\":0,\"doubts\":[]}],\
             \"sums\":{\"bytes\":18450,\"dead bytes\":0,\"turnovers\":0,\"records\":0,\
             \"opened\":0,\"ceiling\":0,\"prepare\":0,\"commit\":0,\"abort\":0,\"outcome\":0,\"horizon\":0,\"base\":0,\"version\":0,\
-            \"settled\":0,\"closed\":0,\"keys\":0,\"versions\":0,\"in doubt\":0,\"logs\":2}}\n",
+            \"settled\":0,\"closed\":0,\"retired\":0,\"keys\":0,\"versions\":0,\"in doubt\":0,\"logs\":2}}\n",
         ..TAKEN
     },
 ];

@@ -10,12 +10,12 @@ use Rattle.record.specs.Records.{Status, Unrecorded, StandsPrepared, StandsDecid
 use Rattle.record.specs.Facts.{recorded}
 use Rattle.record.specs.declared.record.Committed.{Committed}
 use Rattle.record.specs.declared.record.Prepared.{Prepared}
-use Rattle.protocol.specs.Rows.{Row, IsPrepared, IsDecided, standing, standing_by, find_row}
+use Rattle.protocol.specs.Rows.{Row, IsPrepared, IsDecided, standing_by, find_row}
 use Rattle.protocol.specs.Plan.{Before, stands}
 use Rattle.protocol.specs.Cells.{is_outcome_for}
 use Rattle.protocol.specs.Sound.{Agrees, StandsBy, IsSound, is_open}
 use Rattle.protocol.proofs.RowChanges.{row_as}
-use Rattle.protocol.proofs.Shapes.{is_undecided}
+use Rattle.protocol.proofs.Shapes.{is_undecided, not_retired, stands_kept}
 
 -- a state that is sound
 abbrev pub Sound : Before → Type 0
@@ -37,9 +37,9 @@ by_parts installs last (HasClosed c o) None ended a e = absurd (false≢true e)
 
 -- who is undecided has no record
 pub unrecorded : (b : Before) (t : Id) → Sound b → is_undecided (stands b t) ≡ true → recorded b.facts t ≡ Unrecorded
-unfolding standing
 unrecorded b t sound e =
-    by_parts b.facts.installs b.memory.last (recorded b.facts t) (find_row b.memory.rows t) (list_any (same_id t) b.memory.ended) (sound.agrees t) e
+    by_parts b.facts.installs b.memory.last (recorded b.facts t) (find_row b.memory.rows t) (list_any (same_id t) b.memory.ended) (sound.agrees t)
+    (ap is_undecided (sym (stands_kept b t (not_retired b t e))) ∙ e)
 
 -- the promise by which a row stands
 pub record PromiseOf (b : Before) (t : Id) (held : List Lock) (c at : ℕ) : Type 0 where

@@ -1,7 +1,7 @@
 -- A plan puts rows and logs records whose writes ascend by key.
 use Rattle.std.proofs.Common.{refl, ap, subst, ◌∙◌}
-use Rattle.std.specs.Prelude.{ℕ, ◌≡◌, Bool, true, false, ◌&&◌, cond, List, [], ◌∷◌, Option, Some, Ok}
-use Rattle.std.proofs.lemmas.Bool.{and_parts}
+use Rattle.std.specs.Prelude.{ℕ, ◌≡◌, Bool, true, false, not, ◌&&◌, cond, List, [], ◌∷◌, Option, Some, Ok, filter}
+use Rattle.std.proofs.lemmas.Bool.{and_parts, and_from}
 use Rattle.std.specs.List.{list_all}
 use Rattle.units.specs.Lists.{ascends}
 use Rattle.units.specs.Ids.{Id, same_id, older}
@@ -49,6 +49,7 @@ ascending_fits = record {
   outcomes = λ t outcome. refl;
   ceilings = λ at. refl;
   horizons = λ at. refl;
+  retirements = λ below. refl;
 }
 
 brought : (m : Message) → WritesAscend (Input.Deliver m) → Brings in_order m
@@ -95,6 +96,16 @@ entries_after facts (Some (Record.Commit c)) known up all = ascends-with_status 
 entries_after facts (Some (Record.Abort t)) known up all = ascends-with_status facts.entries t HasAborted refl all
 entries_after facts (Some (Record.Outcome t outcome)) known up all =
     ascends-with_status facts.entries t (after_outcome (recorded facts t) outcome) (after_outcome_ascends (recorded facts t) outcome (known t)) all
+entries_after facts (Some (Record.Retired below)) known up all = kept_ascend facts.entries all
+  where
+    kept_ascend : (es : List TxnStatus) → each_ascends es ≡ true → each_ascends (filter (λ e. not (older e.txn below)) es) ≡ true
+    kept_ascend [] all = refl
+    kept_ascend (e ∷ es) all = by_test (older e.txn below) (kept_ascend es (and_parts _ _ all).1)
+      where
+        by_test : (b : Bool) → each_ascends (filter (λ x. not (older x.txn below)) es) ≡ true
+            → each_ascends (cond (not b) (e ∷ filter (λ x. not (older x.txn below)) es) (filter (λ x. not (older x.txn below)) es)) ≡ true
+        by_test true rest = rest
+        by_test false rest = and_from _ _ (and_parts _ _ all).0 rest
 entries_after facts _ known up all = all
 
 module _ (setup : Setup) (rows : ℕ) (facts : Facts) (memory : Memory) (now : Interval) (i : Input) (p : Plan) (orderly : IsShowable facts memory)

@@ -16,10 +16,10 @@ use Rattle.message.specs.declared.message.Input.{Input}
 use Rattle.message.specs.declared.message.Message.{Message}
 use Rattle.message.specs.declared.message.Prepare.{Prepare}
 use Rattle.protocol.specs.Rows.{Phase, Idle, WaitsRead, WaitsPrepare, WaitsCommit, Collecting, IsPrepared, IsDecided, Voted, Standing, IsUnknown, WasEnded}
-use Rattle.protocol.specs.Rows.{HasRow, WasAborted, WasSettled, WasClosed, claims, is_firm, held_in}
+use Rattle.protocol.specs.Rows.{HasRow, WasAborted, WasSettled, WasClosed, WasRetired, claims, is_firm, held_in}
 use Rattle.protocol.specs.Plan.{Before, stands}
 use Rattle.protocol.specs.Cells.{Cell, ToReply, Provided, ToRead, ToPrepare, ToCommit, ToEnd, ToAbort, ToAbortFor, ToCount, ToClose, ToGoOn, ToSettle}
-use Rattle.protocol.specs.Cells.{ToServe, ToForget, is_outcome_for}
+use Rattle.protocol.specs.Cells.{ToServe, ToForget, ToRetire, is_outcome_for}
 use Rattle.protocol.specs.Table.{read_cell, prepare_cell, commit_cell, tell_cell, vote_cell, unpromised_cell, outcome_cell, give_up_cell, ask_cell}
 use Rattle.protocol.specs.Table.{go_on_cell, resume_cell, settle_cell, nudge_cell}
 use Rattle.protocol.specs.Step.{is_for, message_cell, cell}
@@ -94,6 +94,7 @@ IsFrom setup b now i (ToGoOn earliest t wait) = IsNext b t wait
 IsFrom setup b now i (ToSettle earliest t s ps) = IsIn b t (IsDecided s ps) × (earliest ≡ now.earliest)
 IsFrom setup b now i (ToServe latest stride at) = i ≡ Input.Advance at
 IsFrom setup b now i (ToForget at) = i ≡ Input.Forget at
+IsFrom setup b now i (ToRetire below) = i ≡ Input.Retire below
 IsFrom setup b now i _ = Unit {0}
 
 -- ---- the walk
@@ -118,6 +119,7 @@ module _ (setup : Setup) (b : Before) (now : Interval) (i : Input) where
   read_from t k (HasRow held (WaitsPrepare c rs ws)) e = loose t held (WaitsPrepare c rs ws) refl e
   read_from t k (HasRow held (WaitsCommit l ps rs ws)) e = loose t held (WaitsCommit l ps rs ws) refl e
   read_from t k (HasRow held _) e = tt
+  read_from t k WasRetired e = tt
   read_from t k _ e = refl
 
   prepare_from : (m : Prepare) (s : Standing) → IsHeard setup i (Message.Prepare m) → stands b m.txn ≡ s → From (prepare_cell b now.earliest m s)
@@ -221,3 +223,4 @@ cell_is_from setup b now (Input.Settle t) = settle_from setup b now (Input.Settl
 cell_is_from setup b now (Input.Advance at) = refl
 cell_is_from setup b now (Input.Nudge t) = nudge_from setup b now (Input.Nudge t) t (stands b t) refl
 cell_is_from setup b now (Input.Forget at) = refl
+cell_is_from setup b now (Input.Retire below) = refl

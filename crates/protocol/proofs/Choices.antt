@@ -1,6 +1,6 @@
 -- The shape of a plan that is chosen by tests, and what the standing of a transaction says of its row.
 use Rattle.std.proofs.Common.{refl, ap, ◌∙◌, arith}
-use Rattle.std.specs.Prelude.{ℕ, ◌≡◌, Bool, true, false, nat_eq, List, [], ◌∷◌, Option, Some, None, Ok, Err}
+use Rattle.std.specs.Prelude.{ℕ, ◌≡◌, Bool, true, false, cond, nat_eq, List, [], ◌∷◌, Option, Some, None, Ok, Err}
 use Rattle.std.specs.List.{AllByRecursion, list_any, list_all}
 use Rattle.std.proofs.lemmas.Bool.Decides.{nat_tests}
 use Rattle.std.proofs.lemmas.Bool.{false≢true, and_parts}
@@ -12,9 +12,10 @@ use Rattle.units.specs.declared.lock.Lock.{Lock}
 use Rattle.units.proofs.ByIdLaws.{found_all}
 use Rattle.units.proofs.ListLaws.{all_of_each, all_gives}
 use Rattle.record.specs.Facts.{recorded}
+use Rattle.record.specs.Records.{is_below}
 use Rattle.message.specs.declared.message.Envelope.{Envelope}
 use Rattle.protocol.specs.Rows.{Row, Phase, IsPrepared, IsDecided, Standing, IsUnknown, HasRow, WasAborted, WasSettled, WasClosed, claims, find_row, standing}
-use Rattle.protocol.specs.Rows.{standing_by, held_by, held_in, without_rows}
+use Rattle.protocol.specs.Rows.{WasRetired, standing_by, standing_kept, held_by, held_in, without_rows}
 use Rattle.protocol.specs.Plan.{Planned, Before, stands, replies, roomed, in_way, opens}
 use Rattle.protocol.specs.Cells.{still_stand}
 use Rattle.protocol.specs.Sound.{fits}
@@ -46,6 +47,7 @@ undecided_of_loose (HasRow held (IsDecided s ps)) e = absurd (false≢true e)
 undecided_of_loose WasAborted e = absurd (false≢true e)
 undecided_of_loose (WasSettled s ps) e = absurd (false≢true e)
 undecided_of_loose (WasClosed o) e = absurd (false≢true e)
+undecided_of_loose WasRetired e = absurd (false≢true e)
 undecided_of_loose _ e = refl
 
 pub undecided : (b : Before) (t : Id) → is_loose (stands b t) ≡ true → is_undecided (stands b t) ≡ true
@@ -77,8 +79,12 @@ held_at b t held phase e = ap held_by (row_at b t held phase e)
 
 pub held_unknown : (b : Before) (t : Id) → stands b t ≡ IsUnknown → held_in b.memory.rows t ≡ []
 unfolding standing
-held_unknown b t e = by_row (find_row b.memory.rows t) e
+held_unknown b t e = by_row (find_row b.memory.rows t) (by_cond (is_below b.facts.retired t) (standing_kept b.facts b.memory t) e)
   where
+    by_cond : (c : Bool) (s : Standing) → cond c WasRetired s ≡ IsUnknown → s ≡ IsUnknown
+    by_cond true s e = cc
+    by_cond false s e = e
+
     by_row : (o : Option Row) → standing_by o (recorded b.facts t) (list_any (same_id t) b.memory.ended) ≡ IsUnknown → held_by o ≡ []
     by_row None e = refl
     by_row (Some r) e = cc

@@ -21,10 +21,10 @@ use Rattle.protocol.specs.Outputs.{promise, decision}
 use Rattle.protocol.specs.Refusals.{is_own}
 use Rattle.protocol.specs.Rows.{Memory, Row, Phase, Idle, WaitsRead, WaitsPrepare, WaitsCommit, Collecting, IsPrepared, IsDecided, Voted, with_vote}
 use Rattle.protocol.specs.Rows.{without_row, without_rows}
-use Rattle.protocol.specs.Plan.{Before, Change, Keeps, Ends, Drops, Puts, Plan, Planned, carried, after_change}
+use Rattle.protocol.specs.Plan.{Before, Change, Keeps, Ends, Drops, Puts, Retires, Plan, Planned, carried, after_change}
 use Rattle.protocol.specs.Cells.{Cell, ToRefuse, ToRest, ToReply, Provided, ToRead, ToPrepare, ToCommit, ToEnd, ToAbort, ToAbortFor, ToCount, ToClose, ToGoOn}
-use Rattle.protocol.specs.Cells.{ToSettle, ToServe, ToForget, commit_stamp, other_parts, plan_abort, plan_advance, plan_asks, plan_cell, plan_commit_fresh}
-use Rattle.protocol.specs.Cells.{plan_commit_granted, plan_count, plan_decide, plan_forget, plan_granted, plan_prepare_fresh, plan_promise, plan_read_row}
+use Rattle.protocol.specs.Cells.{ToSettle, ToServe, ToForget, ToRetire, commit_stamp, other_parts, plan_abort, plan_advance, plan_asks, plan_cell, plan_commit_fresh}
+use Rattle.protocol.specs.Cells.{plan_commit_granted, plan_count, plan_decide, plan_forget, plan_retire, plan_granted, plan_prepare_fresh, plan_promise, plan_read_row}
 use Rattle.protocol.specs.Step.{is_for, cell, plan_input}
 use Rattle.protocol.proofs.CellsFrom.{IsHeard, IsIn, IsFrom, cell_is_from}
 use Rattle.protocol.proofs.Each.{Each, planned, refused, tested, either, within_room}
@@ -47,6 +47,7 @@ pub record Fits (P : List Bytes → List Write → Bool) (named : Phase → Bool
   pub outcomes : (t : Id) (outcome : Option ℕ) → noted (Record.Outcome t outcome) ≡ true
   pub ceilings : (at : ℕ) → noted (Record.Ceiling at) ≡ true
   pub horizons : (at : ℕ) → noted (Record.Horizon at) ≡ true
+  pub retirements : (below : Id) → noted (Record.Retired below) ≡ true
 
 -- so of what a message brings
 abbrev pub Brings : (List Bytes → List Write → Bool) → Message → Type 0
@@ -155,6 +156,10 @@ module _ (P : List Bytes → List Write → Bool) (named : Phase → Bool) (note
   unfolding plan_forget
   walk_forget b at = either _ _ _ (refused NotYet refl) (either _ _ _ (told _ refl refl) (told _ refl (fits.horizons at)))
 
+  walk_retire : (b : Before) (below : Id) → Told (plan_retire b below)
+  unfolding plan_retire
+  walk_retire b below = either _ _ _ (refused NotYet refl) (either _ _ _ (told _ refl (fits.retirements below)) (told _ refl refl))
+
   -- ---- all cells
 
   module _ (setup : Setup) (b : Before) (now : Interval) (i : Input) (rows : all_told b.memory.rows ≡ true)
@@ -187,6 +192,7 @@ module _ (P : List Bytes → List Write → Bool) (named : Phase → Bool) (note
     walk (ToSettle earliest t s ps) from = either _ _ _ (told _ refl (fits.outcomes t (Some s))) (refused Early refl)
     walk (ToServe latest stride at) from = walk_advance b latest stride at
     walk (ToForget at) from = walk_forget b at
+    walk (ToRetire below) from = walk_retire b below
 
   -- each input, where a message that is for this shard brings what is told
   pub walked : (setup : Setup) (b : Before) (now : Interval) (i : Input) → all_told b.memory.rows ≡ true
@@ -212,6 +218,7 @@ module _ (P : List Bytes → List Write → Bool) (named : Phase → Bool) (note
   rows-changed Keeps rows e own = own
   rows-changed (Ends t) rows e own = rows-without_row rows t own
   rows-changed (Drops t) rows e own = rows-without_row rows t own
+  rows-changed (Retires below) rows e own = own
   rows-changed (Puts t needs phase) rows e own =
       subst AllTold (sym (with_row-is rows _)) (all-with (λ (r : Row). named r.phase ≡ true) (λ (r : Row). r.txn) rows _ e own)
 

@@ -1,13 +1,13 @@
 -- What a step logs fits beside what the log holds: after it the log's rows are a lawful table still, and no more than the
 -- rows in memory.
-use Rattle.std.proofs.Common.{◌≡◌, ℕ, suc, ◌<◌, ◌≤◌, ◌-◌, Bool, true, false, nat_le, nat_lt, List, [], ◌∷◌, map, length, Option, Some, None, refl, sym, ap}
+use Rattle.std.proofs.Common.{◌≡◌, ℕ, suc, ◌<◌, ◌≤◌, ◌-◌, Bool, true, false, not, nat_le, nat_lt, List, [], ◌∷◌, map, length, Option, Some, None, refl, sym, ap}
 use Rattle.std.proofs.Common.{subst, ◌∙◌, arith}
 use Rattle.std.specs.Prelude.{IsTrue, Ok, Err, cond}
 use Rattle.std.specs.List.{AllByRecursion, list_all, list_any}
 use Rattle.std.proofs.lemmas.Bool.{false≢true, and_from, and_parts, lt-ltb, not_from_false}
 use Rattle.units.specs.Limits.{most_rows}
 use Rattle.units.specs.Lists.{follow, gather}
-use Rattle.units.specs.Ids.{Id, same_id}
+use Rattle.units.specs.Ids.{Id, same_id, older}
 use Rattle.units.specs.ById.{find_member}
 use Rattle.units.specs.Keys.{Bytes}
 use Rattle.units.specs.Locks.{clash, locks_of}
@@ -17,14 +17,14 @@ use Rattle.units.specs.declared.lock.Lock.{Lock}
 use Rattle.units.specs.declared.setup.Setup.{Setup}
 use Rattle.units.specs.declared.writes.Install.{Install}
 use Rattle.units.specs.declared.writes.Write.{Write}
-use Rattle.units.proofs.ByIdLaws.{first_none, found_has, has-without_other}
-use Rattle.units.proofs.IdLaws.{same_id_comm}
+use Rattle.units.proofs.ByIdLaws.{first_none, found_all, found_has, found_is, has-without_other}
+use Rattle.units.proofs.IdLaws.{same_id_comm, same_id-is}
 use Rattle.units.proofs.ListLaws.{all_gives}
 use Rattle.truetime.specs.Interval.{Interval}
-use Rattle.record.specs.Accepted.{fits_beside, may_stand, locks_standing, stamps_standing, standing_locks, standing_stamp}
-use Rattle.record.specs.Facts.{TxnStatus, Facts, facts_of, learn, or_unrecorded, recorded, with_status}
+use Rattle.record.specs.Accepted.{fits_beside, may_stand, locks_standing, stamps_standing, standing_locks, standing_stamp, standing_id, ids_standing, rises}
+use Rattle.record.specs.Facts.{TxnStatus, Facts, facts_of, kept_entries, learn, or_unrecorded, recorded, with_status}
 use Rattle.record.specs.Installs.{installs_of, writes_by}
-use Rattle.record.specs.Records.{Ended, Status, Unrecorded, StandsPrepared, StandsDecided, HasAborted, HasSettled, HasClosed, status_by, status_of}
+use Rattle.record.specs.Records.{Ended, Status, Unrecorded, StandsPrepared, StandsDecided, HasAborted, HasSettled, HasClosed, status_by, status_of, status_written, retired_of, is_below}
 use Rattle.record.specs.Records.{horizon_of, ids_of, is_aborted, committed_of, prepared_of, ended_of}
 use Rattle.record.specs.declared.record.Committed.{Committed}
 use Rattle.record.specs.declared.record.Prepared.{Prepared}
@@ -34,20 +34,21 @@ use Rattle.facts.specs.Rules.{allows, follows_facts, is_unrecorded}
 use Rattle.message.specs.declared.message.Input.{Input}
 use Rattle.protocol.specs.FitsBeside.{LoggedFitsBeside}
 use Rattle.protocol.specs.Rows.{Memory, Phase, Row, IsPrepared, IsDecided, find_row, held_stamp, safe, standing_row, without_row}
-use Rattle.protocol.specs.Plan.{Before, Keeps, Plan, Planned, start_of_step, carried}
-use Rattle.protocol.specs.Cells.{plan_advance, plan_forget}
+use Rattle.protocol.specs.Plan.{Before, Keeps, Plan, Planned, Retires, start_of_step, carried}
+use Rattle.protocol.specs.Cells.{plan_advance, plan_forget, plan_retire}
 use Rattle.protocol.specs.Step.{plan_input, facts_after, IsInLimit}
 use Rattle.protocol.specs.Sound.{Agrees, IsSound, StandsBy, writes_standing}
 use Rattle.protocol.proofs.AboveVersions.{rows_apart}
 use Rattle.protocol.proofs.Follows.{logged_follows}
 use Rattle.protocol.proofs.InstallsAbove.{installs_above}
+use Rattle.protocol.proofs.KeptAgreement.{each_false}
 use Rattle.protocol.proofs.OpenedRows.{find-gather}
 use Rattle.protocol.proofs.OpeningSound.{Backed, entries_own, opened_backed, opened_lawful, opened_over, opened_up, row_over}
 use Rattle.protocol.proofs.PlanShapes.{shape_of}
 use Rattle.protocol.proofs.RowChanges.{by_id-claims, find_each}
 use Rattle.protocol.proofs.RowCounts.{has_row, no_more, shorter-without_row}
 use Rattle.protocol.proofs.Serves.{AllOver, Over}
-use Rattle.protocol.proofs.Shapes.{Shape, Answers, IsEnd, IsAbort, IsClose, IsSettle, IsLock, IsWait, IsPromise, IsDecision, ShapeOf, Acts, IsAdvance, IsForget}
+use Rattle.protocol.proofs.Shapes.{Shape, Answers, IsEnd, IsAbort, IsClose, IsSettle, IsLock, IsWait, IsPromise, IsDecision, ShapeOf, Acts, IsAdvance, IsForget, IsRetire}
 use Rattle.protocol.proofs.StatusChanges.{entry_other, entry_same, status_same}
 use Rattle.protocol.proofs.StepSound.{step_keeps_sound}
 use Rattle.protocol.proofs.WithinLimit.{stays_within}
@@ -79,11 +80,55 @@ locks_of_rows (e ∷ es) = by_status e.status (locks_of_rows es)
     by_status (StandsDecided c) k = ap (λ l. locks_of c.reads c.writes ∷ l) k
     by_status _ k = k
 
+-- what is told of a status is told of the entries that are kept
+gather_kept : {C : Type 0} (f : Status → Option C) (log : List Record) (ids : List Id) → f Unrecorded ≡ None
+    → gather (λ t. f (status_of log t)) ids
+    ≡ gather (λ (e : TxnStatus). f e.status) (kept_entries (retired_of log) (map (λ t. record { txn = t; status = status_written log t }) ids))
+unfolding status_of
+gather_kept f log [] none = refl
+gather_kept {C = C} f log (t ∷ ts) none = by_test (is_below (retired_of log) t) (gather_kept f log ts none)
+  where
+    entry : TxnStatus
+    entry = record { txn = t; status = status_written log t }
+
+    more : List C
+    more = gather (λ u. f (cond (is_below (retired_of log) u) Unrecorded (status_written log u))) ts
+
+    rest : List TxnStatus
+    rest = kept_entries (retired_of log) (map (λ u. record { txn = u; status = status_written log u }) ts)
+
+    put : (o : Option C) → List C → List C
+    put o l = elim o as (λ q. List C) [ None ↦ l | Some y ↦ y ∷ l ]
+
+    by_test : (b : Bool) → more ≡ gather (λ (e : TxnStatus). f e.status) rest
+        → (elim (f (cond b Unrecorded (status_written log t))) as (λ q. List C) [ None ↦ more | Some y ↦ y ∷ more ])
+        ≡ gather (λ (e : TxnStatus). f e.status) (cond (not b) (entry ∷ rest) rest)
+    by_test true e = ap (λ (o : Option C). elim o as (λ q. List C) [ None ↦ more | Some y ↦ y ∷ more ]) none ∙ e
+    by_test false e = by_value (f (status_written log t))
+      where
+        by_value : (o : Option C) → (elim o as (λ q. List C) [ None ↦ more | Some y ↦ y ∷ more ])
+            ≡ (elim o as (λ q. List C) [ None ↦ gather (λ (x : TxnStatus). f x.status) rest | Some y ↦ y ∷ gather (λ (x : TxnStatus). f x.status) rest ])
+        by_value None = e
+        by_value (Some y) = ap (λ l. y ∷ l) e
+
 pub standing_is : (log : List Record) → locks_standing log ≡ map (λ r. r.held) (log_rows (facts_of log))
 unfolding facts_of
-standing_is log =
-    gather-map (λ (e : TxnStatus). standing_locks e.status) (λ t. record { txn = t; status = status_of log t }) (ids_of log)
-    ∙ locks_of_rows (facts_of log).entries
+standing_is log = gather_kept standing_locks log (ids_of log) refl ∙ locks_of_rows (facts_of log).entries
+
+ids_of_rows : (es : List TxnStatus) → gather (λ e. standing_id e.status) es ≡ map (λ r. r.txn) (gather standing_row es)
+ids_of_rows [] = refl
+ids_of_rows (e ∷ es) = by_status e.status (ids_of_rows es)
+  where
+    by_status : (s : Status) → gather (λ e. standing_id e.status) es ≡ map (λ r. r.txn) (gather standing_row es)
+        → gather (λ e. standing_id e.status) (record { txn = e.txn; status = s } ∷ es) ≡
+        map (λ r. r.txn) (gather standing_row (record { txn = e.txn; status = s } ∷ es))
+    by_status (StandsPrepared p) k = ap (λ l. p.txn ∷ l) k
+    by_status (StandsDecided c) k = ap (λ l. c.txn ∷ l) k
+    by_status _ k = k
+
+pub ids_are : (log : List Record) → ids_standing log ≡ map (λ r. r.txn) (log_rows (facts_of log))
+unfolding facts_of
+ids_are log = gather_kept standing_id log (ids_of log) refl ∙ ids_of_rows (facts_of log).entries
 
 pub length-held : (rows : List Row) → length (map (λ (r : Row). r.held) rows) ≡ length rows
 length-held [] = refl
@@ -238,7 +283,7 @@ fits_prepare : (shard : ℕ) (log : List Record) (m later : Memory) (p : Prepare
 unfolding fits_beside follows_facts learn
 fits_prepare shard log m later p sound next room follows =
     let fresh : recorded (facts_of log) p.txn ≡ Unrecorded =
-    unrecorded_is (recorded (facts_of log) p.txn) (and_parts _ _ (and_parts _ _ (and_parts _ _ follows).1).0).1 in
+    unrecorded_is (recorded (facts_of log) p.txn) (and_parts _ _ (and_parts _ _ (and_parts _ _ (and_parts _ _ follows).1).0).1).0 in
     stands_beside shard log (learn (facts_of log) (Record.Prepare p)) m later p.txn (StandsPrepared p) p.at p.reads p.writes
     (record { txn = p.txn; held = locks_of p.reads p.writes; phase = IsPrepared p.coordinator p.at }) sound next room refl refl refl fresh
     (promise_above (facts_of log).installs (facts_of log).horizon later p.txn p (find_row later.rows p.txn) next.horizon refl agrees)
@@ -255,7 +300,7 @@ fits_commit : (shard : ℕ) (log : List Record) (m later : Memory) (c : Committe
 unfolding fits_beside follows_facts learn
 fits_commit shard log m later c sound next room follows =
     let fresh : recorded (facts_of log) c.txn ≡ Unrecorded =
-    unrecorded_is (recorded (facts_of log) c.txn) (and_parts _ _ (and_parts _ _ (and_parts _ _ follows).1).0).1 in
+    unrecorded_is (recorded (facts_of log) c.txn) (and_parts _ _ (and_parts _ _ (and_parts _ _ (and_parts _ _ follows).1).0).1).0 in
     stands_beside shard log (learn (facts_of log) (Record.Commit c)) m later c.txn (StandsDecided c) c.at c.reads c.writes
     (record { txn = c.txn; held = locks_of c.reads c.writes; phase = IsDecided c.at c.parts }) sound next room refl refl refl fresh
     (decision_above (facts_of log).installs (facts_of log).horizon later c.txn c (find_row later.rows c.txn) next.horizon refl agrees)
@@ -282,9 +327,7 @@ stamps_of_rows (e ∷ es) = by_status e.status (stamps_of_rows es)
 
 pub stamps_are : (log : List Record) → stamps_standing log ≡ gather (λ r. held_stamp r.phase) (log_rows (facts_of log))
 unfolding facts_of
-stamps_are log =
-    gather-map (λ (e : TxnStatus). standing_stamp e.status) (λ t. record { txn = t; status = status_of log t }) (ids_of log)
-    ∙ stamps_of_rows (facts_of log).entries
+stamps_are log = gather_kept standing_stamp log (ids_of log) refl ∙ stamps_of_rows (facts_of log).entries
 
 all_above : (at : ℕ) (rows : List Row) → 0 < at → AllOver at rows → list_all (nat_lt at) (gather (λ r. held_stamp r.phase) rows) ≡ true
 all_above at [] up over = refl
@@ -302,11 +345,30 @@ fits_horizon shard log m at sound low high =
     ap (list_all (nat_lt at)) (stamps_are log)
     ∙ all_above at (log_rows (facts_of log)) (omega (arith, high)) (opened_over shard (facts_of log) m sound at low)
 
+-- nobody stands whose id is below one with which no row is in the way
+fits_retired : (shard : ℕ) (log : List Record) (m : Memory) (below : Id) → IsSound shard (facts_of log) m → list_any (λ r. older r.txn below) m.rows ≡ false →
+    fits_beside log (Record.Retired below) ≡ true
+unfolding fits_beside
+fits_retired shard log m below sound none =
+    ap (list_all (λ t. not (older t below))) (ids_are log)
+    ∙ above_all (log_rows (facts_of log)) (opened_backed shard (facts_of log) m sound)
+  where
+    above_all : (rows : List Row) → AllByRecursion (Backed m) rows → list_all (λ t. not (older t below)) (map (λ r. r.txn) rows) ≡ true
+    above_all [] backed = refl
+    above_all (r ∷ rs) backed =
+        let x = backed.0 in
+        let own : x.row.txn ≡ r.txn = same_id-is x.row.txn r.txn (found_is (λ (q : Row). q.txn) m.rows r.txn x.row x.found) in
+        let apart : older x.row.txn below ≡ false =
+        found_all (λ (q : Row). older q.txn below ≡ false) (λ (q : Row). q.txn) m.rows r.txn x.row (each_false (λ (q : Row). older q.txn below) m.rows none)
+        x.found in
+        and_from _ _ (ap not (ap (λ (t : Id). older t below) (sym own) ∙ apart)) (above_all rs backed.1)
+
 -- a horizon that is logged was served, and is above the former one
 abbrev Forgets : Before → Option Record → Type 0
 Forgets b None = Unit {0}
 Forgets b (Some (Record.Horizon at)) = (at ≤ safe b.memory) × (b.facts.horizon < at)
 Forgets b (Some (Record.Ceiling at)) = Unit {0}
+Forgets b (Some (Record.Retired below)) = list_any (λ r. older r.txn below) b.memory.rows ≡ false
 Forgets b (Some (Record.Opened epoch)) = Unit {0}
 Forgets b (Some (Record.Prepare p)) = Unit {0}
 Forgets b (Some (Record.Commit c)) = Unit {0}
@@ -341,6 +403,7 @@ unfolding ForgetsBy
 forgets_of b i p (Acts shape) = forgets b p shape
 forgets_of b i p (IsAdvance stride at k e) = subst (ForgetsBy b) (sym e) (forgets_ceiling b (nat_lt b.facts.floor at) _)
 forgets_of b i p (IsForget at k low high e) = subst (ForgetsBy b) (sym e) (low, high)
+forgets_of b i p (IsRetire below k none up e) = subst (ForgetsBy b) (sym e) none
 
 -- the writes of what an outcome ends
 pub writes_are : (a : Bool) (c : Option Committed) (p : Option Prepared) (e : Option Ended) (s : ℕ) → allows (status_by a c p e) (Some s) ≡ true
@@ -352,22 +415,32 @@ writes_are false None (Some p) None s k = refl
 writes_are false None (Some p) (Some e) s k = absurd (false≢true k)
 writes_are false None None e s k = absurd (false≢true k)
 
+pub written_are : (log : List Record) (t : Id) (s : ℕ) → allows (recorded (facts_of log) t) (Some s) ≡ true
+    → writes_standing (recorded (facts_of log) t) ≡ writes_by (committed_of log t) (prepared_of log t)
+unfolding status_of status_written
+written_are log t s allowed = by_test (is_below (retired_of log) t) refl
+  where
+    by_test : (b : Bool) → is_below (retired_of log) t ≡ b → writes_standing (recorded (facts_of log) t) ≡ writes_by (committed_of log t) (prepared_of log t)
+    by_test true e =
+        absurd (false≢true (ap (λ q. allows q (Some s)) (sym (recorded_is log t ∙ ap (λ b. cond b Unrecorded (status_written log t)) e)) ∙ allowed))
+    by_test false e =
+        let is = recorded_is log t ∙ ap (λ b. cond b Unrecorded (status_written log t)) e in
+        ap writes_standing is
+        ∙ writes_are (is_aborted log t) (committed_of log t) (prepared_of log t) (ended_of log t) s (sym (ap (λ q. allows q (Some s)) is) ∙ allowed)
+
 fits_outcome : (shard : ℕ) (log : List Record) (t : Id) (s : ℕ) → follows_facts shard (facts_of log) (Record.Outcome t (Some s)) ≡ true
     → IsTrue (above_versions (facts_of log).installs s (writes_standing (recorded (facts_of log) t))) → fits_beside log (Record.Outcome t (Some s)) ≡ true
-unfolding fits_beside follows_facts facts_of status_of
+unfolding fits_beside follows_facts facts_of
 fits_outcome shard log t s follows above =
-    let allowed : allows (status_by (is_aborted log t) (committed_of log t) (prepared_of log t) (ended_of log t)) (Some s) ≡ true =
-    subst (λ q. allows q (Some s) ≡ true) (recorded_is log t) (and_parts _ _ follows).1 in
-    let same : writes_standing (recorded (facts_of log) t) ≡ writes_by (committed_of log t) (prepared_of log t) =
-    ap writes_standing (recorded_is log t) ∙ writes_are (is_aborted log t) (committed_of log t) (prepared_of log t) (ended_of log t) s allowed in
-    subst (λ ws. IsTrue (above_versions (installs_of log) s ws)) same above
+    subst (λ ws. IsTrue (above_versions (installs_of log) s ws)) (written_are log t s (and_parts _ _ follows).1) above
 
 -- ---- a step
 
--- the record is a ceiling or a horizon
+-- the record is a ceiling, a horizon or a retirement
 abbrev is_ceiling : Record → Bool
 is_ceiling (Record.Ceiling at) = true
 is_ceiling (Record.Horizon at) = true
+is_ceiling (Record.Retired below) = true
 is_ceiling (Record.Opened epoch) = false
 is_ceiling (Record.Prepare p) = false
 is_ceiling (Record.Commit c) = false
@@ -413,15 +486,35 @@ forget_logs false false at last p r e logged =
     let it : Record.Horizon at ≡ r = cc in
     subst (λ q. is_ceiling q ≡ true) it refl
 
+-- the plan of a retirement
+abbrev retiring : Bool → Bool → (below : Id) → (last : ℕ) → Planned
+retiring stand up below last =
+    cond stand (Err NotYet) (cond up (Ok (record { wounded = []; change = Retires below; logged = Some (Record.Retired below); last = last; outbox = [] }))
+    (Ok (record { wounded = []; change = Keeps; logged = None; last = last; outbox = [] })))
+
+retire_logs : (stand up : Bool) (below : Id) (last : ℕ) (p : Plan) (r : Record) → retiring stand up below last ≡ Ok p → p.logged ≡ Some r → is_ceiling r ≡ true
+retire_logs true up below last p r e logged = cc
+retire_logs false false below last p r e logged =
+    let is : record { wounded = []; change = Keeps; logged = None; last = last; outbox = [] } ≡ p = cc in
+    let same : None ≡ Some r = ap (λ (q : Plan). q.logged) is ∙ logged in
+    cc
+retire_logs false true below last p r e logged =
+    let is : record { wounded = []; change = Retires below; logged = Some (Record.Retired below); last = last; outbox = [] } ≡ p = cc in
+    let same : Some (Record.Retired below) ≡ Some r = ap (λ (q : Plan). q.logged) is ∙ logged in
+    let it : Record.Retired below ≡ r = cc in
+    subst (λ q. is_ceiling q ≡ true) it refl
+
 -- an input by which a step logs anything else names no timestamp
 limit_of : (rows : ℕ) (setup : Setup) (f : Facts) (m : Memory) (now : Interval) (i : Input) (p : Plan) (r : Record) →
     plan_input setup (start_of_step rows setup f m) now i ≡ Ok p
     → p.logged ≡ Some r → is_ceiling r ≡ false → IsInLimit i
-unfolding plan_input plan_advance plan_forget
+unfolding plan_input plan_advance plan_forget plan_retire
 limit_of rows setup f m now (Input.Advance at) p r e logged k =
     absurd (false≢true (sym k ∙ advance_logs (nat_lt now.latest at) (nat_lt f.floor at) _ _ p r e logged))
 limit_of rows setup f m now (Input.Forget at) p r e logged k =
     absurd (false≢true (sym k ∙ forget_logs (nat_lt (safe m) at) (nat_le at f.horizon) at m.last p r e logged))
+limit_of rows setup f m now (Input.Retire below) p r e logged k =
+    absurd (false≢true (sym k ∙ retire_logs (list_any (λ q. older q.txn below) m.rows) (rises f.retired below) below m.last p r e logged))
 limit_of rows setup f m now _ p r e logged k = tt
 
 pub logged_fits_beside : LoggedFitsBeside
@@ -452,6 +545,7 @@ logged_fits_beside setup log memory now i p r sound few e logged = by_record r l
     by_record (Record.Ceiling at) k = refl
     by_record (Record.Horizon at) k =
         let was = served (Record.Horizon at) k in fits_horizon setup.shard log memory at sound was.0 was.1
+    by_record (Record.Retired below) k = fits_retired setup.shard log memory below sound (served (Record.Retired below) k)
     by_record (Record.Prepare x) k = fits_prepare setup.shard log memory (carried p memory) x sound (next (Record.Prepare x) k refl) room
         (follows (Record.Prepare x) k)
     by_record (Record.Commit c) k = fits_commit setup.shard log memory (carried p memory) c sound (next (Record.Commit c) k refl) room

@@ -1,6 +1,6 @@
 -- What a step logs may come next.
 use Rattle.std.proofs.Common.{◌≡◌, ℕ, ◌<◌, ◌≤◌, Bool, true, false, cond, ◌&&◌, nat_lt, nat_le, nat_eq, List, Option, Some, None, refl, sym, ap, subst}
-use Rattle.std.proofs.Common.{◌∙◌, arith}
+use Rattle.std.proofs.Common.{◌∙◌, arith, not}
 use Rattle.std.specs.Prelude.{IsTrue}
 use Rattle.std.proofs.lemmas.Bool.{and_from, eq-eqb, lt-ltb, le-leb}
 use Rattle.units.specs.Ids.{Id}
@@ -8,7 +8,8 @@ use Rattle.units.specs.declared.lock.Lock.{Lock}
 use Rattle.record.specs.Records.{StandsPrepared}
 use Rattle.record.specs.declared.record.Prepared.{Prepared}
 use Rattle.record.specs.declared.record.Record.{Record}
-use Rattle.facts.specs.Rules.{allows, is_unrecorded, follows_facts}
+use Rattle.facts.specs.Rules.{allows, is_free, is_unrecorded, follows_facts}
+use Rattle.record.specs.Accepted.{rises}
 use Rattle.message.specs.declared.message.Input.{Input}
 use Rattle.protocol.specs.Rows.{IsPrepared, IsDecided, find_row, safe}
 use Rattle.protocol.specs.Plan.{Plan, Before, start_of_step, stands}
@@ -16,9 +17,9 @@ use Rattle.protocol.specs.Cells.{is_outcome_for, ceiling_for}
 use Rattle.protocol.specs.Sound.{LoggedFollows}
 use Rattle.protocol.proofs.RowChanges.{row_as, by_id-claims}
 use Rattle.protocol.proofs.PlanShapes.{shape_of}
-use Rattle.protocol.proofs.Shapes.{Shape, Answers, IsEnd, IsAbort, IsClose, IsSettle, IsLock, IsWait, IsPromise, IsDecision, ShapeOf, Acts, IsAdvance, IsForget}
+use Rattle.protocol.proofs.Shapes.{Shape, Answers, IsEnd, IsAbort, IsClose, IsSettle, IsLock, IsWait, IsPromise, IsDecision, ShapeOf, Acts, IsAdvance, IsForget, IsRetire}
 use Rattle.protocol.proofs.Serves.{safe_last}
-use Rattle.protocol.proofs.Shapes.{is_undecided}
+use Rattle.protocol.proofs.Shapes.{is_undecided, not_retired}
 use Rattle.protocol.proofs.Agreement.{Sound, unrecorded, PromiseOf, promise_of, DecisionOf, decision_of, not_below}
 
 -- where something is logged, it may come next
@@ -39,9 +40,13 @@ opened b sound = lt-ltb 0 b.facts.epoch sound.opened
 stamped : (last at : ℕ) → last < at → nat_lt 0 at ≡ true
 stamped last at h = lt-ltb 0 at (omega (arith, h))
 
+-- of who is undecided nothing is recorded, and it is not retired
+free : (b : Before) (t : Id) → Sound b → is_undecided (stands b t) ≡ true → is_free b.facts t ≡ true
+free b t sound fresh = and_from _ _ (ap is_unrecorded (unrecorded b t sound fresh)) (ap not (not_retired b t fresh))
+
 follows_abort : (b : Before) (t : Id) → Sound b → is_undecided (stands b t) ≡ true → IsTrue (follows_facts b.shard b.facts (Record.Abort t))
 unfolding follows_facts
-follows_abort b t sound fresh = and_from _ _ (opened b sound) (ap is_unrecorded (unrecorded b t sound fresh))
+follows_abort b t sound fresh = and_from _ _ (opened b sound) (free b t sound fresh)
 
 follows_close : (b : Before) (t : Id) (n c at : ℕ) (held : List Lock) (outcome : Option ℕ) → Sound b
     → find_row b.memory.rows t ≡ Some (row_as t held (IsPrepared c at)) → is_outcome_for n c at outcome ≡ true
@@ -73,11 +78,11 @@ follows b p sound (IsLock t ended needs phase out l e) = subst (Follows b) (sym 
 follows b p sound (IsWait t needs phase out w e) = subst (Follows b) (sym e) tt
 follows b p sound (IsPromise t ended c at rs ws out l e) =
     subst (Follows b) (sym e)
-    (and_from _ _ (opened b sound) (all_three _ _ _ (stamped b.memory.last at l.above) (ap is_unrecorded (unrecorded b t sound l.undecided))
+    (and_from _ _ (opened b sound) (all_three _ _ _ (stamped b.memory.last at l.above) (free b t sound l.undecided)
     (l.lower sound.fit)))
 follows b p sound (IsDecision t ended needs at ps rs ws out l e) =
     subst (Follows b) (sym e)
-    (and_from _ _ (opened b sound) (all_three _ _ _ (stamped b.memory.last at l.above) (ap is_unrecorded (unrecorded b t sound l.undecided))
+    (and_from _ _ (opened b sound) (all_three _ _ _ (stamped b.memory.last at l.above) (free b t sound l.undecided)
     (l.first sound.fit)))
 
 follows_ceiling : (b : Before) (stride at : ℕ) → Sound b → LogFollows b (ceiling_for b.facts.floor stride at)
@@ -95,11 +100,16 @@ follows_horizon b at sound low high =
     let below : at ≤ b.facts.floor = omega (arith, low, safe_last b.memory, sound.under) in
     and_from _ _ (opened b sound) (and_from _ _ (lt-ltb b.facts.horizon at high) (le-leb at b.facts.floor below))
 
+follows_retired : (b : Before) (below : Id) → Sound b → rises b.facts.retired below ≡ true → IsTrue (follows_facts b.shard b.facts (Record.Retired below))
+unfolding follows_facts
+follows_retired b below sound up = and_from _ _ (opened b sound) up
+
 follows_of : (b : Before) (i : Input) (p : Plan) → Sound b → ShapeOf b i p → Follows b p
 unfolding Follows
 follows_of b i p sound (Acts shape) = follows b p sound shape
 follows_of b i p sound (IsAdvance stride at k e) = subst (Follows b) (sym e) (follows_ceiling b stride at sound)
 follows_of b i p sound (IsForget at k low high e) = subst (Follows b) (sym e) (follows_horizon b at sound low high)
+follows_of b i p sound (IsRetire below k none up e) = subst (Follows b) (sym e) (follows_retired b below sound up)
 
 pub logged_follows : LoggedFollows
 unfolding Follows

@@ -18,16 +18,17 @@ use Rattle.units.proofs.KeyLaws.{same_key-refl}
 use Rattle.units.proofs.ByIdLaws.{found_is, found_has}
 use Rattle.record.specs.Records.{Status, Unrecorded, StandsPrepared, StandsDecided, HasAborted, HasSettled, HasClosed}
 use Rattle.record.specs.Facts.{recorded}
+use Rattle.record.specs.Records.{is_below}
 use Rattle.locks.specs.Ways.{gives_way}
 use Rattle.locks.proofs.Clashes.{clash_nil}
 use Rattle.locks.proofs.Oldest.{ready_is_oldest}
 use Rattle.locks.proofs.WayLaws.{wounded-is}
-use Rattle.protocol.specs.Rows.{Row, Phase, HasRow, standing, standing_by, claim_of, claims, find_row, is_firm, needs_of}
+use Rattle.protocol.specs.Rows.{Row, Phase, Standing, HasRow, WasRetired, standing, standing_by, standing_kept, claim_of, claims, find_row, is_firm, needs_of}
 use Rattle.protocol.specs.Plan.{Before, stands, in_way, is_crowded}
 use Rattle.protocol.specs.Sound.{holds_alone, holds_writes, is_exclusive}
 use Rattle.protocol.proofs.RowChanges.{row_as, find_each}
 use Rattle.protocol.proofs.RowTable.{claims-by_id, claims-find_row}
-use Rattle.protocol.proofs.Shapes.{IsLooseOther}
+use Rattle.protocol.proofs.Shapes.{IsLooseOther, stands_kept}
 
 -- ---- the row of a standing
 
@@ -55,12 +56,17 @@ by_row rows t held phase None (StandsDecided c) false found e = cc
 pub row_at : (b : Before) (t : Id) (held : List Lock) (phase : Phase) → stands b t ≡ HasRow held phase → find_row b.memory.rows t ≡ Some (row_as t held phase)
 unfolding standing
 row_at b t held phase e =
-    by_row b.memory.rows t held phase (find_row b.memory.rows t) (recorded b.facts t) _ refl e
+    by_row b.memory.rows t held phase (find_row b.memory.rows t) (recorded b.facts t) _ refl
+    (by_cond (is_below b.facts.retired t) (standing_kept b.facts b.memory t) e)
+  where
+    by_cond : (c : Bool) (s : Standing) → cond c WasRetired s ≡ HasRow held phase → s ≡ HasRow held phase
+    by_cond true s e = cc
+    by_cond false s e = e
 
--- and who has a row stands by it
-pub stands_at : (b : Before) (t : Id) (r : Row) → find_row b.memory.rows t ≡ Some r → stands b t ≡ HasRow r.held r.phase
-unfolding standing
-stands_at b t r found = ap (λ o. standing_by o (recorded b.facts t) (list_any (same_id t) b.memory.ended)) found
+-- and who has a row and is not retired stands by it
+pub stands_at : (b : Before) (t : Id) (r : Row) → is_below b.facts.retired t ≡ false → find_row b.memory.rows t ≡ Some r → stands b t ≡ HasRow r.held r.phase
+stands_at b t r kept found =
+    stands_kept b t kept ∙ ap (λ o. standing_by o (recorded b.facts t) (list_any (same_id t) b.memory.ended)) found
 
 -- there is room for who has a row
 pub room_at : (b : Before) (t : Id) (r : Row) → find_row b.memory.rows t ≡ Some r → is_crowded b t ≡ false

@@ -14,7 +14,7 @@ use Rattle.protocol.specs.Sound.{writes_standing, InstallsAbove}
 use Rattle.protocol.proofs.Agreement.{Sound, PromiseOf, promise_of, DecisionOf, decision_of, not_below}
 use Rattle.protocol.proofs.PlanShapes.{shape_of}
 use Rattle.protocol.proofs.RowChanges.{row_as, by_id-claims}
-use Rattle.protocol.proofs.Shapes.{Shape, Answers, IsEnd, IsAbort, IsClose, IsSettle, IsLock, IsWait, IsPromise, IsDecision, ShapeOf, Acts, IsAdvance, IsForget}
+use Rattle.protocol.proofs.Shapes.{Shape, Answers, IsEnd, IsAbort, IsClose, IsSettle, IsLock, IsWait, IsPromise, IsDecision, ShapeOf, Acts, IsAdvance, IsForget, IsRetire}
 use Rattle.protocol.proofs.AboveVersions.{above_later}
 
 -- what is installed by a record that is logged is above
@@ -24,6 +24,7 @@ LogAbove b (Some (Record.Outcome t None)) = Unit {0}
 LogAbove b (Some (Record.Opened epoch)) = Unit {0}
 LogAbove b (Some (Record.Ceiling at)) = Unit {0}
 LogAbove b (Some (Record.Horizon at)) = Unit {0}
+LogAbove b (Some (Record.Retired below)) = Unit {0}
 LogAbove b (Some (Record.Prepare p)) = Unit {0}
 LogAbove b (Some (Record.Commit c)) = Unit {0}
 LogAbove b (Some (Record.Abort t)) = Unit {0}
@@ -75,6 +76,7 @@ unfolding Above
 above_of b i p sound (Acts shape) = above b p sound shape
 above_of b i p sound (IsAdvance stride at k e) = subst (Above b) (sym e) (above_ceiling b _ stride at refl)
 above_of b i p sound (IsForget at k low high e) = subst (Above b) (sym e) tt
+above_of b i p sound (IsRetire below k none up e) = subst (Above b) (sym e) tt
 
 pub installs_above : InstallsAbove
 unfolding Above

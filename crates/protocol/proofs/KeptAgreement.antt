@@ -1,19 +1,21 @@
 -- Each transaction's record and its row agree after a step.
-use Rattle.std.proofs.Common.{◌≡◌, ℕ, ◌<◌, ◌≤◌, max, Bool, true, false, cond, nat_lt, List, [], ◌++◌, Option, Some, None, refl, sym, ap, subst, ◌∙◌}
+use Rattle.std.proofs.Common.{◌≡◌, ℕ, ◌<◌, ◌≤◌, max, Bool, true, false, not, cond, nat_lt, List, [], ◌∷◌, ◌++◌, Option, Some, None, refl, sym, ap, subst, ◌∙◌}
 use Rattle.std.proofs.Common.{arith, ◌⊎◌, inl, inr}
 use Rattle.std.proofs.Math.Nat.{le-max_left, le-max_right}
 use Rattle.std.specs.Prelude.{IsTrue}
-use Rattle.std.specs.List.{AllByRecursion, list_all}
-use Rattle.std.proofs.lemmas.Bool.{false≢true}
+use Rattle.std.specs.List.{AllByRecursion, list_all, list_any}
+use Rattle.std.proofs.lemmas.Bool.{false≢true, or_parts}
 use Rattle.std.proofs.lemmas.List.{append-nil}
-use Rattle.units.specs.Ids.{Id, same_id}
+use Rattle.units.specs.Ids.{Id, same_id, older}
 use Rattle.units.specs.Keys.{Bytes}
 use Rattle.units.specs.Locks.{holds, exclusive}
 use Rattle.units.specs.Versions.{above_versions}
 use Rattle.units.specs.declared.lock.Lock.{Lock}
 use Rattle.units.specs.declared.writes.Install.{Install}
 use Rattle.units.specs.declared.writes.Write.{Write}
+use Rattle.units.proofs.ByIdLaws.{found_all, found_is}
 use Rattle.units.proofs.IdLaws.{same_id-is}
+use Rattle.record.proofs.Statuses.{first_kept}
 use Rattle.record.specs.Records.{Status, Unrecorded, StandsPrepared, StandsDecided, HasAborted, HasSettled, HasClosed}
 use Rattle.record.specs.Facts.{TxnStatus, learn, recorded, installs_at, with_status}
 use Rattle.record.specs.declared.record.Record.{Record}
@@ -30,7 +32,7 @@ use Rattle.protocol.proofs.KeptFacts.{raised_up}
 use Rattle.protocol.proofs.Choices.{undecided_of_loose}
 use Rattle.protocol.proofs.RowChanges.{row_as, find-with_row_same, find-with_row_other, find-without_row_same, find-without_row_other, find-without_rows}
 use Rattle.protocol.proofs.StatusChanges.{Closing, closing, settling, installs_by, status_in, status_same, status_other}
-use Rattle.protocol.proofs.Shapes.{Shape, Answers, IsEnd, IsAbort, IsClose, IsSettle, IsLock, IsWait, IsPromise, IsDecision, ShapeOf, Acts, IsAdvance, IsForget}
+use Rattle.protocol.proofs.Shapes.{Shape, Answers, IsEnd, IsAbort, IsClose, IsSettle, IsLock, IsWait, IsPromise, IsDecision, ShapeOf, Acts, IsAdvance, IsForget, IsRetire}
 use Rattle.protocol.proofs.Shapes.{IsLooseOther, is_undecided, granted_to}
 
 -- each transaction's record and its row agree
@@ -256,9 +258,35 @@ forgotten_agrees : (b : Before) (at : ℕ) → Sound b
 unfolding learn
 forgotten_agrees b at sound v = left_agrees b v v [] b.facts.installs b.memory.last sound tt (omega arith) (λ r at ws e k a. a)
 
+-- none of some pass where any does not
+pub each_false : {A : Type 0} (test : A → Bool) (xs : List A) → list_any test xs ≡ false → AllByRecursion (λ x. test x ≡ false) xs
+each_false test [] e = tt
+each_false test (x ∷ xs) e = let p = or_parts (test x) (list_any test xs) e in (p.0, each_false test xs p.1)
+
+-- what goes with a retirement has no row
+retired_agrees : (b : Before) (below : Id) → Sound b → list_any (λ r. older r.txn below) b.memory.rows ≡ false
+    → AllAgree (learn b.facts (Record.Retired below)).installs b.memory.last (learn b.facts (Record.Retired below)).entries b.memory.rows
+unfolding learn
+retired_agrees b below sound none v =
+    subst (λ s. Agrees b.facts.installs b.memory.last s (find_row b.memory.rows v)) (sym (first_kept (λ t. not (older t below)) v b.facts.entries))
+    (by_test (older v below) refl)
+  where
+    gone : (o : Option Row) → find_row b.memory.rows v ≡ o → older v below ≡ true → Agrees b.facts.installs b.memory.last Unrecorded o
+    gone None found below_it = tt
+    gone (Some r) found below_it =
+        let own : r.txn ≡ v = same_id-is r.txn v (found_is (λ (q : Row). q.txn) b.memory.rows v r found) in
+        let apart : older r.txn below ≡ false =
+        found_all (λ (q : Row). older q.txn below ≡ false) (λ (q : Row). q.txn) b.memory.rows v r (each_false (λ (q : Row). older q.txn below) b.memory.rows none) found in
+        absurd (false≢true (sym apart ∙ ap (λ (t : Id). older t below) own ∙ below_it))
+
+    by_test : (c : Bool) → older v below ≡ c → Agrees b.facts.installs b.memory.last (cond (not c) (status_in b.facts.entries v) Unrecorded) (find_row b.memory.rows v)
+    by_test true e = gone (find_row b.memory.rows v) refl e
+    by_test false e = sound.agrees v
+
 pub agreeing_of : (b : Before) (i : Input) (p : Plan) → Sound b → ShapeOf b i p → KeepsAgreement b p
 unfolding KeepsAgreement carried after_change
 agreeing_of b i p sound (Acts shape) = agreeing b p sound shape
 agreeing_of b i p sound (IsAdvance stride at k e) =
     subst (KeepsAgreement b) (sym e) (later_agrees b (max b.memory.last at) (nat_lt b.facts.floor at) _ sound (le-max_left b.memory.last at))
 agreeing_of b i p sound (IsForget at k low high e) = subst (KeepsAgreement b) (sym e) (forgotten_agrees b at sound)
+agreeing_of b i p sound (IsRetire below k none up e) = subst (KeepsAgreement b) (sym e) (retired_agrees b below sound none)

@@ -1,8 +1,8 @@
 -- What a step keeps of the facts and of the greatest timestamp: the epoch, the order of the entries and of the ended ids, the
 -- floor above what was served, and no version above it.
 use Rattle.std.specs.List.{list_all}
-use Rattle.std.proofs.Common.{◌≡◌, ℕ, ◌+◌, ◌-◌, ◌^◌, ◌<◌, ◌≤◌, max, min, Bool, true, false, cond, ◌&&◌, nat_lt, nat_le, List, [], ◌∷◌, ◌++◌, Option}
-use Rattle.std.proofs.Common.{Some, None, refl, sym, ap, subst, ◌∙◌, arith, ltb-false}
+use Rattle.std.proofs.Common.{filter, ◌≡◌, ℕ, ◌+◌, ◌-◌, ◌^◌, ◌<◌, ◌≤◌, max, min, Bool, true, false, cond, ◌&&◌, nat_lt, nat_le, List, [], ◌∷◌, ◌++◌, Option}
+use Rattle.std.proofs.Common.{Some, None, not, refl, sym, ap, subst, ◌∙◌, arith, ltb-false}
 use Rattle.std.proofs.Math.Nat.{le-max_left}
 use Rattle.std.proofs.lemmas.Bool.{le-leb}
 use Rattle.std.specs.Prelude.{IsTrue}
@@ -10,10 +10,11 @@ use Rattle.std.proofs.lemmas.Bool.Decides.{nat_tests}
 use Rattle.units.specs.Lists.{ascends}
 use Rattle.units.specs.Ids.{Id, older}
 use Rattle.units.specs.ById.{IsById}
+use Rattle.units.proofs.ByIdLaws.{by_id-keep}
 use Rattle.units.specs.Versions.{versions}
 use Rattle.units.specs.declared.writes.Install.{Install}
 use Rattle.units.specs.declared.writes.Write.{Write}
-use Rattle.record.specs.Facts.{Facts, learn, installs_at, recorded}
+use Rattle.record.specs.Facts.{TxnStatus, Facts, learn, installs_at, recorded}
 use Rattle.record.specs.declared.record.Record.{Record}
 use Rattle.message.specs.declared.message.Input.{Input}
 use Rattle.protocol.specs.Rows.{Memory}
@@ -22,8 +23,8 @@ use Rattle.protocol.specs.Cells.{raised}
 use Rattle.protocol.specs.Step.{facts_after, IsInLimit}
 use Rattle.protocol.proofs.AboveVersions.{each_append, each_gives}
 use Rattle.protocol.proofs.Agreement.{Sound, decision_of, DecisionOf}
-use Rattle.protocol.proofs.StatusChanges.{Closing, closing, settling, installs_by, by_id-status, ascends-with_id, ascends-with_ids}
-use Rattle.protocol.proofs.Shapes.{Shape, Answers, IsEnd, IsAbort, IsClose, IsSettle, IsLock, IsWait, IsPromise, IsDecision, ShapeOf, Acts, IsAdvance, IsForget}
+use Rattle.protocol.proofs.StatusChanges.{ascends-keep, Closing, closing, settling, installs_by, by_id-status, ascends-with_id, ascends-with_ids}
+use Rattle.protocol.proofs.Shapes.{Shape, Answers, IsEnd, IsAbort, IsClose, IsSettle, IsLock, IsWait, IsPromise, IsDecision, ShapeOf, Acts, IsAdvance, IsForget, IsRetire}
 
 under_ceiling : (last floor at stride : ℕ) → last ≤ floor → at ≤ 2 ^ 62 - 1 → max last at ≤ max floor (min (at + stride) (2 ^ 62 - 1))
 under_ceiling last floor at stride h fits = omega (arith, h, fits)
@@ -210,9 +211,26 @@ kept_horizon b at rest sound same others =
       installed = sound.installed;
     })
 
+-- ---- a retirement
+
+kept_retired : (b : Before) (below : Id) (rest : Memory) → Sound b → rest.last ≡ b.memory.last
+    → rest.ended ≡ filter (λ t. not (older t below)) b.memory.ended
+    → KeptFacts (learn b.facts (Record.Retired below)) rest
+unfolding learn
+kept_retired b below rest sound same others =
+    let left = filter (λ t. not (older t below)) b.memory.ended in
+    other_rows _ (record { last = b.memory.last; rows = []; ended = left }) rest (sym same) (sym others) (record {
+      opened = sound.opened;
+      entries = by_id-keep (λ (e : TxnStatus). e.txn) (λ e. not (older e.txn below)) b.facts.entries sound.entries;
+      ended = ascends-keep (λ t. not (older t below)) b.memory.ended sound.ended;
+      under = sound.under;
+      installed = sound.installed;
+    })
+
 pub kept_facts_of : (b : Before) (i : Input) (p : Plan) → IsInLimit i → Sound b → ShapeOf b i p → KeepsFacts b p
 unfolding KeepsFacts carried ended_by
 kept_facts_of b i p fits sound (Acts shape) = kept_facts b p sound shape
 kept_facts_of b i p fits sound (IsAdvance stride at k e) =
     subst (KeepsFacts b) (sym e) (kept_ceiling b stride at _ (nat_lt b.facts.floor at) sound (subst IsInLimit k fits) refl refl refl)
 kept_facts_of b i p fits sound (IsForget at k low high e) = subst (KeepsFacts b) (sym e) (kept_horizon b at _ sound refl refl)
+kept_facts_of b i p fits sound (IsRetire below k none up e) = subst (KeepsFacts b) (sym e) (kept_retired b below _ sound refl refl)

@@ -16,7 +16,7 @@ use Rattle.locks.proofs.Release.{release_makes_way}
 use Rattle.locks.proofs.TableLaws.{all_fail, lawful-without}
 use Rattle.locks.proofs.WayLaws.{is_free-is, none_wounded}
 use Rattle.message.specs.declared.message.Input.{Input}
-use Rattle.protocol.specs.Rows.{Row, Phase, IsPrepared, IsDecided, claim_of, claims, find_row, is_firm, needs_of, with_row, without_row, without_rows, held_in}
+use Rattle.protocol.specs.Rows.{Row, Phase, HasRow, IsPrepared, IsDecided, claim_of, claims, find_row, is_firm, needs_of, with_row, without_row, without_rows, held_in}
 use Rattle.protocol.specs.Plan.{Plan, Before, carried, after_change, in_way, stands}
 use Rattle.protocol.specs.Sound.{fits}
 use Rattle.protocol.proofs.Agreement.{Sound}
@@ -24,9 +24,9 @@ use Rattle.protocol.proofs.ClaimsBeside.{IsBeside, OwnApart, Firms, all_both, la
 use Rattle.protocol.proofs.InWay.{stands_at}
 use Rattle.protocol.proofs.RowChanges.{row_as, find-without_rows_other}
 use Rattle.protocol.proofs.RowTable.{with_row-is, claims-with_row, claims-without_row}
-use Rattle.protocol.proofs.Shapes.{Shape, Answers, IsEnd, IsAbort, IsClose, IsSettle, IsLock, IsWait, IsPromise, IsDecision, ShapeOf, Acts, IsAdvance, IsForget}
-use Rattle.protocol.proofs.Shapes.{IsLooseOther, IsCleared, is_loose}
-use Rattle.protocol.proofs.Choices.{others_gone}
+use Rattle.protocol.proofs.Shapes.{Shape, Answers, IsEnd, IsAbort, IsClose, IsSettle, IsLock, IsWait, IsPromise, IsDecision, ShapeOf, Acts, IsAdvance, IsForget, IsRetire}
+use Rattle.protocol.proofs.Shapes.{IsLooseOther, IsCleared, is_loose, not_retired}
+use Rattle.protocol.proofs.Choices.{others_gone, undecided}
 
 -- ---- the lock table
 
@@ -83,7 +83,12 @@ firms_of : (b : Before) (t : Id) (ended : List Id) (firm : Bool) → AllByRecurs
     → Firms (without_rows b.memory.rows ended) t firm
 firms_of b t ended firm gone e r found =
     let there : find_row b.memory.rows t ≡ Some r = sym (find-without_rows_other b.memory.rows ended t (others_gone b.memory.rows t ended gone)) ∙ found in
-    ap (λ s. firm || is_loose s) (sym (stands_at b t r there)) ∙ e
+    by_test firm e there
+  where
+    by_test : (c : Bool) → (c || is_loose (stands b t)) ≡ true → find_row b.memory.rows t ≡ Some r → (c || is_loose (HasRow r.held r.phase)) ≡ true
+    by_test true e there = refl
+    by_test false e there =
+        ap is_loose (sym (stands_at b t r (not_retired b t (undecided b t e)) there)) ∙ e
 
 unfoldable pub KeepsTable : Before → Plan → Type 0
 KeepsTable b p = IsLawfulTable (claims (carried p b.memory).rows)
@@ -118,6 +123,7 @@ unfolding KeepsTable carried after_change
 kept_table_of b i p sound (Acts shape) = kept_table b p sound shape
 kept_table_of b i p sound (IsAdvance stride at k e) = subst (KeepsTable b) (sym e) sound.table
 kept_table_of b i p sound (IsForget at k low high e) = subst (KeepsTable b) (sym e) sound.table
+kept_table_of b i p sound (IsRetire below k none up e) = subst (KeepsTable b) (sym e) sound.table
 
 -- ---- rows that fit the shard
 
@@ -162,3 +168,4 @@ unfolding KeepsFit carried after_change
 kept_fit_of b i p sound (Acts shape) = kept_fit b p sound shape
 kept_fit_of b i p sound (IsAdvance stride at k e) = subst (KeepsFit b) (sym e) sound.fit
 kept_fit_of b i p sound (IsForget at k low high e) = subst (KeepsFit b) (sym e) sound.fit
+kept_fit_of b i p sound (IsRetire below k none up e) = subst (KeepsFit b) (sym e) sound.fit

@@ -34,6 +34,7 @@ module _ (setup : Setup) where
     outcomes = λ t outcome. refl;
     ceilings = λ at. refl;
     horizons = λ at. refl;
+    retirements = λ below. refl;
   }
 
   -- a message for this shard names its keys alone

@@ -4,7 +4,9 @@ use Rattle.std.proofs.Common.{refl, sym, subst, ap, ◌∙◌, ltb-false, leb-fa
 use Rattle.std.specs.Prelude.{ℕ, ◌≡◌, Bool, true, false, not, cond, ◌&&◌, nat_eq, nat_lt, nat_le, List, [], Option, Some, None, Ok, Err}
 use Rattle.std.proofs.lemmas.Bool.{and_parts, and_from}
 use Rattle.units.specs.Lists.{head, when}
-use Rattle.units.specs.Ids.{Id}
+use Rattle.std.specs.List.{list_any}
+use Rattle.units.specs.Ids.{Id, older}
+use Rattle.record.specs.Accepted.{rises}
 use Rattle.units.specs.ById.{IsById}
 use Rattle.units.specs.Keys.{Bytes}
 use Rattle.units.specs.Locks.{holds, is_free}
@@ -19,16 +21,16 @@ use Rattle.message.specs.declared.message.Message.{Message}
 use Rattle.message.specs.declared.message.Prepare.{Prepare}
 use Rattle.message.specs.declared.message.Input.{Input}
 use Rattle.protocol.specs.Rows.{Memory, Phase, Collecting, IsPrepared, IsDecided, Voted, claims, held_in, needs_of, safe, with_vote}
-use Rattle.protocol.specs.Plan.{idles, serves, Plan, Planned, Before, start_of_step, is_crowded}
+use Rattle.protocol.specs.Plan.{idles, retires, serves, Plan, Planned, Before, start_of_step, is_crowded}
 use Rattle.protocol.specs.Cells.{Cell, ToRefuse, ToRest, ToReply, Provided, ToRead, ToPrepare, ToCommit, ToEnd, ToAbort, ToAbortFor, ToCount, ToClose, ToGoOn}
-use Rattle.protocol.specs.Cells.{ToSettle, ToServe, ToForget, plan_count, plan_advance, plan_forget, plan_cell}
+use Rattle.protocol.specs.Cells.{ToSettle, ToServe, ToForget, ToRetire, plan_count, plan_advance, plan_forget, plan_retire, plan_cell}
 use Rattle.protocol.specs.Sound.{fits, holds_writes}
 use Rattle.protocol.specs.Step.{is_for, cell, plan_input}
 use Rattle.protocol.proofs.CellsFrom.{IsIn, IsNext, IsFrom, cell_is_from}
 use Rattle.protocol.proofs.Each.{planned, refused, told_plan, tested, either}
 use Rattle.protocol.proofs.RowChanges.{row_as}
 use Rattle.protocol.proofs.InWay.{row_at, room_at, free_of_nothing, free_when_ready}
-use Rattle.protocol.proofs.Shapes.{Shaped, Answers, IsEnd, IsAbort, IsClose, IsSettle, IsLock, IsCleared, ShapeOf, Acts, IsAdvance, IsForget, ShapedBy}
+use Rattle.protocol.proofs.Shapes.{Shaped, Answers, IsEnd, IsAbort, IsClose, IsSettle, IsLock, IsCleared, ShapeOf, Acts, IsAdvance, IsForget, IsRetire, ShapedBy}
 use Rattle.protocol.proofs.Shapes.{is_undecided, is_loose, reads_held, all_fit, granted_to}
 use Rattle.protocol.proofs.Choices.{Ascends, shaped_reply, fits_at, clear, held_at}
 use Rattle.protocol.proofs.RequestShapes.{shaped_read_row, shaped_prepare_fresh, shaped_abort, shaped_decide, shaped_granted, shaped_commit_fresh}
@@ -89,6 +91,16 @@ shaped_forget b at = by_tests (nat_lt (safe b.memory) at) refl (nat_le at b.fact
     by_tests false k true h = planned _ (Acts (Answers [] refl))
     by_tests false k false h = planned _ (IsForget at refl (ltb-false (safe b.memory) at k) (leb-false at b.facts.horizon h) refl)
 
+shaped_retire : (b : Before) (below : Id) → ShapedBy b (Input.Retire below) (plan_retire b below)
+unfolding plan_retire
+shaped_retire b below = by_tests (list_any (λ r. older r.txn below) b.memory.rows) refl (rises b.facts.retired below) refl
+  where
+    by_tests : (stand : Bool) → list_any (λ r. older r.txn below) b.memory.rows ≡ stand → (up : Bool) → rises b.facts.retired below ≡ up →
+        ShapedBy b (Input.Retire below) (cond stand (Err NotYet) (cond up (Ok (retires below b.memory.last)) (Ok (idles b))))
+    by_tests true k up h = refused _ tt
+    by_tests false k true h = planned _ (IsRetire below refl k h refl)
+    by_tests false k false h = planned _ (Acts (Answers [] refl))
+
 -- ---- all cells
 
 -- the coordinator of a prepare that is for this shard is below it
@@ -137,6 +149,7 @@ module _ (rows : ℕ) (setup : Setup) (facts : Facts) (memory : Memory) (now : I
   shaped (ToServe latest stride at) from =
       subst (λ j. ShapedBy b j (plan_advance b latest stride at)) (sym from) (shaped_advance b latest stride at)
   shaped (ToForget at) from = subst (λ j. ShapedBy b j (plan_forget b at)) (sym from) (shaped_forget b at)
+  shaped (ToRetire below) from = subst (λ j. ShapedBy b j (plan_retire b below)) (sym from) (shaped_retire b below)
 
 -- each plan of a step has a shape
 pub shape_of : (rows : ℕ) (setup : Setup) (facts : Facts) (memory : Memory) (now : Interval) (i : Input) (p : Plan) → IsById (λ r. r.txn) memory.rows

@@ -37,6 +37,7 @@ any_fits = record {
   outcomes = λ t outcome. refl;
   ceilings = λ at. refl;
   horizons = λ at. refl;
+  retirements = λ below. refl;
 }
 
 any_rows : (rows : List Row) → list_all (λ (r : Row). any_phase r.phase) rows ≡ true

@@ -25,13 +25,13 @@ use Rattle.protocol.specs.Rows.{find_row, with_row, without_row, without_rows, i
 use Rattle.protocol.specs.Sound.{is_open, writes_standing}
 use Rattle.protocol.specs.Step.{facts_after}
 use Rattle.protocol.specs.Cells.{is_outcome_for}
-use Rattle.protocol.specs.Plan.{Plan, Before, Change, Keeps, Ends, Drops, Puts, after_change, carried}
+use Rattle.protocol.specs.Plan.{Plan, Before, Change, Keeps, Ends, Drops, Puts, Retires, after_change, carried}
 use Rattle.protocol.proofs.Agreement.{Sound, PromiseOf, promise_of, DecisionOf, decision_of, not_below}
 use Rattle.protocol.proofs.AboveVersions.{above_later}
 use Rattle.protocol.proofs.KeptFacts.{raised_up}
 use Rattle.protocol.proofs.RowChanges.{row_as}
 use Rattle.protocol.proofs.RowTable.{with_row-is}
-use Rattle.protocol.proofs.Shapes.{Shape, Answers, IsEnd, IsAbort, IsClose, IsSettle, IsLock, IsWait, IsPromise, IsDecision, ShapeOf, Acts, IsAdvance, IsForget}
+use Rattle.protocol.proofs.Shapes.{Shape, Answers, IsEnd, IsAbort, IsClose, IsSettle, IsLock, IsWait, IsPromise, IsDecision, ShapeOf, Acts, IsAdvance, IsForget, IsRetire}
 use Rattle.protocol.specs.Showable.{rises_by_key, added}
 use Rattle.protocol.proofs.Rising.{rise_one, rise_none}
 
@@ -115,6 +115,7 @@ unfolding after_change
 over_changed n rows Keeps one all = all
 over_changed n rows (Ends t) one all = over_without n rows t all
 over_changed n rows (Drops t) one all = over_without n rows t all
+over_changed n rows (Retires below) one all = all
 over_changed n rows (Puts t needs phase) one all = over_with n rows _ one all
 
 -- the served time does not fall
@@ -153,6 +154,7 @@ pub rises_of : (b : Before) (i : Input) (p : Plan) → ShapeOf b i p → Rises b
 rises_of b i p (Acts shape) = rises b p shape
 rises_of b i p (IsAdvance stride at k e) = subst (Rises b) (sym e) (rises_by b _ (omega arith) tt)
 rises_of b i p (IsForget at k low high e) = subst (Rises b) (sym e) (rises_by b _ (omega arith) tt)
+rises_of b i p (IsRetire below k none up e) = subst (Rises b) (sym e) (rises_by b _ (omega arith) tt)
 
 -- ---- the horizon stays at or below it
 
@@ -180,11 +182,16 @@ below_horizon : (b : Before) (at : ℕ) → Sound b → at ≤ safe b.memory →
 unfolding learn
 below_horizon b at sound low = omega (arith, low, sound.horizon)
 
+below_retired : (b : Before) (below : Id) → Sound b → (learn b.facts (Record.Retired below)).horizon ≤ safe b.memory
+unfolding learn
+below_retired b below sound = sound.horizon
+
 below_of : (b : Before) (i : Input) (p : Plan) → Sound b → ShapeOf b i p → Below b p
 unfolding Below
 below_of b i p sound (Acts shape) = below b p sound shape
 below_of b i p sound (IsAdvance stride at k e) = subst (Below b) (sym e) (below_ceiling b (nat_lt b.facts.floor at) _ sound)
 below_of b i p sound (IsForget at k low high e) = subst (Below b) (sym e) (below_horizon b at sound low)
+below_of b i p sound (IsRetire below k none up e) = subst (Below b) (sym e) (below_retired b below sound)
 
 -- after a step it is below what is served then
 pub kept_horizon_of : (b : Before) (i : Input) (p : Plan) → Sound b → ShapeOf b i p → (facts_after b.facts p.logged).horizon ≤ safe (carried p b.memory)
@@ -311,6 +318,7 @@ unfolding AddsBy
 adds_of b i p sound up (Acts shape) = adds b p sound up shape
 adds_of b i p sound up (IsAdvance stride at k e) = subst (AddsBy b) (sym e) (adds_ceiling b (nat_lt b.facts.floor at) _ refl)
 adds_of b i p sound up (IsForget at k low high e) = subst (AddsBy b) (sym e) (adds_none b)
+adds_of b i p sound up (IsRetire below k none rising e) = subst (AddsBy b) (sym e) (adds_none b)
 
 -- ---- the versions stay, and new ones come behind them
 

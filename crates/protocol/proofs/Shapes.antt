@@ -1,19 +1,23 @@
 -- The few shapes that the plan of a step can have, with what each of them promises of the state that it is made from.
-use Rattle.std.specs.Prelude.{ℕ, ◌≡◌, ◌<◌, ◌≤◌, Bool, true, false, not, ◌||◌, max, List, [], Option, Some, None, nat_eq, nat_lt}
-use Rattle.std.specs.List.{AllByRecursion, list_all}
+use Rattle.std.specs.Prelude.{ℕ, ◌≡◌, ◌<◌, ◌≤◌, Bool, true, false, not, cond, ◌||◌, max, List, [], Option, Some, None, nat_eq, nat_lt}
+use Rattle.std.proofs.Common.{refl, ap}
+use Rattle.std.proofs.lemmas.Bool.{false≢true}
+use Rattle.std.specs.List.{AllByRecursion, list_all, list_any}
 use Rattle.units.specs.Lists.{head, when}
-use Rattle.units.specs.Ids.{Id, same_id}
+use Rattle.units.specs.Ids.{Id, same_id, older}
 use Rattle.units.specs.Keys.{Bytes}
 use Rattle.units.specs.Locks.{holds, exclusive, is_free, with_locks}
 use Rattle.units.specs.declared.lock.Lock.{Lock}
 use Rattle.units.specs.declared.writes.Write.{Write}
+use Rattle.record.specs.Accepted.{rises}
+use Rattle.record.specs.Records.{is_below}
 use Rattle.record.specs.declared.record.Record.{Record}
 use Rattle.message.specs.declared.message.Envelope.{Envelope}
 use Rattle.message.specs.declared.message.Input.{Input}
 use Rattle.protocol.specs.Rows.{Row, Phase, IsPrepared, IsDecided, Standing, IsUnknown, WasEnded, HasRow, claims, find_row, is_firm, needs_of, held_in, safe}
-use Rattle.protocol.specs.Rows.{without_rows}
+use Rattle.protocol.specs.Rows.{WasRetired, standing, standing_kept, without_rows}
 use Rattle.protocol.specs.Outputs.{promise, decision}
-use Rattle.protocol.specs.Plan.{Plan, Planned, Before, stands, replies, serves, ends, drops, puts, in_way, is_crowded}
+use Rattle.protocol.specs.Plan.{Plan, Planned, Before, stands, replies, serves, ends, drops, puts, retires, in_way, is_crowded}
 use Rattle.protocol.specs.Cells.{is_outcome_for, raised, ceiling_for}
 use Rattle.protocol.specs.Sound.{is_open, fits, holds_writes}
 use Rattle.protocol.proofs.Each.{Each}
@@ -31,6 +35,20 @@ abbrev pub is_loose : Standing → Bool
 is_loose IsUnknown = true
 is_loose (HasRow held phase) = not (is_firm phase)
 is_loose _ = false
+
+-- who is undecided or loose is not retired
+undecided_by : (c : Bool) (s : Standing) → is_undecided (cond c WasRetired s) ≡ true → c ≡ false
+undecided_by true s e = absurd (false≢true e)
+undecided_by false s e = refl
+
+pub not_retired : (b : Before) (t : Id) → is_undecided (stands b t) ≡ true → is_below b.facts.retired t ≡ false
+unfolding standing
+not_retired b t e = undecided_by (is_below b.facts.retired t) (standing_kept b.facts b.memory t) e
+
+-- and stands as what is not retired does
+pub stands_kept : (b : Before) (t : Id) → is_below b.facts.retired t ≡ false → stands b t ≡ standing_kept b.facts b.memory t
+unfolding standing
+stands_kept b t kept = ap (λ c. cond c WasRetired (standing_kept b.facts b.memory t)) kept
 
 -- another transaction, whose row may be ended
 pub record IsLooseOther (rows : List Row) (t u : Id) : Type 0 where
@@ -113,7 +131,7 @@ pub data Shape (b : Before) (p : Plan) : Type 0 where
       → IsResolved b t ended needs at ps rs ws
       → p ≡ puts b ended t needs (IsDecided at ps) (Some (decision t at ps rs ws)) (max b.memory.last at) out → Shape b p
 
--- the shape of the plan of an input: served time alone is advanced, a horizon is logged, or it is one of those above
+-- the shape of the plan of an input: served time alone is advanced, a horizon or a retirement is logged, or it is one of those above
 pub data ShapeOf (b : Before) (i : Input) (p : Plan) : Type 0 where
   Acts : Shape b p → ShapeOf b i p
   IsAdvance : (stride at : ℕ) → i ≡ Input.Advance at
@@ -121,6 +139,9 @@ pub data ShapeOf (b : Before) (i : Input) (p : Plan) : Type 0 where
       → ShapeOf b i p
   IsForget : (at : ℕ) → i ≡ Input.Forget at → at ≤ safe b.memory → b.facts.horizon < at
       → p ≡ serves (Some (Record.Horizon at)) b.memory.last
+      → ShapeOf b i p
+  IsRetire : (below : Id) → i ≡ Input.Retire below → list_any (λ r. older r.txn below) b.memory.rows ≡ false → rises b.facts.retired below ≡ true
+      → p ≡ retires below b.memory.last
       → ShapeOf b i p
 
 -- where a plan is not refused, it has a shape

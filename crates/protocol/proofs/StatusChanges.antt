@@ -1,5 +1,5 @@
 -- The statuses after one more record, and what the outcome of a row that stands leaves.
-use Rattle.std.proofs.Common.{◌≡◌, ℕ, Bool, true, false, cond, List, [], ◌∷◌, Option, Some, None, refl, sym, ap, subst, ◌∙◌}
+use Rattle.std.proofs.Common.{◌≡◌, ℕ, Bool, true, false, cond, List, [], ◌∷◌, filter, Option, Some, None, refl, sym, ap, subst, ◌∙◌}
 use Rattle.std.specs.Prelude.{IsTrue}
 use Rattle.std.proofs.lemmas.Bool.{and_parts, and_from}
 use Rattle.units.specs.Lists.{first, ascends}
@@ -9,7 +9,7 @@ use Rattle.units.specs.Versions.{versions}
 use Rattle.units.specs.declared.lock.Lock.{Lock}
 use Rattle.units.specs.declared.writes.Install.{Install}
 use Rattle.units.specs.declared.writes.Write.{Write}
-use Rattle.units.proofs.IdLaws.{older_total}
+use Rattle.units.proofs.IdLaws.{older-trans, older_total}
 use Rattle.units.proofs.ByIdLaws.{find-with_same, find-with_other, by_id-with}
 use Rattle.record.specs.Records.{Status, StandsPrepared}
 use Rattle.record.specs.Facts.{TxnStatus, or_unrecorded, recorded, with_status, after_outcome, installs_at}
@@ -78,6 +78,37 @@ ascends-with_id (u ∷ us) t up = by_tests (same_id u t) (older u t) refl refl
 pub ascends-with_ids : (us ts : List Id) → ascends older us ≡ true → ascends older (with_ids us ts) ≡ true
 ascends-with_ids us [] up = up
 ascends-with_ids us (t ∷ ts) up = ascends-with_ids (with_id us t) ts (ascends-with_id us t up)
+
+-- some fewer
+ascends-past : (u v : Id) (us : List Id) → ascends older (u ∷ v ∷ us) ≡ true → ascends older (u ∷ us) ≡ true
+ascends-past u v [] up = refl
+ascends-past u v (w ∷ us) up =
+    let first = and_parts _ _ up in
+    let second = and_parts _ _ first.1 in
+    and_from _ _ (older-trans u v w first.0 second.0) second.1
+
+keep-behind : (left : Id → Bool) (u : Id) (us : List Id) → ascends older (u ∷ us) ≡ true → ascends older (u ∷ filter left us) ≡ true
+keep-behind left u [] up = refl
+keep-behind left u (v ∷ us) up =
+    by_test (left v) (keep-behind left v us ((and_parts _ _ up).1)) (keep-behind left u us (ascends-past u v us up))
+  where
+    by_test : (b : Bool) → ascends older (v ∷ filter left us) ≡ true → ascends older (u ∷ filter left us) ≡ true
+        → ascends older (u ∷ cond b (v ∷ filter left us) (filter left us)) ≡ true
+    by_test true with_it rest = and_from _ _ ((and_parts _ _ up).0) with_it
+    by_test false with_it rest = rest
+
+pub ascends-keep : (left : Id → Bool) (us : List Id) → ascends older us ≡ true → ascends older (filter left us) ≡ true
+ascends-keep left [] up = refl
+ascends-keep left (u ∷ us) up = by_test (left u) (keep-behind left u us up) (ascends-keep left us (behind us up))
+  where
+    behind : (vs : List Id) → ascends older (u ∷ vs) ≡ true → ascends older vs ≡ true
+    behind [] h = refl
+    behind (v ∷ vs) h = (and_parts _ _ h).1
+
+    by_test : (b : Bool) → ascends older (u ∷ filter left us) ≡ true → ascends older (filter left us) ≡ true
+        → ascends older (cond b (u ∷ filter left us) (filter left us)) ≡ true
+    by_test true with_it rest = with_it
+    by_test false with_it rest = rest
 
 -- ---- the outcome of a row that stands
 

@@ -24,7 +24,7 @@ use Rattle.facts.proofs.Known.{follows_as_known, version_above}
 use Rattle.facts.proofs.Nexts.{outcome_next}
 use Rattle.protocol.specs.Rows.{rebuilt, standing_row}
 use Rattle.protocol.specs.Sound.{writes_standing}
-use Rattle.protocol.proofs.FitsBeside.{installs_are, writes_are}
+use Rattle.protocol.proofs.FitsBeside.{installs_are, written_are}
 use Rattle.protocol.specs.Showable.{TakenIsShowable, added, record_ascends, rises_by_key}
 use Rattle.protocol.proofs.Ascending.{all_ascend, each_ascends, entries_after}
 use Rattle.protocol.proofs.Rising.{rise_none, installs_rise}
@@ -41,12 +41,9 @@ record Along (facts : Facts) : Type 0 where
 above_standing : (shard : ℕ) (log : List Record) (t : Id) (s : ℕ) → follows_facts shard (facts_of log) (Record.Outcome t (Some s)) ≡ true
     → fits_beside log (Record.Outcome t (Some s)) ≡ true
     → above_versions (facts_of log).installs s (writes_standing (recorded (facts_of log) t)) ≡ true
-unfolding follows_facts status_of fits_beside
+unfolding follows_facts fits_beside
 above_standing shard log t s follows fits =
-    let allowed : allows (status_by (is_aborted log t) (committed_of log t) (prepared_of log t) (ended_of log t)) (Some s) ≡ true =
-    subst (λ q. allows q (Some s) ≡ true) (recorded_is log t) (and_parts _ _ follows).1 in
-    let same : writes_standing (recorded (facts_of log) t) ≡ writes_by (committed_of log t) (prepared_of log t) =
-    ap writes_standing (recorded_is log t) ∙ writes_are (is_aborted log t) (committed_of log t) (prepared_of log t) (ended_of log t) s allowed in
+    let same = written_are log t s (and_parts _ _ follows).1 in
     ap (above_versions (facts_of log).installs s) same
     ∙ ap (λ is. above_versions is s (writes_by (committed_of log t) (prepared_of log t))) (installs_are log) ∙ fits
 

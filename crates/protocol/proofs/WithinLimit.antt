@@ -9,7 +9,7 @@ use Rattle.protocol.specs.Rows.{Row, with_row, without_rows}
 use Rattle.protocol.specs.Plan.{Plan, Before, start_of_step, after_change, carried}
 use Rattle.protocol.specs.Sound.{StaysWithin}
 use Rattle.protocol.proofs.RowChanges.{short-without_row, short-without_rows, length-with_row, length-with_row_same, any-without_rows, by_id-without_rows}
-use Rattle.protocol.proofs.Shapes.{Shape, Answers, IsEnd, IsAbort, IsClose, IsSettle, IsLock, IsWait, IsPromise, IsDecision, ShapeOf, Acts, IsAdvance, IsForget}
+use Rattle.protocol.proofs.Shapes.{Shape, Answers, IsEnd, IsAbort, IsClose, IsSettle, IsLock, IsWait, IsPromise, IsDecision, ShapeOf, Acts, IsAdvance, IsForget, IsRetire}
 use Rattle.protocol.proofs.Choices.{others_gone}
 use Rattle.protocol.proofs.PlanShapes.{shape_of}
 
@@ -62,6 +62,7 @@ unfolding Within carried after_change
 within_of b i p up fits (Acts shape) = within b p up fits shape
 within_of b i p up fits (IsAdvance stride at k e) = subst (Within b) (sym e) fits
 within_of b i p up fits (IsForget at k low high e) = subst (Within b) (sym e) fits
+within_of b i p up fits (IsRetire below k none rising e) = subst (Within b) (sym e) fits
 
 pub stays_within : StaysWithin
 unfolding Within

@@ -1,6 +1,7 @@
 -- Whether a record has its place beside what stands, told from the facts.
 use Rattle.std.specs.List.{list_all, list_any}
 use Rattle.std.specs.Prelude.{ℕ, Bool, true, not, ◌&&◌, nat_lt, List, map, length, Some, None}
+use Rattle.units.specs.Ids.{older}
 use Rattle.units.specs.Limits.{most_rows}
 use Rattle.units.specs.Lists.{gather}
 use Rattle.units.specs.Keys.{Bytes}
@@ -39,3 +40,4 @@ fits_facts facts (Record.Base epoch floor horizon) = true
 fits_facts facts (Record.Version install) = true
 fits_facts facts (Record.Settled t at parts) = true
 fits_facts facts (Record.Closed t coordinator outcome) = true
+fits_facts facts (Record.Retired below) = list_all (λ r. not (older r.txn below)) (standing_rows facts)

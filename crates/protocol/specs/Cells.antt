@@ -3,17 +3,18 @@
 use Rattle.std.specs.List.{list_any, list_all}
 use Rattle.std.specs.Prelude.{ℕ, ◌+◌, Bool, true, not, cond, ◌&&◌, nat_lt, nat_le, nat_eq, min, max, List, [], ◌∷◌, map, Option, Some, None, Ok, Err, filter}
 use Rattle.units.specs.Lists.{greatest}
-use Rattle.units.specs.Ids.{Id}
+use Rattle.units.specs.Ids.{Id, older}
 use Rattle.units.specs.Keys.{Bytes}
 use Rattle.units.specs.Locks.{holds, exclusive}
 use Rattle.units.specs.Versions.{latest}
 use Rattle.protocol.specs.Rows.{Phase, Idle, WaitsRead, WaitsPrepare, WaitsCommit, Collecting, IsPrepared, IsDecided, Voted, needs_of, safe, with_vote}
 use Rattle.protocol.specs.Outputs.{promise, decision, vote_to, answer_to, done_to, outcome_to}
-use Rattle.protocol.specs.Plan.{Plan, Planned, Before, in_way, opens, is_crowded, replies, idles, serves, ends, drops, puts, roomed, time_limit, timed}
+use Rattle.protocol.specs.Plan.{Plan, Planned, Before, in_way, opens, is_crowded, replies, idles, serves, ends, drops, puts, retires, roomed, time_limit, timed}
 use Rattle.units.specs.declared.fault.Fault.TheVariants.{Future, NotYet, Early, Stranger}
 use Rattle.units.specs.declared.lock.Lock.{Lock}
 use Rattle.units.specs.declared.lock.Mode.TheVariants.{Shared}
 use Rattle.units.specs.declared.writes.Write.{Write}
+use Rattle.record.specs.Accepted.{rises}
 use Rattle.record.specs.declared.record.Record.{Record}
 use Rattle.message.specs.declared.message.Prepare.{Prepare}
 use Rattle.message.specs.declared.message.Commit.{Commit}
@@ -50,9 +51,10 @@ pub data Cell : Type 0 where
   ToGoOn : (earliest : ℕ) → (txn : Id) → (wait : Phase) → Cell
   -- a decision is settled
   ToSettle : (earliest : ℕ) → (txn : Id) → (at : ℕ) → (parts : List ℕ) → Cell
-  -- served time is advanced; a horizon is set
+  -- served time is advanced; a horizon is set; ids are retired
   ToServe : (latest stride at : ℕ) → Cell
   ToForget : (at : ℕ) → Cell
+  ToRetire : (below : Id) → Cell
 
 -- ---- read
 
@@ -188,6 +190,12 @@ plan_forget b at =
     cond (nat_lt (safe b.memory) at) (Err NotYet)
     (cond (nat_le at b.facts.horizon) (Ok (idles b)) (Ok (serves (Some (Record.Horizon at)) b.memory.last)))
 
+-- ids are retired once none of them has a row; what is retired stays so
+unfoldable pub plan_retire : Before → Id → Planned
+plan_retire b below =
+    cond (list_any (λ r. older r.txn below) b.memory.rows) (Err NotYet)
+    (cond (rises b.facts.retired below) (Ok (retires below b.memory.last)) (Ok (idles b)))
+
 -- ---- the plan of a cell
 
 -- each cell's plan. A coordinator that does not know the transaction decides to abort it before it answers; a decision is settled only once
@@ -211,3 +219,4 @@ plan_cell b (ToSettle earliest t s ps) =
     (Err Early)
 plan_cell b (ToServe latest stride at) = plan_advance b latest stride at
 plan_cell b (ToForget at) = plan_forget b at
+plan_cell b (ToRetire below) = plan_retire b below

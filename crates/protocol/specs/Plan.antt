@@ -2,8 +2,8 @@
 -- record it logs and which messages it puts out. All of it is told from the state before the step, so that nothing is
 -- changed until the record is logged.
 use Rattle.std.specs.List.{list_any}
-use Rattle.std.specs.Prelude.{ℕ, ◌-◌, ◌^◌, Bool, true, not, cond, ◌&&◌, nat_le, List, [], ◌∷◌, ◌++◌, length, Option, Some, None, Result, Ok, Err, flat_map}
-use Rattle.units.specs.Ids.{Id, same_id, with_id}
+use Rattle.std.specs.Prelude.{ℕ, ◌-◌, ◌^◌, Bool, true, not, cond, ◌&&◌, nat_le, List, [], ◌∷◌, ◌++◌, length, Option, Some, None, Result, Ok, Err, filter, flat_map}
+use Rattle.units.specs.Ids.{Id, older, same_id, with_id}
 use Rattle.units.specs.Locks.{wounded, is_free, with_locks}
 use Rattle.record.specs.Facts.{Facts}
 use Rattle.protocol.specs.Rows.{Memory, Row, Phase, Standing, standing, claims, find_row, held_in, with_row, without_row, without_rows}
@@ -25,6 +25,8 @@ pub data Change : Type 0 where
   Drops : (txn : Id) → Change
   -- it has these locks beside those that it held, and this phase
   Puts : (txn : Id) → (needs : List Lock) → (phase : Phase) → Change
+  -- nothing, and no id below this one counts as ended
+  Retires : (below : Id) → Change
 
 -- the plan of a step: whom it ends first, the change of its own transaction's row, the record that it logs, the greatest
 -- timestamp after it, and what it puts out
@@ -52,10 +54,12 @@ after_change Keeps rows = rows
 after_change (Ends t) rows = without_row rows t
 after_change (Drops t) rows = without_row rows t
 after_change (Puts t needs phase) rows = with_row rows (record { txn = t; held = with_locks (held_in rows t) needs; phase = phase })
+after_change (Retires below) rows = rows
 
 -- the ended ids after a change
 unfoldable pub ended_by : Change → List Id → List Id
 ended_by (Ends t) ids = with_id ids t
+ended_by (Retires below) ids = filter (λ t. not (older t below)) ids
 ended_by _ ids = ids
 
 -- the memory after a plan
@@ -109,6 +113,11 @@ idles b = replies b []
 -- a record of served time or of a horizon, or none, and the greatest timestamp
 abbrev pub serves : Option Record → ℕ → Plan
 serves logged last = record { wounded = []; change = Keeps; logged = logged; last = last; outbox = [] }
+
+-- all ids below one are retired
+abbrev pub retires : Id → ℕ → Plan
+retires below last =
+    record { wounded = []; change = Retires below; logged = Some (Record.Retired below); last = last; outbox = [] }
 
 -- the transaction is ended
 abbrev pub ends : Before → Id → List Envelope → Plan

@@ -4,7 +4,7 @@ use Rattle.std.specs.Prelude.{ℕ, ◌-◌, Bool, true, false, not, cond, List, 
 use Rattle.units.specs.Lists.{gather, first, least_with}
 use Rattle.units.specs.Ids.{Id, same_id, older, has_id}
 use Rattle.units.specs.Keys.{Bytes}
-use Rattle.record.specs.Records.{Status, StandsPrepared, StandsDecided, HasAborted, HasSettled, HasClosed}
+use Rattle.record.specs.Records.{Status, StandsPrepared, StandsDecided, HasAborted, HasSettled, HasClosed, is_below}
 use Rattle.record.specs.Facts.{Facts, TxnStatus, recorded}
 use Rattle.units.specs.Locks.{Claim, exclusive, locks_of}
 use Rattle.units.specs.declared.lock.Lock.{Lock}
@@ -104,8 +104,9 @@ held_stamp _ = None
 unfoldable pub safe : Memory → ℕ
 safe memory = least_with memory.last (map (λ s. s - 1) (gather (λ r. held_stamp r.phase) memory.rows))
 
--- a transaction's status at a shard, by its row, else by its records, else by the ended ids
+-- a transaction's status at a shard: that it is retired; else by its row, else by its records, else by the ended ids
 pub data Standing : Type 0 where
+  WasRetired : Standing
   IsUnknown : Standing
   WasEnded : Standing
   HasRow : (held : List Lock) → (phase : Phase) → Standing
@@ -122,9 +123,13 @@ standing_by None (HasClosed c o) ended = WasClosed o
 standing_by None _ true = WasEnded
 standing_by None _ false = IsUnknown
 
+-- the standing of an id that is not retired
+abbrev pub standing_kept : Facts → Memory → Id → Standing
+standing_kept facts memory t = standing_by (find_row memory.rows t) (recorded facts t) (has_id memory.ended t)
+
 -- the standing of an id at a shard
 unfoldable pub standing : Facts → Memory → Id → Standing
-standing facts memory t = standing_by (find_row memory.rows t) (recorded facts t) (has_id memory.ended t)
+standing facts memory t = cond (is_below facts.retired t) WasRetired (standing_kept facts memory t)
 
 -- the row that a promise or a decision leaves after a crash: prepared or decided, with the locks of its record
 abbrev pub standing_row : TxnStatus → Option Row

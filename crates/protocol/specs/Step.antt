@@ -9,7 +9,7 @@ use Rattle.record.specs.Facts.{Facts, learn}
 use Rattle.units.specs.Locks.{ready}
 use Rattle.protocol.specs.Rows.{Memory, claims}
 use Rattle.protocol.specs.Plan.{Planned, Before, start_of_step, stands, carried}
-use Rattle.protocol.specs.Cells.{Cell, ToRefuse, Provided, ToServe, ToForget, plan_cell}
+use Rattle.protocol.specs.Cells.{Cell, ToRefuse, Provided, ToServe, ToForget, ToRetire, plan_cell}
 use Rattle.protocol.specs.Table.{read_cell, prepare_cell, commit_cell, vote_cell, outcome_cell, give_up_cell, ask_cell, resume_cell, settle_cell, nudge_cell}
 use Rattle.units.specs.declared.fault.Fault.{Fault}
 use Rattle.units.specs.declared.setup.Setup.{Setup}
@@ -47,6 +47,7 @@ cell setup b now (Input.Settle t) = settle_cell now.earliest t (stands b t)
 cell setup b now (Input.Advance at) = ToServe now.latest setup.stride at
 cell setup b now (Input.Nudge t) = nudge_cell b t (stands b t)
 cell setup b now (Input.Forget at) = ToForget at
+cell setup b now (Input.Retire below) = ToRetire below
 
 -- the plan of an input
 unfoldable pub plan_input : Setup → Before → Interval → Input → Planned

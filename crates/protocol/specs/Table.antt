@@ -1,5 +1,5 @@
 -- The step as a table: a function for each input, and in it a clause for each standing of its transaction, which says the cell
--- and computes nothing. The last clause, `_`, is for all other standings.
+-- and computes nothing. The last clause, `_`, is for all other standings. Of a retired id all is refused.
 use Rattle.std.specs.Prelude.{ℕ, true, false, List, [], ◌∷◌, Option, Some, None}
 use Rattle.units.specs.Lists.{has}
 use Rattle.units.specs.Ids.{Id}
@@ -8,7 +8,7 @@ use Rattle.message.specs.declared.message.Prepare.{Prepare}
 use Rattle.message.specs.declared.message.Commit.{Commit}
 use Rattle.message.specs.declared.message.Answer.TheVariants.{Refused}
 use Rattle.protocol.specs.Rows.{Idle, WaitsRead, WaitsPrepare, WaitsCommit, Collecting, IsPrepared, IsDecided, Standing, IsUnknown, WasEnded, HasRow}
-use Rattle.protocol.specs.Rows.{WasAborted, WasSettled, WasClosed}
+use Rattle.protocol.specs.Rows.{WasAborted, WasSettled, WasClosed, WasRetired}
 use Rattle.protocol.specs.Outputs.{vote_to, answer_to, done_to, outcome_to, ask_to}
 use Rattle.protocol.specs.Plan.{Before, stands}
 use Rattle.protocol.specs.Cells.{Cell, ToRefuse, ToRest, ToReply, Provided, ToRead, ToPrepare, ToCommit, ToEnd, ToAbort, ToAbortFor, ToCount, ToClose, ToGoOn}
@@ -22,6 +22,7 @@ read_cell b t k (HasRow held (WaitsRead j)) = ToRead t k held true
 read_cell b t k (HasRow held (WaitsPrepare c rs ws)) = ToRead t k held true
 read_cell b t k (HasRow held (WaitsCommit l ps rs ws)) = ToRead t k held true
 read_cell b t k (HasRow held _) = ToRest
+read_cell b t k WasRetired = ToRefuse
 read_cell b t k _ = ToReply (answer_to b.shard t k b.facts.epoch Refused)
 
 -- a prepare
@@ -62,6 +63,7 @@ vote_cell b n t vote (WasSettled s ps) = Provided (has (other_parts b.shard ps) 
 vote_cell b n t vote (HasRow held (WaitsPrepare c rs ws)) = ToRefuse
 vote_cell b n t vote (HasRow held (IsPrepared c p)) = ToRefuse
 vote_cell b n t vote (WasClosed o) = ToRefuse
+vote_cell b n t vote WasRetired = ToRefuse
 vote_cell b n t vote _ = ToRest
 
 -- a transaction that made no promise here may be aborted, and never committed; a prepare that it waits with is refused
@@ -88,6 +90,7 @@ give_up_cell t (HasRow held (WaitsRead k)) = ToEnd t []
 give_up_cell t (HasRow held (WaitsPrepare c rs ws)) = ToEnd t (c ∷ [])
 give_up_cell t (HasRow held (WaitsCommit l ps rs ws)) = ToEnd t []
 give_up_cell t (HasRow held (Collecting l ps rs ws votes)) = ToAbort t ps
+give_up_cell t WasRetired = ToRefuse
 give_up_cell t _ = ToRest
 
 -- a question for an outcome: a shard that takes no part is a stranger

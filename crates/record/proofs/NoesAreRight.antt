@@ -2,7 +2,7 @@
 use Rattle.std.specs.List.{list_any}
 use Rattle.std.specs.Prelude.{option_map}
 use Rattle.std.proofs.Common.{◌≡◌, ◌∙◌, refl, sym, ap, subst, arith}
-use Rattle.std.specs.Prelude.{ℕ, suc, ◌+◌, Bool, true, false, not, cond, ◌&&◌, ◌||◌, nat_lt, nat_le, List, [], ◌∷◌, slice_get, Option, Some, None, unwrap_or}
+use Rattle.std.specs.Prelude.{ℕ, suc, ◌+◌, Bool, true, false, not, cond, IsTrue, ◌&&◌, ◌||◌, nat_lt, nat_le, List, [], ◌∷◌, slice_get, Option, Some, None, unwrap_or}
 use Rattle.std.specs.List.{AllByRecursion}
 use Rattle.std.proofs.lemmas.Bool.{and_parts}
 use Rattle.units.specs.Lists.{gather, head, first, numbered, when}
@@ -16,7 +16,9 @@ use Rattle.units.specs.declared.line.Line.{Line}
 use Rattle.units.specs.declared.line.Line.TheVariants.{Begin, Ack, Read, Look}
 use Rattle.record.specs.History.{Txn, history, before, upto, find_txn}
 use Rattle.record.specs.Verdict.{verdict, first_fault, first_torn, first_lost, first_wrong_read, first_wrong_order, lost_by, line_reads_right}
-use Rattle.record.specs.Verdict.{are_renewed, late_acks, is_late_ack, same_value, wrong_read}
+use Rattle.record.specs.Accepted.{is_kept}
+use Rattle.record.specs.Records.{is_below}
+use Rattle.record.specs.Verdict.{are_renewed, late_acks, is_late_ack, retired_in, same_value, wrong_read}
 use Rattle.record.specs.Lines.{is_in_at, IsLine}
 use Rattle.record.specs.Whole.{is_whole, all_ids}
 use Rattle.record.specs.declared.record.Record.{Record}
@@ -88,30 +90,40 @@ all_lines lines = lines_from lines lines 0 (λ k. let same : 0 + k ≡ k = omega
 
 -- ---- the four
 
-torn_right : (logs : List (List Record)) (t : Id) → first_torn logs ≡ Some t → is_whole t logs ≡ false
-torn_right logs t e = not_true (is_whole t logs) (first_passes (λ u. not (is_whole u logs)) (all_ids logs) t e)
+torn_right : (logs : List (List Record)) (t : Id) → first_torn logs ≡ Some t → IsTrue (is_kept (retired_in logs) t) × (is_whole t logs ≡ false)
+torn_right logs t e =
+    let both = and_parts _ _ (first_passes (λ u. is_kept (retired_in logs) u && not (is_whole u logs)) (all_ids logs) t e) in
+    (both.0, not_true (is_whole t logs) both.1)
 
 head_is_any : (ts : List Id) (t : Id) → head ts ≡ Some t → list_any (same_id t) ts ≡ true
 head_is_any [] t e = cc
 head_is_any (u ∷ us) t e = ap (λ b. b || list_any (same_id t) us) (ap (same_id t) (some_is u t e) ∙ same_id-refl t)
 
-lost_line : (h : List Txn) (lines : List Line) (t u : Id) (l : Line) → u ≡ t → IsLine lines l → lost_by h l ≡ Some u → IsLost h lines t
-lost_line h lines t u (Begin v m) same line e = cc
-lost_line h lines t u (Read v k x) same line e = cc
-lost_line h lines t u (Look k at x) same line e = cc
-lost_line h lines t u (Ack v at m) same line e = by_test (is_in_at h v at) refl e
+lost_line : (retired : Option Id) (h : List Txn) (lines : List Line) (t u : Id) (l : Line) → u ≡ t → IsLine lines l → lost_by retired h l ≡ Some u
+    → IsLost retired h lines t
+lost_line retired h lines t u (Begin v m) same line e = cc
+lost_line retired h lines t u (Read v k x) same line e = cc
+lost_line retired h lines t u (Look k at x) same line e = cc
+lost_line retired h lines t u (Ack v at m) same line e = by_test (is_below retired v) (is_in_at h v at) refl refl e
   where
-    by_test : (b : Bool) → b ≡ is_in_at h v at → cond b None (Some v) ≡ Some u → IsLost h lines t
-    by_test true is e = cc
-    by_test false is e =
+    by_test : (a b : Bool) → a ≡ is_below retired v → b ≡ is_in_at h v at → cond (a || b) None (Some v) ≡ Some u → IsLost retired h lines t
+    by_test true b below is e = cc
+    by_test false true below is e = cc
+    by_test false false below is e =
         let one : v ≡ t = some_is v u e ∙ same in
-        record { at = at; moment = m; line = subst (λ w. IsLine lines (Ack w at m)) one line; missing = ap (λ w. is_in_at h w at) (sym one) ∙ sym is }
+        record {
+          at = at;
+          moment = m;
+          line = subst (λ w. IsLine lines (Ack w at m)) one line;
+          kept = ap not (ap (is_below retired) (sym one) ∙ sym below);
+          missing = ap (λ w. is_in_at h w at) (sym one) ∙ sym is;
+        }
 
-lost_right : (h : List Txn) (lines : List Line) (t : Id) → first_lost h lines ≡ Some t → IsLost h lines t
-lost_right h lines t e =
-    let given = any_given (IsLine lines) (lost_by h) (same_id t) lines (all_lines lines)
-    (sym (any_once t (gather (lost_by h) lines)) ∙ head_is_any (ids_once (gather (lost_by h) lines)) t e) in
-    lost_line h lines t given.0 given.2.from (sym (same_id-is t given.0 given.1)) given.2.kept given.2.gives
+lost_right : (retired : Option Id) (h : List Txn) (lines : List Line) (t : Id) → first_lost retired h lines ≡ Some t → IsLost retired h lines t
+lost_right retired h lines t e =
+    let given = any_given (IsLine lines) (lost_by retired h) (same_id t) lines (all_lines lines)
+    (sym (any_once t (gather (lost_by retired h) lines)) ∙ head_is_any (ids_once (gather (lost_by retired h) lines)) t e) in
+    lost_line retired h lines t given.0 given.2.from (sym (same_id-is t given.0 given.1)) given.2.kept given.2.gives
 
 same_value-refl : (x : Option Bytes) → same_value x x ≡ true
 same_value-refl None = refl
@@ -201,11 +213,11 @@ late_right h lines i j e =
         late_begin h lines i j q.1 (ap (slice_get lines) (sym (ap (λ (p : ℕ × ℕ). p.0) one)) ∙ at) (is ∙ ap (λ (p : ℕ × ℕ). Some (p.1)) one)
 
 right_by : (logs : List (List Record)) (lines : List Line) (a b : Option Id) (c : Option ℕ) (d : Option (ℕ × ℕ))
-    → first_torn logs ≡ a → first_lost (history logs) lines ≡ b → wrong_read (are_renewed logs) (history logs) lines ≡ c
+    → first_torn logs ≡ a → first_lost (retired_in logs) (history logs) lines ≡ b → wrong_read (are_renewed logs) (history logs) lines ≡ c
     → first_wrong_order (history logs) lines ≡ d
     → IsRight logs lines (first_fault a b c d)
 right_by logs lines (Some t) b c d torn lost wrong late = torn_right logs t torn
-right_by logs lines None (Some t) c d torn lost wrong late = lost_right (history logs) lines t lost
+right_by logs lines None (Some t) c d torn lost wrong late = lost_right (retired_in logs) (history logs) lines t lost
 right_by logs lines None None (Some i) d torn lost wrong late = judged_right (are_renewed logs) (history logs) lines i wrong
 right_by logs lines None None None (Some p) torn lost wrong late = late_right (history logs) lines p.0 p.1 late
 right_by logs lines None None None None torn lost wrong late = tt
@@ -213,5 +225,5 @@ right_by logs lines None None None None torn lost wrong late = tt
 pub each_no_is_right : EachNoIsRight
 unfolding verdict
 each_no_is_right logs lines =
-    right_by logs lines (first_torn logs) (first_lost (history logs) lines) (wrong_read (are_renewed logs) (history logs) lines)
+    right_by logs lines (first_torn logs) (first_lost (retired_in logs) (history logs) lines) (wrong_read (are_renewed logs) (history logs) lines)
     (first_wrong_order (history logs) lines) refl refl refl refl

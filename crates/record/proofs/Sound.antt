@@ -10,13 +10,13 @@ use Rattle.units.specs.Ids.{Id, same_id}
 use Rattle.units.specs.declared.writes.Install.{Install}
 use Rattle.units.proofs.Folds.{or_else, is_there, there_or_else, gather_append, first_append, any_append}
 use Rattle.units.proofs.IdLaws.{same_id-is}
-use Rattle.record.specs.Accepted.{is_new, outcome_fits, follows, is_next, is_start, goes_on}
+use Rattle.record.specs.Accepted.{is_new, is_kept, outcome_fits, follows, is_next, is_start, goes_on}
 use Rattle.record.specs.Records.{Ended, Unrecorded, as_prepared, as_committed, as_aborted, as_ended, prepared_of, committed_of, is_aborted, ended_of}
-use Rattle.record.specs.Records.{status_by, status_of, epoch_of, settled_decision, closed_promise}
+use Rattle.record.specs.Records.{status_by, status_written, retired_of, is_below, epoch_of, settled_decision, closed_promise}
 use Rattle.record.specs.declared.record.Committed.{Committed}
 use Rattle.record.specs.declared.record.Prepared.{Prepared}
 use Rattle.record.specs.declared.record.Record.{Record}
-use Rattle.record.specs.declared.record.Record.TheVariants.{Opened, Ceiling, Prepare, Commit, Abort, Outcome, Horizon, Base, Version, Settled, Closed}
+use Rattle.record.specs.declared.record.Record.TheVariants.{Opened, Ceiling, Prepare, Commit, Abort, Outcome, Horizon, Base, Version, Settled, Closed, Retired}
 
 -- ---- one more record
 
@@ -72,8 +72,8 @@ new_by false None (Some p) None h = cc
 new_by false None None e h = (refl, refl)
 
 pub new_facts : (log : List Record) (t : Id) → is_new log t ≡ true → (is_aborted log t ≡ false) × (made log t ≡ false)
-unfolding status_of made
-new_facts log t h = new_by (is_aborted log t) (committed_of log t) (prepared_of log t) (ended_of log t) h
+unfolding status_written made
+new_facts log t h = new_by (is_aborted log t) (committed_of log t) (prepared_of log t) (ended_of log t) ((and_parts _ _ h).0)
 
 fits_made : (p : Option Prepared) (c : Option Committed) (o : Option ℕ) → outcome_fits p c o ≡ true → (is_there p || is_there c) ≡ true
 fits_made (Some p) c o h = refl
@@ -111,7 +111,41 @@ closed_new shard log t coordinator outcome h = (and_parts _ _ ((and_parts _ _ h)
 pub outcome_follows : (shard : ℕ) (log : List Record) (t : Id) (o : Option ℕ) → follows shard log (Outcome t o) ≡ true →
     (not (is_there (ended_of log t)) ≡ true) × (outcome_fits (prepared_of log t) (committed_of log t) o ≡ true)
 unfolding follows
-outcome_follows shard log t o h = and_parts _ _ h
+outcome_follows shard log t o h = and_parts _ _ ((and_parts _ _ h).0)
+
+-- what is logged of an id is logged before it is retired
+pub not_below : (log : List Record) (t : Id) → is_kept (retired_of log) t ≡ true → is_below (retired_of log) t ≡ false
+not_below log t h = by_test (is_below (retired_of log) t) h
+  where
+    by_test : (b : Bool) → not b ≡ true → b ≡ false
+    by_test true e = cc
+    by_test false e = refl
+
+pub prepare_kept : (shard : ℕ) (log : List Record) (p : Prepared) → follows shard log (Prepare p) ≡ true → is_below (retired_of log) p.txn ≡ false
+unfolding follows
+prepare_kept shard log p h = not_below log p.txn ((and_parts _ _ (prepare_new shard log p h)).1)
+
+pub commit_kept : (shard : ℕ) (log : List Record) (c : Committed) → follows shard log (Commit c) ≡ true → is_below (retired_of log) c.txn ≡ false
+unfolding follows
+commit_kept shard log c h = not_below log c.txn ((and_parts _ _ (commit_new shard log c h)).1)
+
+pub abort_kept : (shard : ℕ) (log : List Record) (t : Id) → follows shard log (Abort t) ≡ true → is_below (retired_of log) t ≡ false
+unfolding follows
+abort_kept shard log t h = not_below log t ((and_parts _ _ (abort_new shard log t h)).1)
+
+pub settled_kept : (shard : ℕ) (log : List Record) (t : Id) (at : ℕ) (parts : List ℕ) → follows shard log (Settled t at parts) ≡ true
+    → is_below (retired_of log) t ≡ false
+unfolding follows
+settled_kept shard log t at parts h = not_below log t ((and_parts _ _ (settled_new shard log t at parts h)).1)
+
+pub closed_kept : (shard : ℕ) (log : List Record) (t : Id) (coordinator : ℕ) (outcome : Option ℕ) →
+    follows shard log (Closed t coordinator outcome) ≡ true → is_below (retired_of log) t ≡ false
+unfolding follows
+closed_kept shard log t coordinator outcome h = not_below log t ((and_parts _ _ (closed_new shard log t coordinator outcome h)).1)
+
+pub outcome_kept : (shard : ℕ) (log : List Record) (t : Id) (o : Option ℕ) → follows shard log (Outcome t o) ≡ true → is_below (retired_of log) t ≡ false
+unfolding follows
+outcome_kept shard log t o h = not_below log t ((and_parts _ _ h).1)
 
 pub opened_follows : (shard : ℕ) (log : List Record) (epoch : ℕ) → follows shard log (Opened epoch) ≡ true → nat_eq epoch (epoch_of log + 1) ≡ true
 unfolding follows
@@ -144,6 +178,7 @@ ended_made : (shard : ℕ) (log : List Record) (r : Record) (t : Id) → follows
 unfolding made ended_one
 ended_made shard log (Opened e) t h there = cc
 ended_made shard log (Ceiling at) t h there = cc
+ended_made shard log (Retired least) t h there = cc
 ended_made shard log (Horizon at) t h there = cc
 ended_made shard log (Base epoch floor horizon) t h there = cc
 ended_made shard log (Version install) t h there = cc
@@ -165,6 +200,7 @@ aborted_unmade : (shard : ℕ) (log : List Record) (r : Record) (t : Id) → fol
 unfolding made
 aborted_unmade shard log (Opened e) t h there = cc
 aborted_unmade shard log (Ceiling at) t h there = cc
+aborted_unmade shard log (Retired least) t h there = cc
 aborted_unmade shard log (Horizon at) t h there = cc
 aborted_unmade shard log (Base epoch floor horizon) t h there = cc
 aborted_unmade shard log (Version install) t h there = cc
@@ -182,6 +218,7 @@ made_unaborted : (shard : ℕ) (log : List Record) (r : Record) (t : Id) → fol
 unfolding made
 made_unaborted shard log (Opened e) t h there = cc
 made_unaborted shard log (Ceiling at) t h there = cc
+made_unaborted shard log (Retired least) t h there = cc
 made_unaborted shard log (Horizon at) t h there = cc
 made_unaborted shard log (Base epoch floor horizon) t h there = cc
 made_unaborted shard log (Version install) t h there = cc
@@ -236,6 +273,7 @@ head_more : (shard : ℕ) (log : List Record) (r : Record) → Sound log → fol
     gather as_ended (log ++ r ∷ []) ≡ []
 head_more shard log (Opened e) s h v goes = cc
 head_more shard log (Ceiling at) s h v goes = cc
+head_more shard log (Retired least) s h v goes = cc
 head_more shard log (Horizon at) s h v goes = cc
 head_more shard log (Prepare p) s h v goes = cc
 head_more shard log (Commit c) s h v goes = cc

@@ -29,9 +29,9 @@ right_line logs lines sound committed whole i (Read t k x) at wrong =
 by_verdict : (logs : List (List Record)) (lines : List Line) → IsBorneOut logs lines → ReadsCommitted logs lines → (v : Verdict) → IsRight logs lines v
     → v ≡ Yes
 by_verdict logs lines sound committed Yes right = refl
-by_verdict logs lines sound committed (Torn t) right = absurd (not_both (is_whole t logs) (sound.whole t) right)
+by_verdict logs lines sound committed (Torn t) right = absurd (not_both (is_whole t logs) (sound.whole t right.0) right.1)
 by_verdict logs lines sound committed (Lost t) right = absurd (not_both (is_in_at (history logs) t right.at)
-    (sound.acknowledged t right.at right.moment right.line) right.missing)
+    (sound.acknowledged t right.at right.moment right.line right.kept) right.missing)
 by_verdict logs lines sound committed (WrongRead i) right = absurd (right_line logs lines sound committed right.0 i right.1 right.2 right.3)
 by_verdict logs lines sound committed (WrongOrder i j) right =
     absurd (not_both (nat_lt right.at right.txn.at) (sound.order right.told right.begun right.at right.told_at right.begun_at right.txn (j, right.ack)

@@ -1,7 +1,7 @@
 -- The status of an id after one more record: that of the record's own id changes, those of all others stay.
 use Rattle.std.specs.List.{list_any, list_all}
 use Rattle.std.proofs.Common.{refl, sym, ◌∙◌, ap, subst}
-use Rattle.std.specs.Prelude.{◌≡◌, Bool, true, false, cond, ◌||◌, List, [], ◌∷◌, ◌++◌, map, Option, Some, None, filter}
+use Rattle.std.specs.Prelude.{◌≡◌, Bool, true, false, not, cond, ◌||◌, List, [], ◌∷◌, ◌++◌, map, Option, Some, None, filter}
 use Rattle.std.proofs.lemmas.Bool.{and_from, or_parts, and_parts}
 use Rattle.std.proofs.Math.Bool.{or-false}
 use Rattle.units.specs.Lists.{gather, first, head}
@@ -10,19 +10,19 @@ use Rattle.units.proofs.Folds.{or_else}
 use Rattle.units.proofs.IdLaws.{same_id-is, same_id_comm, older_not_same, older_total}
 use Rattle.units.proofs.IdOrder.{above_more, rises, any_once}
 use Rattle.record.specs.Facts.{TxnStatus, facts_of, recorded, or_unrecorded, with_status}
-use Rattle.record.specs.Records.{Ended, Status, Unrecorded, id_in, ids_of, prepared_of, committed_of, is_aborted, ended_of, status_by, status_of}
+use Rattle.record.specs.Records.{Ended, Status, Unrecorded, id_in, ids_of, prepared_of, committed_of, is_aborted, ended_of, retired_of, is_below, status_by, status_written, status_of}
 use Rattle.record.specs.declared.record.Committed.{Committed}
 use Rattle.record.specs.declared.record.Prepared.{Prepared}
 use Rattle.record.specs.declared.record.Record.{Record}
-use Rattle.record.specs.declared.record.Record.TheVariants.{Opened, Ceiling, Prepare, Commit, Abort, Outcome, Horizon, Base, Version, Settled, Closed}
+use Rattle.record.specs.declared.record.Record.TheVariants.{Opened, Ceiling, Prepare, Commit, Abort, Outcome, Horizon, Base, Version, Settled, Closed, Retired}
 use Rattle.record.proofs.Sound.{aborted_more, prepared_more, committed_more, ended_more}
 
 -- the status from the parts of the log and those of the record
 pub status_more : (log : List Record) (r : Record) (t : Id) →
-    status_of (log ++ r ∷ []) t
+    status_written (log ++ r ∷ []) t
     ≡ status_by (is_aborted log t || is_aborted (r ∷ []) t) (or_else (committed_of log t) (committed_of (r ∷ []) t))
     (or_else (prepared_of log t) (prepared_of (r ∷ []) t)) (or_else (ended_of log t) (ended_of (r ∷ []) t))
-unfolding status_of
+unfolding status_written
 status_more log r t =
     ap (λ a. status_by a (committed_of (log ++ r ∷ []) t) (prepared_of (log ++ r ∷ []) t) (ended_of (log ++ r ∷ []) t)) (aborted_more log r t)
     ∙ ap (λ c. status_by (is_aborted log t || is_aborted (r ∷ []) t) c (prepared_of (log ++ r ∷ []) t) (ended_of (log ++ r ∷ []) t)) (committed_more log r t)
@@ -58,8 +58,8 @@ apart_single t u e = same_id_comm u t ∙ (sym (or-false (same_id t u)) ∙ e)
 
 -- the status of an id that the record is not about
 pub status_same : (log : List Record) (r : Record) (t : Id) → list_any (same_id t) (gather id_in (r ∷ [])) ≡ false →
-    status_of (log ++ r ∷ []) t ≡ status_of log t
-unfolding status_of
+    status_written (log ++ r ∷ []) t ≡ status_written log t
+unfolding status_written
 status_same log r t apart = status_more log r t ∙ by_kind r apart
   where
     by_kind : (q : Record) → list_any (same_id t) (gather id_in (q ∷ [])) ≡ false →
@@ -68,6 +68,7 @@ status_same log r t apart = status_more log r t ∙ by_kind r apart
         ≡ status_by (is_aborted log t) (committed_of log t) (prepared_of log t) (ended_of log t)
     by_kind (Opened e) h = as_before _ _ _ _ _ _ _ _ refl refl refl refl
     by_kind (Ceiling at) h = as_before _ _ _ _ _ _ _ _ refl refl refl refl
+    by_kind (Retired least) h = as_before _ _ _ _ _ _ _ _ refl refl refl refl
     by_kind (Horizon at) h = as_before _ _ _ _ _ _ _ _ refl refl refl refl
     by_kind (Base epoch floor horizon) h = as_before _ _ _ _ _ _ _ _ refl refl refl refl
     by_kind (Version install) h = as_before _ _ _ _ _ _ _ _ refl refl refl refl
@@ -90,6 +91,7 @@ none_aborted : (t : Id) (log : List Record) → list_any (same_id t) (gather id_
 none_aborted t [] e = refl
 none_aborted t (Opened epoch ∷ rs) e = none_aborted t rs e
 none_aborted t (Ceiling at ∷ rs) e = none_aborted t rs e
+none_aborted t (Retired least ∷ rs) e = none_aborted t rs e
 none_aborted t (Horizon at ∷ rs) e = none_aborted t rs e
 none_aborted t (Base epoch floor horizon ∷ rs) e = none_aborted t rs e
 none_aborted t (Version install ∷ rs) e = none_aborted t rs e
@@ -104,6 +106,7 @@ none_prepared : (t : Id) (log : List Record) → list_any (same_id t) (gather id
 none_prepared t [] e = refl
 none_prepared t (Opened epoch ∷ rs) e = none_prepared t rs e
 none_prepared t (Ceiling at ∷ rs) e = none_prepared t rs e
+none_prepared t (Retired least ∷ rs) e = none_prepared t rs e
 none_prepared t (Horizon at ∷ rs) e = none_prepared t rs e
 none_prepared t (Base epoch floor horizon ∷ rs) e = none_prepared t rs e
 none_prepared t (Version install ∷ rs) e = none_prepared t rs e
@@ -120,6 +123,7 @@ none_committed : (t : Id) (log : List Record) → list_any (same_id t) (gather i
 none_committed t [] e = refl
 none_committed t (Opened epoch ∷ rs) e = none_committed t rs e
 none_committed t (Ceiling at ∷ rs) e = none_committed t rs e
+none_committed t (Retired least ∷ rs) e = none_committed t rs e
 none_committed t (Horizon at ∷ rs) e = none_committed t rs e
 none_committed t (Base epoch floor horizon ∷ rs) e = none_committed t rs e
 none_committed t (Version install ∷ rs) e = none_committed t rs e
@@ -132,8 +136,8 @@ none_committed t (Commit c ∷ rs) e =
 none_committed t (Abort u ∷ rs) e = none_committed t rs ((or_parts _ _ e).1)
 none_committed t (Outcome u o ∷ rs) e = none_committed t rs ((or_parts _ _ e).1)
 
-none_recorded : (t : Id) (log : List Record) → list_any (same_id t) (gather id_in log) ≡ false → status_of log t ≡ Unrecorded
-unfolding status_of
+none_recorded : (t : Id) (log : List Record) → list_any (same_id t) (gather id_in log) ≡ false → status_written log t ≡ Unrecorded
+unfolding status_written
 none_recorded t log e =
     ap (λ a. status_by a (committed_of log t) (prepared_of log t) (ended_of log t)) (none_aborted t log e)
     ∙ ap (λ c. status_by false c (prepared_of log t) (ended_of log t)) (none_committed t log e)
@@ -159,14 +163,52 @@ found f t (u ∷ us) = by_test (same_id u t) refl (found f t us)
     by_test true e rest = ap f (same_id-is u t e) ∙ sym (ap (λ b. cond (b || list_any (same_id t) us) (f t) Unrecorded) (same_id_comm t u ∙ e))
     by_test false e rest = rest ∙ sym (ap (λ b. cond (b || list_any (same_id t) us) (f t) Unrecorded) (same_id_comm t u ∙ e))
 
-recorded_by : (b : Bool) (log : List Record) (t : Id) → list_any (same_id t) (ids_of log) ≡ b → cond b (status_of log t) Unrecorded ≡ status_of log t
+recorded_by : (b : Bool) (log : List Record) (t : Id) → list_any (same_id t) (ids_of log) ≡ b → cond b (status_written log t) Unrecorded ≡ status_written log t
 recorded_by true log t e = refl
 recorded_by false log t e = sym (none_recorded t log (sym (any_once t (gather id_in log)) ∙ e))
 
+-- an entry is found among those that are kept if its id is
+pub first_kept : (keeps : Id → Bool) (t : Id) (es : List TxnStatus) →
+    or_unrecorded (first (λ e. same_id e.txn t) (filter (λ e. keeps e.txn) es))
+    ≡ cond (keeps t) (or_unrecorded (first (λ e. same_id e.txn t) es)) Unrecorded
+first_kept keeps t [] = same_both (keeps t)
+  where
+    same_both : (b : Bool) → Unrecorded ≡ cond b Unrecorded Unrecorded
+    same_both true = refl
+    same_both false = refl
+first_kept keeps t (e ∷ es) = by_tests (keeps e.txn) (same_id e.txn t) refl refl (first_kept keeps t es)
+  where
+    by_tests : (k b : Bool) → keeps e.txn ≡ k → same_id e.txn t ≡ b →
+        or_unrecorded (first (λ e. same_id e.txn t) (filter (λ e. keeps e.txn) es))
+        ≡ cond (keeps t) (or_unrecorded (first (λ e. same_id e.txn t) es)) Unrecorded →
+        or_unrecorded (first (λ e. same_id e.txn t) (cond k (e ∷ filter (λ e. keeps e.txn) es) (filter (λ e. keeps e.txn) es)))
+        ≡ cond (keeps t) (or_unrecorded (head (cond b (e ∷ filter (λ e. same_id e.txn t) es) (filter (λ e. same_id e.txn t) es)))) Unrecorded
+    by_tests true true p q rest =
+        ap (λ b. or_unrecorded (head (cond b (e ∷ filter (λ e. same_id e.txn t) (filter (λ e. keeps e.txn) es))
+        (filter (λ e. same_id e.txn t) (filter (λ e. keeps e.txn) es))))) q
+        ∙ sym (ap (λ b. cond b e.status Unrecorded) (sym (ap keeps (same_id-is e.txn t q)) ∙ p))
+    by_tests true false p q rest =
+        ap (λ b. or_unrecorded (head (cond b (e ∷ filter (λ e. same_id e.txn t) (filter (λ e. keeps e.txn) es))
+        (filter (λ e. same_id e.txn t) (filter (λ e. keeps e.txn) es))))) q
+        ∙ rest
+    by_tests false true p q rest =
+        let gone : keeps t ≡ false = sym (ap keeps (same_id-is e.txn t q)) ∙ p in
+        rest ∙ ap (λ b. cond b (or_unrecorded (first (λ e. same_id e.txn t) es)) Unrecorded) gone
+        ∙ sym (ap (λ b. cond b e.status Unrecorded) gone)
+    by_tests false false p q rest = rest
+
+turned_cond : (b : Bool) (s : Status) → cond (not b) s Unrecorded ≡ cond b Unrecorded s
+turned_cond true s = refl
+turned_cond false s = refl
+
 -- the facts of a log give the status of each id
 pub recorded_is : (log : List Record) (t : Id) → recorded (facts_of log) t ≡ status_of log t
-unfolding facts_of entries_by
-recorded_is log t = found (λ u. status_of log u) t (ids_of log) ∙ recorded_by (list_any (same_id t) (ids_of log)) log t refl
+unfolding facts_of status_of entries_by
+recorded_is log t =
+    first_kept (λ u. not (is_below (retired_of log) u)) t (entries_by (λ u. status_written log u) (ids_of log))
+    ∙ ap (λ s. cond (not (is_below (retired_of log) t)) s Unrecorded)
+    (found (λ u. status_written log u) t (ids_of log) ∙ recorded_by (list_any (same_id t) (ids_of log)) log t refl)
+    ∙ turned_cond (is_below (retired_of log) t) (status_written log t)
 
 -- ---- one status given anew
 

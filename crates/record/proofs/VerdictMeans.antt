@@ -2,14 +2,15 @@
 -- run, and who began after an acknowledgement has the larger timestamp.
 use Rattle.std.proofs.Common.{refl, sym, ◌∙◌, ap, subst}
 use Rattle.std.proofs.lemmas.Bool.{eqb-true, leb-false, lt-ltb, and_parts}
-use Rattle.std.specs.Prelude.{ℕ, zero, suc, ◌≡◌, Bool, true, false, not, cond, ◌&&◌, nat_eq, nat_lt, nat_le, IsTrue, IsFalse, List, [], ◌∷◌, slice_get, Option}
+use Rattle.std.specs.Prelude.{ℕ, zero, suc, ◌≡◌, Bool, true, false, not, cond, ◌&&◌, ◌||◌, nat_eq, nat_lt, nat_le, IsTrue, IsFalse, List, [], ◌∷◌, slice_get, Option}
 use Rattle.std.specs.Prelude.{Some, None, filter, option_map}
 use Rattle.units.specs.Lists.{gather, head, follow, numbered, when, same_numbers}
 use Rattle.units.specs.Ids.{Id, same_id, older, with_id, ids_once}
 use Rattle.units.specs.Keys.{Bytes}
 use Rattle.record.specs.History.{Txn, history, before}
 use Rattle.record.specs.Verdict.{verdict, first_fault, first_lost, first_wrong_read, first_wrong_order, lost_by, line_reads_right, late_acks}
-use Rattle.record.specs.Verdict.{are_renewed, is_late_ack, same_value, wrong_read}
+use Rattle.record.specs.Accepted.{is_kept}
+use Rattle.record.specs.Verdict.{are_renewed, is_late_ack, retired_in, same_value, wrong_read}
 use Rattle.record.specs.Lines.{is_in_at, IsLine}
 use Rattle.record.specs.Serially.{LooksSerially, ReadsSerially, OrderedByTime}
 use Rattle.record.specs.declared.record.Record.{Record}
@@ -103,16 +104,17 @@ once_none : (ts : List Id) → ids_once ts ≡ [] → ts ≡ []
 once_none [] e = refl
 once_none (t ∷ ts) e = absurd (with_some (ids_once ts) t e)
 
-in_history : (b : Bool) (t : Id) → cond b None (Some t) ≡ None → b ≡ true
-in_history true t e = refl
-in_history false t e = cc
+in_history : (retired b : Bool) (t : Id) → cond (retired || b) None (Some t) ≡ None → not retired ≡ true → b ≡ true
+in_history true b t e kept = cc
+in_history false true t e kept = refl
+in_history false false t e kept = cc
 
 pub acknowledged : (logs : List (List Record)) (lines : List Line) → verdict logs lines ≡ Yes → (t : Id) (at m : ℕ) →
-    IsLine lines (Line.Ack t at m) → IsTrue (is_in_at (history logs) t at)
+    IsLine lines (Line.Ack t at m) → IsTrue (is_kept (retired_in logs) t) → IsTrue (is_in_at (history logs) t at)
 unfolding verdict
-acknowledged logs lines told t at m line =
-    let none : first_lost (history logs) lines ≡ None = (no_fault _ _ _ _ told).1 in
-    in_history _ t (none_given (lost_by (history logs)) lines line.0 (Line.Ack t at m) (once_none _ (head_none _ none)) line.1)
+acknowledged logs lines told t at m line kept =
+    let none : first_lost (retired_in logs) (history logs) lines ≡ None = (no_fault _ _ _ _ told).1 in
+    in_history _ _ t (none_given (lost_by (retired_in logs) (history logs)) lines line.0 (Line.Ack t at m) (once_none _ (head_none _ none)) line.1) kept
 
 -- where no log was renewed, no line has a wrong value
 none_wrong : (logs : List (List Record)) (lines : List Line) → verdict logs lines ≡ Yes → IsFalse (are_renewed logs)

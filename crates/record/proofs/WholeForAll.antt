@@ -1,7 +1,7 @@
 -- Where the inspector finds no torn id, every id is whole: those that no log is about as well.
 use Rattle.std.specs.List.{list_any, list_all}
 use Rattle.std.proofs.Common.{refl, sym, ◌∙◌, ap, subst, inl, inr}
-use Rattle.std.specs.Prelude.{ℕ, suc, ◌≡◌, Bool, true, false, not, cond, ◌&&◌, ◌||◌, ◌⊎◌, List, [], ◌∷◌, ◌++◌, map, None, filter, flat_map}
+use Rattle.std.specs.Prelude.{ℕ, suc, ◌≡◌, Bool, true, false, not, cond, ◌&&◌, ◌||◌, ◌⊎◌, List, [], ◌∷◌, ◌++◌, map, Option, None, filter, flat_map}
 use Rattle.std.proofs.lemmas.Bool.{or_parts}
 use Rattle.units.specs.Lists.{gather, numbered}
 use Rattle.units.specs.Ids.{Id, same_id}
@@ -10,10 +10,11 @@ use Rattle.units.proofs.IdLaws.{same_id-is}
 use Rattle.units.proofs.IdOrder.{any_once}
 use Rattle.record.specs.Records.{id_in, as_committed}
 use Rattle.record.specs.Whole.{is_whole, is_whole_by, Decision, outcomes_fit, all_ids}
-use Rattle.record.specs.Verdict.{verdict, first_torn}
+use Rattle.record.specs.Accepted.{is_kept}
+use Rattle.record.specs.Verdict.{verdict, first_torn, retired_in}
 use Rattle.record.specs.VerdictLaws.{YesIsSound}
 use Rattle.record.specs.declared.record.Record.{Record}
-use Rattle.record.specs.declared.record.Record.TheVariants.{Opened, Ceiling, Prepare, Commit, Abort, Outcome, Horizon, Base, Version, Settled, Closed}
+use Rattle.record.specs.declared.record.Record.TheVariants.{Opened, Ceiling, Prepare, Commit, Abort, Outcome, Horizon, Base, Version, Settled, Closed, Retired}
 use Rattle.record.proofs.VerdictMeans.{head_none, kept_step, not_false, no_fault, acknowledged, looks, reads, order}
 
 -- ---- ids
@@ -36,6 +37,7 @@ no_commit : (t : Id) (log : List Record) → list_any (same_id t) (gather id_in 
 no_commit t [] e = refl
 no_commit t (Opened epoch ∷ rs) e = no_commit t rs e
 no_commit t (Ceiling at ∷ rs) e = no_commit t rs e
+no_commit t (Retired least ∷ rs) e = no_commit t rs e
 no_commit t (Horizon at ∷ rs) e = no_commit t rs e
 no_commit t (Base epoch floor horizon ∷ rs) e = no_commit t rs e
 no_commit t (Version install ∷ rs) e = no_commit t rs e
@@ -50,6 +52,7 @@ no_end : (t : Id) (fits : ℕ → Bool) (log : List Record) → list_any (same_i
 no_end t fits [] e = refl
 no_end t fits (Opened epoch ∷ rs) e = no_end t fits rs e
 no_end t fits (Ceiling at ∷ rs) e = no_end t fits rs e
+no_end t fits (Retired least ∷ rs) e = no_end t fits rs e
 no_end t fits (Horizon at ∷ rs) e = no_end t fits rs e
 no_end t fits (Base epoch floor horizon ∷ rs) e = no_end t fits rs e
 no_end t fits (Version install ∷ rs) e = no_end t fits rs e
@@ -90,25 +93,32 @@ unmentioned t logs e = ap (λ ds. is_whole_by logs t ds) (no_decision t 0 logs e
 
 -- ---- all ids
 
-mentioned : (t : Id) (logs : List (List Record)) (ids : List Id) → filter (λ u. not (is_whole u logs)) ids ≡ [] → list_any (same_id t) ids ≡ true →
+kept_whole : (kept whole : Bool) → (kept && not whole) ≡ false → kept ≡ true → whole ≡ true
+kept_whole true whole e kept = not_false whole e
+kept_whole false whole e kept = cc
+
+mentioned : (retired : Option Id) (t : Id) (logs : List (List Record)) (ids : List Id) →
+    filter (λ u. is_kept retired u && not (is_whole u logs)) ids ≡ [] → list_any (same_id t) ids ≡ true → is_kept retired t ≡ true →
     is_whole t logs ≡ true
-mentioned t logs [] e there = cc
-mentioned t logs (u ∷ us) e there =
-    let p : (not (is_whole u logs) ≡ false) × (filter (λ v. not (is_whole v logs)) us ≡ []) =
-    kept_step (not (is_whole u logs)) u (filter (λ v. not (is_whole v logs)) us) e in
-    here_or_later (one_of (same_id t u) (list_any (same_id t) us) there) p.0 (λ later. mentioned t logs us p.1 later)
+mentioned retired t logs [] e there kept = cc
+mentioned retired t logs (u ∷ us) e there kept =
+    let p : ((is_kept retired u && not (is_whole u logs)) ≡ false) × (filter (λ v. is_kept retired v && not (is_whole v logs)) us ≡ []) =
+    kept_step (is_kept retired u && not (is_whole u logs)) u (filter (λ v. is_kept retired v && not (is_whole v logs)) us) e in
+    here_or_later (one_of (same_id t u) (list_any (same_id t) us) there) p.0 (λ later. mentioned retired t logs us p.1 later kept)
   where
-    here_or_later : (same_id t u ≡ true) ⊎ (list_any (same_id t) us ≡ true) → not (is_whole u logs) ≡ false →
+    here_or_later : (same_id t u ≡ true) ⊎ (list_any (same_id t) us ≡ true) → (is_kept retired u && not (is_whole u logs)) ≡ false →
         (list_any (same_id t) us ≡ true → is_whole t logs ≡ true) → is_whole t logs ≡ true
-    here_or_later (inl same) good later = subst (λ v. is_whole v logs ≡ true) (sym (same_id-is t u same)) (not_false _ good)
+    here_or_later (inl same) good later =
+        kept_whole (is_kept retired t) _ (subst (λ v. (is_kept retired v && not (is_whole v logs)) ≡ false) (sym (same_id-is t u same)) good) kept
     here_or_later (inr more) good later = later more
 
-by_mention : (b : Bool) (t : Id) (logs : List (List Record)) → list_any (same_id t) (all_ids logs) ≡ b → first_torn logs ≡ None → is_whole t logs ≡ true
-by_mention true t logs e none = mentioned t logs (all_ids logs) (head_none _ none) e
-by_mention false t logs e none = unmentioned t logs (sym (any_once t (flat_map (gather id_in) logs)) ∙ e)
+by_mention : (b : Bool) (t : Id) (logs : List (List Record)) → list_any (same_id t) (all_ids logs) ≡ b → first_torn logs ≡ None →
+    is_kept (retired_in logs) t ≡ true → is_whole t logs ≡ true
+by_mention true t logs e none kept = mentioned (retired_in logs) t logs (all_ids logs) (head_none _ none) e kept
+by_mention false t logs e none kept = unmentioned t logs (sym (any_once t (flat_map (gather id_in) logs)) ∙ e)
 
-pub whole_for_all : (logs : List (List Record)) → first_torn logs ≡ None → (t : Id) → is_whole t logs ≡ true
-whole_for_all logs none t = by_mention (list_any (same_id t) (all_ids logs)) t logs refl none
+pub whole_for_all : (logs : List (List Record)) → first_torn logs ≡ None → (t : Id) → is_kept (retired_in logs) t ≡ true → is_whole t logs ≡ true
+whole_for_all logs none t kept = by_mention (list_any (same_id t) (all_ids logs)) t logs refl none kept
 
 -- ---- what a yes means
 

@@ -4,10 +4,10 @@ use Rattle.std.specs.List.{list_any, list_all}
 use Rattle.std.specs.Prelude.{ℕ, ◌+◌, Bool, true, false, not, cond, ◌&&◌, ◌||◌, nat_eq, nat_lt, nat_le, List, [], ◌∷◌, ◌++◌, length, Option, Some, None}
 use Rattle.units.specs.Limits.{most_rows}
 use Rattle.units.specs.Lists.{gather, head, when}
-use Rattle.units.specs.Ids.{Id}
+use Rattle.units.specs.Ids.{Id, older}
 use Rattle.units.specs.Keys.{Bytes, shard_of}
-use Rattle.record.specs.Records.{Status, Unrecorded, StandsPrepared, StandsDecided, status_of, prepared_of, committed_of, ended_of, epoch_of}
-use Rattle.record.specs.Records.{floor_of, horizon_of, ids_of, as_opened}
+use Rattle.record.specs.Records.{Status, Unrecorded, StandsPrepared, StandsDecided, status_written, status_of, prepared_of, committed_of, ended_of, epoch_of}
+use Rattle.record.specs.Records.{floor_of, horizon_of, retired_of, is_below, ids_of, as_opened}
 use Rattle.record.specs.declared.record.Prepared.{Prepared}
 use Rattle.record.specs.declared.record.Committed.{Committed}
 use Rattle.record.specs.Installs.{installs_of, writes_by}
@@ -18,11 +18,25 @@ use Rattle.units.specs.declared.setup.Setup.{Setup}
 use Rattle.units.specs.declared.writes.Install.{Install}
 use Rattle.units.specs.declared.writes.Write.{Write}
 use Rattle.record.specs.declared.record.Record.{Record}
-use Rattle.record.specs.declared.record.Record.TheVariants.{Opened, Ceiling, Prepare, Commit, Abort, Outcome, Horizon, Base, Version, Settled, Closed}
+use Rattle.record.specs.declared.record.Record.TheVariants.{Opened, Ceiling, Prepare, Commit, Abort, Outcome, Horizon, Base, Version, Settled, Closed, Retired}
 
--- no promise, decision or abort of the id stands in the log
+-- the id is not retired
+abbrev pub is_kept : Option Id → Id → Bool
+is_kept retired t = not (is_below retired t)
+
+-- no promise, decision or abort stands by this status
+abbrev pub is_unrecorded : Status → Bool
+is_unrecorded Unrecorded = true
+is_unrecorded _ = false
+
+-- no promise, decision or abort of the id stands in the log, and it is not retired
 abbrev pub is_new : List Record → Id → Bool
-is_new log t = elim (status_of log t) [ Unrecorded ↦ true | _ ↦ false ]
+is_new log t = is_unrecorded (status_written log t) && is_kept (retired_of log) t
+
+-- the id is above the one below which all are retired so far
+abbrev pub rises : Option Id → Id → Bool
+rises None t = true
+rises (Some below) t = older below t
 
 -- an outcome follows a promise or a decision that allows it
 abbrev pub outcome_fits : Option Prepared → Option Committed → Option ℕ → Bool
@@ -75,11 +89,13 @@ follows shard before (Commit c) = nat_lt 0 c.at && is_new before c.txn && when (
 follows shard before (Abort t) = is_new before t
 follows shard before (Outcome t outcome) =
     not (when (λ e. true) (ended_of before t)) && outcome_fits (prepared_of before t) (committed_of before t) outcome
+    && is_kept (retired_of before) t
 follows shard before (Base epoch floor horizon) = is_start before && nat_lt 0 epoch && nat_le horizon floor
 follows shard before (Version install) = is_next before install
 follows shard before (Settled t at parts) = may_end before && nat_lt 0 at && is_new before t && when (nat_eq shard) (head parts)
 follows shard before (Closed t coordinator outcome) =
     may_end before && is_timed outcome && is_new before t && nat_lt coordinator shard
+follows shard before (Retired below) = rises (retired_of before) below
 
 -- the locks of each promise or decision that stands
 abbrev pub standing_locks : Status → Option (List Lock)
@@ -100,6 +116,16 @@ standing_stamp _ = None
 -- the timestamps of all of them
 abbrev pub stamps_standing : List Record → List ℕ
 stamps_standing log = gather (λ t. standing_stamp (status_of log t)) (ids_of log)
+
+-- the id of a promise or decision that stands
+abbrev pub standing_id : Status → Option Id
+standing_id (StandsPrepared p) = Some p.txn
+standing_id (StandsDecided c) = Some c.txn
+standing_id _ = None
+
+-- the ids of all of them
+abbrev pub ids_standing : List Record → List Id
+ids_standing log = gather (λ t. standing_id (status_of log t)) (ids_of log)
 
 -- a new promise or decision: room among the rows, no lock in the way, above the horizon, and above the versions of what it writes
 abbrev pub may_stand : List Record → ℕ → List Bytes → List Write → Bool
@@ -124,6 +150,7 @@ fits_beside before (Base epoch floor horizon) = true
 fits_beside before (Version install) = true
 fits_beside before (Settled t at parts) = true
 fits_beside before (Closed t coordinator outcome) = true
+fits_beside before (Retired below) = list_all (λ t. not (older t below)) (ids_standing before)
 
 -- the first record is an opening or a base
 abbrev pub begins : List Record → Record → Bool
@@ -158,6 +185,7 @@ belongs setup (Base epoch floor horizon) = true
 belongs setup (Version install) = nat_eq (shard_of setup.splits install.key) setup.shard
 belongs setup (Settled t at parts) = true
 belongs setup (Closed t coordinator outcome) = true
+belongs setup (Retired below) = true
 
 -- the verdict on a list of records
 pub data Taken : Type 0 where

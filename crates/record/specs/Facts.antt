@@ -1,14 +1,14 @@
 -- The part of a shard's state that its log determines, and how one more record changes it.
-use Rattle.std.specs.Prelude.{ℕ, cond, max, List, [], ◌∷◌, ◌++◌, map, Option, Some, None}
+use Rattle.std.specs.Prelude.{ℕ, not, cond, max, List, [], ◌∷◌, ◌++◌, map, Option, Some, None, filter}
 use Rattle.units.specs.Lists.{first}
 use Rattle.units.specs.Ids.{Id, same_id, older}
-use Rattle.record.specs.Records.{Status, Unrecorded, StandsPrepared, StandsDecided, HasAborted, HasSettled, HasClosed, status_of, ids_of, epoch_of}
-use Rattle.record.specs.Records.{floor_of, horizon_of, stamp_in}
+use Rattle.record.specs.Records.{Status, Unrecorded, StandsPrepared, StandsDecided, HasAborted, HasSettled, HasClosed, status_written, ids_of, epoch_of}
+use Rattle.record.specs.Records.{floor_of, horizon_of, retired_of, is_below, stamp_in}
 use Rattle.record.specs.Installs.{installs_of}
 use Rattle.units.specs.Versions.{versions}
 use Rattle.units.specs.declared.writes.Install.{Install}
 use Rattle.record.specs.declared.record.Record.{Record}
-use Rattle.record.specs.declared.record.Record.TheVariants.{Opened, Ceiling, Prepare, Commit, Abort, Outcome, Horizon, Base, Version, Settled, Closed}
+use Rattle.record.specs.declared.record.Record.TheVariants.{Opened, Ceiling, Prepare, Commit, Abort, Outcome, Horizon, Base, Version, Settled, Closed, Retired}
 
 -- an id and its status
 pub record TxnStatus : Type 0 where
@@ -16,22 +16,27 @@ pub record TxnStatus : Type 0 where
   pub status : Status
 
 -- the epoch, the greatest timestamp, the status of each id that has a record (ascending by id), the versions in the
--- log's order, and the horizon, below which no value is read
+-- log's order, the horizon, below which no value is read, and the id below which all are retired
 pub record Facts : Type 0 where
   pub epoch : ℕ
   pub floor : ℕ
   pub entries : List TxnStatus
   pub installs : List Install
   pub horizon : ℕ
+  pub retired : Option Id
 
 -- facts, by their parts
-abbrev pub facts_with : ℕ → ℕ → List TxnStatus → List Install → ℕ → Facts
-facts_with epoch floor entries installs horizon =
-    record { epoch = epoch; floor = floor; entries = entries; installs = installs; horizon = horizon }
+abbrev pub facts_with : ℕ → ℕ → List TxnStatus → List Install → ℕ → Option Id → Facts
+facts_with epoch floor entries installs horizon retired =
+    record { epoch = epoch; floor = floor; entries = entries; installs = installs; horizon = horizon; retired = retired }
 
 -- the facts before any record
 abbrev pub no_facts : Facts
-no_facts = facts_with 0 0 [] [] 0
+no_facts = facts_with 0 0 [] [] 0 None
+
+-- the entries of ids that are not retired
+abbrev pub kept_entries : Option Id → List TxnStatus → List TxnStatus
+kept_entries retired entries = filter (λ e. not (is_below retired e.txn)) entries
 
 -- the facts of a log, read from the set of its records
 unfoldable pub facts_of : List Record → Facts
@@ -39,9 +44,10 @@ facts_of log =
     record {
       epoch = epoch_of log;
       floor = floor_of log;
-      entries = map (λ t. record { txn = t; status = status_of log t }) (ids_of log);
+      entries = kept_entries (retired_of log) (map (λ t. record { txn = t; status = status_written log t }) (ids_of log));
       installs = installs_of log;
       horizon = horizon_of log;
+      retired = retired_of log;
     }
 
 -- the status of an id
@@ -97,6 +103,7 @@ with_record_noted facts (Base epoch floor horizon) = record facts { epoch = epoc
 with_record_noted facts (Version install) = record facts { installs = facts.installs ++ install ∷ [] }
 with_record_noted facts (Settled t at parts) = set_status facts t (HasSettled at parts)
 with_record_noted facts (Closed t coordinator outcome) = set_status facts t (HasClosed coordinator outcome)
+with_record_noted facts (Retired below) = record facts { retired = Some below; entries = kept_entries (Some below) facts.entries }
 
 -- the facts after one more record
 unfoldable pub learn : Facts → Record → Facts

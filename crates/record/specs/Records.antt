@@ -1,13 +1,13 @@
 -- What a log says, each fact read from the set of its records.
 use Rattle.std.specs.List.{list_any}
-use Rattle.std.specs.Prelude.{ℕ, Bool, true, false, List, [], Option, Some, None}
+use Rattle.std.specs.Prelude.{ℕ, Bool, true, false, cond, List, [], ◌∷◌, Option, Some, None}
 use Rattle.units.specs.Lists.{gather, first, greatest}
-use Rattle.units.specs.Ids.{Id, same_id, ids_once}
+use Rattle.units.specs.Ids.{Id, same_id, older, ids_once}
 use Rattle.units.specs.declared.writes.Install.{Install}
 use Rattle.record.specs.declared.record.Committed.{Committed}
 use Rattle.record.specs.declared.record.Prepared.{Prepared}
 use Rattle.record.specs.declared.record.Record.{Record}
-use Rattle.record.specs.declared.record.Record.TheVariants.{Opened, Ceiling, Prepare, Commit, Abort, Outcome, Horizon, Base, Version, Settled, Closed}
+use Rattle.record.specs.declared.record.Record.TheVariants.{Opened, Ceiling, Prepare, Commit, Abort, Outcome, Horizon, Base, Version, Settled, Closed, Retired}
 
 -- how a transaction ended at a shard: at a timestamp, or aborted
 pub record Ended : Type 0 where
@@ -63,6 +63,11 @@ as_horizon (Horizon at) = Some at
 as_horizon (Base epoch floor horizon) = Some horizon
 as_horizon _ = None
 
+-- the record as the id below which all are retired
+abbrev pub as_retired : Record → Option Id
+as_retired (Retired below) = Some below
+as_retired _ = None
+
 -- the record as a version
 abbrev pub as_version : Record → Option Install
 as_version (Version install) = Some install
@@ -81,6 +86,7 @@ stamp_in (Base epoch floor horizon) = Some floor
 stamp_in (Version install) = Some install.at
 stamp_in (Settled t at parts) = Some at
 stamp_in (Closed t coordinator outcome) = outcome
+stamp_in (Retired below) = None
 
 -- the id that a record is about
 abbrev pub id_in : Record → Option Id
@@ -95,6 +101,7 @@ id_in (Base epoch floor horizon) = None
 id_in (Version install) = None
 id_in (Settled t at parts) = Some t
 id_in (Closed t coordinator outcome) = Some t
+id_in (Retired below) = None
 
 -- the epoch: the greatest of the openings and the base
 abbrev pub epoch_of : List Record → ℕ
@@ -107,6 +114,20 @@ floor_of log = greatest (gather stamp_in log)
 -- the horizon, below which no value is read: the greatest of the log, 0 where there is none
 abbrev pub horizon_of : List Record → ℕ
 horizon_of log = greatest (gather as_horizon log)
+
+-- the last of some ids, after one that may be there
+abbrev pub last_id : Option Id → List Id → Option Id
+last_id former [] = former
+last_id former (t ∷ ts) = last_id (Some t) ts
+
+-- the id below which all are retired: the last one of the log, since they rise
+abbrev pub retired_of : List Record → Option Id
+retired_of log = last_id None (gather as_retired log)
+
+-- the id is below that one, if there is one
+abbrev pub is_below : Option Id → Id → Bool
+is_below None t = false
+is_below (Some below) t = older t below
 
 -- what the log prepared of an id
 abbrev pub prepared_of : List Record → Id → Option Prepared
@@ -146,6 +167,10 @@ status_by false None (Some p) (Some e) = HasClosed p.coordinator e.outcome
 status_by false None (Some p) None = StandsPrepared p
 status_by false None None e = Unrecorded
 
--- the status of an id in a log
+-- the status of an id by all records, also of one that is retired
+unfoldable pub status_written : List Record → Id → Status
+status_written log t = status_by (is_aborted log t) (committed_of log t) (prepared_of log t) (ended_of log t)
+
+-- the status of an id in a log, which keeps none of one that is retired
 unfoldable pub status_of : List Record → Id → Status
-status_of log t = status_by (is_aborted log t) (committed_of log t) (prepared_of log t) (ended_of log t)
+status_of log t = cond (is_below (retired_of log) t) Unrecorded (status_written log t)

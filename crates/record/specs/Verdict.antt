@@ -1,12 +1,13 @@
 -- The inspector's verdict on logs and report lines. `VerdictLaws` says what a yes means.
 use Rattle.std.specs.List.{list_any}
-use Rattle.std.specs.Prelude.{ℕ, Bool, true, false, not, cond, ◌&&◌, nat_lt, nat_le, List, [], Option, Some, None, option_map}
+use Rattle.std.specs.Prelude.{ℕ, Bool, true, false, not, cond, ◌&&◌, ◌||◌, nat_lt, nat_le, List, [], ◌∷◌, Option, Some, None, option_map}
 use Rattle.units.specs.Lists.{gather, first, head, when, numbered, same_numbers}
-use Rattle.units.specs.Ids.{Id, ids_once}
+use Rattle.units.specs.Ids.{Id, ids_once, older}
 use Rattle.units.specs.Keys.{Bytes}
-use Rattle.record.specs.Accepted.{is_base}
+use Rattle.record.specs.Accepted.{is_base, is_kept}
 use Rattle.record.specs.History.{Txn, history, before, upto, find_txn}
 use Rattle.record.specs.Lines.{is_in_at}
+use Rattle.record.specs.Records.{is_below, retired_of}
 use Rattle.record.specs.Whole.{is_whole, all_ids}
 use Rattle.record.specs.declared.record.Record.{Record}
 use Rattle.units.specs.declared.line.Verdict.{Verdict}
@@ -20,18 +21,33 @@ same_value None None = true
 same_value (Some v) (Some w) = same_numbers v w
 same_value _ _ = false
 
--- the least id that is not whole
-abbrev pub first_torn : List (List Record) → Option Id
-first_torn logs = first (λ t. not (is_whole t logs)) (all_ids logs)
+-- the later of two ids, as far as they are there
+abbrev pub later_id : Option Id → Option Id → Option Id
+later_id None b = b
+later_id (Some a) None = Some a
+later_id (Some a) (Some b) = cond (older a b) (Some b) (Some a)
 
--- the id of an acknowledgement that the history lacks
-abbrev pub lost_by : List Txn → Line → Option Id
-lost_by h (Ack t at m) = cond (is_in_at h t at) None (Some t)
-lost_by h _ = None
+-- the greatest id below which one of the logs retired all, or this one
+abbrev pub latest_retired : Option Id → List (List Record) → Option Id
+latest_retired found [] = found
+latest_retired found (log ∷ logs) = latest_retired (later_id found (retired_of log)) logs
+
+-- the greatest id below which one of the logs retired all
+abbrev pub retired_in : List (List Record) → Option Id
+retired_in logs = latest_retired None logs
+
+-- the least id that is not whole, of those that no log retired
+abbrev pub first_torn : List (List Record) → Option Id
+first_torn logs = first (λ t. is_kept (retired_in logs) t && not (is_whole t logs)) (all_ids logs)
+
+-- the id of an acknowledgement that the history lacks, unless it is retired
+abbrev pub lost_by : Option Id → List Txn → Line → Option Id
+lost_by retired h (Ack t at m) = cond (is_below retired t || is_in_at h t at) None (Some t)
+lost_by retired h _ = None
 
 -- the least id that is lost
-abbrev pub first_lost : List Txn → List Line → Option Id
-first_lost h lines = head (ids_once (gather (lost_by h) lines))
+abbrev pub first_lost : Option Id → List Txn → List Line → Option Id
+first_lost retired h lines = head (ids_once (gather (lost_by retired h) lines))
 
 -- the line's value is that of the serial run; other lines have none
 abbrev pub line_reads_right : List Txn → Line → Bool
@@ -82,5 +98,5 @@ first_fault None None None None = Yes
 -- the verdict
 unfoldable pub verdict : List (List Record) → List Line → Verdict
 verdict logs lines =
-    first_fault (first_torn logs) (first_lost (history logs) lines) (wrong_read (are_renewed logs) (history logs) lines)
+    first_fault (first_torn logs) (first_lost (retired_in logs) (history logs) lines) (wrong_read (are_renewed logs) (history logs) lines)
     (first_wrong_order (history logs) lines)

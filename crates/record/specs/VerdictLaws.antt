@@ -8,16 +8,18 @@ use Rattle.units.specs.declared.line.Verdict.{Verdict}
 use Rattle.units.specs.declared.line.Verdict.TheVariants.{Yes, Torn, Lost, WrongRead, WrongOrder}
 use Rattle.record.specs.History.{Txn, history, before, upto, find_txn}
 use Rattle.record.specs.Serially.{LooksSerially, ReadsSerially, OrderedByTime}
-use Rattle.record.specs.Verdict.{are_renewed, verdict}
+use Rattle.record.specs.Accepted.{is_kept}
+use Rattle.record.specs.Verdict.{are_renewed, retired_in, verdict}
 use Rattle.record.specs.Lines.{IsLine, is_in_at}
 use Rattle.record.specs.Whole.{is_whole}
 use Rattle.record.specs.declared.record.Record.{Record}
 
--- every transaction is whole; what was acknowledged is in the history; looks, and reads of committed transactions, are
--- those of the serial run, where no log was renewed; who began after an acknowledgement has the larger timestamp
+-- every transaction that no log retired is whole, and is in the history if it was acknowledged; looks, and reads of committed
+-- transactions, are those of the serial run, where no log was renewed; who began after an acknowledgement has the larger timestamp
 pub record IsBorneOut (logs : List (List Record)) (lines : List Line) : Type 0 where
-  pub whole : (t : Id) → IsTrue (is_whole t logs)
-  pub acknowledged : (t : Id) (at m : ℕ) → IsLine lines (Line.Ack t at m) → IsTrue (is_in_at (history logs) t at)
+  pub whole : (t : Id) → IsTrue (is_kept (retired_in logs) t) → IsTrue (is_whole t logs)
+  pub acknowledged : (t : Id) (at m : ℕ) → IsLine lines (Line.Ack t at m) → IsTrue (is_kept (retired_in logs) t) →
+      IsTrue (is_in_at (history logs) t at)
   pub looks : IsFalse (are_renewed logs) → LooksSerially logs lines
   pub reads : IsFalse (are_renewed logs) → ReadsSerially logs lines
   pub order : OrderedByTime logs lines
@@ -33,11 +35,12 @@ IsWrong h (Look k at x) = upto h at k ≡ x → ⊥
 IsWrong h (Begin t m) = ⊥
 IsWrong h (Ack t at m) = ⊥
 
--- an acknowledgement at a timestamp at which its id is not in the history
-pub record IsLost (h : List Txn) (lines : List Line) (t : Id) : Type 0 where
+-- an acknowledgement at a timestamp at which its id is not in the history, though it is not retired
+pub record IsLost (retired : Option Id) (h : List Txn) (lines : List Line) (t : Id) : Type 0 where
   pub at : ℕ
   pub moment : ℕ
   pub line : IsLine lines (Ack t at moment)
+  pub kept : IsTrue (is_kept retired t)
   pub missing : is_in_at h t at ≡ false
 
 -- a begin line of a committed id, and an earlier acknowledgement at a timestamp that is not below its own
@@ -57,8 +60,8 @@ pub record IsLate (h : List Txn) (lines : List Line) (i j : ℕ) : Type 0 where
 -- what a verdict says
 abbrev pub IsRight : List (List Record) → List Line → Verdict → Type 0
 IsRight logs lines Yes = Unit {0}
-IsRight logs lines (Torn t) = is_whole t logs ≡ false
-IsRight logs lines (Lost t) = IsLost (history logs) lines t
+IsRight logs lines (Torn t) = IsTrue (is_kept (retired_in logs) t) × (is_whole t logs ≡ false)
+IsRight logs lines (Lost t) = IsLost (retired_in logs) (history logs) lines t
 IsRight logs lines (WrongRead i) = IsFalse (are_renewed logs) × (l : Line) × (slice_get lines i ≡ Some l) × IsWrong (history logs) l
 IsRight logs lines (WrongOrder i j) = IsLate (history logs) lines i j
 

@@ -2,9 +2,9 @@
 ghost use Rattle.record.specs.FactLaws.{AcceptedFollows, LearnAgrees, LearntAgrees};
 ghost use Rattle.record.specs.VerdictLaws.{EachNoIsRight, SoundIsYes, YesIsSound};
 
-/// States what the verdict `Yes` means. Every transaction is whole, and what was acknowledged is in the history. If
-/// no log was renewed, every value is that of the serial run. Timestamps follow the order of acknowledging and
-/// beginning.
+/// States what the verdict `Yes` means. Every transaction that no log retired is whole, and is in the history if it was
+/// acknowledged. If no log was renewed, every value is that of the serial run. Timestamps follow the order of acknowledging
+/// and beginning.
 pub fn a_yes_is_sound()
     ensures { YesIsSound }
 {}

@@ -80,8 +80,8 @@ impl Committed {
     }
 }
 
-/// A record of a shard's log. The last four kinds come in the head of a renewed log, which keeps neither the reads
-/// nor the writes of a transaction that has ended.
+/// A record of a shard's log. The four kinds before the last come in the head of a renewed log, which keeps
+/// neither the reads nor the writes of a transaction that has ended.
 #[derive(Drop)]
 pub enum Record {
     /// The shard was opened, for this epoch.
@@ -128,6 +128,10 @@ pub enum Record {
         txn: TxnId,
         coordinator: ShardNo,
         outcome: Option<Stamp>,
+    },
+    /// Every id below this one, by run and then by number, is retired: the shard refuses all that is said of it.
+    Retired {
+        below: TxnId,
     },
 }
 
@@ -184,6 +188,7 @@ impl Record {
                 coordinator: *coordinator,
                 outcome: *outcome,
             }),
+            Record::Retired { below } => Ok(Record::Retired { below: *below }),
         }
     }
 }

@@ -1,14 +1,16 @@
 -- What a record makes of the memory, made once more of the memory that the records before it leave.
-use Rattle.std.proofs.Common.{◌≡◌, ℕ, true, max, List, [], ◌++◌, Option, Some, None, refl, sym, ap, subst, ◌∙◌}
-use Rattle.std.specs.List.{AllByRecursion}
+use Rattle.std.proofs.Common.{◌≡◌, ℕ, Bool, true, false, not, cond, filter, max, List, [], ◌∷◌, ◌++◌, Option, Some, None, refl, sym, ap, subst, ◌∙◌}
+use Rattle.std.specs.List.{AllByRecursion, list_all}
 use Rattle.std.proofs.lemmas.Bool.{false≢true, and_parts}
 use Rattle.units.specs.Lists.{follow, gather, when}
-use Rattle.units.specs.Ids.{Id}
+use Rattle.units.specs.Ids.{Id, older}
 use Rattle.units.specs.ById.{IsById, find_member}
+use Rattle.units.proofs.ByIdLaws.{by_id-keep}
+use Rattle.units.proofs.ListLaws.{all-keep}
 use Rattle.units.specs.Keys.{Bytes}
 use Rattle.units.specs.Locks.{exclusive, locks_of, shared, with_locks}
 use Rattle.units.specs.declared.writes.Write.{Write}
-use Rattle.record.specs.Facts.{TxnStatus, Facts, after_outcome, learn, or_floor, or_unrecorded, recorded, with_status}
+use Rattle.record.specs.Facts.{TxnStatus, Facts, after_outcome, kept_entries, learn, or_floor, or_unrecorded, recorded, with_status}
 use Rattle.record.specs.Records.{Status, Unrecorded, StandsPrepared, StandsDecided, HasAborted, HasSettled, HasClosed}
 use Rattle.record.specs.declared.record.Committed.{Committed}
 use Rattle.record.specs.declared.record.Prepared.{Prepared}
@@ -17,6 +19,7 @@ use Rattle.message.specs.declared.message.Envelope.{Envelope}
 use Rattle.facts.specs.Rules.{allows, follows_facts, id_follows}
 use Rattle.protocol.specs.Rows.{held_by, held_in, Phase, Row, IsPrepared, IsDecided, find_row, rebuilt, standing_row, with_row, without_row}
 use Rattle.protocol.specs.Plan.{carried, after_change, ended_by}
+use Rattle.protocol.specs.Beside.{fits_facts}
 use Rattle.protocol.specs.Plan as protocol
 use Rattle.protocol.proofs.FitsBeside.{unrecorded_is}
 use Rattle.protocol.proofs.StatusChanges.{by_id-status}
@@ -41,6 +44,7 @@ names (Record.Base e f n) = None
 names (Record.Version i) = None
 names (Record.Settled u at parts) = None
 names (Record.Closed u coordinator q) = None
+names (Record.Retired below) = None
 
 -- ---- records that change no row
 
@@ -70,6 +74,56 @@ forgets_again k at last logged p recovered same plan =
     ap (λ q. carried q k.memory) plan
     ∙ ap (λ n. record { last = n; rows = k.memory.rows; ended = k.memory.ended }) same
     ∙ ap (λ m. record { last = m.last; rows = m.rows; ended = m.ended }) recovered.memory
+
+-- ---- a retirement
+
+-- no row that stands is of a retired id
+rows_stay : (below : Id) (es : List TxnStatus) → AllByRecursion IsOwn es → list_all (λ r. not (older r.txn below)) (gather standing_row es) ≡ true
+    → gather standing_row (kept_entries (Some below) es) ≡ gather standing_row es
+rows_stay below [] own none = refl
+rows_stay below (e ∷ es) own none = by_status e.status own.0 none (rows_stay below es own.1)
+  where
+    left : List TxnStatus
+    left = kept_entries (Some below) es
+
+    dropped : (b : Bool) (x : TxnStatus) → standing_row x ≡ None → gather standing_row (cond b (x ∷ left) left) ≡ gather standing_row left
+    dropped true x e = ap (λ o. elim o as (λ _. List Row) [ None ↦ gather standing_row left | Some r ↦ r ∷ gather standing_row left ]) e
+    dropped false x e = refl
+
+    stands : (t : Id) (r : Row) (x : TxnStatus) → t ≡ e.txn → standing_row x ≡ Some r → not (older t below) ≡ true
+        → gather standing_row (cond (not (older e.txn below)) (x ∷ left) left) ≡ r ∷ gather standing_row left
+    stands t r x own some kept =
+        ap (λ b. gather standing_row (cond b (x ∷ left) left)) (ap (λ u. not (older u below)) (sym own) ∙ kept)
+        ∙ ap (λ o. elim o as (λ _. List Row) [ None ↦ gather standing_row left | Some q ↦ q ∷ gather standing_row left ]) some
+
+    by_status : (s : Status) → IsOwn (record { txn = e.txn; status = s })
+        → list_all (λ r. not (older r.txn below)) (gather standing_row (record { txn = e.txn; status = s } ∷ es)) ≡ true
+        → (list_all (λ r. not (older r.txn below)) (gather standing_row es) ≡ true → gather standing_row left ≡ gather standing_row es)
+        → gather standing_row (cond (not (older e.txn below)) (record { txn = e.txn; status = s } ∷ left) left)
+        ≡ gather standing_row (record { txn = e.txn; status = s } ∷ es)
+    by_status (StandsPrepared p) own none rest =
+        let parts = and_parts _ _ none in
+        let row : Row = record { txn = p.txn; held = locks_of p.reads p.writes; phase = IsPrepared p.coordinator p.at } in
+        stands p.txn row (record { txn = e.txn; status = StandsPrepared p }) own refl parts.0 ∙ ap (λ rs. row ∷ rs) (rest parts.1)
+    by_status (StandsDecided c) own none rest =
+        let parts = and_parts _ _ none in
+        let row : Row = record { txn = c.txn; held = locks_of c.reads c.writes; phase = IsDecided c.at c.parts } in
+        stands c.txn row (record { txn = e.txn; status = StandsDecided c }) own refl parts.0 ∙ ap (λ rs. row ∷ rs) (rest parts.1)
+    by_status Unrecorded own none rest = dropped (not (older e.txn below)) (record { txn = e.txn; status = Unrecorded }) refl ∙ rest none
+    by_status HasAborted own none rest = dropped (not (older e.txn below)) (record { txn = e.txn; status = HasAborted }) refl ∙ rest none
+    by_status (HasSettled at ps) own none rest = dropped (not (older e.txn below)) (record { txn = e.txn; status = HasSettled at ps }) refl ∙ rest none
+    by_status (HasClosed c o) own none rest = dropped (not (older e.txn below)) (record { txn = e.txn; status = HasClosed c o }) refl ∙ rest none
+
+pub retires_again : (k : Kept) (below : Id) (last : ℕ) (logged : Option Record) (p : protocol.Plan) → IsRecovered k → last ≡ k.memory.last
+    → fits_facts k.facts (Record.Retired below) ≡ true
+    → p ≡ record { wounded = []; change = protocol.Retires below; logged = logged; last = last; outbox = [] }
+    → carried p k.memory ≡ rebuilt (learn k.facts (Record.Retired below))
+unfolding carried after_change ended_by rebuilt learn
+retires_again k below last logged p recovered same fits plan =
+    ap (λ q. carried q k.memory) plan
+    ∙ ap (λ n. record { last = n; rows = k.memory.rows; ended = filter (λ t. not (older t below)) k.memory.ended }) same
+    ∙ ap (λ m. record { last = m.last; rows = m.rows; ended = filter (λ t. not (older t below)) m.ended }) recovered.memory
+    ∙ ap (λ rs. record { last = k.facts.floor; rows = rs; ended = [] }) (sym (rows_stay below k.facts.entries recovered.own fits))
 
 -- ---- a promise or a decision
 
@@ -144,11 +198,12 @@ fresh_before shard facts r t follows named = by_record r (id_rules shard facts r
     by_record : (r : Record) → id_follows shard facts r ≡ true → names r ≡ Some t → recorded facts t ≡ Unrecorded
     by_record (Record.Prepare p) h k =
         let same : p.txn ≡ t = cc in subst (λ u. recorded facts u ≡ Unrecorded) same (unrecorded_is (recorded facts p.txn)
-        (and_parts _ _ (and_parts _ _ h).0).1)
+        (and_parts _ _ (and_parts _ _ (and_parts _ _ h).0).1).0)
     by_record (Record.Commit c) h k =
         let same : c.txn ≡ t = cc in subst (λ u. recorded facts u ≡ Unrecorded) same (unrecorded_is (recorded facts c.txn)
-        (and_parts _ _ (and_parts _ _ h).0).1)
-    by_record (Record.Abort u) h k = let same : u ≡ t = cc in subst (λ u. recorded facts u ≡ Unrecorded) same (unrecorded_is (recorded facts u) h)
+        (and_parts _ _ (and_parts _ _ (and_parts _ _ h).0).1).0)
+    by_record (Record.Abort u) h k =
+        let same : u ≡ t = cc in subst (λ u. recorded facts u ≡ Unrecorded) same (unrecorded_is (recorded facts u) (and_parts _ _ h).0)
     by_record (Record.Opened epoch) h k = cc
     by_record (Record.Ceiling at) h k = cc
     by_record (Record.Horizon at) h k = cc
@@ -157,6 +212,7 @@ fresh_before shard facts r t follows named = by_record r (id_rules shard facts r
     by_record (Record.Version i) h k = cc
     by_record (Record.Settled u at parts) h k = cc
     by_record (Record.Closed u coordinator q) h k = cc
+    by_record (Record.Retired below) h k = cc
 
 pub absent_before : (k : Kept) (shard : ℕ) (r : Record) (t : Id) → IsRecovered k → follows_facts shard k.facts r ≡ true → names r ≡ Some t →
     find_row k.memory.rows t ≡ None
@@ -270,6 +326,7 @@ learn_order f (Record.Abort t) up = by_id-status f.entries t HasAborted up
 learn_order f (Record.Outcome t o) up = by_id-status f.entries t (after_outcome (recorded f t) o) up
 learn_order f (Record.Settled t at parts) up = by_id-status f.entries t (HasSettled at parts) up
 learn_order f (Record.Closed t coordinator o) up = by_id-status f.entries t (HasClosed coordinator o) up
+learn_order f (Record.Retired below) up = by_id-keep (λ (e : TxnStatus). e.txn) (λ e. not (older e.txn below)) f.entries up
 learn_order f _ up = up
 
 pub learn_own : (shard : ℕ) (f : Facts) (r : Record) → follows_facts shard f r ≡ true → AllByRecursion IsOwn f.entries →
@@ -278,6 +335,7 @@ unfolding learn follows_facts
 learn_own shard f (Record.Opened epoch) follows own = own
 learn_own shard f (Record.Ceiling at) follows own = own
 learn_own shard f (Record.Horizon at) follows own = own
+learn_own shard f (Record.Retired below) follows own = all-keep IsOwn (λ e. not (older e.txn below)) f.entries own
 learn_own shard f (Record.Prepare p) follows own = own-status f.entries p.txn (StandsPrepared p) refl own
 learn_own shard f (Record.Commit c) follows own = own-status f.entries c.txn (StandsDecided c) refl own
 learn_own shard f (Record.Abort t) follows own = own-status f.entries t HasAborted tt own

@@ -46,9 +46,9 @@ unfolding learn follows_head
 headed_rows k shard (Record.Base e f n) recovered follows = refl
 headed_rows k shard (Record.Version i) recovered follows = refl
 headed_rows k shard (Record.Settled t at parts) recovered follows =
-    ended_rows k t (HasSettled at parts) recovered ((and_parts _ _ ((and_parts _ _ follows).0)).1) tt refl
+    ended_rows k t (HasSettled at parts) recovered (and_parts _ _ ((and_parts _ _ ((and_parts _ _ follows).0)).1)).0 tt refl
 headed_rows k shard (Record.Closed t c o) recovered follows =
-    ended_rows k t (HasClosed c o) recovered ((and_parts _ _ ((and_parts _ _ follows).0)).1) tt refl
+    ended_rows k t (HasClosed c o) recovered (and_parts _ _ ((and_parts _ _ ((and_parts _ _ follows).0)).1)).0 tt refl
 headed_rows k shard _ recovered follows = absurd (false≢true follows)
 
 headed_floor : (f : Facts) (r : Record) → (learn f r).floor ≡ or_floor f.floor (stamp_in r)

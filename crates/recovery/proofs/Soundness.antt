@@ -17,8 +17,8 @@ use Rattle.units.specs.Versions.{above_versions, versions}
 use Rattle.units.specs.declared.writes.Install.{Install}
 use Rattle.units.proofs.ByIdLaws.{found_all, found_is}
 use Rattle.units.proofs.IdLaws.{same_id-is}
-use Rattle.units.proofs.ListLaws.{all_gives, each_of_all}
-use Rattle.record.specs.Facts.{TxnStatus, Facts, after_outcome, installs_at, learn, or_floor, or_unrecorded, recorded, with_status}
+use Rattle.units.proofs.ListLaws.{all-keep, all_gives, each_of_all}
+use Rattle.record.specs.Facts.{TxnStatus, Facts, kept_entries, after_outcome, installs_at, learn, or_floor, or_unrecorded, recorded, with_status}
 use Rattle.record.specs.Records.{Status, Unrecorded, StandsPrepared, StandsDecided, HasAborted, HasSettled, HasClosed, stamp_in}
 use Rattle.record.specs.declared.record.Record.{Record}
 use Rattle.facts.specs.Rules.{allows, follows_facts}
@@ -355,6 +355,13 @@ taken_more shard f (Record.Horizon at) up own lawful follows fit taken = record 
       let low : nat_le at f.floor ≡ true = (and_parts _ _ (and_parts _ _ follows).1).1 in
       let before : f.horizon ≤ f.floor = taken.horizon in
       (let l : at ≤ f.floor = grind (arith, nat_tests) in omega (arith, l, before));
+}
+taken_more shard f (Record.Retired below) up own lawful follows fit taken = record {
+  opened = taken.opened;
+  good = all_gives (IsGood f) (IsGood (learn f (Record.Retired below))) (λ e h. good_later f (learn f (Record.Retired below)) e refl (omega arith) refl h)
+      (kept_entries (Some below) f.entries) (all-keep (IsGood f) (λ e. not (older e.txn below)) f.entries taken.good);
+  covered = taken.covered;
+  horizon = taken.horizon;
 }
 taken_more shard f _ up own lawful follows fit taken = absurd (false≢true follows)
 

@@ -38,6 +38,7 @@ is_first (Record.Outcome t outcome) = false
 is_first (Record.Version install) = false
 is_first (Record.Settled t at parts) = false
 is_first (Record.Closed t coordinator outcome) = false
+is_first (Record.Retired below) = false
 
 -- the numbers of a base
 abbrev pub base_in : Record → Option (ℕ × ℕ × ℕ)

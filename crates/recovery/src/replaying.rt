@@ -17,7 +17,7 @@ use std::alloc::Global;
 use units::{Fault, Keys, Stamp, TxnId, Writes};
 
 /// Tells whether the record fits beside what stands. Its row has room, nobody conflicts with its locks, and its timestamp is above the
-/// horizon and its keys' versions. A horizon must not lie above the safe time. `Memory` if memory runs out.
+/// horizon and its keys' versions. A horizon must not lie above the safe time, and no retired id has a row. `Memory` if memory runs out.
 pub fn fits_beside(state: &State, alloc: Global, item: &Record) -> Result<bool, Fault>
     requires recovered { IsRecovered state.now }
     requires follows { follows_next
@@ -33,6 +33,7 @@ pub fn fits_beside(state: &State, alloc: Global, item: &Record) -> Result<bool, 
             outcome: Some(at),
         } => Ok(state.takes_standing(*txn, *at)),
         Record::Horizon { at } => Ok(*at <= state.safe()),
+        Record::Retired { below } => Ok(!state.has_row_below(*below)),
         _ => Ok(true),
     }
 }
@@ -119,6 +120,9 @@ fn plan_again(state: &State, alloc: Global, item: &Record) -> Result<Plan, Fault
             Ok(Plan::quiet(alloc, needs, Change::Stands(c.txn), last.later(c.at)))
         }
         Record::Horizon { .. } => Ok(Plan::quiet(alloc, Vec::new(alloc), Change::Keeps, last)),
+        Record::Retired { below } => {
+            Ok(Plan::quiet(alloc, Vec::new(alloc), Change::Retires(*below), last))
+        }
         Record::Base { .. } | Record::Version(_) => unreachable!(),
         Record::Settled { .. } | Record::Closed { .. } => unreachable!(),
     }

@@ -2,11 +2,11 @@
 use Rattle.std.proofs.Common.{◌≡◌, suc, ◌<◌, Bool, true, false, ◌||◌, not, cond, List, [], ◌∷◌, length, map, Option, Some, None, Bor, refl, sym, ap}
 use Rattle.std.proofs.Common.{subst, ◌∙◌, arith, option_map}
 use Rattle.std.proofs.lemmas.Bool.{false≢true}
-use Rattle.std.specs.List.{AllByRecursion, find}
+use Rattle.std.specs.List.{AllByRecursion, find, list_any}
 use Rattle.std.specs.Option.{option_copied, MatchOption}
 use Rattle.units.specs.Limits.{most_rows}
 use Rattle.units.specs.Lists.{tail, when}
-use Rattle.units.specs.Ids.{Id, same_id}
+use Rattle.units.specs.Ids.{Id, older, same_id}
 use Rattle.units.specs.ById.{has_member, without_member}
 use Rattle.units.specs.Locks.{Claim}
 use Rattle.units.specs.declared.lock.Lock.{Lock}
@@ -156,6 +156,12 @@ decided_phase t k _ e = absurd (false≢true e)
 pub length-paired : (rows : List CodeRow) (table : List Claim) → length (paired rows table) ≡ length rows
 length-paired [] table = refl
 length-paired (r ∷ rs) table = ap suc (length-paired rs (tail table))
+
+-- a row of a lower id is one of the code's
+pub any-paired : (below : Id) (rows : List CodeRow) (table : List Claim)
+    → list_any (λ r. older (txn_of r) below) rows ≡ list_any (λ r. older r.txn below) (paired rows table)
+any-paired below [] table = refl
+any-paired below (r ∷ rs) table = ap (λ b. older (txn_of r) below || b) (any-paired below rs (tail table))
 
 -- the row that is found, as a reference
 pub matched : (o : Option (Bor CodeRow)) (rows : List CodeRow) (table : List Claim) (t : Id) → option_copied o ≡ find (λ r. same_id (txn_of r) t) rows

@@ -1,6 +1,6 @@
 //! The rows by ascending id, in memory that is taken once for all of them.
 ghost use Rattle.std.specs.Prelude.{◌≡◌, ◌+◌, ◌<◌, ◌≤◌, [], true, false, IfOk, IfErr, length, slice_get, vec_capacity};
-ghost use Rattle.std.specs.List.{find, position_or_len};
+ghost use Rattle.std.specs.List.{find, list_any, position_or_len};
 ghost use Rattle.std.specs.Option.{option_copied};
 ghost use Rattle.std.specs.List.Sorted.{IsPartitionPoint};
 ghost use Rattle.units.specs.ById.{IsById};
@@ -63,6 +63,13 @@ impl RowList {
         ensures { option_copied result ≡ find (λ r. same_id (txn_of r) txn) self.now }
     {
         found(&self.rows, txn)
+    }
+
+    /// Tells whether a transaction of a lower id has a row.
+    pub fn has_below(&self, below: TxnId) -> bool
+        ensures { result ≡ list_any (λ r. older (txn_of r) below) self.now }
+    {
+        self.rows.iter().any(|row| row.txn() < below)
     }
 
     /// Returns the n-th prepared transaction, from 0, and its prepare timestamp.

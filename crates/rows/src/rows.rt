@@ -1,5 +1,6 @@
 //! The rows of a shard, with its lock table.
-ghost use Rattle.std.specs.List.{list_all};
+ghost use Rattle.std.specs.List.{list_all, list_any};
+ghost use Rattle.units.specs.Ids.{older};
 ghost use Rattle.std.specs.Prelude.{◌≡◌, ◌<◌, ◌≤◌, [], true, Some, None, nat_le, length, MatchOption, IfOk, IfErr, OnOk, OnErr};
 ghost use Rattle.units.specs.ById.{IsById};
 ghost use Rattle.units.specs.LockLaws.{IsLawfulTable};
@@ -84,6 +85,13 @@ impl Rows {
             })) }
     {
         self.rows.find(txn)
+    }
+
+    /// Tells whether a transaction of a lower id has a row. It looks at each row.
+    pub fn has_below(&self, below: TxnId) -> bool
+        ensures { result ≡ list_any (λ r. older r.txn below) self.now.rows }
+    {
+        self.rows.has_below(below)
     }
 
     /// Tells whether a transaction has a row that reads, so that it may be ended, granted locks, or made to wait.

@@ -74,6 +74,7 @@ fn doing(happening: Happening, values: &Values) -> Option<Doing> {
         Happening::Advance => Some(Doing::Advance(values.stamp, values.reading)),
         Happening::Nudge => Some(Doing::Nudge(values.txn, values.reading)),
         Happening::Forget => Some(Doing::Forget(values.stamp, values.reading)),
+        Happening::Retire => Some(Doing::Retire(values.txn, values.reading)),
         Happening::Turn => Some(Doing::Turn),
         Happening::Open => Some(Doing::Open),
         _ => None,

@@ -22,12 +22,13 @@ pub enum Happening {
     Advance,
     Nudge,
     Forget,
+    Retire,
     Turn,
     Open,
 }
 
 /// The forms of all lines of events. If two have one name, the first that fits counts.
-pub static FORMS: [Form<Happening>; 19] = [
+pub static FORMS: [Form<Happening>; 20] = [
     Form {
         name: "begin",
         words: &[Kind::Txn],
@@ -112,6 +113,11 @@ pub static FORMS: [Form<Happening>; 19] = [
         name: "forget",
         words: &[Kind::Shard, Kind::Stamp, Kind::Earliest, Kind::Latest],
         is: Happening::Forget,
+    },
+    Form {
+        name: "retire",
+        words: &[Kind::Shard, Kind::Txn, Kind::Earliest, Kind::Latest],
+        is: Happening::Retire,
     },
     Form {
         name: "turn",

@@ -31,6 +31,7 @@ pub fn opened_alone<
         stride: defaults.stride,
         keep: None,
         renew: None,
+        retire: None,
         patience: defaults.patience,
         idle: 1_000,
     };

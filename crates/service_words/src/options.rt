@@ -47,6 +47,13 @@ pub const RENEW: Numbered = Numbered {
     most: u64::MAX,
 };
 
+/// How many ids a shard retires at least at a time.
+pub const RETIRE: Numbered = Numbered {
+    name: "retire",
+    least: 1,
+    most: u64::MAX,
+};
+
 /// How long a transaction waits for another one, in milliseconds.
 pub const PATIENCE: Numbered = Numbered {
     name: "patience",
@@ -62,7 +69,9 @@ pub const IDLE: Numbered = Numbered {
 };
 
 /// All options of `serve`.
-pub static OPTIONS: [Numbered; 7] = [CLIENTS, EPSILON, STRIDE, KEEP, RENEW, PATIENCE, IDLE];
+pub static OPTIONS: [Numbered; 8] = [
+    CLIENTS, EPSILON, STRIDE, KEEP, RENEW, RETIRE, PATIENCE, IDLE,
+];
 
 /// All options of `renew`.
 pub static RENEWING: [Numbered; 1] = [KEEP];

@@ -3,7 +3,9 @@ ghost use Rattle.std.specs.Prelude.{◌≡◌, ◌≤◌, IfOk};
 
 use crate::choices::Choices;
 use crate::move_words::{backup, export, import, renew, with_moving};
-use crate::options::{CLIENTS, EPSILON, IDLE, KEEP, Numbered, OPTIONS, PATIENCE, RENEW, STRIDE};
+use crate::options::{
+    CLIENTS, EPSILON, IDLE, KEEP, Numbered, OPTIONS, PATIENCE, RENEW, RETIRE, STRIDE,
+};
 use clap::error::ErrorKind;
 use clap::{Arg, ArgMatches, Command};
 use requests::unspelled;
@@ -136,6 +138,7 @@ fn serve<'a>(given: &ArgMatches<'a>) -> Result<Asked<'a>, Fault> {
         stride: stride(given)?,
         keep: chosen(given, &KEEP)?,
         renew: chosen(given, &RENEW)?,
+        retire: chosen(given, &RETIRE)?,
         patience: patience(given)?,
         idle: within(given, &IDLE, 10_000)?,
     };

@@ -7,14 +7,17 @@ const COMMAND: Fault = Fault::BadRequest(Reason::Command);
 
 const SETTINGS: Fault = Fault::BadRequest(Reason::Settings);
 
-/// Words of `serve`, and what they choose: clients, epsilon, stride, keep, renew, patience and idle.
-type Row = (&'static [&'static str], [u64; 7]);
+/// Words of `serve`, and what they choose: clients, epsilon, stride, keep, renew, retire, patience and idle.
+type Row = (&'static [&'static str], [u64; 8]);
 
-// What is kept for good, and a log that is never renewed.
+// What is kept for good, a log that is never renewed, and ids that are never retired.
 const NONE: u64 = u64::MAX;
 
 static ROWS: [Row; 3] = [
-    (&["serve", "d"], [64, 1_000, 500_000, NONE, NONE, 5, 10_000]),
+    (
+        &["serve", "d"],
+        [64, 1_000, 500_000, NONE, NONE, NONE, 5, 10_000],
+    ),
     (
         &[
             "serve",
@@ -29,21 +32,23 @@ static ROWS: [Row; 3] = [
             "8",
             "--renew",
             "9",
+            "--retire",
+            "10",
             "--patience",
             "60",
             "--idle",
             "1000",
         ],
-        [3, 0, 7, 8, 9, 3, 1_000],
+        [3, 0, 7, 8, 9, 10, 3, 1_000],
     ),
     (
         &["serve", "--idle", "3600000", "--patience", "61", "d"],
-        [64, 1_000, 500_000, NONE, NONE, 4, 3_600_000],
+        [64, 1_000, 500_000, NONE, NONE, NONE, 4, 3_600_000],
     ),
 ];
 
 // What words of `serve` choose for the store in `d`, if they ask for that.
-fn chosen(alloc: Global, words: &[&str]) -> Option<[u64; 7]> {
+fn chosen(alloc: Global, words: &[&str]) -> Option<[u64; 8]> {
     match service_asked(alloc, words) {
         Ok(asked) => match asked {
             Asked::Serve { dir, choices } => in_d(dir, &choices),
@@ -57,7 +62,7 @@ fn chosen(alloc: Global, words: &[&str]) -> Option<[u64; 7]> {
     }
 }
 
-fn in_d(dir: &str, choices: &Choices) -> Option<[u64; 7]> {
+fn in_d(dir: &str, choices: &Choices) -> Option<[u64; 8]> {
     if dir != "d" {
         return None;
     }
@@ -67,6 +72,7 @@ fn in_d(dir: &str, choices: &Choices) -> Option<[u64; 7]> {
         choices.stride.micros(),
         choices.keep.unwrap_or(NONE),
         choices.renew.unwrap_or(NONE),
+        choices.retire.unwrap_or(NONE),
         u64::from(choices.patience),
         choices.idle,
     ])

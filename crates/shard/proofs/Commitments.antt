@@ -1,10 +1,10 @@
 -- A decision that stands was logged.
 use Rattle.std.specs.List.{list_any}
 use Rattle.std.proofs.Common.{◌≡◌, ◌⊎◌, inl, inr, ⊎_elim, ℕ, Bool, true, false, ◌&&◌, ◌||◌, nat_eq, List, [], ◌∷◌, ◌++◌, fold, Option, Some}
-use Rattle.std.proofs.Common.{Result, Ok, Err, refl, sym, ap, ◌∙◌, subst, arith}
+use Rattle.std.proofs.Common.{Result, Ok, Err, cond, not, refl, sym, ap, ◌∙◌, subst, arith}
 use Rattle.std.proofs.lemmas.Bool.Decides.{nat_tests}
 use Rattle.std.proofs.lemmas.Bool.{or_right, or_left}
-use Rattle.units.specs.Ids.{Id, same_id}
+use Rattle.units.specs.Ids.{Id, older, same_id}
 use Rattle.units.specs.Lists.{first}
 use Rattle.units.specs.declared.fault.Fault.{Fault}
 use Rattle.units.proofs.IdLaws.{same_id-is}
@@ -12,6 +12,7 @@ use Rattle.record.specs.declared.record.Committed.{Committed}
 use Rattle.record.specs.declared.record.Record.{Record}
 use Rattle.record.specs.Records.{Status, Unrecorded, StandsPrepared, StandsDecided, HasAborted, HasSettled, HasClosed}
 use Rattle.record.specs.Facts.{Facts, TxnStatus, learn, recorded, or_unrecorded, with_status, after_outcome, no_facts}
+use Rattle.record.proofs.Statuses.{first_kept}
 use Rattle.shard.specs.Logs.{and_logged}
 use Rattle.shard.specs.Settled.{is_commit, HasCommit}
 use Rattle.shard.proofs.Agrees.{IsKnown}
@@ -56,6 +57,11 @@ module _ (t : Id) (c : Committed) where
       stamped : (b : Bool) (m n : ℕ) → b ≡ true → m ≡ n → (b && nat_eq m n) ≡ true
       stamped b m n h e = grind (arith, nat_tests)
 
+  -- of ids that are kept the status stays
+  kept-decided : (kept : Bool) (status : Status) → cond kept status Unrecorded ≡ StandsDecided c → status ≡ StandsDecided c
+  kept-decided true status h = h
+  kept-decided false status h = cc
+
   -- one record
   learn-one : (f : Facts) (r : Record) → recorded (learn f r) t ≡ StandsDecided c → (recorded f t ≡ StandsDecided c) ⊎ (is_commit t c.at r ≡ true)
   unfolding learn
@@ -70,6 +76,8 @@ module _ (t : Id) (c : Committed) where
   learn-one f (Record.Outcome u outcome) h =
       ⊎_elim (λ same. absurd (not-decided (recorded f u) outcome same.1)) (λ before. inl before)
       (given f.entries u (after_outcome (recorded f u) outcome) (same_id u t) refl h)
+  learn-one f (Record.Retired below) h =
+      inl (kept-decided (not (older t below)) (recorded f t) (sym (first_kept (λ u. not (older u below)) t f.entries) ∙ h))
   learn-one f _ h = inl h
 
   -- a list of records

@@ -43,7 +43,7 @@ first-learnt = λ i. Some (facts_of (Record.Opened 1 ∷ []))
 pub first-lasting : IsLasting (facts_of (Record.Opened 1 ∷ []))
 unfolding facts_of installs_of rises_by_key
 first-lasting = record {
-  regular = record { order = tt; placed = tt; rising = refl; covered = tt; under = omega arith };
+  regular = record { order = tt; placed = tt; rising = refl; covered = tt; under = omega arith; kept = tt };
   entries = refl;
 }
 

@@ -157,10 +157,10 @@ stands-fresh : (shard : ℕ) (facts : Facts) (t : Id) (logged : Option Record) �
 unfolding follows_facts
 stands-fresh shard facts t (Some (Record.Prepare p)) is follows =
     subst (λ (u : Id). recorded facts u ≡ Unrecorded) is
-    (unrecorded_is (recorded facts p.txn) (and_parts _ _ (and_parts _ _ (and_parts _ _ follows).1).0).1)
+    (unrecorded_is (recorded facts p.txn) (and_parts _ _ (and_parts _ _ (and_parts _ _ (and_parts _ _ follows).1).0).1).0)
 stands-fresh shard facts t (Some (Record.Commit c)) is follows =
     subst (λ (u : Id). recorded facts u ≡ Unrecorded) is
-    (unrecorded_is (recorded facts c.txn) (and_parts _ _ (and_parts _ _ (and_parts _ _ follows).1).0).1)
+    (unrecorded_is (recorded facts c.txn) (and_parts _ _ (and_parts _ _ (and_parts _ _ (and_parts _ _ follows).1).0).1).0)
 stands-fresh shard facts t _ is follows = absurd is
 
 fresh-by : (shard : ℕ) (facts : Facts) (rows : List Row) (us : List Id) (needs : List Lock) (logged : Option Record) (h : Change) (after : Memory)

@@ -2,18 +2,18 @@
 ghost use Rattle.std.specs.Prelude.{◌≡◌, [], true, IfOk};
 ghost use Rattle.units.specs.Locks.{ready};
 ghost use Rattle.protocol.specs.Rows.{claims};
-ghost use Rattle.protocol.specs.Cells.{plan_cell, plan_advance, plan_forget};
+ghost use Rattle.protocol.specs.Cells.{plan_cell, plan_advance, plan_forget, plan_retire};
 ghost use Rattle.protocol.specs.Table.{go_on_cell, resume_cell};
 ghost use Rattle.protocol.specs.Step.{is_for, plan_input, message_cell};
 ghost use Rattle.memory.specs.RowTable.{needs_in};
 ghost use Rattle.memory.specs.Carry.{Asks, IsFit};
 ghost use Rattle.memory.specs.Kept.{start_of, IsPlanned};
-ghost use Rattle.memory.specs.Standings.{standing_in, PlansGiveUp};
+ghost use Rattle.memory.specs.Standings.{standing_in};
 
 use crate::addressing::is_for;
-use coordinator::{give_up, on_ask, on_commit, on_vote, resume_commit, settle};
-use memory::{Row, Standing, State, Step};
-use message::{GiveUp, Input, Message};
+use coordinator::{on_ask, on_commit, on_vote, resume_commit, settle};
+use memory::{Standing, State, Step};
+use message::{Input, Message};
 use participant::{
     on_give_up, on_nudge, on_outcome, on_prepare, on_read, resume_prepare, resume_read,
 };
@@ -47,6 +47,7 @@ pub(crate) fn plan_input(
         Input::Advance(to) => plan_advance(state, alloc, now, *to),
         Input::Nudge(txn) => on_nudge(state, alloc, *txn),
         Input::Forget(at) => plan_forget(state, alloc, *at),
+        Input::Retire(below) => plan_retire(state, alloc, *below),
     }
 }
 
@@ -66,25 +67,11 @@ fn plan_message(
         Message::Read(read) => on_read(state, alloc, read),
         Message::Prepare(prepare) => on_prepare(state, alloc, now, prepare),
         Message::Commit(commit) => on_commit(state, alloc, now, commit),
-        Message::GiveUp(given) => plan_given_up(state, alloc, given),
+        Message::GiveUp(given) => on_give_up(state, alloc, given),
         Message::Vote(vote) => on_vote(state, alloc, vote),
         Message::Outcome(told) => on_outcome(state, alloc, told),
         Message::Ask(ask) => on_ask(state, alloc, ask),
         Message::ReadAnswer(_) | Message::Done(_) => Err(Fault::Stranger),
-    }
-}
-
-// Plans what follows when a client gives up: by the coordinator if votes are collected, else by the participant.
-fn plan_given_up(state: &State, alloc: Global, given: &GiveUp) -> Result<Step, Fault>
-    ensures planned { PlansGiveUp state.now given.now.txn (standing_in state.now given.now.txn)
-        result }
-    ensures fit { IfOk result (IsFit state.now) }
-{
-    match state.row(given.txn) {
-        Some(Row::Collecting(collecting)) => give_up(state, alloc, given, collecting),
-        Some(Row::Reading(_) | Row::Prepared(_) | Row::Decided(_)) | None => {
-            on_give_up(state, alloc, given)
-        }
     }
 }
 
@@ -114,7 +101,8 @@ fn resume_of(state: &State, alloc: Global, now: &Reading, txn: TxnId) -> Result<
         Standing::WaitsRead(key) => resume_read(state, alloc, txn, key),
         Standing::WaitsPrepare(request) => resume_prepare(state, alloc, now, txn, request),
         Standing::WaitsCommit(request) => resume_commit(state, alloc, txn, request),
-        Standing::Unknown
+        Standing::Retired
+        | Standing::Unknown
         | Standing::Ended
         | Standing::Idle
         | Standing::Collecting(_)
@@ -153,4 +141,19 @@ fn plan_forget(state: &State, alloc: Global, at: Stamp) -> Result<Step, Fault>
         return Ok(state.idles(alloc));
     }
     Ok(state.serves(alloc, Some(Record::Horizon { at }), state.last()))
+}
+
+// Retires all ids below one, unless that is done already. `NotYet` while one of them has a row.
+#[tactic(auto, unfolding(protocol::specs::Cells::plan_retire))]
+fn plan_retire(state: &State, alloc: Global, below: TxnId) -> Result<Step, Fault>
+    ensures planned { IsPlanned state.now (plan_retire (start_of state.now) below) result }
+    ensures fit { IfOk result (IsFit state.now) }
+{
+    if state.has_row_below(below) {
+        return Err(Fault::NotYet);
+    }
+    if !state.rises(below) {
+        return Ok(state.idles(alloc));
+    }
+    Ok(state.retires(alloc, below))
 }

@@ -3,7 +3,7 @@ use Rattle.std.proofs.Common.{◌≡◌, ◌++◌, ◌∷◌, ◌+◌, ◌<◌, 
 use Rattle.std.specs.Prelude.{fold}
 use Rattle.std.proofs.lemmas.List.Sums.{fold-append}
 use Rattle.record.specs.declared.record.Record.{Record}
-use Rattle.record.specs.declared.record.Record.TheVariants.{Opened, Ceiling, Prepare, Commit, Abort, Outcome, Horizon, Base, Version, Settled, Closed}
+use Rattle.record.specs.declared.record.Record.TheVariants.{Opened, Ceiling, Prepare, Commit, Abort, Outcome, Horizon, Base, Version, Settled, Closed, Retired}
 use Rattle.showing.specs.Counting.{all_kinds, kinds_of, no_kinds, with_kind}
 use Rattle.showing.specs.declared.kinds.Kinds.{Kinds}
 
@@ -23,6 +23,7 @@ one_more k (Base epoch floor horizon) = omega arith
 one_more k (Version install) = omega arith
 one_more k (Settled t at parts) = omega arith
 one_more k (Closed t coordinator outcome) = omega arith
+one_more k (Retired below) = omega arith
 
 all_from : (k : Kinds) (rs : List Record) → all_kinds (fold with_kind k rs) ≡ all_kinds k + length rs
 all_from k [] = omega arith

@@ -1,13 +1,9 @@
 -- What is in doubt in a log.
-use Rattle.std.proofs.Common.{◌≡◌, ◌∙◌, ◌++◌, ◌∷◌, ◌+◌, ◌<◌, [], ℕ, List, length, ap, take, slice_index_or, IsTrue, Option}
+use Rattle.std.proofs.Common.{◌≡◌, ◌∙◌, ◌++◌, ◌∷◌, ◌+◌, ◌<◌, [], ℕ, List, length, ap, take, slice_index_or, Option}
 use Rattle.units.specs.Ids.{Id}
 use Rattle.units.specs.Lists.{gather}
 use Rattle.units.proofs.Folds.{gather_append}
-use Rattle.record.specs.Accepted.{followed}
-use Rattle.record.specs.Facts.{Facts, facts_of, recorded}
 use Rattle.record.specs.declared.record.Record.{Record}
-use Rattle.facts.specs.Laws.{SaysOfRecords}
-use Rattle.facts.specs.Readers.{outcome_in}
 use Rattle.frames.specs.Placed.{Placed}
 use Rattle.recovery.specs.Recovered.{items}
 use Rattle.showing.specs.Histories.{end_in}
@@ -19,10 +15,8 @@ pub gathered_more : {B : Type 0} (f : Record → Option B) (es : List Placed) (i
     → gather f (items (take (i + 1) es)) ≡ gather f (items (take i es)) ++ gather f (e.item ∷ [])
 gathered_more f es i e small is = ap (gather f) (next_items es i e small is) ∙ gather_append f (items (take i es)) (e.item ∷ [])
 
--- what is in doubt by the ends that facts know is in doubt by those of the records
-pub doubts_of_records : SaysOfRecords → (shard : ℕ) (records : List Record) (facts : Facts) → facts ≡ facts_of records
-    → IsTrue (followed shard records) → gather (λ r. doubt_of (λ t. outcome_in (recorded facts t)) (as_begun r)) records ≡ doubts_in records
-doubts_of_records says shard records facts known follows =
-    let same : (t : Id) → outcome_in (recorded facts t) ≡ end_in records t =
-    λ t. ap (λ (f : Facts). outcome_in (recorded f t)) known ∙ (says shard records follows t).outcome in
+-- what is in doubt by the ends that were found is in doubt by those of the records
+pub doubts_of_records : (records : List Record) (ends : Id → Option (Option ℕ)) → ((t : Id) → ends t ≡ end_in records t)
+    → gather (λ r. doubt_of ends (as_begun r)) records ≡ doubts_in records
+doubts_of_records records ends same =
     λ i. gather (λ r. doubt_of (λ t. same t i) (as_begun r)) records

@@ -2,6 +2,7 @@ mod Accepting
 mod Behind
 mod Counted
 mod Doubting
+mod Ended
 mod Ends
 mod JsonLines
 mod Numbered

@@ -1,6 +1,6 @@
 -- What some writes make of a key, one write more at a time, and what a log says of its transactions.
-use Rattle.std.proofs.Common.{◌≡◌, ◌∙◌, ◌++◌, ◌∷◌, ◌+◌, ◌<◌, [], ℕ, suc, arith, Some, List, length, map, sym, ap, take, slice_index_or, append_assoc}
-use Rattle.std.proofs.Common.{flat_map, IsTrue}
+use Rattle.std.proofs.Common.{◌≡◌, ◌∙◌, ◌++◌, ◌∷◌, ◌+◌, ◌<◌, [], ℕ, suc, arith, Option, Some, List, length, map, sym, ap, take, slice_index_or, append_assoc}
+use Rattle.std.proofs.Common.{flat_map}
 use Rattle.std.specs.Prelude.{filter}
 use Rattle.std.proofs.lemmas.List.{map-append}
 use Rattle.std.proofs.lemmas.List.Elements.{filter-append}
@@ -10,11 +10,7 @@ use Rattle.units.specs.Keys.{Bytes, same_key}
 use Rattle.units.specs.declared.writes.Write.{Write}
 use Rattle.showing.specs.declared.told.Standing.{Standing}
 use Rattle.showing.specs.declared.told.Told.{Told}
-use Rattle.record.specs.Accepted.{followed}
-use Rattle.record.specs.Facts.{Facts, facts_of, recorded}
 use Rattle.record.specs.declared.record.Record.{Record}
-use Rattle.facts.specs.Laws.{SaysOfRecords}
-use Rattle.facts.specs.Readers.{outcome_in}
 use Rattle.showing.specs.Histories.{end_in, history, told_as, told_by}
 
 told_append : (k : Bytes) (t : Id) (s : Standing) (xs ys : List Write)
@@ -39,10 +35,7 @@ pub told_behind : (start before now step old new : List Told) → new ≡ old ++
 told_behind start before now step old new added so_far more =
     added ∙ ap (λ (xs : List Told). xs ++ step) so_far ∙ append_assoc start before step ∙ ap (λ (xs : List Told). start ++ xs) (sym more)
 
--- what is told by the ends that facts know is told by those of the records
-pub told_of_records : SaysOfRecords → (shard : ℕ) (records : List Record) (facts : Facts) (k : Bytes) → facts ≡ facts_of records
-    → IsTrue (followed shard records) → flat_map (told_by (λ t. outcome_in (recorded facts t)) k) records ≡ history records k
-told_of_records says shard records facts k known follows =
-    let same : (t : Id) → outcome_in (recorded facts t) ≡ end_in records t =
-    λ t. ap (λ (f : Facts). outcome_in (recorded f t)) known ∙ (says shard records follows t).outcome in
-    λ i. flat_map (told_by (λ t. same t i) k) records
+-- what is told by the ends that were found is told by those of the records
+pub told_of_records : (records : List Record) (ends : Id → Option (Option ℕ)) (k : Bytes) → ((t : Id) → ends t ≡ end_in records t)
+    → flat_map (told_by ends k) records ≡ history records k
+told_of_records records ends k same = λ i. flat_map (told_by (λ t. same t i) k) records

@@ -1,7 +1,7 @@
 -- Records counted one by one.
 use Rattle.std.specs.Prelude.{ℕ, ◌+◌, List, fold}
 use Rattle.record.specs.declared.record.Record.{Record}
-use Rattle.record.specs.declared.record.Record.TheVariants.{Opened, Ceiling, Prepare, Commit, Abort, Outcome, Horizon, Base, Version, Settled, Closed}
+use Rattle.record.specs.declared.record.Record.TheVariants.{Opened, Ceiling, Prepare, Commit, Abort, Outcome, Horizon, Base, Version, Settled, Closed, Retired}
 use Rattle.showing.specs.declared.kinds.Kinds.{Kinds}
 
 -- no record
@@ -18,6 +18,7 @@ no_kinds = record {
   versions = 0;
   settled = 0;
   closed = 0;
+  retired = 0;
 }
 
 -- one record more
@@ -33,6 +34,7 @@ with_kind kinds (Base epoch floor horizon) = record kinds { bases = kinds.bases 
 with_kind kinds (Version install) = record kinds { versions = kinds.versions + 1 }
 with_kind kinds (Settled t at parts) = record kinds { settled = kinds.settled + 1 }
 with_kind kinds (Closed t coordinator outcome) = record kinds { closed = kinds.closed + 1 }
+with_kind kinds (Retired below) = record kinds { retired = kinds.retired + 1 }
 
 -- how many records there are of each kind
 abbrev pub kinds_of : List Record → Kinds
@@ -42,4 +44,4 @@ kinds_of records = fold with_kind no_kinds records
 abbrev pub all_kinds : Kinds → ℕ
 all_kinds kinds =
     kinds.opened + kinds.ceilings + kinds.prepares + kinds.commits + kinds.aborts + kinds.outcomes + kinds.horizons
-    + kinds.bases + kinds.versions + kinds.settled + kinds.closed
+    + kinds.bases + kinds.versions + kinds.settled + kinds.closed + kinds.retired

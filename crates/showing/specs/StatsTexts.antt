@@ -8,7 +8,7 @@ use Rattle.showing.specs.Json.{quoted}
 use Rattle.showing.specs.Stats.{stats_in}
 use Rattle.showing.specs.declared.figure.Figure.{Figure}
 use Rattle.showing.specs.declared.figure.Figure.TheVariants.{Bytes, DeadBytes, Turnovers, TurnoversLeft, Records, Opened, Ceilings, Prepares, Commits, Aborts, Outcomes, Horizons}
-use Rattle.showing.specs.declared.figure.Figure.TheVariants.{Bases, VersionRecords, Settled, Closed, Keys, Versions, Epoch, Floor, InDoubt}
+use Rattle.showing.specs.declared.figure.Figure.TheVariants.{Bases, VersionRecords, Settled, Closed, Retired, Keys, Versions, Epoch, Floor, InDoubt}
 use Rattle.showing.specs.declared.stats.Numbers.{Numbers}
 use Rattle.showing.specs.declared.stats.InDoubt as doubts
 
@@ -30,6 +30,7 @@ number_of Bases numbers = numbers.kinds.bases
 number_of VersionRecords numbers = numbers.kinds.versions
 number_of Settled numbers = numbers.kinds.settled
 number_of Closed numbers = numbers.kinds.closed
+number_of Retired numbers = numbers.kinds.retired
 number_of Keys numbers = numbers.keys
 number_of Versions numbers = numbers.versions
 number_of Epoch numbers = numbers.epoch
@@ -54,6 +55,7 @@ word_of Bases = codes "base"
 word_of VersionRecords = codes "version"
 word_of Settled = codes "settled"
 word_of Closed = codes "closed"
+word_of Retired = codes "retired"
 word_of Keys = codes "keys"
 word_of Versions = codes "versions"
 word_of Epoch = codes "epoch"
@@ -64,13 +66,13 @@ word_of InDoubt = codes "in doubt"
 abbrev pub summed : List Figure
 summed =
     Bytes ∷ DeadBytes ∷ Turnovers ∷ Records ∷ Opened ∷ Ceilings ∷ Prepares ∷ Commits ∷ Aborts ∷ Outcomes ∷ Horizons ∷ Bases ∷ VersionRecords
-    ∷ Settled ∷ Closed ∷ Keys ∷ Versions ∷ InDoubt ∷ []
+    ∷ Settled ∷ Closed ∷ Retired ∷ Keys ∷ Versions ∷ InDoubt ∷ []
 
 -- all of them
 abbrev pub figures : List Figure
 figures =
     Bytes ∷ DeadBytes ∷ Turnovers ∷ TurnoversLeft ∷ Records ∷ Opened ∷ Ceilings ∷ Prepares ∷ Commits ∷ Aborts ∷ Outcomes ∷ Horizons ∷ Bases
-    ∷ VersionRecords ∷ Settled ∷ Closed ∷ Keys ∷ Versions ∷ Epoch ∷ Floor ∷ InDoubt ∷ []
+    ∷ VersionRecords ∷ Settled ∷ Closed ∷ Retired ∷ Keys ∷ Versions ∷ Epoch ∷ Floor ∷ InDoubt ∷ []
 
 -- a number on a line
 abbrev pub number_line : Figure → ℕ → List ℕ

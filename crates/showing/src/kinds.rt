@@ -20,6 +20,7 @@ pub struct Kinds {
     pub versions: u64,
     pub settled: u64,
     pub closed: u64,
+    pub retired: u64,
 }
 
 impl Kinds {
@@ -40,6 +41,7 @@ impl Kinds {
             Record::Version(_) => self.versions += 1,
             Record::Settled { .. } => self.settled += 1,
             Record::Closed { .. } => self.closed += 1,
+            Record::Retired { .. } => self.retired += 1,
         }
     }
 }
@@ -60,6 +62,7 @@ pub fn kinds_of(entries: &[Entry]) -> Kinds
         versions: 0,
         settled: 0,
         closed: 0,
+        retired: 0,
     };
     for entry in entries {
         kinds.count(entry.item());

@@ -2,6 +2,7 @@
 #![tactic(auto)]
 
 mod doubts;
+mod endings;
 mod figure;
 mod files;
 mod following;

@@ -116,6 +116,7 @@ fn push_record(text: &mut String, alloc: Global, record: &Record) -> Result<(), 
             text.push_str(",")?;
             push_write(text, alloc, &version.key, &version.value)
         }
+        Record::Retired { below } => push_below(text, "retired", *below),
     }
 }
 
@@ -140,6 +141,14 @@ fn push_kind(text: &mut String, kind: &str, txn: TxnId) -> Result<(), Fault>
     ensures memory { IfErr result (λ fault. fault ≡ Fault.Memory) }
 {
     write!(text, ",\"record\":\"{kind}\",\"txn\":\"{txn}\"")?;
+    Ok(())
+}
+
+// A record with the id below which all are meant.
+fn push_below(text: &mut String, kind: &str, below: TxnId) -> Result<(), Fault>
+    ensures memory { IfErr result (λ fault. fault ≡ Fault.Memory) }
+{
+    write!(text, ",\"record\":\"{kind}\",\"below\":\"{below}\"")?;
     Ok(())
 }
 

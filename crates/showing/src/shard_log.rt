@@ -33,8 +33,7 @@ pub fn read_history<D: Disk + Drop>(
 {
     let (entries, state) = read_log(alloc, disk, setup)?;
     stop(state);
-    let facts = learn_all(alloc, setup, &entries)?;
-    let told = history(alloc, key, &entries, &facts)?;
+    let told = history(alloc, key, &entries)?;
     Ok((whole_from(&entries), told))
 }
 
@@ -125,9 +124,9 @@ fn is_settled_at(
     ensures memory { IfErr result (λ fault. fault ≡ Fault.Memory) }
 {
     let facts = learn_all(alloc, setup, entries)?;
-    let told = history(alloc, key, entries, &facts)?;
     let floor = facts.floor();
     drop(facts);
+    let told = history(alloc, key, entries)?;
     Ok(settled_by(floor, &told, at))
 }
 

@@ -111,7 +111,7 @@ fn count(alloc: Global, file: FileNumbers, entries: &[Entry]) -> Result<Stats, F
 {
     let facts = learn_followed(alloc, shard_told(entries), entries)?;
     let keys = count_keys(alloc, facts.installs())?;
-    let in_doubt = in_doubt(alloc, entries, &facts)?;
+    let in_doubt = in_doubt(alloc, entries)?;
     let numbers = Numbers {
         file,
         records: entries.len() as u64,

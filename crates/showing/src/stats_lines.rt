@@ -7,7 +7,7 @@ use crate::stats::{InDoubt, Numbers, Stats};
 use units::Fault;
 
 /// The numbers of which there are sums.
-pub(crate) const SUMMED: [Figure; 18] = [
+pub(crate) const SUMMED: [Figure; 19] = [
     Figure::Bytes,
     Figure::DeadBytes,
     Figure::Turnovers,
@@ -23,13 +23,14 @@ pub(crate) const SUMMED: [Figure; 18] = [
     Figure::VersionRecords,
     Figure::Settled,
     Figure::Closed,
+    Figure::Retired,
     Figure::Keys,
     Figure::Versions,
     Figure::InDoubt,
 ];
 
 /// All of them.
-pub(crate) const FIGURES: [Figure; 21] = [
+pub(crate) const FIGURES: [Figure; 22] = [
     Figure::Bytes,
     Figure::DeadBytes,
     Figure::Turnovers,
@@ -46,6 +47,7 @@ pub(crate) const FIGURES: [Figure; 21] = [
     Figure::VersionRecords,
     Figure::Settled,
     Figure::Closed,
+    Figure::Retired,
     Figure::Keys,
     Figure::Versions,
     Figure::Epoch,

@@ -1,12 +1,11 @@
 //! What the log of a shard says of a key.
-ghost use Rattle.std.specs.Prelude.{◌≡◌, ◌++◌, ◌∷◌, [], Some, IfOk, IfErr, OnOk, IsTrue};
-ghost use Rattle.record.specs.Accepted.{followed};
-ghost use Rattle.record.specs.Facts.{facts_of, recorded};
-ghost use Rattle.facts.specs.Readers.{outcome_in};
+ghost use Rattle.std.specs.Prelude.{◌≡◌, ◌++◌, ◌∷◌, [], Some, IfOk, IfErr, OnOk, flat_map};
+ghost use Rattle.indexmap.specs.IndexMap.{get};
+ghost use Rattle.units.specs.Ids.{same_id};
 ghost use Rattle.recovery.specs.Recovered.{items};
 ghost use Rattle.showing.specs.Histories.{history, standing_by, told_as, told_by, version_told};
 
-use facts::{Facts, says_of_records};
+use crate::endings::{Ends, end_of, ends_of};
 use gatelog::Entry;
 use record::Record;
 use std::alloc::Global;
@@ -32,38 +31,40 @@ pub struct Told {
 }
 
 /// Each write of a key that a log promises or decides, in its order, unless it was aborted, and each version that a renewed log holds.
-pub fn history(
-    alloc: Global,
-    key: &Key,
-    entries: &[Entry],
-    facts: &Facts,
-) -> Result<Vec<Told>, Fault>
-    requires known { facts.now.facts ≡ facts_of (items entries.now) }
-    requires followed { IsTrue (followed facts.now.shard (items entries.now)) }
+pub fn history(alloc: Global, key: &Key, entries: &[Entry]) -> Result<Vec<Told>, Fault>
     ensures told { IfOk result (λ told. told.items ≡ history (items entries.now) key.now) }
     ensures memory { IfErr result (λ fault. fault ≡ Fault.Memory) }
 {
-    says_of_records();
+    let ends = ends_of(alloc, entries)?;
+    told_by(alloc, &ends, key, entries)
+}
+
+// Tells of each record, by the ends of transactions.
+fn told_by(alloc: Global, ends: &Ends, key: &Key, entries: &[Entry]) -> Result<Vec<Told>, Fault>
+    ensures told { IfOk result (λ told. told.items
+        ≡ flat_map (told_by (get same_id ends.now) key.now) (items entries.now)) }
+    ensures memory { IfErr result (λ fault. fault ≡ Fault.Memory) }
+{
     let mut told = Vec::new(alloc);
     for entry in entries {
-        tell(&mut told, facts, entry.item(), key)?;
+        tell(&mut told, ends, entry.item(), key)?;
     }
     Ok(told)
 }
 
 // Tells of one record.
-fn tell(told: &mut Vec<Told>, facts: &Facts, item: &Record, key: &Key) -> Result<(), Fault>
+fn tell(told: &mut Vec<Told>, ends: &Ends, item: &Record, key: &Key) -> Result<(), Fault>
     ensures told { OnOk result (told.new.items ≡ told.old.items
-        ++ told_by (λ t. outcome_in (recorded facts.now.facts t)) key.now item.now) }
+        ++ told_by (get same_id ends.now) key.now item.now) }
     ensures memory { IfErr result (λ fault. fault ≡ Fault.Memory) }
 {
     match item {
         Record::Prepare(p) => {
-            let standing = standing_by(Standing::Promised(p.at), facts.outcome(p.txn));
+            let standing = standing_by(Standing::Promised(p.at), end_of(ends, p.txn));
             tell_writes(told, p.txn, standing, &p.writes, key)
         }
         Record::Commit(c) => {
-            let standing = standing_by(Standing::Decided(c.at), facts.outcome(c.txn));
+            let standing = standing_by(Standing::Decided(c.at), end_of(ends, c.txn));
             tell_writes(told, c.txn, standing, &c.writes, key)
         }
         Record::Version(version) => tell_version(told, version, key),

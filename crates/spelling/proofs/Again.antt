@@ -248,6 +248,7 @@ record_again (records.Base epoch floor horizon) rest h = rw (base_again epoch fl
 record_again (records.Version install) rest h = rw (version_again install rest h) refl
 record_again (records.Settled txn at parts) rest h = rw (settled_again txn at parts rest h) refl
 record_again (records.Closed txn coordinator outcome) rest h = rw (closed_again txn coordinator outcome rest h) refl
+record_again (records.Retired below) rest h = rw (id_again below rest h) refl
 
 pub read_again : (r : Record) → IsRecord r → read_record (spelling r) ≡ Some r
 unfolding read_record
@@ -293,6 +294,7 @@ spelling-least (records.Base epoch floor horizon) = omega arith
 spelling-least (records.Version install) = omega arith
 spelling-least (records.Settled txn at parts) = omega arith
 spelling-least (records.Closed txn coordinator outcome) = omega arith
+spelling-least (records.Retired below) = omega arith
 
 keys-most : (keys : List Bytes) → IsKeys keys → length (keys_spelling keys) ≤ 8322
 keys-most keys h = omega (arith, flat_map-most key_spelling IsKey 65 each keys h.each, h.few)
@@ -338,6 +340,7 @@ spelling-most (records.Commit c) h =
       writes-most c.writes h.writes,
     )
 spelling-most (records.Abort txn) h = omega arith
+spelling-most (records.Retired below) h = omega arith
 spelling-most (records.Outcome txn outcome) h = omega (arith, length-append (id_spelling txn) (outcome_spelling outcome), outcome-most outcome)
 spelling-most (records.Base epoch floor horizon) h = omega arith
 spelling-most (records.Version i) h =

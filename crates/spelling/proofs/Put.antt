@@ -37,6 +37,7 @@ kind_first (records.Base epoch floor horizon) = refl
 kind_first (records.Version install) = refl
 kind_first (records.Settled txn at parts) = refl
 kind_first (records.Closed txn coordinator outcome) = refl
+kind_first (records.Retired below) = refl
 
 three_regroup : (out a b c : List ℕ) → ((out ++ a) ++ b) ++ c ≡ out ++ ((a ++ b) ++ c)
 three_regroup out a b c = simp append_assoc

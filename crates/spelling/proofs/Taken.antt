@@ -437,14 +437,17 @@ head_at kind bytes =
     cond (eqb kind 8) (base_at bytes >>= λ b. Some (records.Base b.0.0 b.0.1 b.0.2, b.1))
     (cond (eqb kind 9) (version_at bytes >>= λ i. Some (records.Version i.0, i.1))
     (cond (eqb kind 10) (settled_at bytes >>= λ s. Some (records.Settled s.0.0 s.0.1 s.0.2, s.1))
-    (cond (eqb kind 11) (closed_at bytes >>= λ c. Some (records.Closed c.0.0 c.0.1 c.0.2, c.1)) None)))
+    (cond (eqb kind 11) (closed_at bytes >>= λ c. Some (records.Closed c.0.0 c.0.1 c.0.2, c.1))
+    (cond (eqb kind 12) (id_at bytes >>= λ below. Some (records.Retired below.0, below.1)) None))))
 
 head_reads : (kind : ℕ) (bytes : List ℕ) (x : Record × List ℕ) → IsBytes bytes → head_at kind bytes ≡ Some x →
     Taken (kind ∷ bytes) (spelling x.0) x.1 × IsRecord x.0
 unfolding head_at base_of settled_of closed_of
 head_reads kind bytes x fits e =
     let closes : Option (Record × List ℕ) = closed_at bytes >>= λ c. Some (records.Closed c.0.0 c.0.1 c.0.2, c.1) in
-    let fourth : Option (Record × List ℕ) = cond (eqb kind 11) closes None in
+    let retires : Option (Record × List ℕ) = id_at bytes >>= λ below. Some (records.Retired below.0, below.1) in
+    let fifth : Option (Record × List ℕ) = cond (eqb kind 12) retires None in
+    let fourth : Option (Record × List ℕ) = cond (eqb kind 11) closes fifth in
     let settles : Option (Record × List ℕ) = settled_at bytes >>= λ s. Some (records.Settled s.0.0 s.0.1 s.0.2, s.1) in
     let third : Option (Record × List ℕ) = cond (eqb kind 10) settles fourth in
     let versions : Option (Record × List ℕ) = version_at bytes >>= λ i. Some (records.Version i.0, i.1) in
@@ -458,10 +461,14 @@ head_reads kind bytes x fits e =
         | inr past2 ↦ elim (chosen (eqb kind 10) settles fourth (Some x) past2.1) [
           | inl settled ↦ of_kind 10 kind settled_at settled_of (λ s. IsSettled s.0 s.1 s.2) (λ s. records.Settled s.0 s.1 s.2) bytes x fits
               settled_reads (eqb-true kind 10 settled.0) (λ a. refl) (λ a h. h) settled.1
-          | inr past3 ↦
-              let closed = if_some (eqb kind 11) closes x past3.1 in
-              of_kind 11 kind closed_at closed_of (λ c. IsClosed c.0 c.1 c.2) (λ c. records.Closed c.0 c.1 c.2) bytes x fits
-              closed_reads (eqb-true kind 11 closed.0) (λ a. refl) (λ a h. h) closed.1
+          | inr past3 ↦ elim (chosen (eqb kind 11) closes fifth (Some x) past3.1) [
+            | inl closed ↦ of_kind 11 kind closed_at closed_of (λ c. IsClosed c.0 c.1 c.2) (λ c. records.Closed c.0 c.1 c.2) bytes x fits
+                closed_reads (eqb-true kind 11 closed.0) (λ a. refl) (λ a h. h) closed.1
+            | inr past4 ↦
+                let retired = if_some (eqb kind 12) retires x past4.1 in
+                of_kind 12 kind id_at id_spelling IsId (λ below. records.Retired below) bytes x fits id_reads (eqb-true kind 12 retired.0)
+                (λ a. refl) (λ a h. h) retired.1
+          ]
         ]
       ]
     ]

@@ -86,6 +86,7 @@ spelling (records.Base epoch floor horizon) = 8 ∷ base_spelling epoch floor ho
 spelling (records.Version install) = 9 ∷ version_spelling install
 spelling (records.Settled txn at parts) = 10 ∷ settled_spelling txn at parts
 spelling (records.Closed txn coordinator outcome) = 11 ∷ closed_spelling txn coordinator outcome
+spelling (records.Retired below) = 12 ∷ id_spelling below
 
 -- its first byte tells the kind
 abbrev pub kind : Record → ℕ

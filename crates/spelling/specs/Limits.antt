@@ -116,6 +116,7 @@ IsRecord (records.Base epoch floor horizon) = IsBase epoch floor horizon
 IsRecord (records.Version install) = IsVersion install
 IsRecord (records.Settled txn at parts) = IsSettled txn at parts
 IsRecord (records.Closed txn coordinator outcome) = IsClosed txn coordinator outcome
+IsRecord (records.Retired below) = IsId below
 
 -- these bytes spell this record
 abbrev pub Spells : List ℕ → Record → Type 0

@@ -201,7 +201,8 @@ record_at (kind ∷ bytes) =
     else (if kind == 8 then (base_at bytes >>= λ b. Some (records.Base b.0.0 b.0.1 b.0.2, b.1))
     else (if kind == 9 then (version_at bytes >>= λ i. Some (records.Version i.0, i.1))
     else (if kind == 10 then (settled_at bytes >>= λ s. Some (records.Settled s.0.0 s.0.1 s.0.2, s.1))
-    else (if kind == 11 then (closed_at bytes >>= λ c. Some (records.Closed c.0.0 c.0.1 c.0.2, c.1)) else None))))))))))
+    else (if kind == 11 then (closed_at bytes >>= λ c. Some (records.Closed c.0.0 c.0.1 c.0.2, c.1))
+    else (if kind == 12 then (id_at bytes >>= λ below. Some (records.Retired below.0, below.1)) else None)))))))))))
 
 -- all of the bytes
 unfoldable pub read_record : List ℕ → Option Record

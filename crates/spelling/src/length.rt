@@ -49,6 +49,7 @@ pub fn encoded_len(record: &Record) -> u64
         Record::Prepare(p) => 26 + keys_len(&p.reads) + writes_len(&p.writes),
         Record::Commit(c) => 27 + keys_len(&c.reads) + writes_len(&c.writes),
         Record::Abort { txn: _ } => 17,
+        Record::Retired { below: _ } => 17,
         Record::Outcome { txn: _, outcome } => match outcome {
             None => 18,
             Some(_) => 26,

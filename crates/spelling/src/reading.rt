@@ -451,7 +451,7 @@ fn short_of(kind: u8, bytes: &[u8]) -> Option<(Record, &[u8])>
     }
 }
 
-// Reads a record of a renewed log's head, of a kind that takes no memory.
+// Reads a record of a renewed log's head, of a kind that takes no memory, or of ids that are retired.
 #[tactic(auto, unfolding(crate::specs::Reading::record_at))]
 fn head_of(kind: u8, bytes: &[u8]) -> Option<(Record, &[u8])>
     requires { (8 ≤ kind) × (kind ≢ 9) }
@@ -482,6 +482,10 @@ fn head_of(kind: u8, bytes: &[u8]) -> Option<(Record, &[u8])>
                 };
                 Some((closed, rest))
             }
+            None => None,
+        },
+        12 => match id_of(bytes) {
+            Some((below, rest)) => Some((Record::Retired { below }, rest)),
             None => None,
         },
         _ => None,

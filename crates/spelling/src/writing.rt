@@ -255,6 +255,7 @@ fn kind_of(record: &Record) -> u8
             coordinator: _,
             outcome: _,
         } => 11,
+        Record::Retired { below: _ } => 12,
     }
 }
 
@@ -282,6 +283,7 @@ fn put_fields(out: &mut Vec<u8>, record: &Record) -> bool
             coordinator,
             outcome,
         } => put_closed(out, *txn, *coordinator, *outcome),
+        Record::Retired { below } => put_id(out, *below),
     }
 }
 

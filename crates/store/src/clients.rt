@@ -149,7 +149,10 @@ impl<'s, R: Wait + time::Clock> Client<'s, R> {
         for before in 0..tries {
             let mut transaction = match self.begin(patience) {
                 Ok(transaction) => transaction,
-                Err(fault) => return Err(fault),
+                Err(fault) => {
+                    self.shared.numbers.retiring().ends(self.number);
+                    return Err(fault);
+                }
             };
             let own = transaction.id();
             let ran = code(&mut transaction);
@@ -186,7 +189,9 @@ impl<'s, R: Wait + time::Clock> Client<'s, R> {
     {
         let shared = self.shared;
         let mut wire = self.wire(patience)?;
+        shared.numbers.retiring().draws(self.number);
         let tx = wire.begin(shared.run, &shared.splits, &shared.ids, &mut self.drawer)?;
+        shared.numbers.retiring().drew(self.number, tx.txn());
         shared.door.enter(self.rt);
         let alloc = shared.alloc;
         Ok(Transaction { wire, tx, alloc })
@@ -231,6 +236,7 @@ impl<'s, R: Wait + time::Clock> Client<'s, R> {
         let took = since(self.rt, start);
         self.count_attempt(&ended, took);
         self.shared.door.leave(took);
+        self.shared.numbers.retiring().ends(self.number);
         ended
     }
 
@@ -275,8 +281,8 @@ impl<'s, R: Wait + time::Clock> Client<'s, R> {
     }
 
     /// Asks how a transaction of this client ended, after `Ended::Unknown` named its id: the shard that decides says it from its log. The call
-    /// waits as long as the client does for an end. The client keeps its last 16 such transactions, while there is memory; of any other id,
-    /// and of one of another client, the answer is `Unknown` at once.
+    /// waits as long as the client does for an end. The client keeps its last 16 such transactions, while there is memory. Of any other id, of one
+    /// of another client, and of one that the store may have retired, the answer is `Unknown` at once.
     ///
     /// After `Open` and `Unknown` the same call may be answered later. If the shard that decides has stopped it is not: open the store again,
     /// and look for a key of your own that the transaction wrote. `Memory` if memory runs out.
@@ -295,7 +301,13 @@ impl<'s, R: Wait + time::Clock> Client<'s, R> {
             drop(asking);
             return Ok(Outcome::Unknown);
         };
+        let retiring = self.shared.numbers.retiring();
+        if !retiring.speaks_again(self.number, id) {
+            drop(asking);
+            return Ok(Outcome::Unknown);
+        }
         let outcome = asking.ask(doubt);
+        retiring.ends(self.number);
         self.past.add(asking);
         Ok(outcome)
     }

@@ -128,6 +128,7 @@ impl<N: Serves> Serves for Counted<'_, N> {
     }
 
     fn hear_waiting(&self, letters: usize) {
+        self.node.hear_waiting(letters);
         if let Some(counts) = self.counts() {
             counts.set_waiting(letters as u64);
         }

@@ -1,6 +1,7 @@
-//! Nodes whose shards keep the past for a while, and their logs short.
+//! Nodes whose shards keep the past for a while, their logs short, and of few transactions how they ended.
 ghost use Rattle.std.specs.Prelude.{◌≡◌, IfErr};
 
+use crate::Options;
 use crate::numbers::{Numbers, ShardCounts};
 use disk::Disk;
 use letters::{Due, Gauges, Serves, Taken};
@@ -10,19 +11,44 @@ use std::alloc::Global;
 use std::sync::atomic::{AtomicBool, AtomicU64, Ordering};
 use std::sync::{Arc, Wait};
 use truetime::Clock;
-use units::{Fault, ShardNo, Stamp, TxnId};
+use units::{Fault, Run, ShardNo, Stamp, TxnId};
 
-/// A node that is served as it is. Before it advances it forgets what is older than so many microseconds, and it renews its log once that has
-/// grown by so many bytes. It also keeps when it may forget again, whether its log is looked at next, and the numbers that count its requests.
+/// A node that is served as it is. Before it advances it forgets what is older than so many microseconds, and renews its log once that has
+/// grown by so many bytes. It also retires ids, once there are so many. It keeps when it may forget again, whether its log is looked at next,
+/// what it knows of ids, and the numbers that count its requests.
 #[derive(Drop)]
 pub struct Kept<'n, D: Disk + Drop, H: Wait + Drop> {
     node: &'n Node<D, H>,
     keep: Option<u64>,
     renew: Option<u64>,
+    retire: Option<u64>,
+    run: Run,
     again: AtomicU64,
     renews: AtomicBool,
+    ids: Ids,
     numbers: Arc<Numbers, Global>,
     place: usize,
+}
+
+// What a node knows of ids: when it looks again, whether no letter waited for it since it looked last, and of which number no client spoke any
+// more when it did. Besides, the number below which it has retired all.
+#[derive(Drop)]
+struct Ids {
+    again: AtomicU64,
+    quiet: AtomicBool,
+    before: AtomicU64,
+    retired: AtomicU64,
+}
+
+impl Ids {
+    fn new() -> Ids {
+        Ids {
+            again: AtomicU64::new(0),
+            quiet: AtomicBool::new(false),
+            before: AtomicU64::new(0),
+            retired: AtomicU64::new(0),
+        }
+    }
 }
 
 // To forget costs a record of the log, and now and then a look at each version. So it is done no more than ten times a second, and once an
@@ -30,6 +56,9 @@ pub struct Kept<'n, D: Disk + Drop, H: Wait + Drop> {
 const SHORTEST_PAUSE: u64 = 100_000;
 
 const SHARE_OF_PAUSE: u64 = 8;
+
+// For so many microseconds it does not look again which ids can be retired.
+const IDS_PAUSE: u64 = 1_000_000;
 
 // It takes no more than so small a share of the time, also on a slow device.
 const SHARE_OF_TIME: u64 = 16;
@@ -50,10 +79,7 @@ impl<D: Disk + Drop, H: Wait + Drop> Kept<'_, D, H> {
 
     // Asks the node to forget if enough time has passed since it was asked last. If that is refused it is asked again after the next pause.
     // Its log is looked at after that, as a piece of its own. Returns whether it was asked.
-    fn forget<W: Wait, C: Clock>(&self, rt: &W, clock: &mut C) -> bool {
-        let Some(start) = micros_of(clock) else {
-            return false;
-        };
+    fn forget<W: Wait, C: Clock>(&self, rt: &W, clock: &mut C, start: u64) -> bool {
         if start < self.again.load(Ordering::SeqCst) {
             return false;
         }
@@ -69,6 +95,57 @@ impl<D: Disk + Drop, H: Wait + Drop> Kept<'_, D, H> {
             .store(end.saturating_add(pause), Ordering::SeqCst);
         self.renews.store(self.renew.is_some(), Ordering::SeqCst);
         true
+    }
+
+    // Retires the ids of which nobody speaks any more, if there are so many, and if it did not look a second ago. If that is refused, it asks
+    // again when it looks again. Returns whether it was asked.
+    fn retire<W: Wait, C: Clock>(&self, rt: &W, clock: &mut C, start: u64) -> bool {
+        let Some(many) = self.retire else {
+            return false;
+        };
+        if start < self.ids.again.load(Ordering::SeqCst) {
+            return false;
+        }
+        let again = start.saturating_add(IDS_PAUSE);
+        self.ids.again.store(again, Ordering::SeqCst);
+        self.tell_left(rt);
+        let below = self.numbers.retiring().left_by_shards();
+        let retired = self.ids.retired.load(Ordering::SeqCst);
+        if below < retired.saturating_add(many) {
+            return false;
+        }
+        let Some(id) = TxnId::new(self.run.number(), below) else {
+            return false;
+        };
+        let input = Input::Retire(id);
+        let taken = self.node.take(rt, clock, &input);
+        drop(input);
+        if taken.is_ok() {
+            self.ids.retired.store(below, Ordering::SeqCst);
+        }
+        drop(taken);
+        true
+    }
+
+    // Tells of which transactions this shard speaks no more. A letter that came before it looked last was taken meanwhile, if no letter waited
+    // once: so what clients spoke of no more at that time is not prepared any more, unless it is now.
+    fn tell_left<W: Wait>(&self, rt: &W) {
+        let retiring = self.numbers.retiring();
+        if self.ids.quiet.swap(false, Ordering::SeqCst) {
+            let before = self.ids.before.load(Ordering::SeqCst);
+            retiring.leaves(self.place, before.min(self.least_prepared(rt)));
+            let left = retiring.left_by_clients();
+            self.ids.before.store(left, Ordering::SeqCst);
+        }
+    }
+
+    // The least number of what is prepared here: 0 for an id of an earlier run, and the greatest of all if nothing is prepared.
+    fn least_prepared<W: Wait>(&self, rt: &W) -> u64 {
+        match self.node.due(rt, Due::Prepared, 0) {
+            None => u64::MAX,
+            Some((txn, _)) if txn.run() == self.run.number() => txn.number(),
+            Some(_) => 0,
+        }
     }
 
     // Renews the log if it has grown. What is kept for good goes back to the beginning, so no horizon is asked for.
@@ -135,6 +212,12 @@ impl<D: Disk + Drop, H: Wait + Drop> Serves for Kept<'_, D, H> {
         self.node.gauges(rt)
     }
 
+    fn hear_waiting(&self, letters: usize) {
+        if letters == 0 {
+            self.ids.quiet.store(true, Ordering::SeqCst);
+        }
+    }
+
     fn keep_up<W: Wait, C: Clock>(&self, rt: &W, clock: &mut C) -> Option<Stamp> {
         self.node.keep_up(rt, clock)
     }
@@ -144,14 +227,17 @@ impl<D: Disk + Drop, H: Wait + Drop> Serves for Kept<'_, D, H> {
     }
 
     fn tidy<W: Wait, C: Clock>(&self, rt: &W, clock: &mut C) -> bool {
-        if self.keep.is_none() && self.renew.is_none() {
+        if self.keep.is_none() && self.renew.is_none() && self.retire.is_none() {
             return false;
         }
         if self.renews.swap(false, Ordering::SeqCst) {
             self.renew(rt, clock);
             return true;
         }
-        self.forget(rt, clock)
+        let Some(start) = micros_of(clock) else {
+            return false;
+        };
+        self.retire(rt, clock, start) || self.forget(rt, clock, start)
     }
 
     fn alloc(&self) -> Global {
@@ -159,13 +245,13 @@ impl<D: Disk + Drop, H: Wait + Drop> Serves for Kept<'_, D, H> {
     }
 }
 
-/// The nodes, each of which keeps the past for so many microseconds, or for good, and renews a log that has grown by so many bytes, or none.
-/// What they ask for is counted in these numbers.
+/// The nodes, each of which keeps the past, renews its log and retires ids of this run as the options say. What they ask for is counted in these
+/// numbers.
 pub fn kept_nodes<'n, D: Disk + Drop, H: Wait + Drop>(
     alloc: Global,
     nodes: &'n [Node<D, H>],
-    keep: Option<u64>,
-    renew: Option<u64>,
+    run: Run,
+    options: &Options,
     numbers: &Arc<Numbers, Global>,
 ) -> Result<Vec<Kept<'n, D, H>>, Fault>
     ensures { IfErr result (λ fault. fault ≡ Fault.Memory) }
@@ -174,10 +260,13 @@ pub fn kept_nodes<'n, D: Disk + Drop, H: Wait + Drop>(
     for (place, node) in nodes.iter().enumerate() {
         kept.push(Kept {
             node,
-            keep,
-            renew,
+            keep: options.keep,
+            renew: options.renew,
+            retire: options.retire,
+            run,
             again: AtomicU64::new(0),
             renews: AtomicBool::new(false),
+            ids: Ids::new(),
             numbers: Arc::try_clone(numbers)?,
             place,
         })?;

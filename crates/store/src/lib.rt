@@ -13,6 +13,7 @@ mod kept;
 mod numbers;
 mod options;
 mod ranges;
+mod retiring;
 mod serving;
 mod shared;
 mod steady;

@@ -3,6 +3,7 @@ ghost use Rattle.std.specs.Prelude.{◌≡◌, IfErr};
 ghost use Rattle.store.specs.Numbers.{is_commit};
 
 use crate::client_numbers::{ClientCounts, ClientNumbers, push_clients};
+use crate::retiring::Retiring;
 use letters::{Gauges, Taken};
 use message::{Answer, Envelope, Input, Message};
 use std::alloc::Global;
@@ -310,12 +311,13 @@ fn is_wound(message: &Message) -> bool {
 }
 
 /// The numbers of a store that is served. Any thread may read them at any time, without a lock; each number is right by itself, and they are not of
-/// one moment together.
+/// one moment together. Beside them it has of which transactions the store still speaks.
 #[derive(Drop)]
 pub struct Numbers {
     alloc: Global,
     shards: Vec<ShardCounts>,
     clients: Vec<ClientCounts>,
+    retiring: Retiring,
 }
 
 impl Numbers {
@@ -335,7 +337,12 @@ impl Numbers {
             alloc,
             shards: counts,
             clients: of_clients,
+            retiring: Retiring::new(alloc, shards, clients)?,
         })
+    }
+
+    pub(crate) fn retiring(&self) -> &Retiring {
+        &self.retiring
     }
 
     pub(crate) fn counts(&self, shard: usize) -> Option<&ShardCounts> {

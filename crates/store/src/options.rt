@@ -32,6 +32,10 @@ pub struct Options {
     /// to be more than twice as long as it was after the last turnover of this opening. Or `None`, never. The file does not shrink, and takes
     /// 1,024 turnovers: of a few bytes they are soon spent, and then its log grows on.
     pub renew: Option<u64>,
+    /// After how many more transactions a shard retires their ids, or `None`, never. It retires those that no client speaks of any more and that
+    /// no shard has prepared, at most once a second. It then keeps nothing of how they ended, in memory and in a log that is turned over. Else
+    /// it keeps that for good, some 150 bytes each. `Client::outcome` of a retired id is `Unknown`, and `inspect` passes over it.
+    pub retire: Option<u64>,
     /// How far the greatest timestamp of a folder's logs may be ahead of the machine's clock, in microseconds, beyond the stride. One that is farther
     /// ahead was written by a clock that was wrong, or the clock is wrong now: then the store is refused as `Future`, and nothing is logged.
     pub ahead: u64,
@@ -51,14 +55,14 @@ pub(crate) const EPSILON: u64 = 1_000;
 
 impl Options {
     /// So many clients over these shards: a stride of 500,000 microseconds, an epsilon of 1,000, a patience of 100 milliseconds, and 30 seconds
-    /// for a shard that says nothing. Nothing is forgotten, no log is turned over, and a folder without a store gets none. Logs may be 10 seconds
-    /// ahead of the clock.
+    /// for a shard that says nothing. Nothing is forgotten, no log is turned over, no id is retired, and a folder without a store gets
+    /// none. Logs may be 10 seconds ahead of the clock.
     pub fn new(splits: Splits, clients: u64) -> Options
         ensures splits { result.splits ≡ splits }
         ensures clients { result.clients ≡ clients }
         ensures times { (result.stride ≡ 500000) × (result.epsilon ≡ 1000) × (result.patience ≡ 5)
             × (result.give_up ≡ 30000) }
-        ensures all { (result.keep ≡ None) × (result.renew ≡ None) }
+        ensures all { (result.keep ≡ None) × (result.renew ≡ None) × (result.retire ≡ None) }
         ensures ahead { result.ahead ≡ 10000000 }
         ensures make { result.make ≡ false }
     {
@@ -75,6 +79,7 @@ impl Options {
             give_up: 30_000,
             keep: None,
             renew: None,
+            retire: None,
             ahead: AHEAD,
             make: false,
         }

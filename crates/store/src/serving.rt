@@ -55,7 +55,7 @@ pub fn serve_kept<
         → length viewers.by_worker.items ≤ 256
         → IfErr result (λ fault. fault ≡ Fault.Memory) }
 {
-    let kept = kept_nodes(alloc, nodes, options.keep, options.renew, &numbers)?;
+    let kept = kept_nodes(alloc, nodes, run_of(epoch), options, &numbers)?;
     let counted = counted_nodes(alloc, &kept, &numbers)?;
     serve_nodes(
         rt, alloc, options, epoch, last, &counted, numbers, viewers, work,

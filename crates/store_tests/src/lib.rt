@@ -50,6 +50,8 @@ mod reasons;
 #[cfg(test)]
 mod renewing;
 #[cfg(test)]
+mod retiring;
+#[cfg(test)]
 mod services;
 #[cfg(test)]
 mod slow;

@@ -97,6 +97,7 @@ pub fn record_words(record: &Record) -> [Word<'_>; 6] {
             NO,
             NO,
         ],
+        Record::Retired { below } => [Plain("retired"), Txn(*below), NO, NO, NO, NO],
     }
 }
 

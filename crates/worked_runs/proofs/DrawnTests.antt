@@ -43,6 +43,7 @@ claimed (Record.Commit c) = Some (record { txn = c.txn; at = c.at; reads = c.rea
 claimed (Record.Opened epoch) = None
 claimed (Record.Ceiling at) = None
 claimed (Record.Horizon at) = None
+claimed (Record.Retired below) = None
 claimed (Record.Base _ _ _) = None
 claimed (Record.Version _) = None
 claimed (Record.Settled _ _ _) = None

@@ -7,6 +7,7 @@ pub mod OneShardRun
 pub mod RandomRuns
 pub mod Recovery
 pub mod Requests
+pub mod Retiring
 pub mod Served
 pub mod Turnovers
 pub mod TwoShardRun

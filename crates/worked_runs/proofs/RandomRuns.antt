@@ -4,9 +4,9 @@ use Rattle.std.specs.List.{list_all}
 use Rattle.std.proofs.Common.{refl}
 use Rattle.std.specs.Prelude.{ℕ, Bool, ◌&&◌, ◌||◌, ◌++◌, not, nat_le, zero, suc, ◌+◌, ◌-◌, ◌*◌, ◌/◌, ◌%◌, ◌≡◌, true, false, cond, nat_eq, nat_lt}
 use Rattle.std.specs.Prelude.{List, [], ◌∷◌, length, map, slice_get, Some, None}
-use Rattle.units.specs.Lists.{count}
+use Rattle.units.specs.Lists.{count, when}
 use Rattle.units.specs.LockLaws.{keeps_lock_law, keeps_wait_law}
-use Rattle.record.specs.Records.{floor_of, horizon_of}
+use Rattle.record.specs.Records.{floor_of, horizon_of, retired_of}
 use Rattle.protocol.specs.Rows.{claims}
 use Rattle.protocol.specs.Step.{Stepped, Does}
 use Rattle.units.specs.Ids.{Id}
@@ -337,3 +337,26 @@ the_forgetful_moments = refl
 pub what_is_forgotten : map (λ log. nat_lt 0 (horizon_of log)) (logs_of (drive forgetful 400 31676 begun_world)) ≡ true ∷ true ∷ true ∷ []
 unfolding computing
 what_is_forgotten = refl
+
+-- ---- so where shards retire ids
+
+-- the acts above, and now and then all ids below one of those that began last are retired
+abbrev pub retiring : ℕ → ℕ → ℕ → World → Act
+retiring kind r t w =
+    cond (nat_eq (pick (next (next (next r))) 15) 0)
+    (Act.At (pick r 3) (Doing.Retire (txn (length w.clients - pick (next r) 20)) (clock (t - 20) (t + 20)))) (act kind r t w)
+
+pub the_retiring_moments : always_consistent retiring 400 31676 begun_world ≡ true
+unfolding computing
+the_retiring_moments = refl
+
+-- each shard did
+pub what_is_retired : map (λ log. when (λ t. true) (retired_of log)) (logs_of (drive retiring 400 31676 begun_world)) ≡ true ∷ true ∷ true ∷ []
+unfolding computing
+what_is_retired = refl
+
+-- and the facts, learnt record by record, are those of the logs
+pub the_retiring_facts : map (learnt (facts_of [])) (logs_of (drive retiring 400 31676 begun_world)) ≡
+    map facts_of (logs_of (drive retiring 400 31676 begun_world))
+unfolding computing
+the_retiring_facts = refl

@@ -147,6 +147,7 @@ doing_limit setup w time n (Doing.Advance at now) may p same =
     given now (Input.Advance at) p (leb-true at time_limit (and_parts (is_honest time now) (nat_le at time_limit) may).1) same
 doing_limit setup w time n (Doing.Forget at now) may p same =
     given now (Input.Forget at) p (leb-true at time_limit (and_parts (is_honest time now) (nat_le at time_limit) may).1) same
+doing_limit setup w time n (Doing.Retire below now) may p same = given now (Input.Retire below) p tt same
 doing_limit setup w time n (Doing.Nudge t now) may p same = given now (Input.Nudge t) p tt same
 doing_limit setup w time n Doing.Turn may p same = cc
 doing_limit setup w time n Doing.Open may p same = cc
@@ -254,6 +255,8 @@ module _ (config : Config) (bag : List Envelope) (n : ℕ) (s : ShardNow) (well 
       (input_of bag (Doing.Advance at now)) r memory out well e
   wanted_logs (Doing.Forget at now) r memory out e = step_logs (setup_of config n) s.log s.area s.unsure s.state s.views
       (input_of bag (Doing.Forget at now)) r memory out well e
+  wanted_logs (Doing.Retire below now) r memory out e = step_logs (setup_of config n) s.log s.area s.unsure s.state s.views
+      (input_of bag (Doing.Retire below now)) r memory out well e
   wanted_logs (Doing.Nudge t now) r memory out e = step_logs (setup_of config n) s.log s.area s.unsure s.state s.views
       (input_of bag (Doing.Nudge t now)) r memory out well e
   wanted_logs Doing.Turn r memory out e = absurd (by_state s.state e)

@@ -2,6 +2,7 @@ pub mod Along
 pub mod Decides
 pub mod EveryRun
 pub mod HeldSteps
+pub mod LogSounds
 pub mod Hosted
 pub mod Openings
 pub mod Places

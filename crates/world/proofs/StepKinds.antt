@@ -4,13 +4,14 @@ use Rattle.std.proofs.Common.{◌≡◌, ℕ, Bool, true, false, ◌&&◌, List,
 use Rattle.facts.specs.Rules.{follows_facts}
 use Rattle.record.specs.Facts.{Facts}
 use Rattle.record.specs.declared.record.Record.{Record}
-use Rattle.record.specs.declared.record.Record.TheVariants.{Opened, Ceiling, Prepare, Commit, Abort, Outcome, Horizon, Base, Version, Settled, Closed}
+use Rattle.record.specs.declared.record.Record.TheVariants.{Opened, Ceiling, Prepare, Commit, Abort, Outcome, Horizon, Base, Version, Settled, Closed, Retired}
 
 -- the record is of such a kind
 abbrev pub is_logged : Record → Bool
 is_logged (Opened epoch) = true
 is_logged (Ceiling at) = true
 is_logged (Horizon at) = true
+is_logged (Retired below) = true
 is_logged (Prepare p) = true
 is_logged (Commit c) = true
 is_logged (Abort t) = true

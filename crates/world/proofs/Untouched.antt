@@ -96,6 +96,7 @@ module _ (w : World) where
   refused_settings n s (Doing.Settle t now) f = (refl, refl)
   refused_settings n s (Doing.Advance at now) f = (refl, refl)
   refused_settings n s (Doing.Forget at now) f = (refl, refl)
+  refused_settings n s (Doing.Retire below now) f = (refl, refl)
   refused_settings n s (Doing.Nudge t now) f = (refl, refl)
   refused_settings n s Doing.Turn f = (refl, refl)
 

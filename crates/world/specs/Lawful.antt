@@ -47,6 +47,7 @@ may_do w time n (Doing.Settle t now) = is_honest time now
 may_do w time n (Doing.Advance at now) = is_honest time now && nat_le at time_limit
 may_do w time n (Doing.Nudge t now) = is_honest time now
 may_do w time n (Doing.Forget at now) = is_honest time now && nat_le at time_limit
+may_do w time n (Doing.Retire below now) = is_honest time now
 may_do w time n Doing.Turn = true
 may_do w time n Doing.Open = is_in w n (λ s. not (is_up s))
 

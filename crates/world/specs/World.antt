@@ -145,6 +145,7 @@ input_of bag (Doing.Settle t now) = Some (now, Input.Settle t)
 input_of bag (Doing.Advance at now) = Some (now, Input.Advance at)
 input_of bag (Doing.Nudge t now) = Some (now, Input.Nudge t)
 input_of bag (Doing.Forget at now) = Some (now, Input.Forget at)
+input_of bag (Doing.Retire below now) = Some (now, Input.Retire below)
 input_of bag Doing.Turn = None
 input_of bag Doing.Open = None
 

@@ -20,6 +20,8 @@ pub enum Doing {
     Nudge(TxnId, Reading),
     /// Raises the horizon: no value below it is read any more.
     Forget(Stamp, Reading),
+    /// Retires all ids below this one: the shard refuses what is said of them, and keeps nothing of how they ended.
+    Retire(TxnId, Reading),
     /// Turns the log over in its file.
     Turn,
     Open,

@@ -5,4 +5,5 @@ use Rattle.inspector.specs.Ages.{oldest}
 use Rattle.inspector.proofs.lines.first_lost.Given as goal
 
 abbrev pub invariant-loop-line : goal.invariant-loop-line
-invariant-loop-line l = oldest l.found (gather (lost_by l.history) (drop l.line-index l.lines)) ≡ oldest None (gather (lost_by l.history) l.lines)
+invariant-loop-line l =
+    oldest l.found (gather (lost_by l.retired l.history) (drop l.line-index l.lines)) ≡ oldest None (gather (lost_by l.retired l.history) l.lines)

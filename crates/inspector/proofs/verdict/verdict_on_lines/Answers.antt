@@ -25,6 +25,6 @@ returns-clause-fault c =
     let same : HaveSame c.put_by_id.new.found.items (history logs) = subst
     (λ (h : List Txn). HaveSame c.put_by_id.new.found.items h) c.in_ok-by_id.ensures.history c.in_ok-put_by_id.ensures.same in
     subst (λ (v : Verdict). IfOk c.line_fault.result (λ found. found ≡ v))
-    (ap₂ (λ (b : Bool) (h : List Txn). line_fault b h c.args.lines.now) c.are_renewed.ensures c.deref.ensures.value
-    ∙ same_fault (are_renewed logs) c.put_by_id.new.found.items (history logs) same c.args.lines.now)
+    (ap₂ (λ (b : Bool) (h : List Txn). line_fault c.args.retired.now b h c.args.lines.now) c.are_renewed.ensures c.deref.ensures.value
+    ∙ same_fault c.args.retired.now (are_renewed logs) c.put_by_id.new.found.items (history logs) same c.args.lines.now)
     c.line_fault.ensures.fault

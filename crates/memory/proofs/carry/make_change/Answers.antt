@@ -1,5 +1,5 @@
-use Rattle.std.proofs.Common.{◌≡◌, ◌∙◌, sym, ap, subst, refl, List, [], Option, Some, true}
-use Rattle.units.specs.Ids.{Id, with_id}
+use Rattle.std.proofs.Common.{◌≡◌, ◌∙◌, sym, ap, subst, refl, List, [], filter, not, Option, Some, true}
+use Rattle.units.specs.Ids.{Id, older, with_id}
 use Rattle.units.specs.Locks.{with_locks}
 use Rattle.record.specs.declared.record.Record.{Record}
 use Rattle.protocol.specs.Rows.{Idle, find_row, without_row, held_in, without_rows}
@@ -227,3 +227,16 @@ pub returns-in-Decides-clause-ended : goal.returns-in-Decides-clause-ended
 unfolding ended_by
 returns-in-Decides-clause-ended c =
     c.note_ended.ensures.ids ∙ ids_as c.args.rows.now.rows c.args.needs.now c.args.logged (with_ids c.args.ended.now.ids c.args.wounded.now) c.in-Decides.is
+
+pub returns-in-Retires-clause-rows : goal.returns-in-Retires-clause-rows
+unfolding after_change
+returns-in-Retires-clause-rows c =
+    let fits = fits_as c.args.rows.now.rows c.args.wounded.now c.args.needs.now c.args.logged c.in-Retires.is c.requires.fits in
+    ap (without_rows c.args.rows.now.rows) (sym fits.0)
+    ∙ rows_as c.args.rows.now.rows c.args.wounded.now c.args.needs.now c.args.logged c.in-Retires.is
+
+pub returns-in-Retires-clause-ended : goal.returns-in-Retires-clause-ended
+unfolding ended_by
+returns-in-Retires-clause-ended c =
+    c.retire.ensures.ids ∙ ap (filter (λ t. not (older t c.in-Retires.below))) c.note_ended.ensures.ids
+    ∙ ids_as c.args.rows.now.rows c.args.needs.now c.args.logged (with_ids c.args.ended.now.ids c.args.wounded.now) c.in-Retires.is

@@ -8,13 +8,13 @@ use Rattle.facts.specs.Rules.{follows_facts}
 use Rattle.protocol.specs.Rows.{rebuilt}
 use Rattle.protocol.specs.Plan as protocol
 use Rattle.protocol.specs.Plan.{carried}
-use Rattle.memory.specs.Carry.{Asks, IsFit, MayDrop, MayStand}
+use Rattle.memory.specs.Carry.{Asks, IsFit, MayDrop, MayRetire, MayStand}
 use Rattle.memory.specs.Plans.{plan_of}
 use Rattle.memory.specs.declared.plan.Plan.{Plan}
 use Rattle.memory.specs.RowTable.{phase_by}
 use Rattle.protocol.specs.Beside.{fits_facts}
 use Rattle.recovery.proofs.Again.{abort_again, absent_before, decision_again, may_abort_again, may_close_again, opens_again, outcome_again}
-use Rattle.recovery.proofs.Again.{forgets_again, promise_again, serves_again}
+use Rattle.recovery.proofs.Again.{forgets_again, promise_again, retires_again, serves_again}
 use Rattle.recovery.proofs.Beside.{asks_are}
 use Rattle.recovery.proofs.Replayed.{with_record}
 use Rattle.recovery.proofs.replaying.plan_again.Goals as goal
@@ -52,6 +52,23 @@ returns-in-Horizon-clause-memory_after c =
     subst (λ r. carried (plan_of k.memory.rows (with_record c.quiet-in-Horizon.result item)) k.memory ≡ rebuilt (learn k.facts r)) (sym c.in-Horizon.is)
     (forgets_again k c.in-Horizon.at c.last-last.result (Some item) _ c.requires.recovered c.last-last.ensures
     (ap (λ (p : Plan). plan_of k.memory.rows (with_record p item)) c.quiet-in-Horizon.ensures))
+
+pub returns-in-Retired-clause-fit : goal.returns-in-Retired-clause-fit
+returns-in-Retired-clause-fit c =
+    let k = c.args.state.now in
+    subst (λ (p : Plan). IsFit k (with_record p c.args.item.now)) (sym c.quiet-in-Retired.ensures) (
+      (refl, subst (λ r. MayRetire c.in-Retired.below (Some r)) (sym c.in-Retired.is) refl),
+      omega (arith, c.last-last.ensures),
+    )
+
+pub returns-in-Retired-clause-memory_after : goal.returns-in-Retired-clause-memory_after
+returns-in-Retired-clause-memory_after c =
+    let k = c.args.state.now in
+    let item = c.args.item.now in
+    subst (λ r. carried (plan_of k.memory.rows (with_record c.quiet-in-Retired.result item)) k.memory ≡ rebuilt (learn k.facts r)) (sym c.in-Retired.is)
+    (retires_again k c.in-Retired.below c.last-last.result (Some item) _ c.requires.recovered c.last-last.ensures
+    (subst (λ r. fits_facts k.facts r ≡ true) c.in-Retired.is c.requires.fits)
+    (ap (λ (p : Plan). plan_of k.memory.rows (with_record p item)) c.quiet-in-Retired.ensures))
 
 pub returns-in-Abort-clause-fit : goal.returns-in-Abort-clause-fit
 returns-in-Abort-clause-fit c =

@@ -59,3 +59,10 @@ returns-in-Closed-clause-ok c done =
 
 pub returns-in-Closed-clause-fits : goal.returns-in-Closed-clause-fits
 returns-in-Closed-clause-fits c done = subst IsRecord (sym c.in-Closed.is) (c.put_closed.ensures.fits done)
+
+pub returns-in-Retired-clause-ok : goal.returns-in-Retired-clause-ok
+returns-in-Retired-clause-ok c done =
+    c.put_id-in-Retired.ensures.ok done ∙ ap (λ (r : Record). c.args.out.now.items ++ fields_spelling r) (sym c.in-Retired.is)
+
+pub returns-in-Retired-clause-fits : goal.returns-in-Retired-clause-fits
+returns-in-Retired-clause-fits c done = subst IsRecord (sym c.in-Retired.is) (c.put_id-in-Retired.ensures.fits done)

@@ -1,4 +1,4 @@
-use Rattle.std.proofs.Common.{refl}
+use Rattle.std.proofs.Common.{refl, None}
 use Rattle.facts.specs.Shown.{shown_entries, by_id}
 use Rattle.facts.specs.Stages.{stage_of}
 use Rattle.record.specs.Facts.{facts_of}
@@ -13,6 +13,7 @@ returns-clause-facts c = λ i. record {
   entries = shown_entries (by_id (c.new.ensures.empty i));
   installs = c.new-2.ensures.items i;
   horizon = c.zero-2.ensures i;
+  retired = None;
 }
 
 pub returns-clause-stage : goal.returns-clause-stage
