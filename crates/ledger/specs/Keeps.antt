@@ -13,8 +13,8 @@ use Rattle.versions.specs.Places.{SameVersions}
 use Rattle.protocol.specs.Sound.{writes_standing}
 use Rattle.protocol.specs.Showable.{rises_by_key}
 
--- Both say the same epoch, floor and horizon, the same id below which all are retired, the same status of every id with its standing record, and the same value of
--- every key at every timestamp from the horizon up.
+-- Both say the same epoch, floor and horizon, the same id below which all are retired, the same status of every id with its
+-- standing record, and the same value of every key at every timestamp from the horizon up.
 pub record Keeps (a b : Facts) : Type 0 where
   pub epoch : a.epoch ≡ b.epoch
   pub floor : a.floor ≡ b.floor
