@@ -37,7 +37,7 @@ const WRITTEN: Row = Row {
 
 const NOT_YET: Told = Told::Refused(Fault::NotYet);
 
-static FORGOTTEN: [Row; 6] = [
+static FORGOTTEN: [Row; 8] = [
     Row {
         name: "nothing is forgotten",
         asks: &[
@@ -165,6 +165,86 @@ static FORGOTTEN: [Row; 6] = [
             Line::Horizon(300),
             Line::Promised(3, 410),
             Line::Horizon(409),
+        ],
+        ..WRITTEN
+    },
+    // The board shows what it showed until the next advance, and has to have all versions first.
+    Row {
+        name: "versions go that the horizon passed",
+        asks: &[
+            (400, 410, Ask::Given(Given::Forget(300), SAID)),
+            (400, 410, Ask::Versions(2)),
+            (400, 410, Ask::LetGo(true)),
+            (400, 410, Ask::Versions(1)),
+            (400, 410, Ask::Look(b'z', 299, Err(Fault::TooOld))),
+            (400, 410, Ask::Look(b'z', 300, Ok(b'2'))),
+            (400, 410, Ask::View(b'z', 299, Ok(b'1'))),
+            (
+                410,
+                420,
+                Ask::Given(
+                    Given::Prepare(3, b"z", b"3"),
+                    Told::Says(&[(b'v', 0, 3, 410)]),
+                ),
+            ),
+            (411, 430, Ask::Given(Given::Outcome(3, 410), SAID)),
+            (411, 430, Ask::LetGo(false)),
+            (411, 430, Ask::Versions(2)),
+            (420, 430, Ask::Advance(420)),
+            (420, 430, Ask::View(b'z', 299, Err(Fault::TooOld))),
+            (420, 430, Ask::View(b'z', 409, Ok(b'2'))),
+            (420, 430, Ask::View(b'z', 410, Ok(b'3'))),
+            (420, 430, Ask::LetGo(true)),
+            (420, 430, Ask::Versions(2)),
+            (420, 430, Ask::Given(Given::Forget(410), SAID)),
+            (420, 430, Ask::LetGo(true)),
+            (420, 430, Ask::Versions(1)),
+            (420, 430, Ask::Advance(420)),
+            (420, 430, Ask::View(b'z', 409, Err(Fault::TooOld))),
+            (420, 430, Ask::View(b'z', 410, Ok(b'3'))),
+        ],
+        again: &[
+            (430, 440, Ask::Versions(3)),
+            (430, 440, Ask::Look(b'z', 409, Err(Fault::TooOld))),
+            (430, 440, Ask::Look(b'z', 410, Ok(b'3'))),
+        ],
+        log: &[
+            Line::Opened(1),
+            Line::Promised(1, 200),
+            Line::Committed(1, 200),
+            Line::Promised(2, 300),
+            Line::Committed(2, 300),
+            Line::Ceiling(400),
+            Line::Horizon(300),
+            Line::Promised(3, 410),
+            Line::Committed(3, 410),
+            Line::Ceiling(420),
+            Line::Horizon(410),
+        ],
+        ..WRITTEN
+    },
+    Row {
+        name: "the newest version at the horizon stays",
+        asks: &[
+            (400, 410, Ask::LetGo(true)),
+            (400, 410, Ask::Versions(2)),
+            (400, 410, Ask::Look(b'z', 199, Ok(0))),
+            (400, 410, Ask::Given(Given::Forget(299), SAID)),
+            (400, 410, Ask::LetGo(true)),
+            (400, 410, Ask::Versions(2)),
+            (400, 410, Ask::Look(b'z', 299, Ok(b'1'))),
+            (400, 410, Ask::View(b'z', 299, Ok(b'1'))),
+            (400, 410, Ask::Look(b'z', 300, Ok(b'2'))),
+        ],
+        again: &[(420, 430, Ask::Look(b'z', 299, Ok(b'1')))],
+        log: &[
+            Line::Opened(1),
+            Line::Promised(1, 200),
+            Line::Committed(1, 200),
+            Line::Promised(2, 300),
+            Line::Committed(2, 300),
+            Line::Ceiling(400),
+            Line::Horizon(299),
         ],
         ..WRITTEN
     },

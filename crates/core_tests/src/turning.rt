@@ -30,11 +30,15 @@ pub enum Ask {
     Advance(u32),
     // Forgets what is older than this many microseconds.
     KeepFor(u64, Result<(), Fault>),
+    // Lets versions go that the horizon has passed: whether the board had all.
+    LetGo(bool),
     // What the viewer sees.
     View(u8, u32, Sees),
     // The end of the log, and the horizon.
     Gate(u64),
     Horizon(u64),
+    // How many versions the core has.
+    Versions(usize),
 }
 
 /// The two ends of a reading, and the question at it.
@@ -126,6 +130,7 @@ fn is_shown(core: &Core<SimDisk>, ask: Ask) -> bool {
         }
         Ask::Gate(gate) => core.gate() == gate,
         Ask::Horizon(at) => core.horizon().micros() == at,
+        Ask::Versions(count) => core.installs().len() == count,
         _ => false,
     }
 }
@@ -169,6 +174,7 @@ impl<R: Wait> Asks for Watched<'_, R> {
             Ask::Turn(wanted) => self.desk.turn_over() == wanted,
             Ask::Renew(micros, least, wanted) => self.desk.renew(now, micros, least) == wanted,
             Ask::KeepFor(micros, wanted) => self.desk.keep_for(now, micros) == wanted,
+            Ask::LetGo(wanted) => self.desk.let_go() == Ok(wanted),
             Ask::Advance(to) => match self.desk.advance(now, stamp(to)) {
                 Ok(told) => told.safe() == stamp(to),
                 Err(_) => false,

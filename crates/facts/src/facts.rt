@@ -220,6 +220,15 @@ impl Facts {
         self.installs.as_slice()
     }
 
+    /// Puts other versions in the place of those that it has. All else stays, save the room.
+    pub fn replace_installs(&mut self, installs: Vec<Install>)
+        ensures facts { self.new.facts ≡ record self.old.facts { installs = installs.items } }
+        ensures shard { self.new.shard ≡ self.old.shard }
+        ensures stage { self.new.stage ≡ self.old.stage }
+    {
+        self.installs = installs;
+    }
+
     /// Gives how far one is in the log.
     pub fn stage(&self) -> Stage
         ensures { result ≡ self.now.stage }

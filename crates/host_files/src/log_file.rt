@@ -137,7 +137,8 @@ impl LogFile {
         self.disk.cause()
     }
 
-    /// Moves the moment at which the log is read to the present. Returns whether something had been written meanwhile.
+    /// Moves the moment at which the log is read to the present. Returns whether something had been written meanwhile. If not, the log reads as
+    /// it did, also if something is written during this call: only a later one tells of that.
     pub fn go_on(&mut self, alloc: Global) -> Result<bool, Fault>
         ensures { IfErr result IsSystemFault }
     {
@@ -148,7 +149,12 @@ impl LogFile {
         let gate = part_of(alloc, &mut self.disk, still.end.gate, 1)?;
         let is_same = front == still.front && gate.as_slice() == [still.end.byte].as_slice();
         drop(gate);
-        self.still = still.later(alloc, &mut self.disk, front)?;
+        if is_same {
+            drop(front);
+            self.still = Some(still);
+        } else {
+            self.still = still.later(alloc, &mut self.disk, front)?;
+        }
         Ok(!is_same)
     }
 }
@@ -241,7 +247,8 @@ impl Disk for LogFile {
 const MOST_ROUNDS: u32 = 100_000;
 
 /// Makes logs read as all of them stand at one moment, although they were opened one after the other while somebody may write to them.
-/// `Device` if they were written to in each of 100,000 rounds.
+/// `Device` if they were written to in each of 100,000 rounds. In the last round each is as it was found in the round before. So all of them
+/// stood so when the last round began.
 pub fn at_one_moment(alloc: Global, logs: &mut [LogFile]) -> Result<(), Fault>
     ensures { IfErr result IsSystemFault }
 {

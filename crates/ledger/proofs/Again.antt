@@ -14,7 +14,7 @@ use Rattle.protocol.specs.Showable.{rises_by_key}
 use Rattle.protocol.proofs.Rising.{below, rise_none, rise_one}
 use Rattle.ledger.specs.Keeps.{IsLasting}
 use Rattle.ledger.specs.Laws.{TurnedAgain, TurnedLasts}
-use Rattle.ledger.specs.Turned.{turned, versions_held}
+use Rattle.ledger.specs.Turned.{held_facts, turned, versions_held}
 use Rattle.ledger.proofs.One.{one-turnover, ordered}
 use Rattle.ledger.proofs.Said.{covered-held, turned-keeps, turned-says}
 
@@ -46,14 +46,18 @@ none-before : (xs : List Install) → AllAbove [] xs
 none-before [] = tt
 none-before (x ∷ xs) = (refl, none-before xs)
 
-held-lasting : (facts : Facts) → IsLasting facts → IsLasting (record facts { installs = versions_held facts })
+-- what is in order rises
+pub sorted-rises : (xs : List Install) → AscendsByVersion xs → rises_by_key [] xs ≡ true
+sorted-rises xs up = ascending-rises [] xs up (none-before xs)
+
+pub held-lasting : (facts : Facts) → IsLasting facts → IsLasting (held_facts facts)
 held-lasting facts l =
     let r = l.regular in
     record {
       regular = record {
         order = r.order;
         placed = r.placed;
-        rising = ascending-rises [] (versions_held facts) (ordered facts r) (none-before (versions_held facts));
+        rising = sorted-rises (versions_held facts) (ordered facts r);
         covered = covered-held facts r;
         under = r.under;
         kept = r.kept;

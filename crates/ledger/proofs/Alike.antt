@@ -40,7 +40,7 @@ alike-keeps a b h = record {
 
 -- ---- versions
 
-same-append : (h : ℕ) (a b c : List Install) → SameVersions h a b → SameVersions h (a ++ c) (b ++ c)
+pub same-append : (h : ℕ) (a b c : List Install) → SameVersions h a b → SameVersions h (a ++ c) (b ++ c)
 same-append h a b c same = record {
   now = λ k. by_test (λ x. same_key x.key k) (same.now k);
   at = λ k t le. by_test (is_by k t) (same.at k t le);

@@ -7,6 +7,7 @@ pub mod One
 pub mod Entries
 pub mod Said
 pub mod Again
+pub mod Held
 pub mod Stands
 pub mod Come
 pub mod Fits

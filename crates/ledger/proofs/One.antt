@@ -325,7 +325,7 @@ one-versions a b h r s =
     ∙ sym ((same-in_order (pruned b.horizon b.installs) (held-rises b s)).at k t (omega arith)))
 
 -- they are those of any list in order that has the same newest versions, without what the horizon lets go
-pruned-ascends : (h : ℕ) (t : List Install) → AscendsByVersion t → AscendsByVersion (pruned h t)
+pub pruned-ascends : (h : ℕ) (t : List Install) → AscendsByVersion t → AscendsByVersion (pruned h t)
 unfolding pruned
 pruned-ascends h t up = ascending-keep _ t up
 

@@ -16,7 +16,7 @@ use Rattle.versions.specs.Ordered.{is_not_after, installed, all_installed}
 use Rattle.versions.specs.Pruned.{pruned}
 use Rattle.ledger.specs.Keeps.{Alike, IsPlaced, IsRegular}
 use Rattle.ledger.specs.Laws.{TurnedKeeps, TurnedSays}
-use Rattle.ledger.specs.Turned.{versions_held, ended_item, retired_item, standing_item, turned}
+use Rattle.ledger.specs.Turned.{held_facts, versions_held, ended_item, retired_item, standing_item, turned}
 use Rattle.versions.proofs.Pruned.{same-pruned}
 use Rattle.versions.proofs.Same.{same-back, same-higher, same-then}
 use Rattle.ledger.proofs.Entries.{entry, is_ended, put_all, together, with_status-is}
@@ -155,18 +155,20 @@ turned-says facts r =
     ∙ standing-all e f (put_all [] (filter is_ended es)) vs h rt es r.placed
     ∙ ap (λ l. facts_with e f l vs h rt) (together es r.order)
 
+-- the versions that are held are alike to all
+pub held-keeps : (facts : Facts) → IsRegular facts → Alike facts (held_facts facts)
+held-keeps facts r = record {
+  epoch = refl;
+  floor = refl;
+  horizon = refl;
+  retired = refl;
+  entries = refl;
+  versions =
+      same-back facts.horizon (versions_held facts) facts.installs
+      (same-then facts.horizon (versions_held facts) (pruned facts.horizon facts.installs) facts.installs
+      (same-higher 0 facts.horizon _ _ (omega arith) (same-in_order (pruned facts.horizon facts.installs) (held-rises facts r)))
+      (same-pruned facts.horizon facts.installs));
+}
+
 pub turned-keeps : TurnedKeeps
-turned-keeps facts r =
-    subst (Alike facts) (sym (turned-says facts r))
-    (record {
-      epoch = refl;
-      floor = refl;
-      horizon = refl;
-      retired = refl;
-      entries = refl;
-      versions =
-          same-back facts.horizon (versions_held facts) facts.installs
-          (same-then facts.horizon (versions_held facts) (pruned facts.horizon facts.installs) facts.installs
-          (same-higher 0 facts.horizon _ _ (omega arith) (same-in_order (pruned facts.horizon facts.installs) (held-rises facts r)))
-          (same-pruned facts.horizon facts.installs));
-    })
+turned-keeps facts r = subst (Alike facts) (sym (turned-says facts r)) (held-keeps facts r)

@@ -22,7 +22,7 @@ use Rattle.protocol.specs.Step.{step_within}
 use Rattle.versions.specs.Ordered.{AscendsByVersion}
 use Rattle.versions.specs.Places.{SameVersions}
 use Rattle.versions.specs.Pruned.{pruned}
-use Rattle.ledger.specs.Turned.{turned, versions_held}
+use Rattle.ledger.specs.Turned.{held_facts, turned, versions_held}
 use Rattle.ledger.specs.Keeps.{Keeps, Alike, IsRegular, IsLasting, IsOfShard, NamesOwn}
 use Rattle.ledger.specs.Rules.{AllFit, takes}
 
@@ -30,7 +30,7 @@ use Rattle.ledger.specs.Rules.{AllFit, takes}
 
 -- learnt record by record a renewed log says what the log said, with the versions that were held
 abbrev pub TurnedSays : Type 0
-TurnedSays = (facts : Facts) → IsRegular facts → learnt no_facts (turned facts) ≡ record facts { installs = versions_held facts }
+TurnedSays = (facts : Facts) → IsRegular facts → learnt no_facts (turned facts) ≡ held_facts facts
 
 -- so it is alike to what it renews
 abbrev pub TurnedKeeps : Type 0

@@ -14,6 +14,10 @@ use Rattle.versions.specs.Pruned.{pruned}
 abbrev pub versions_held : Facts → List Install
 versions_held facts = all_installed [] (pruned facts.horizon facts.installs)
 
+-- the facts with these versions alone
+abbrev pub held_facts : Facts → Facts
+held_facts facts = record facts { installs = versions_held facts }
+
 -- how an ended transaction is kept
 abbrev pub ended_item : TxnStatus → Option Record
 ended_item e =

@@ -10,7 +10,7 @@ ghost use Rattle.facts.specs.Shown.{meant};
 ghost use Rattle.facts.specs.Stages.{follows_head, follows_next, stage_after, stage_of};
 ghost use Rattle.protocol.specs.Sound.{writes_standing};
 ghost use Rattle.versions.specs.Orders.{Orders};
-ghost use Rattle.ledger.specs.Turned.{turned};
+ghost use Rattle.ledger.specs.Turned.{held_facts, turned};
 ghost use Rattle.ledger.specs.Ledger.{AreInOrder, CanInstall};
 
 use crate::renewing::{Recorder, renew};
@@ -19,7 +19,7 @@ use record::Record;
 use std::alloc::Global;
 use std::marker::Model;
 use units::{Fault, Install, Key, ShardNo, Stamp, TxnId, Value, Write, Writes};
-use versions::Places;
+use versions::{Places, copy_held};
 
 // The most versions that a record installs.
 const MOST_INSTALLS: usize = 128;
@@ -248,6 +248,24 @@ impl Ledger {
         ensures memory { IfErr result (λ fault. fault ≡ Fault.Memory) }
     {
         renew(alloc, &self.facts, &self.places, recorder)
+    }
+
+    /// Lets the versions go that no look from the horizon up needs: of each key those below its newest that is not above the horizon. The others
+    /// come together, in order by key and timestamp, as in a renewed log. `Memory` if there is none for the new list: then nothing goes.
+    pub fn let_go(&mut self, alloc: Global) -> Result<(), Fault>
+        ensures facts { OnOk result (self.new.facts ≡ held_facts self.old.facts) }
+        ensures shard { self.new.shard ≡ self.old.shard }
+        ensures stage { self.new.stage ≡ self.old.stage }
+        ensures memory { IfErr result
+            (λ fault. (fault ≡ Fault.Memory) × (self.new.facts ≡ self.old.facts)) }
+    {
+        let horizon = self.facts.horizon();
+        let held = copy_held(alloc, self.facts.installs(), &self.places, horizon);
+        let (installs, places) = held?;
+        self.left = places.len();
+        self.facts.replace_installs(installs);
+        self.places = places;
+        Ok(())
     }
 
     // Learns a horizon that comes next in the log.

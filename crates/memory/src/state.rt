@@ -14,7 +14,7 @@ ghost use Rattle.protocol.specs.Rows.{safe, claims, find_row, held_in};
 ghost use Rattle.protocol.specs.Plan.{in_way, opens, is_crowded};
 ghost use Rattle.ledger.specs.Keeps.{IsRegular};
 ghost use Rattle.ledger.specs.Ledger.{AreInOrder};
-ghost use Rattle.ledger.specs.Turned.{turned};
+ghost use Rattle.ledger.specs.Turned.{held_facts, turned};
 ghost use Rattle.rows.specs.CodeRows.{phase_of};
 ghost use Rattle.rows.specs.RowTable.{needs_in};
 ghost use Rattle.memory.specs.Carry.{Asks, may_ask, may_end};
@@ -148,6 +148,17 @@ impl State {
         ensures memory { IfErr result (λ fault. fault ≡ Fault.Memory) }
     {
         self.ledger.renew(alloc, recorder)
+    }
+
+    /// Lets the versions go that no look from the horizon up needs (`Ledger::let_go`). All else stays.
+    pub fn let_go(&mut self, alloc: Global) -> Result<(), Fault>
+        ensures facts { OnOk result (self.new.facts ≡ held_facts self.old.facts) }
+        ensures setup { self.new.setup ≡ self.old.setup }
+        ensures memory { self.new.memory ≡ self.old.memory }
+        ensures refused { IfErr result
+            (λ fault. (fault ≡ Fault.Memory) × (self.new.facts ≡ self.old.facts)) }
+    {
+        self.ledger.let_go(alloc)
     }
 
     /// Tells whether the record may come next in the log.

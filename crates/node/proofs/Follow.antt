@@ -1,6 +1,6 @@
 -- What may follow on a board.
 use Rattle.std.proofs.Common.{◌≡◌, ℕ, zero, suc, ◌≤◌, true, ◌&&◌, List, [], ◌∷◌, ◌++◌, take, drop, Option, Some, None, nat_lt, refl, ap, ◌∙◌, subst}
-use Rattle.std.proofs.Common.{arith, ◌⊎◌, inl, inr, max, Bool, false, cond, nat_le}
+use Rattle.std.proofs.Common.{arith, sym, ◌⊎◌, inl, inr, max, Bool, false, cond, nat_le}
 use Rattle.std.proofs.lemmas.Bool.{and_parts}
 use Rattle.std.proofs.lemmas.List.{append-nil}
 use Rattle.std.proofs.lemmas.Bool.Decides.{nat_tests}
@@ -13,7 +13,7 @@ use Rattle.board.specs.Board.{versions_on, safe_from, safe_on, horizon_on, horiz
 use Rattle.board.proofs.First.{horizon_on-entries, safe_from-entries, safe_behind}
 use Rattle.board.proofs.Longer.{follows_install, follows_safe, follows_horizon}
 use Rattle.protocol.specs.Showable.{rises_by_key}
-use Rattle.protocol.proofs.Rising.{Alike, alike_more, below, below_more, rise_parts}
+use Rattle.protocol.proofs.Rising.{Alike, alike_more, below, below_more, rise_none, rise_one, rise_parts}
 use Rattle.node.specs.InStep.{as_entries}
 
 -- the versions before some entries and those among them, the last first
@@ -164,3 +164,10 @@ pub entries_follow : (before installs : List Install) → rises_by_key before in
 entries_follow before [] h = follow_none before None 0
 entries_follow before (i ∷ is) h =
     let parts = rise_parts before i is h in follow_installed before None 0 i (as_entries is) refl parts.0 (entries_follow (i ∷ before) is parts.1)
+
+-- what rises above some versions rises above others that are below the same timestamps
+pub rise_alike : (a b news : List Install) → Alike a b → rises_by_key a news ≡ true → rises_by_key b news ≡ true
+rise_alike a b [] alike h = rise_none b
+rise_alike a b (i ∷ news) alike h =
+    let parts = rise_parts a i news h in
+    rise_one b i news (sym (alike i.key i.at) ∙ parts.0) (rise_alike (i ∷ a) (i ∷ b) news (alike_more a b i alike) parts.1)

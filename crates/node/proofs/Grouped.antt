@@ -19,14 +19,14 @@ use Rattle.message.specs.declared.message.Envelope.{Envelope}
 use Rattle.truetime.specs.Interval.{Interval}
 use Rattle.protocol.specs.Showable.{IsShowable, rises_by_key}
 use Rattle.protocol.specs.Step.{Stepped, Refuses, Does, step}
-use Rattle.protocol.proofs.Rising.{Alike, alike_more, below, below_more, rise_none, rise_one, rise_parts}
+use Rattle.protocol.proofs.Rising.{below, below_more, rise_parts}
 use Rattle.board.specs.declared.entry.BoardEntry.{BoardEntry}
 use Rattle.shard.specs.Groups.{AheadView, Arrival, Batch, HasSteppedAll, IsAdded, IsAheadOf, IsLeftOut, LeadsTo, batch_of}
 use Rattle.shard.specs.Look.{safe_at}
 use Rattle.shard.specs.On.{CoreView, step_of}
 use Rattle.node.specs.Grouped.{AreLeftOut, IsAheadWith, IsDueAt, IsOutAfter, and_unless, arrival, taken_of}
 use Rattle.node.specs.InStep.{InStep}
-use Rattle.node.proofs.Follow.{take_drop}
+use Rattle.node.proofs.Follow.{rise_alike, take_drop}
 use Rattle.node.proofs.InStep.{count_kept, lawful_kept, same_kept}
 use Rattle.node.proofs.Kept.{horizon_rises}
 
@@ -148,12 +148,6 @@ below_stacked : (acc xs : List Install) (key : Bytes) (at : ℕ) → below (stac
 below_stacked acc [] key at = grind (arith, nat_tests)
 below_stacked acc (i ∷ xs) key at = below_stacked (i ∷ acc) xs key at ∙ below_more acc i key at xs
 
-rise_alike : (a b news : List Install) → Alike a b → rises_by_key a news ≡ true → rises_by_key b news ≡ true
-rise_alike a b [] alike h = rise_none b
-rise_alike a b (i ∷ news) alike h =
-    let parts = rise_parts a i news h in
-    rise_one b i news (sym (alike i.key i.at) ∙ parts.0) (rise_alike (i ∷ a) (i ∷ b) news (alike_more a b i alike) parts.1)
-
 rise_behind : (acc xs ys : List Install) → rises_by_key acc (xs ++ ys) ≡ true → rises_by_key (stacked acc xs) ys ≡ true
 rise_behind acc [] ys h = h
 rise_behind acc (i ∷ xs) ys h = rise_behind (i ∷ acc) xs ys ((rise_parts acc i (xs ++ ys) h).1)
@@ -174,12 +168,14 @@ module _ {D : Type 0} (keeps : Type 0) (file : D → File) (clock : D → ℕ) (
       let news = drop n new.facts.installs in
       let behind : new.facts.installs ≡ old.facts.installs ++ news =
       sym (take_drop n new.facts.installs) ∙ ap (λ (l : List Install). l ++ news) h.shown in
+      let raised : old.facts.horizon ≤ new.facts.horizon =
+      omega (arith, horizon_over old.setup _ h.batch arrivals h.run, ap (λ f. f.horizon) h.facts) in
       record {
-        count = count_kept old.facts.installs news new.facts.installs handed es behind step.count step.same;
-        same = same_kept old.facts.installs news new.facts.installs handed es behind step.count step.same;
-        lawful = lawful_kept old.facts.installs news new.facts.installs handed es behind step.count step.same (safe_at old) step.lawful step.safe
+        count = count_kept old.facts.installs news new.facts.installs handed old.facts.horizon es behind step.count step.same;
+        same = same_kept old.facts.installs news new.facts.installs handed old.facts.horizon es behind step.count step.same new.facts.horizon raised;
+        lawful = lawful_kept old.facts.installs news new.facts.installs handed old.facts.horizon es behind step.count step.same (safe_at old) step.lawful step.safe
             (∥∥₁_elim h.grew (hlevel props) (λ s. s.above))
             (news_rise old.facts.installs news (ap (rises_by_key []) (sym behind) ∙ orderly.installs));
         safe = omega (arith, step.safe, ∥∥₁_elim h.grew (hlevel props) (λ s. s.rises));
-        horizon = omega (arith, step.horizon, horizon_over old.setup _ h.batch arrivals h.run, ap (λ f. f.horizon) h.facts);
+        horizon = omega (arith, step.horizon, raised);
       }

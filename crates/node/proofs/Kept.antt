@@ -73,14 +73,15 @@ module _ {D : Type 0} (file : D → File) (old new : CoreView D) (now : Interval
       let s = serves w.0 w.1 in
       let news = added old.facts w.0.logged in
       let behind : new.facts.installs ≡ old.facts.installs ++ news = ap (λ (f : Facts). f.installs) w.2 ∙ grows old.facts w.0.logged in
+      let raised : old.facts.horizon ≤ new.facts.horizon = omega (arith, horizon_rises old.facts w.0.logged, ap (λ (f : Facts). f.horizon) w.2) in
       let up : safe old.memory ≤ safe new.memory = subst (λ (m : Memory). safe old.memory ≤ safe m) (sym w.3) (∥∥₁_elim s (hlevel props) (λ x. x.rises)) in
       record {
-        count = count_kept old.facts.installs news new.facts.installs handed es behind step.count step.same;
-        same = same_kept old.facts.installs news new.facts.installs handed es behind step.count step.same;
-        lawful = lawful_kept old.facts.installs news new.facts.installs handed es behind step.count step.same (safe old.memory) step.lawful step.safe
+        count = count_kept old.facts.installs news new.facts.installs handed old.facts.horizon es behind step.count step.same;
+        same = same_kept old.facts.installs news new.facts.installs handed old.facts.horizon es behind step.count step.same new.facts.horizon raised;
+        lawful = lawful_kept old.facts.installs news new.facts.installs handed old.facts.horizon es behind step.count step.same (safe old.memory) step.lawful step.safe
             (∥∥₁_elim s (hlevel props) (λ x. x.above)) (∥∥₁_elim s (hlevel props) (λ x. x.order));
         safe = omega (arith, step.safe, up);
-        horizon = omega (arith, step.horizon, horizon_rises old.facts w.0.logged, ap (λ (f : Facts). f.horizon) w.2);
+        horizon = omega (arith, step.horizon, raised);
       }
 
   pub kept_in_step : (result : Result (List Envelope) Fault) (handed : ℕ) (es : List BoardEntry) → IfOk result

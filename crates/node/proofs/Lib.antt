@@ -5,6 +5,7 @@ mod Follow
 mod Forgot
 mod Grouped
 mod InStep
+mod Gone
 mod Kept
 mod Lists
 pub mod Outcomes

@@ -1,5 +1,5 @@
 -- What a desk keeps of its core and its board.
-use Rattle.std.specs.Prelude.{◌≡◌, ◌⊎◌, ℕ, ◌<◌, ◌≤◌, ◌-◌, min, IsTrue, All, List, [], ◌∷◌, ◌++◌, map, take, drop, length, Option, Result, Ok, Err, IsOk}
+use Rattle.std.specs.Prelude.{◌≡◌, ◌⊎◌, ℕ, ◌<◌, ◌≤◌, ◌-◌, min, IsTrue, All, List, [], ◌∷◌, ◌++◌, map, drop, length, Option, Result, Ok, Err, IsOk, Bool, true, false}
 use Rattle.units.specs.declared.fault.Fault.{Fault}
 use Rattle.units.specs.declared.fault.Fault.TheVariants.{Memory as WantsMemory, BadRequest}
 use Rattle.units.specs.declared.fault.Reason.TheVariants.{Many}
@@ -10,9 +10,11 @@ use Rattle.disk.specs.File.{File}
 use Rattle.message.specs.declared.message.Envelope.{Envelope}
 use Rattle.message.specs.declared.message.Input.{Input}
 use Rattle.truetime.specs.Interval.{Interval}
+use Rattle.versions.specs.Places.{SameVersions}
 use Rattle.shard.specs.Books.{BookView, HasBookRoom, IsBookFull}
 use Rattle.shard.specs.Booked.{HasEntered, IsCrowded}
 use Rattle.shard.specs.On.{CoreView, HasStepped, step_of}
+use Rattle.shard.specs.Held.{without_passed}
 use Rattle.shard.specs.Look.{safe_at}
 use Rattle.board.specs.declared.entry.BoardEntry.{BoardEntry}
 use Rattle.board.specs.declared.entry.BoardEntry.TheVariants.{Installed, Safe}
@@ -25,10 +27,11 @@ use Rattle.node.specs.declared.measure.Measure.{Measure}
 abbrev pub as_entries : List Install → List BoardEntry
 as_entries installs = map (λ i. Installed i) installs
 
--- The board was handed the first versions of the core, and may be handed the others; its served time and its horizon are at most the core's.
+-- The board was handed the first versions of the core, and may be handed the others: with these it has the core's newest version of each key, now and
+-- at each timestamp from the core's horizon up. Its served time and its horizon are at most the core's.
 pub record InStep (installs : List Install) (served handed from : ℕ) (entries : List BoardEntry) : Type 0 where
   pub count : handed ≤ length installs
-  pub same : versions_on entries ≡ take handed installs
+  pub same : SameVersions from (versions_on entries ++ drop handed installs) installs
   pub lawful : IsTrue (is_board (entries ++ as_entries (drop handed installs)))
   pub safe : safe_on entries ≤ served
   pub horizon : horizon_on entries ≤ from
@@ -76,17 +79,22 @@ pub record DeskView (D : Type 0) : Type 0 where
 abbrev pub EndsSafe : List BoardEntry → ℕ → Type 0
 EndsSafe entries t = (before : List BoardEntry) × (entries ≡ before ++ Safe t ∷ [])
 
--- The board shows these versions, in order, and this horizon, and then this served time. The news is of that list.
+-- The board shows this horizon, and from it up what these versions say, and then this served time. The news is of that list.
 pub record ShowsAll (versions : List Install) (served from : ℕ) (old new : Publishing) (news : Published) : Type 0 where
-  pub installs : versions_on new.published ≡ versions
+  pub installs : SameVersions from (versions_on new.published) versions
   pub ends : EndsSafe new.published served
   pub horizon : horizon_on new.published ≡ from
   pub same : new.board ≡ old.board
   pub told : news ≡ record { board = old.board; list = new.published }
 
--- the board shows all versions of the core, its horizon and its served time
+-- the board shows what the core has from its horizon up, that horizon, and its served time
 abbrev pub ShowsCore : {D : Type 0} → DeskView D → DeskView D → Published → Type 0
 ShowsCore old new news = ShowsAll new.core.facts.installs (safe_at new.core) new.core.facts.horizon old.board new.board news
+
+-- The core's versions went that its horizon passed, unless it keeps a book; or nothing happened. The board shows what it showed.
+abbrev pub HasLetGo : {D : Type 0} → Bool → DeskView D → DeskView D → Type 0
+HasLetGo true old new = new ≡ record old { core = record old.core { facts = without_passed old.book old.core.facts } }
+HasLetGo false old new = new ≡ old
 
 -- the core's own refusal, or want of memory
 abbrev pub WhyNot : Result (List Envelope) Fault → Fault → Type 0
@@ -114,7 +122,7 @@ module _ {D : Type 0} (keeps obeys : Type 0) (file : D → File) (clock : D → 
     pub crowded : IsBookFull old.setup.book book → IsCrowded old new (step_of old now i) result
     pub entered : HasEntered book after now i result
 
-  -- The core took the advance, and its board shows all its versions, in order, its horizon, and then its served time. The news is of that list.
+  -- The core took the advance, and its board shows what it has from its horizon up, that horizon, and then its served time. The news is of that list.
   pub record HasAdvanced (old new : DeskView D) (now : Interval) (to : ℕ) (news : Published) : Type 0 where
     pub out : List Envelope
     pub stepped : HasTaken old.core new.core old.book new.book now (Input.Advance to) (Ok out)

@@ -22,7 +22,7 @@ use Rattle.shard.specs.On.{CoreView}
 use Rattle.shard.specs.Look.{safe_at}
 use Rattle.board.specs.Board.{first_entries, safe_on}
 use Rattle.board.specs.Views.{Published, Viewing}
-use Rattle.node.specs.InStep.{HasTaken, HasAdvanced, HasNotAdvanced, HasKept, IsNewBoard, AreOnBoard, served_by}
+use Rattle.node.specs.InStep.{HasTaken, HasAdvanced, HasNotAdvanced, HasKept, HasLetGo, IsNewBoard, AreOnBoard, served_by}
 use Rattle.node.specs.Renewed.{HasTurnedOver, HasRenewed}
 use Rattle.node.specs.Restart.{PlaceView, Serving, Resting}
 
@@ -65,6 +65,12 @@ IsEarliestIn (Resting rest) found = found ≡ None
 abbrev pub versions_in : {D : Type 0} → PlaceView D → ℕ
 versions_in (Serving desk) = length desk.core.facts.installs
 versions_in (Resting rest) = 0
+
+-- versions of a desk's core went, or nothing happened
+abbrev pub HasLetGoIn : {D : Type 0} → Bool → PlaceView D → PlaceView D → Type 0
+HasLetGoIn went (Serving old) (Serving new) = HasLetGo went old new
+HasLetGoIn went (Resting old) (Resting new) = (went ≡ false) × (new ≡ old)
+HasLetGoIn went _ _ = ⊥
 
 -- what the core of a desk serves already, by a reading; of a disk alone nothing
 abbrev pub served_in : {D : Type 0} → PlaceView D → Interval → ℕ

@@ -4,7 +4,7 @@ ghost use Rattle.board.specs.Board.{first_entries, horizon_on, is_board, AreInOr
 ghost use Rattle.disk.specs.File.{surface};
 ghost use Rattle.node.specs.DeskFaults.{refuses_input, refuses_advance, refuses_horizon, refuses_turnover};
 ghost use Rattle.node.specs.InStep.{InStep, IsInStep, IsNewBoard, AreOnBoard, IsNoDesk, StillShows, ShowsAll, HasAdvanced, HasNotAdvanced, HasTaken};
-ghost use Rattle.node.specs.InStep.{HasKept, IsCount, horizon_for as horizon_kept, served_by};
+ghost use Rattle.node.specs.InStep.{HasKept, HasLetGo, IsCount, horizon_for as horizon_kept, served_by};
 ghost use Rattle.node.specs.Opening.{HasNoDesk, IsBegun};
 ghost use Rattle.node.specs.Standing.{gauges_of};
 ghost use Rattle.node.specs.Renewed.{HasTurnedOver, HasRenewed, IsFoundIn, found_at};
@@ -27,9 +27,9 @@ use std::sync::Wait;
 use truetime::Reading;
 use units::{Fault, Install, Setup, Stamp};
 
-/// The core of a shard with the publisher of its board (the desk). The board shows the first versions of the core; its served time and its
-/// horizon are at most the core's. The handle `R` is for the publisher, which waits for viewers. The core's log is measured when
-/// the desk is made, by where the log begins, and at each turnover.
+/// The core of a shard with the publisher of its board (the desk). The board shows what the first versions of the core say, from the core's
+/// horizon up. Its served time and its horizon are at most the core's. The handle `R` is for the publisher, which waits for viewers. The core's
+/// log is measured when the desk is made, by where the log begins, and at each turnover.
 pub struct Desk<D: Disk + Drop, R: Wait + Drop> {
     alloc: Global,
     core: Core<D>,
@@ -267,6 +267,27 @@ impl<D: Disk + Drop, R: Wait + Drop> Desk<D, R> {
         let turned = self.core.turn_over(self.alloc);
         self.measure = self.measure.behind(before, self.core.gate(), &turned);
         turned
+    }
+
+    /// Lets the core's versions go that no look from its horizon up needs (`Core::let_go`), if the board has all of the core. Returns whether it
+    /// had. The board stays, and shows what it showed.
+    pub fn let_go(&mut self) -> Result<bool, Fault>
+        ensures gone { IfOk result
+            (λ went. HasLetGo went (seen_desk self.old) (seen_desk self.new)) }
+        ensures refused { IfErr result
+            (λ fault. (fault ≡ Fault.Memory) × (seen_desk self.new ≡ seen_desk self.old)) }
+    {
+        if self.handed < self.core.installs().len() {
+            return Ok(false);
+        }
+        self.core.is_sound();
+        match self.core.let_go(self.alloc) {
+            Ok(()) => {
+                self.handed = self.core.installs().len();
+                Ok(true)
+            }
+            Err(fault) => Err(fault),
+        }
     }
 
     /// Calls `keep_for`, and turns the log over if it has grown. If `keep_for` is refused, so is this, and the log is not turned over.

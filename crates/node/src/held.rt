@@ -9,7 +9,7 @@ ghost use Rattle.node.specs.Restart.{AreOnNewBoard, HasRestarted, HasNotRestarte
 ghost use Rattle.node.specs.Seen.{seen_place};
 ghost use Rattle.node.specs.Standing.{gauges_in};
 ghost use Rattle.node.specs.Under.{IsDeskOf, IsUnder, IsEarliestIn, Became, HasDelivered, HasAdvancedIn, HasNotAdvancedIn, HasKeptUp, HasNotKeptUp, HasKeptIn};
-ghost use Rattle.node.specs.Under.{HasTurnedIn, HasRenewedIn, HasPublished, HasNotPublished, served_in};
+ghost use Rattle.node.specs.Under.{HasLetGoIn, HasTurnedIn, HasRenewedIn, HasPublished, HasNotPublished, served_in};
 ghost use Rattle.node.specs.Under.{is_ready_in, due_in, versions_in};
 ghost use Rattle.shard.specs.Core.{seen, book_of};
 ghost use Rattle.shard.specs.Look.{safe_at};
@@ -189,6 +189,19 @@ impl<D: Disk + Drop, R: Wait + Drop> Held<D, R> {
         match &mut self.place {
             Some(Place::Serving(desk)) => desk.keep_for(now, micros),
             Some(Place::Resting(_)) | None => Err(Fault::Stopped),
+        }
+    }
+
+    /// Lets versions of the core go (`Desk::let_go`). A disk alone has none, and says no.
+    pub fn let_go(&mut self) -> Result<bool, Fault>
+        ensures gone { IfOk result (λ went. Became (seen_held self.old) (seen_held self.new)
+            (λ old. λ new. HasLetGoIn went old new)) }
+        ensures refused { IfErr result (λ fault. (fault ≡ Fault.Memory)
+            × Became (seen_held self.old) (seen_held self.new) (λ old. λ new. new ≡ old)) }
+    {
+        match &mut self.place {
+            Some(Place::Serving(desk)) => desk.let_go(),
+            Some(Place::Resting(_)) | None => Ok(false),
         }
     }
 

@@ -92,6 +92,13 @@ impl<D: Disk + Drop, R: Wait + Drop> Node<D, R> {
         self.held.lock(rt).turn_over()
     }
 
+    /// Lets the core's versions go that no look from its horizon up needs, if the board has all of the core, under the lock. Returns whether it had.
+    pub fn let_go<W: Wait>(&self, rt: &W) -> Result<bool, Fault>
+        ensures { IfErr result (λ fault. fault ≡ Fault.Memory) }
+    {
+        self.held.lock(rt).let_go()
+    }
+
     /// Raises the core's horizon, but keeps so many microseconds before a reading. Then turns the log over if it has grown by `least` bytes or
     /// more, and by more than it held (`Desk::renew`). Both are done under the lock.
     pub fn renew<W: Wait>(

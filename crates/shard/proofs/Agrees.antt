@@ -1,5 +1,5 @@
 -- What a core knows goes on to agree with its log.
-use Rattle.std.proofs.Common.{◌≡◌, ◌∙◌, ◌⊎◌, inl, inr, ⊎_elim, ℕ, Bool, false, IsTrue, IsFalse, ◌≤◌, List, [], ◌∷◌, ◌++◌, fold, Option, Some, None}
+use Rattle.std.proofs.Common.{◌≡◌, ◌∙◌, ◌⊎◌, inl, inr, ⊎_elim, ℕ, Bool, true, false, IsTrue, IsFalse, ◌≤◌, List, [], ◌∷◌, ◌++◌, fold, Option, Some, None}
 use Rattle.std.proofs.Common.{Result, Ok, Err, refl, sym, ap, subst}
 use Rattle.std.proofs.Math.Logic.{∥∥₁_map}
 use Rattle.disk.specs.File.{File, surface}
@@ -10,11 +10,15 @@ use Rattle.record.specs.Facts.{Facts, learn, no_facts}
 use Rattle.record.specs.declared.record.Record.{Record}
 use Rattle.units.specs.declared.fault.Fault.{Fault}
 use Rattle.gatelog.specs.Slots.{begins_in}
-use Rattle.ledger.specs.Keeps.{Alike, IsRegular}
+use Rattle.ledger.specs.Keeps.{Alike, IsLasting, IsRegular}
 use Rattle.ledger.specs.Laws.{AlikeStays, TurnedKeeps}
-use Rattle.ledger.specs.Turned.{turned}
+use Rattle.ledger.specs.Turned.{held_facts, turned, versions_held}
+use Rattle.ledger.proofs.Again.{held-lasting}
 use Rattle.ledger.proofs.Alike.{alike-refl}
-use Rattle.shard.specs.Agrees.{AgreesWithLog, AreHeld}
+use Rattle.ledger.proofs.One.{one-turnover}
+use Rattle.ledger.proofs.Said.{held-keeps}
+use Rattle.versions.proofs.Same.{same-back, same-then}
+use Rattle.shard.specs.Agrees.{AgreesWithLog, AreHeld, HoldsRenewed}
 use Rattle.shard.specs.Logs.{KeepsRecords, HoldsOldOrWith, and_logged, facts_logged, learned, records_in}
 use Rattle.shard.specs.Turned.{IsOldOrTurned, turned_to}
 
@@ -121,3 +125,32 @@ agrees_unturned file clock since counts_now old new was stopped facts gate slot 
             (moments.each image (counts_now new (clock old) image moments.later may));
       }));
     })
+
+-- the versions that are held alone agree with the log as all do
+pub agrees_held : (stopped : Bool) (disk : Surface) (facts : Facts) → IsLasting facts → AgreesWithLog stopped disk facts
+    → AgreesWithLog stopped disk (held_facts facts)
+agrees_held stopped disk facts lasting agrees = record {
+  records = agrees.records;
+  learnt = record {
+    epoch = agrees.learnt.epoch;
+    floor = agrees.learnt.floor;
+    horizon = agrees.learnt.horizon;
+    retired = agrees.learnt.retired;
+    entries = agrees.learnt.entries;
+    versions =
+        same-then facts.horizon (versions_held facts) facts.installs (learned agrees.records).installs
+        (same-back facts.horizon facts.installs (versions_held facts) keeps.versions) agrees.learnt.versions;
+  };
+  held = by_test stopped agrees.held;
+}
+  where
+    keeps : Alike facts (held_facts facts)
+    keeps = held-keeps facts lasting.regular
+
+    same : turned facts ≡ turned (held_facts facts)
+    same = one-turnover facts (held_facts facts) keeps lasting.regular (held-lasting facts lasting).regular
+
+    by_test : (b : Bool) → AreHeld b disk facts agrees.records → AreHeld b disk (held_facts facts) agrees.records
+    by_test false held = held
+    by_test true (inl stepped) = inl stepped
+    by_test true (inr renewed) = inr (subst (HoldsRenewed disk agrees.records) same renewed)

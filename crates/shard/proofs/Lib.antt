@@ -1,4 +1,5 @@
 pub mod Agrees
+mod Gone
 pub mod Appends
 pub mod Beginnings
 pub mod Booked

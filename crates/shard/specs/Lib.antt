@@ -9,6 +9,7 @@ pub mod Settled
 pub mod Staged
 pub mod Core
 pub mod Look
+pub mod Held
 pub mod Moved
 pub mod Opened
 pub mod Taking

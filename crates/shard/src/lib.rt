@@ -8,6 +8,7 @@ mod booking;
 mod halted;
 mod inputs;
 mod lead;
+mod letting_go;
 mod logging;
 mod machine;
 mod moving;

@@ -14,8 +14,9 @@ use truetime::Clock;
 use units::{Fault, Run, ShardNo, Stamp, TxnId};
 
 /// A node that is served as it is. Before it advances it forgets what is older than so many microseconds, and renews its log once that has
-/// grown by so many bytes. It also retires ids, once there are so many. It keeps when it may forget again, whether its log is looked at next,
-/// what it knows of ids, and the numbers that count its requests.
+/// grown by so many bytes. It also retires ids, once there are so many. After it has shown something it lets versions go that its horizon has
+/// passed. For that it keeps when it may forget again, whether its log is looked at next, how many versions were left, and what it knows of ids.
+/// Besides, it keeps the numbers that count its requests.
 #[derive(Drop)]
 pub struct Kept<'n, D: Disk + Drop, H: Wait + Drop> {
     node: &'n Node<D, H>,
@@ -25,6 +26,7 @@ pub struct Kept<'n, D: Disk + Drop, H: Wait + Drop> {
     run: Run,
     again: AtomicU64,
     renews: AtomicBool,
+    left: AtomicU64,
     ids: Ids,
     numbers: Arc<Numbers, Global>,
     place: usize,
@@ -56,6 +58,9 @@ impl Ids {
 const SHORTEST_PAUSE: u64 = 100_000;
 
 const SHARE_OF_PAUSE: u64 = 8;
+
+// Fewer versions than these are all kept.
+const FEW_VERSIONS: u64 = 1_024;
 
 // For so many microseconds it does not look again which ids can be retired.
 const IDS_PAUSE: u64 = 1_000_000;
@@ -95,6 +100,20 @@ impl<D: Disk + Drop, H: Wait + Drop> Kept<'_, D, H> {
             .store(end.saturating_add(pause), Ordering::SeqCst);
         self.renews.store(self.renew.is_some(), Ordering::SeqCst);
         true
+    }
+
+    // Lets versions go that the horizon has passed, if there are twice as many as were left the last time. So those that came since then pay for it.
+    // The board has all of them, since it was just shown.
+    fn let_go<W: Wait>(&self, rt: &W) {
+        let left = self.left.load(Ordering::SeqCst);
+        let many = left.saturating_mul(2).saturating_add(FEW_VERSIONS);
+        if self.keep.is_none() || (self.node.versions(rt) as u64) < many {
+            return;
+        }
+        if let Ok(true) = self.node.let_go(rt) {
+            let left = self.node.versions(rt) as u64;
+            self.left.store(left, Ordering::SeqCst);
+        }
     }
 
     // Retires the ids of which nobody speaks any more, if there are so many, and if it did not look a second ago. If that is refused, it asks
@@ -219,11 +238,15 @@ impl<D: Disk + Drop, H: Wait + Drop> Serves for Kept<'_, D, H> {
     }
 
     fn keep_up<W: Wait, C: Clock>(&self, rt: &W, clock: &mut C) -> Option<Stamp> {
-        self.node.keep_up(rt, clock)
+        let served = self.node.keep_up(rt, clock);
+        self.let_go(rt);
+        served
     }
 
     fn publish<W: Wait, C: Clock>(&self, rt: &W, clock: &mut C) -> Option<Stamp> {
-        self.node.publish(rt, clock)
+        let served = self.node.publish(rt, clock);
+        self.let_go(rt);
+        served
     }
 
     fn tidy<W: Wait, C: Clock>(&self, rt: &W, clock: &mut C) -> bool {
@@ -266,6 +289,7 @@ pub fn kept_nodes<'n, D: Disk + Drop, H: Wait + Drop>(
             run,
             again: AtomicU64::new(0),
             renews: AtomicBool::new(false),
+            left: AtomicU64::new(0),
             ids: Ids::new(),
             numbers: Arc::try_clone(numbers)?,
             place,

@@ -22,6 +22,8 @@ mod drives;
 #[cfg(test)]
 mod faulty;
 #[cfg(test)]
+mod few_versions;
+#[cfg(test)]
 mod folder_scenes;
 #[cfg(test)]
 mod forgetting;

@@ -15,6 +15,7 @@ pub mod Pruned
 pub mod Passed
 pub mod Shorter
 pub mod Gathered
+pub mod InPlace
 pub mod Last
 pub mod Next
 pub mod TakenIn

@@ -5,6 +5,7 @@ mod chunk;
 mod copying;
 mod forgetting;
 mod head;
+mod held;
 mod laws;
 mod order;
 mod placed;
@@ -13,6 +14,7 @@ mod sequence;
 mod store;
 
 pub use copying::copy_install;
+pub use held::copy_held;
 pub use laws::{forgotten_is_not_missed, place_does_not_matter};
 pub use placed::Places;
 pub use store::Versions;

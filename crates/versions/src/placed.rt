@@ -50,6 +50,18 @@ impl Places {
         }
     }
 
+    /// Begins without a place, and without room. Heads begin after the same prefix as those here.
+    pub(crate) fn beside(&self, alloc: Global) -> Places
+        ensures places { result.places ≡ [] }
+        ensures heads { result.heads ≡ [] }
+        ensures prefix { result.prefix ≡ self.now.prefix }
+    {
+        Places {
+            spots: Sequence::none(alloc),
+            prefix: self.prefix,
+        }
+    }
+
     /// Counts the places.
     pub fn len(&self) -> usize
         ensures { result ≡ length self.now.places }
