@@ -33,7 +33,8 @@ pub struct Known {
 /// - its decision leaves out, or puts below its timestamp, a promise that the log of another shard holds;
 /// - it holds no record at all, although the log of another shard shows that this one has served.
 ///
-/// The last three are `Damaged` at the end of its records. Put back all logs of one backup then.
+/// The last three are `Damaged` at the end of its records. Put back all logs of one backup then. Of an id that a log has retired it says nothing,
+/// so it is not asked for that.
 pub fn agree<R: Files<File = File>>(
     folder: &StoreFolder<'_, R>,
     alloc: Global,
@@ -185,13 +186,14 @@ fn is_new_beside(one: &Known, ids: &[TxnId], other: &Known) -> bool {
     other.facts.epoch() == 0 && (!ids.is_empty() || one.facts.floor() > Stamp::zero())
 }
 
-// A log lacks something that another one says of it.
+// A log lacks something that another one says of it. It keeps nothing of an id that it has retired, so it lacks nothing of that.
 fn lacks(one: &Known, ids: &[TxnId], other: &Known) -> bool {
     let shard = one.facts.shard();
     let number = other.facts.shard();
     for id in ids {
+        let found = other.facts.status(*id);
         if let Some(status) = one.facts.status(*id) {
-            if !is_answered(status, shard, number, other.facts.status(*id)) {
+            if !other.facts.is_retired(*id) && !is_answered(status, shard, number, found) {
                 return true;
             }
         }
