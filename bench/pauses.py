@@ -3,8 +3,9 @@
 bench/pauses.py [REVISION..] [--shards N] [--keys N] [--clients N] [--transactions N] [--rounds N]
 
 The logs are files in /dev/shm, so a sync takes next to nothing. Each client runs transactions that read and write two of 50,000 keys a shard.
-A renewing shard keeps a second of the past, and renews once its log has grown by 4 MiB and to more than twice its length. A line tells how
-many turnovers there were, and what the program `serving` tells: times in microseconds. A load beside it shows."""
+A renewing shard keeps a second of the past, renews once its log has grown by 4 MiB and to more than twice its length, and retires ids once
+there are 10,000. A line tells how many turnovers there were, and what the program `serving` tells: times in microseconds. A load beside it
+shows."""
 import argparse
 import pathlib
 import subprocess
@@ -15,7 +16,7 @@ import load
 # The first slot of a file, how many there are, how long each is, and the byte of an open one.
 FIRST, SLOTS, LONG, OPEN = 8, 1024, 9, 0xA5
 
-GIVE_UP, KEEP, RENEW = 30_000, 1_000_000, 4 << 20
+GIVE_UP, KEEP, RENEW, RETIRE = 30_000, 1_000_000, 4 << 20, 10_000
 
 
 def turnovers(folder):
@@ -31,7 +32,7 @@ def row(program, asked, renews):
     """What the program tells of a store, and how often its logs were turned over."""
     with tempfile.TemporaryDirectory(dir="/dev/shm") as folder:
         words = ["files", asked.shards, asked.clients, asked.transactions, asked.keys * asked.shards, 100, folder]
-        words += [GIVE_UP, KEEP, RENEW] if renews else []
+        words += [GIVE_UP, KEEP, RENEW, RETIRE] if renews else []
         told = subprocess.run([program, *map(str, words)], stdout=subprocess.PIPE, text=True, timeout=600, check=True)
         return f"{turnovers(folder)} turnovers, {told.stdout.split(': ', 1)[-1].strip()}"
 

@@ -5,7 +5,7 @@ import re
 import sys
 
 # Names of the crates of files and of what stands on them, and texts, which no program here needs.
-FILES = r"\b(Files|FileDisk|FoundLogs|Limit|Newest|Expected|Refused|unopened_by|check_time|expected_by|default_limit|limit_by|refusal_of|String)\b"
+FILES = r"\b(Files|FileDisk|FoundLogs|Limit|Newest|Expected|Refused|unopened_by|check_time|expected_by|default_limit|limit_by|refusal_of|String|LogFiles|FolderStore)\b"
 
 folder = pathlib.Path(sys.argv[1])
 for path in sorted(folder.glob("*.rs")):
@@ -18,6 +18,8 @@ for path in sorted(folder.glob("*.rs")):
             text,
         )
     text = re.sub(r"(?m)^(pub )?use (shim::(fs::File|random::RandomSource|rt::Files)|filedisk::\w+|host_files::[^;]+);\n", "", text)
+    text = re.sub(r"(?ms)^(///[^\n]*\n)*(#\[[^\n]*\n)*pub (type FolderStore\b[^;]*;|struct LogFiles\b.*?^\})\n", "", text)
+    text = re.sub(r"\b(LogFiles|FolderStore), ", "", text)
     text = re.sub(r"(?m)^pub use timed::[^;]+;\n", "", text)
     text = re.sub(r"(?m)^use crate::timed::\{check_time, expected_by\};\n", "", text)
     text = re.sub(r"(?m)^use crate::timed::[^;]*lead_by[^;]*;", "use crate::timed::lead_by;", text)

@@ -7,6 +7,8 @@ import pathlib, re, sys
 
 TYPES = ("Store", "Client", "Transaction", "View", "Typed")
 source = "\n".join(path.read_text() for path in sorted(pathlib.Path("crates/store/src").glob("*.rt")))
+# A head whose parameters take several lines is one line here.
+source = re.sub(r"(?ms)^impl<\n.*?^> ", "impl ", source)
 exported = set(re.findall(r"\w+", " ".join(re.findall(r"^pub use [^;]+;", pathlib.Path("crates/store/src/lib.rt").read_text(), re.M))))
 
 calls, owner = set(), None
@@ -15,6 +17,8 @@ for line in source.splitlines():
         while line != (flat := re.sub(r"<[^<>]*>", "", line)):
             line = flat
         named = re.match(r"(?:pub )?(?:impl|trait) ?(\w+)", line)[1]
+        # A store in a folder is a store.
+        named = "Store" if named == "FolderStore" else named
         owner = named if named in exported and " for " not in line else None
     elif line.startswith("}"):
         owner = None

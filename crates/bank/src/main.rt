@@ -99,18 +99,21 @@ fn words(rt: &HostRuntime) -> Option<(String, Todo)> {
     Some((folder, Todo { transfers, renew }))
 }
 
-fn serve<R: rt::Files<File = File> + RandomSource + Threads + Wait + time::Clock + Sync>(
-    rt: &R,
-    alloc: Global,
-    folder: &str,
-    todo: Todo,
-) -> Result<Done, Refused> {
+fn serve<
+    R: rt::Files<File = File, Dir = <HostRuntime as rt::Files>::Dir>
+        + RandomSource
+        + Threads
+        + Wait
+        + time::Clock
+        + Sync,
+>(rt: &R, alloc: Global, folder: &str, todo: Todo) -> Result<Done, Refused> {
     let splits = Splits::new(alloc, &[key_of(ACCOUNTS / 2)?])?;
     let mut options = Options::new(splits, TELLERS + 1);
     options.make = true;
     if todo.renew.is_some() {
         options.keep = Some(KEEP);
         options.renew = todo.renew;
+        options.shrink = todo.renew;
     }
     let store = Store::open_folder(rt, alloc, folder, options)?;
     let (done, disks) = store.serve(|clients: Vec<Client<'_, R>>| work(

@@ -34,8 +34,9 @@ pub struct BoardCopy {
     prepared_safe: Stamp,
     horizon: Stamp,
     prepared_horizon: Stamp,
-    // How many versions were left when some were last let go.
+    // How many versions were left when it last looked which can go, and whether it did so when it last showed more.
     left: usize,
+    looked: bool,
 }
 
 impl Model for BoardCopy {
@@ -71,14 +72,14 @@ impl Absorb<BoardChange> for BoardCopy {
 
     ghost applied = { after_board_change };
 
-    fn absorb_first(&mut self, change: &BoardChange, _other: &BoardCopy) -> Result<(), AllocError> {
+    fn absorb_first(&mut self, change: &BoardChange, other: &BoardCopy) -> Result<(), AllocError> {
         match change {
             BoardChange::Prepare(entry) => match self.prepare(entry) {
                 Ok(()) => Ok(()),
                 Err(_) => Err(AllocError),
             },
             BoardChange::Commit => {
-                self.commit();
+                self.commit(other.looked);
                 Ok(())
             }
         }
@@ -116,6 +117,7 @@ impl BoardCopy {
             horizon,
             prepared_horizon: horizon,
             left: 0,
+            looked: false,
         }
     }
 
@@ -142,15 +144,17 @@ impl BoardCopy {
     }
 
     /// Shows what is prepared. If its horizon rose, it lets go the versions that are no longer needed, but not before there are twice as many as
-    /// were left the last time. It takes no memory.
-    pub(crate) fn commit(&mut self)
+    /// were left the last time. It does not if it `waits`: the other copy has just looked at all of its own, and both at once would keep a
+    /// shard from its letters for twice as long. It takes no memory.
+    pub(crate) fn commit(&mut self, waits: bool)
         ensures { self.new ≡ record self.old { list = self.old.ahead } }
     {
-        forget(
+        self.looked = forget(
             &mut self.versions,
             &mut self.left,
             self.horizon,
             self.prepared_horizon,
+            waits,
         );
         self.safe = self.prepared_safe;
         self.horizon = self.prepared_horizon;
@@ -282,12 +286,21 @@ fn add_version(versions: &mut Versions, install: &Install, horizon: Stamp) -> Re
     Ok(())
 }
 
-// Forgets the versions below a horizon, if it is above the one before and that is due. No want of memory refuses it.
-fn forget(versions: &mut Versions, left: &mut usize, before: Stamp, horizon: Stamp)
+// Forgets the versions below a horizon, if it is above the one before, that is due and it does not wait. No want of memory refuses it. Returns
+// whether it was due.
+fn forget(
+    versions: &mut Versions,
+    left: &mut usize,
+    before: Stamp,
+    horizon: Stamp,
+    waits: bool,
+) -> bool
     ensures { Forgets versions.old.installs versions.new.installs before horizon }
 {
     forgotten_is_not_missed();
-    if before < horizon {
-        versions.forget_if_due(horizon, left);
+    if before < horizon && !waits {
+        versions.forget_if_due(horizon, left)
+    } else {
+        false
     }
 }

@@ -46,7 +46,14 @@ pub struct Shown {
 /// which the fault lies, or what is wrong with the words, if that is known. If `shown` says so, a drive shows how far it
 /// is. Its table is shown also without that, if the words ask for it.
 pub fn program<
-    R: rt::Files<File = File> + Eprint + Input + RandomSource + Threads + Wait + time::Clock + Sync,
+    R: rt::Files<File = File, Dir = <HostRuntime as rt::Files>::Dir>
+        + Eprint
+        + Input
+        + RandomSource
+        + Threads
+        + Wait
+        + time::Clock
+        + Sync,
     O: Write,
     E: Write,
 >(

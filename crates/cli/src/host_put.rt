@@ -22,12 +22,14 @@ const PATIENCE: u32 = 100;
 /// Opens the store, commits the write as a transaction of its own, closes the store, and returns what became of the write. A refusal for want
 /// of memory may come after the commit: it does not say that the write stands nowhere. If the store is not opened, or a log
 /// fails, it is noted why.
-pub fn put_in_store<R: rt::Files<File = File> + RandomSource + Threads + Wait + time::Clock + Sync>(
-    rt: &R,
-    alloc: Global,
-    write: Put<'_>,
-    noted: &Noted,
-) -> Result<Ended, Fault>
+pub fn put_in_store<
+    R: rt::Files<File = File, Dir = <HostRuntime as rt::Files>::Dir>
+        + RandomSource
+        + Threads
+        + Wait
+        + time::Clock
+        + Sync,
+>(rt: &R, alloc: Global, write: Put<'_>, noted: &Noted) -> Result<Ended, Fault>
     ensures written { IfOk result (IsWritten write.entry.folder.now write.entry.key.now
         write.entry.value.now) }
     ensures refused { IfErr result IsUnwritten }
@@ -64,11 +66,14 @@ fn options_of(alloc: Global, splits: &Splits) -> Result<Options, Fault>
     ensures times { IfOk result
         (λ options. (options.epsilon ≡ 1000) × (options.patience ≡ 100)) }
     ensures all { IfOk result (λ options. (options.clients ≡ 1) × (options.keep ≡ None)
-        × (options.renew ≡ None)) }
+        × (options.renew ≡ None) × (options.retire ≡ None)) }
     ensures memory { IfErr result (λ fault. fault ≡ Fault.Memory) }
 {
     let mut options = Options::new(splits.copy(alloc)?, 1);
     options.patience = PATIENCE;
+    options.renew = None;
+    options.shrink = None;
+    options.retire = None;
     options.make = true;
     Ok(options)
 }

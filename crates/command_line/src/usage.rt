@@ -171,7 +171,13 @@ serve DIR [OPTION..]
     --epsilon MICROS    how far the clock may be from true time
     --stride MICROS     how far ahead of the served time a ceiling is logged
     --keep MICROS       how long views of the past are answered
-    --renew BYTES       how much a log grows before it is turned over
+    --renew BYTES       how much a log grows before it is turned over: 67108864
+                        if nothing is said
+    --shrink BYTES      how far into its file a log that is turned over begins
+                        before it goes on in a new file: 67108864 if nothing is
+                        said
+    --retire IDS        after how many more transactions a shard keeps no more
+                        how they ended: 10000 if nothing is said
     --patience MILLIS   how long a transaction waits for another one
     --idle MILLIS       how long an open transaction waits for its next line:
                         1000 to 3600000, and 10000 if nothing is said

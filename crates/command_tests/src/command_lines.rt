@@ -379,7 +379,14 @@ fn is_right(out: &[u8], err: &[u8], step: &Step) -> bool {
 /// Tells whether the program prints what the step says, and gives its status.
 pub fn prints<
     'w,
-    R: Files<File = File> + Eprint + Input + RandomSource + Threads + Wait + time::Clock + Sync,
+    R: Files<File = File, Dir = <HostRuntime as Files>::Dir>
+        + Eprint
+        + Input
+        + RandomSource
+        + Threads
+        + Wait
+        + time::Clock
+        + Sync,
 >(rt: &R, alloc: Global, words: &'w [&'w str], step: &Step) -> bool {
     let mut out = Stream::new(Vec::new(alloc));
     let mut err = Stream::new(Vec::new(alloc));
@@ -393,7 +400,7 @@ pub fn prints<
 
 /// Carries out some commands, one after another, as the program does. Each is named by its line and its place among them.
 pub fn go_over<
-    T: Files<File = File>
+    T: Files<File = File, Dir = <HostRuntime as Files>::Dir>
         + Eprint
         + Input
         + RandomSource

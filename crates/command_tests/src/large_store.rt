@@ -2,7 +2,6 @@
 use crate::command_lines::{DONE, Output, Step, furnished, go_over, put};
 use crate::large_values::{KEYS, hot_value, is_of_round, key_of, keys_of, value_of};
 use crate::verdict::end;
-use filedisk::FileDisk;
 use made::{Folder, WrongRows};
 use std::alloc::Global;
 use std::fs::File;
@@ -12,7 +11,7 @@ use std::rt::Files;
 use std::sync::Wait;
 use std::thread::Threads;
 use std::time;
-use store::{Client, Ended, Halt, Options, Store, Transaction};
+use store::{Client, Ended, FolderStore, Halt, Options, Store, Transaction};
 use units::{Fault, Key, Splits};
 
 const CLIENTS: u64 = 3;
@@ -254,7 +253,7 @@ fn opened<'r, R: Files<File = File> + RandomSource + Threads + Wait + time::Cloc
     rt: &'r R,
     alloc: Global,
     folder: &str,
-) -> Store<'r, R, FileDisk> {
+) -> FolderStore<'r, R> {
     let mut splits = Vec::new(alloc);
     for split in ["g", "n", "t"] {
         let key = Key::new(split.as_bytes()).ok().expect(rt, "a key");
@@ -268,12 +267,15 @@ fn opened<'r, R: Files<File = File> + RandomSource + Threads + Wait + time::Cloc
 }
 
 // Whether a life goes so over a store that is opened for it.
-fn goes<R: Files<File = File> + RandomSource + Threads + Wait + time::Clock + Sync + Abort>(
-    rt: &R,
-    alloc: Global,
-    folder: &str,
-    life: Life,
-) -> bool {
+fn goes<
+    R: Files<File = File, Dir = <HostRuntime as Files>::Dir>
+        + RandomSource
+        + Threads
+        + Wait
+        + time::Clock
+        + Sync
+        + Abort,
+>(rt: &R, alloc: Global, folder: &str, life: Life) -> bool {
     let store = opened(rt, alloc, folder);
     match store.serve(|clients: Vec<Client<'_, R>>| lives(alloc, clients, life)) {
         Ok((right, disks)) => {

@@ -36,6 +36,8 @@ mod inboxes;
 #[cfg(test)]
 mod logs;
 #[cfg(test)]
+mod moved_nodes;
+#[cfg(test)]
 mod nodes;
 #[cfg(test)]
 mod one_commit;

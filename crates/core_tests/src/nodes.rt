@@ -6,7 +6,7 @@ use crate::logs::{Line, with_log};
 use board::Viewer;
 use letters::{Serves, Taken};
 use made::{WrongRows, key, stamp};
-use node::Node;
+use node::{LogFolder, Node, Restarted};
 use simdisk::SimDisk;
 use std::alloc::Global;
 use std::process::Abort;
@@ -14,7 +14,7 @@ use std::sync::Wait;
 use std::thread;
 use std::thread::Threads;
 use truetime::Reading;
-use units::{Fault, Seen};
+use units::{Fault, Seen, ShardNo};
 
 /// A look at `z` at a timestamp, and what it sees.
 pub type Look = (u32, Result<Seen, Fault>);
@@ -55,6 +55,28 @@ pub struct Story {
     pub room: u32,
     pub asks: &'static [Asked],
     pub moments: &'static [Moment],
+}
+
+/// A folder with no disk beside that of a node.
+#[derive(Clone, Copy)]
+pub struct Alone;
+
+impl<D> LogFolder<D> for Alone {
+    ghost use Rattle.std.specs.Prelude.{◌≡◌};
+
+    ghost may_find = { λ former disk. disk ≡ former };
+
+    fn draft(&self, _shard: ShardNo) -> Option<D> {
+        None
+    }
+
+    fn put_in_place(&self, _shard: ShardNo) -> Result<bool, Fault> {
+        Ok(false)
+    }
+
+    fn find(&self, _shard: ShardNo, former: D) -> Result<D, D> {
+        Ok(former)
+    }
 }
 
 /// Opens the node of a new shard on a new disk.
@@ -114,11 +136,18 @@ fn is_answered<'a, R: Threads + Wait + Sync + Abort>(
         Ask::Turn(gives) => node.turn_over(rt) == gives,
         Ask::Keep(micros, gives) => node.keep_by(rt, &mut Standing { now }, micros) == gives,
         Ask::Renew(micros, least, gives) => node.renew(rt, &now, micros, least) == gives,
-        Ask::Restart(count, gives) => match node.restart(rt, rt, alloc, count) {
-            Ok(opened) => {
+        Ask::Restart(count, gives) => match node.restart(rt, rt, alloc, &Alone, count) {
+            Ok((home, opened)) => {
+                drop(home);
+                let Restarted {
+                    viewers: new,
+                    former,
+                } = opened;
+                let goes_on = !is_seen(viewers, (0, Err(Fault::Stopped)));
+                drop(former);
                 let ended = is_seen(viewers, (0, Err(Fault::Stopped)));
-                *viewers = opened;
-                ended && gives == Ok(viewers.len())
+                *viewers = new;
+                goes_on && ended && gives == Ok(viewers.len())
             }
             Err(fault) => gives == Err(fault),
         },

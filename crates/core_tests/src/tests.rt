@@ -5,8 +5,8 @@ use crate::turned_nodes::turning;
 use crate::verdict::end;
 use crate::viewed::viewed;
 use crate::{
-    damaged, grouped, grouped_nodes, nodes, one_commit, promising, reopening, restarts, retiring,
-    served, stories, together,
+    damaged, grouped, grouped_nodes, moved_nodes, nodes, one_commit, promising, reopening,
+    restarts, retiring, served, stories, together,
 };
 use made::WrongRows;
 
@@ -99,6 +99,15 @@ fn nodes_are_opened_again_and_turned_over(rt: HostRuntime) {
     let mut wrong = WrongRows::none(rt.alloc());
     nodes::tell(&mut wrong, &rt, rt.alloc(), restarts::nodes());
     nodes::tell(&mut wrong, &rt, rt.alloc(), turning());
+    end(&rt, wrong);
+}
+
+/// Shows that nodes go on in a new disk if their log is long, and stay in theirs if there is none, if it fails or does not get the place. It fails if a
+/// node goes on in the new disk before that has the place, or says that it moved and did not.
+#[test]
+fn long_logs_move(rt: HostRuntime) {
+    let mut wrong = WrongRows::none(rt.alloc());
+    moved_nodes::check(&mut wrong, &rt, rt.alloc());
     end(&rt, wrong);
 }
 

@@ -3,7 +3,7 @@ ghost use Rattle.std.specs.Prelude.{◌≡◌};
 
 use crate::cores::{Setting, plain};
 use crate::given::{Given, message_of, reading};
-use crate::nodes::fresh_node;
+use crate::nodes::{Alone, fresh_node};
 use crate::verdict::end;
 use client::{Ended, Halt, Stop, Wire};
 use crossbeam_channel::Receiver;
@@ -242,7 +242,7 @@ fn failed<'r, R: Wait + Abort>(
         wrong.unless_at(failed, row.name, 0);
     }
     if row.rests {
-        let refused = node.restart(rt, rt, alloc, 0);
+        let refused = node.restart(rt, rt, alloc, &Alone, 0);
         wrong.unless_at(refused.is_err(), row.name, 1);
         drop(refused);
     }

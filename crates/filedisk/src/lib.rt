@@ -14,6 +14,7 @@ pub use last_cause::LastCause;
 use names::{is_same, locked, or_cause, plain, sync_folder};
 use std::alloc::{AllocError, Global};
 use std::fs::{self, File, OpenOptions};
+use std::io;
 use std::os::unix::fs::FileExt;
 use std::rt::Files;
 use units::Fault;
@@ -31,6 +32,8 @@ pub struct FileDisk {
     // Whether a sync has failed. What it was to write may be lost, though a read still shows it and the system would
     // take the next sync.
     torn: bool,
+    // The least offset that it wrote or cut at since the last sync that did not fail.
+    unsynced: u64,
     // Whether it was asked for a write or a cut.
     changed: bool,
     failures: Count,
@@ -85,6 +88,89 @@ impl FileDisk {
         let file = or_cause(File::open(rt, path))?;
         let len = plain_len(&file)?;
         Ok(FileDisk::over(file, len, true))
+    }
+
+    /// Opens the file that has a name now in the place of this one, for reads and writes. The lock goes over to it. What was written since the last
+    /// sync that did not fail is written once more, so that the next sync waits for it. It is refused as `open` refuses, and then this one comes back
+    /// as it was.
+    ///
+    /// The folder of the file has to be locked, so that nobody takes the lock while it goes over. If somebody does all the same, this one comes back
+    /// without it, and takes no write, no cut and no sync any more.
+    pub fn open_anew<R: Files<File = File>>(
+        self,
+        rt: &R,
+        path: &str,
+    ) -> Result<FileDisk, (Cause, FileDisk)>
+        ensures failures { IfOk result (λ disk. file_failures disk ≡ 0) }
+        ensures whole { IfOk result (λ disk. file_is_torn disk ≡ false) }
+        ensures unchanged { IfOk result (λ disk. file_is_changed disk ≡ false) }
+        ensures length { IfErr result (λ refused. file_length refused.1 ≡ file_length self) }
+        ensures counted { IfErr result
+            (λ refused. file_failures refused.1 ≡ file_failures self) }
+        // A sync that failed is not forgotten.
+        ensures torn { IfErr result
+            (λ refused. IsTrue (file_is_torn self) → IsTrue (file_is_torn refused.1)) }
+        ensures changed { IfErr result
+            (λ refused. file_is_changed refused.1 ≡ file_is_changed self) }
+    {
+        let opened = match plain(fs::symlink_metadata(rt, path)) {
+            Ok(()) => OpenOptions::new().read(true).write(true).open(rt, path),
+            Err(cause) => return Err((cause, self)),
+        };
+        let _unlocked = self.file.unlock();
+        match self.follow(rt, path, opened) {
+            Ok(disk) => Ok(disk.told_to(self)),
+            Err(cause) => Err((cause, self.locked_again())),
+        }
+    }
+
+    // Locks a file that was opened in the place of this one, and writes there once more what a sync may have lost of it.
+    fn follow<R: Files<File = File>>(
+        &self,
+        rt: &R,
+        path: &str,
+        opened: io::Result<File>,
+    ) -> Result<FileDisk, Cause>
+        ensures failures { IfOk result (λ disk. file_failures disk ≡ 0) }
+        ensures whole { IfOk result (λ disk. file_is_torn disk ≡ false) }
+        ensures unchanged { IfOk result (λ disk. file_is_changed disk ≡ false) }
+    {
+        let file = locked(rt, path, opened)?;
+        let len = plain_len(&file)?;
+        if self.has_name(rt, path) {
+            write_again(&file, self.unsynced, len)?;
+        }
+        let mut disk = FileDisk::over(file, len, false);
+        disk.unsynced = self.unsynced;
+        Ok(disk)
+    }
+
+    // Tells of failures to whom the former one told.
+    fn told_to(self, former: FileDisk) -> FileDisk
+        ensures failures { file_failures result ≡ file_failures self }
+        ensures torn { file_is_torn result ≡ file_is_torn self }
+        ensures changed { file_is_changed result ≡ file_is_changed self }
+    {
+        let mut disk = self;
+        let mut former = former;
+        disk.told = former.told.take();
+        drop(former);
+        disk
+    }
+
+    // Takes its lock again. If somebody else has it, it takes no write, no cut and no sync any more.
+    fn locked_again(self) -> FileDisk
+        ensures length { file_length result ≡ file_length self }
+        ensures failures { file_failures result ≡ file_failures self }
+        ensures torn { IsTrue (file_is_torn self) → IsTrue (file_is_torn result) }
+        ensures changed { file_is_changed result ≡ file_is_changed self }
+    {
+        let mut disk = self;
+        if let Err(_) = disk.file.try_lock() {
+            disk.read_only = true;
+            disk.torn = true;
+        }
+        disk
     }
 
     /// Takes the length anew, in bytes: somebody else may have written to a file that was opened for reads alone.
@@ -142,6 +228,7 @@ impl FileDisk {
             len,
             read_only,
             torn: false,
+            unsynced: u64::MAX,
             changed: false,
             failures: Count::none(),
             cause: None,
@@ -232,6 +319,7 @@ impl Disk for FileDisk {
         ensures changed { IsTrue (file_is_changed self.new) }
     {
         self.changed = true;
+        self.unsynced = self.unsynced.min(at);
         let end = match at.checked_add(bytes.len() as u64) {
             Some(end) if !self.read_only => end,
             _ => return Err(self.refused(Cause::NoRights)),
@@ -252,6 +340,7 @@ impl Disk for FileDisk {
         ensures changed { IsTrue (file_is_changed self.new) }
     {
         self.changed = true;
+        self.unsynced = self.unsynced.min(len);
         if self.read_only {
             return Err(self.refused(Cause::NoRights));
         }
@@ -282,7 +371,10 @@ impl Disk for FileDisk {
             return Ok(());
         }
         match self.file.sync_all() {
-            Ok(()) => Ok(()),
+            Ok(()) => {
+                self.unsynced = u64::MAX;
+                Ok(())
+            }
             Err(error) => {
                 self.torn = true;
                 Err(self.refused(cause_of(&error)))
@@ -300,4 +392,23 @@ fn plain_len(file: &File) -> Result<u64, Cause> {
         None => Ok(found.len()),
         Some(cause) => Err(cause),
     }
+}
+
+// So many bytes are written again at a time.
+const PIECE: u64 = 4_096;
+
+// Writes the bytes of a file from an offset on once more, up to its length, as they are read.
+fn write_again(file: &File, from: u64, len: u64) -> Result<(), Cause> {
+    let mut piece = [0; PIECE as usize];
+    let mut at = from;
+    for _piece in 0..len.saturating_sub(from).div_ceil(PIECE) {
+        let count = len.saturating_sub(at).min(PIECE);
+        let Some(bytes) = piece.get_mut(..count as usize) else {
+            break;
+        };
+        or_cause(file.read_exact_at(bytes, at))?;
+        or_cause(file.write_all_at(bytes, at))?;
+        at = at.saturating_add(count);
+    }
+    Ok(())
 }

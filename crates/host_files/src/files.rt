@@ -70,7 +70,7 @@ impl<R: rt::Files<File = File> + Eprint> Files for HostFiles<'_, R> {
     }
 
     fn at_one_moment(&self, alloc: Global, logs: &mut [LogFile]) -> Result<(), Fault> {
-        at_one_moment(alloc, logs)
+        at_one_moment(self.rt, alloc, logs)
     }
 
     fn why(&self, alloc: Global, path: &str) -> Option<String> {

@@ -27,4 +27,4 @@ pub use manifest::manifest_text;
 pub use names::Name;
 pub use newest::{Limit, Newest};
 pub use refused::{Refused, RefusedIn, Why};
-pub use replacing::Replacing;
+pub use replacing::{Replacing, draft_beside, open_anew, put_in_place};

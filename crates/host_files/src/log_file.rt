@@ -1,5 +1,5 @@
 //! The file of a log, which is read beside whoever writes to it.
-ghost use Rattle.std.specs.Prelude.{IfErr};
+ghost use Rattle.std.specs.Prelude.{IfErr, IfSome};
 ghost use Rattle.host_files.specs.Folders.{IsSystemFault, IsSystemRefusal};
 
 use crate::owners::{area_of, part_of};
@@ -17,12 +17,14 @@ use units::Fault;
 const MOST_LOOKS: u32 = 3;
 
 /// The file of a log. A log that was opened to be read stays as it stood at one moment, while somebody appends to it or renews it. `go_on`
-/// moves that moment to the present. A record whose append had not ended by then is not there. A file that holds no log, or a damaged one,
-/// reads as it is.
+/// moves that moment to the present, also if the log has gone on in another file of its name. A record whose append had not ended by then is not
+/// there. A file that holds no log, or a damaged one, reads as it is.
 #[derive(Drop)]
 pub struct LogFile {
     disk: FileDisk,
     still: Option<Still>,
+    // By what name it was opened to be read.
+    path: Option<String>,
 }
 
 // What a log held at a moment, in what may change later: the bytes before its first gate, and its closed gate.
@@ -105,6 +107,7 @@ impl LogFile {
         Ok(LogFile {
             disk: FileDisk::create(rt, path)?,
             still: None,
+            path: None,
         })
     }
 
@@ -121,10 +124,7 @@ impl LogFile {
             let mut disk = FileDisk::open_to_read(rt, path)?;
             let still = still_in(alloc, &mut disk);
             if disk.has_name(rt, path) {
-                return Ok(LogFile {
-                    disk,
-                    still: still?,
-                });
+                return LogFile::at(alloc, disk, still?, path);
             }
             drop(still);
             drop(disk);
@@ -132,14 +132,62 @@ impl LogFile {
         Err(Refused::from(Cause::Rewritten))
     }
 
+    // A log that stands so, under this name.
+    fn at(
+        alloc: Global,
+        disk: FileDisk,
+        still: Option<Still>,
+        path: &str,
+    ) -> Result<LogFile, Refused>
+        ensures { IfErr result IsSystemRefusal }
+    {
+        let path = format!(in alloc; "{path}")?;
+        Ok(LogFile {
+            disk,
+            still,
+            path: Some(path),
+        })
+    }
+
     /// Tells why the last call that failed did so.
     pub fn cause(&self) -> Option<Cause> {
         self.disk.cause()
     }
 
-    /// Moves the moment at which the log is read to the present. Returns whether something had been written meanwhile. If not, the log reads as
-    /// it did, also if something is written during this call: only a later one tells of that.
-    pub fn go_on(&mut self, alloc: Global) -> Result<bool, Fault>
+    /// Moves the moment at which the log is read to the present. Returns whether something had been written meanwhile, or the log has gone on in
+    /// another file. If not, the log reads as it did, also if something is written during this call: only a later one tells of that.
+    pub fn go_on<R: Files<File = File>>(&mut self, rt: &R, alloc: Global) -> Result<bool, Fault>
+        ensures { IfErr result IsSystemFault }
+    {
+        if self.has_grown(alloc)? {
+            return Ok(true);
+        }
+        match self.successor(rt, alloc) {
+            Some(Ok(log)) => {
+                *self = log;
+                Ok(true)
+            }
+            Some(Err(refused)) => Err(refused.fault),
+            None => Ok(false),
+        }
+    }
+
+    // The file that has got the name of this one since it was opened, if there is another one. It is opened as this one was.
+    fn successor<R: Files<File = File>>(
+        &self,
+        rt: &R,
+        alloc: Global,
+    ) -> Option<Result<LogFile, Refused>>
+        ensures { IfSome result (λ opened. IfErr opened IsSystemRefusal) }
+    {
+        match &self.path {
+            Some(path) if !self.disk.has_name(rt, path) => Some(LogFile::open(rt, alloc, path)),
+            _ => None,
+        }
+    }
+
+    // Moves the moment to the present, in this file.
+    fn has_grown(&mut self, alloc: Global) -> Result<bool, Fault>
         ensures { IfErr result IsSystemFault }
     {
         let Some(still) = self.still.take() else {
@@ -249,11 +297,15 @@ const MOST_ROUNDS: u32 = 100_000;
 /// Makes logs read as all of them stand at one moment, although they were opened one after the other while somebody may write to them.
 /// `Device` if they were written to in each of 100,000 rounds. In the last round each is as it was found in the round before. So all of them
 /// stood so when the last round began.
-pub fn at_one_moment(alloc: Global, logs: &mut [LogFile]) -> Result<(), Fault>
+pub fn at_one_moment<R: Files<File = File>>(
+    rt: &R,
+    alloc: Global,
+    logs: &mut [LogFile],
+) -> Result<(), Fault>
     ensures { IfErr result IsSystemFault }
 {
     for _ in 0..MOST_ROUNDS {
-        if !go_on(alloc, logs)? {
+        if !go_on(rt, alloc, logs)? {
             return Ok(());
         }
     }
@@ -261,12 +313,12 @@ pub fn at_one_moment(alloc: Global, logs: &mut [LogFile]) -> Result<(), Fault>
 }
 
 // Moves each log to the present. Says whether one of them had been written to.
-fn go_on(alloc: Global, logs: &mut [LogFile]) -> Result<bool, Fault>
+fn go_on<R: Files<File = File>>(rt: &R, alloc: Global, logs: &mut [LogFile]) -> Result<bool, Fault>
     ensures { IfErr result IsSystemFault }
 {
     let mut went = false;
     for log in logs.iter_mut() {
-        went = log.go_on(alloc)? || went;
+        went = log.go_on(rt, alloc)? || went;
     }
     Ok(went)
 }

@@ -1,6 +1,6 @@
 //! The files of a store's folder, by their names in it.
 ghost use Rattle.std.specs.Prelude.{◌≡◌, IfOk, IfErr, OnOk, IsTrue, false};
-ghost use Rattle.filedisk.specs.State.{file_is_changed};
+ghost use Rattle.filedisk.specs.State.{file_is_changed, file_is_torn};
 ghost use Rattle.host_files.specs.Folders.{IsSystemRefusal, names_are_synced};
 ghost use Rattle.units.specs.declared.fault.Fault.TheVariants.{Device};
 
@@ -141,6 +141,26 @@ impl<'a, R: Files<File = File>> StoreFolder<'a, R> {
         match FileDisk::open(self.rt, &path) {
             Ok(disk) => Ok(disk),
             Err(cause) => Err(Refused::from(cause).of(name)),
+        }
+    }
+
+    /// Opens the plain file that is there in the place of a former one, which had the name or has it. All names are on the device before, so the
+    /// name stays with the file. If it is refused, the former one comes back (`FileDisk::open_anew`).
+    pub fn open_anew(&mut self, name: Name, former: FileDisk) -> Result<FileDisk, FileDisk>
+        ensures whole { IfOk result (λ disk. file_is_torn disk ≡ false) }
+        ensures synced { OnOk result (IsTrue (names_are_synced self.new)) }
+        ensures torn { IfErr result
+            (λ back. IsTrue (file_is_torn former) → IsTrue (file_is_torn back)) }
+    {
+        if let Err(_) = self.sync() {
+            return Err(former);
+        }
+        let Ok(path) = self.path_of(name) else {
+            return Err(former);
+        };
+        match former.open_anew(self.rt, &path) {
+            Ok(disk) => Ok(disk),
+            Err((_, former)) => Err(former),
         }
     }
 

@@ -1,5 +1,6 @@
 //! The logs of a store get new files, one after the other.
-ghost use Rattle.std.specs.Prelude.{◌≡◌, ◌∷◌, ◌+◌, [], IfErr, IfOk, OnOk, OnErr, length};
+ghost use Rattle.std.specs.Prelude.{◌≡◌, ◌∷◌, ◌+◌, [], IfErr, IfOk, OnOk, OnErr, IsTrue, false, length};
+ghost use Rattle.filedisk.specs.State.{file_is_torn};
 ghost use Rattle.host_files.specs.Folders.{IsFolderRefusal, IsSystemRefusal, placed_last};
 
 use crate::causes::Causes;
@@ -108,7 +109,7 @@ impl<'a, R: Files<File = File> + RandomSource> Replacing<'a, R> {
         ensures kept { OnErr result (placed_last self.new ≡ placed_last self.old) }
         ensures refused { IfErr result IsSystemRefusal }
     {
-        match self.name(shard) {
+        match name_copy(&mut self.folder, shard) {
             Ok(()) => {
                 self.placed.add(&file);
                 drop(file);
@@ -119,16 +120,6 @@ impl<'a, R: Files<File = File> + RandomSource> Replacing<'a, R> {
                 Err(refused)
             }
         }
-    }
-
-    // The name of a shard's new file is on the device before it is that of the log, and so is the log's after it.
-    fn name(&mut self, shard: usize) -> Result<(), Refused>
-        ensures same { placed_last self.new ≡ placed_last self.old }
-        ensures refused { IfErr result IsSystemRefusal }
-    {
-        self.folder.sync()?;
-        self.folder.replace(Name::LogCopy(shard), Name::Log(shard))?;
-        self.folder.sync()
     }
 
     /// Refuses the log of a shard as a fault: names its file, or its new one if a call of that has failed, and tells why. The new file is taken away.
@@ -151,4 +142,91 @@ impl<'a, R: Files<File = File> + RandomSource> Replacing<'a, R> {
         let _ = self.folder.clear(Name::LogCopy(shard), Kind::Plain);
         refused
     }
+}
+
+// The name of a shard's new file is on the device before it is that of the log, and so is the log's after it.
+fn name_copy<R: Files<File = File>>(
+    folder: &mut StoreFolder<'_, R>,
+    shard: usize,
+) -> Result<(), Refused>
+    ensures { IfErr result IsSystemRefusal }
+{
+    folder.sync()?;
+    folder.replace(Name::LogCopy(shard), Name::Log(shard))?;
+    folder.sync()
+}
+
+/// Makes a new, empty file for the log of a shard of an open store, beside that log. What an earlier call left there is taken away. The folder is
+/// locked until this returns.
+pub fn draft_beside<R: Files<File = File>>(
+    rt: &R,
+    alloc: Global,
+    path: &str,
+    shard: usize,
+) -> Result<FileDisk, Refused>
+    ensures { IfErr result IsSystemRefusal }
+{
+    let mut folder = StoreFolder::lock(rt, alloc, path)?;
+    let file = new_file(&mut folder, Name::LogCopy(shard));
+    drop(folder);
+    file
+}
+
+/// Gives the file that `draft_beside` made the name of the shard's log. What it holds has to be on the device. Returns whether it has the name: then
+/// the name is on the device too. If not, the former file has it still, and the new one is taken away. After a refusal a crash leaves the name to one
+/// of the two.
+pub fn put_in_place<R: Files<File = File>>(
+    rt: &R,
+    alloc: Global,
+    path: &str,
+    shard: usize,
+) -> Result<bool, Refused>
+    ensures { IfErr result IsSystemRefusal }
+{
+    let Ok(mut folder) = StoreFolder::lock(rt, alloc, path) else {
+        return Ok(false);
+    };
+    let placed = placed_in(&mut folder, shard);
+    drop(folder);
+    placed
+}
+
+// The same in a folder that is locked.
+fn placed_in<R: Files<File = File>>(
+    folder: &mut StoreFolder<'_, R>,
+    shard: usize,
+) -> Result<bool, Refused>
+    ensures { IfErr result IsSystemRefusal }
+{
+    match name_copy(folder, shard) {
+        Ok(()) => Ok(true),
+        Err(refused) => match folder.kind(Name::LogCopy(shard)) {
+            Ok(Kind::Plain) => {
+                let _ = folder.clear(Name::LogCopy(shard), Kind::Plain);
+                Ok(false)
+            }
+            _ => Err(refused),
+        },
+    }
+}
+
+/// Opens the log of a shard of an open store anew, by its name, in the place of the file that the store has, which has failed. So it is the file that is
+/// found after a crash, and no sync of it has failed. If that is refused, the former file comes back. The folder is locked until this returns.
+pub fn open_anew<R: Files<File = File>>(
+    rt: &R,
+    alloc: Global,
+    path: &str,
+    shard: usize,
+    former: FileDisk,
+) -> Result<FileDisk, FileDisk>
+    ensures whole { IfOk result (λ disk. file_is_torn disk ≡ false) }
+    ensures torn { IfErr result
+        (λ back. IsTrue (file_is_torn former) → IsTrue (file_is_torn back)) }
+{
+    let Ok(mut folder) = StoreFolder::lock(rt, alloc, path) else {
+        return Err(former);
+    };
+    let opened = folder.open_anew(Name::Log(shard), former);
+    drop(folder);
+    opened
 }

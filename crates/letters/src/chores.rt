@@ -190,7 +190,6 @@ impl Chores {
         clock: &mut C,
     ) {
         let start = Instant::now(rt).ok();
-        let versions = node.versions(rt);
         let served = if post.is_looked_for(node.shard()) {
             post.silence(node.shard());
             self.looked = true;
@@ -199,7 +198,8 @@ impl Chores {
             node.publish(rt, clock)
         };
         if let Some(served) = served {
-            self.shown = versions;
+            // All that it has is shown now. Some of what it had may be let go already.
+            self.shown = node.versions(rt);
             post.tell(node.shard(), served);
         }
         self.advanced = Instant::now(rt).ok();

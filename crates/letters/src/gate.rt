@@ -11,4 +11,7 @@ pub trait Gate {
 
     /// Is called when the node's device has failed, so that it takes no more. Each stop is told once.
     fn stopped(&self, _shard: ShardNo) {}
+
+    /// Is called when a node that has stopped takes letters again, since its disk was opened again.
+    fn goes_on(&self, _shard: ShardNo) {}
 }

@@ -151,12 +151,12 @@ impl Network {
         self.lacked.load(Ordering::SeqCst)
     }
 
-    /// Tells whether the shard has stopped, as its gate was told.
+    /// Tells whether the shard has stopped, as its gate was told, and has not gone on since.
     pub fn has_stopped(&self, shard: ShardNo) -> bool {
         self.stopped.load(Ordering::SeqCst) & bit(shard) != 0
     }
 
-    /// Gives the first shard that has stopped.
+    /// Gives the first shard that has stopped, and has not gone on since.
     pub fn stopped_shard(&self) -> Option<ShardNo> {
         for number in 0..MOST_SHARDS {
             if let Some(shard) = ShardNo::new(number) {
@@ -219,7 +219,7 @@ fn bit(shard: ShardNo) -> u64 {
     1 << (u32::from(shard.number()) % 64)
 }
 
-// A network as a gate keeps in mind which shards have stopped.
+// A network as a gate keeps in mind which shards have stopped, until they go on.
 impl Gate for Network {
     fn before(&self, _shard: ShardNo, _n: u64) {}
 
@@ -227,6 +227,10 @@ impl Gate for Network {
 
     fn stopped(&self, shard: ShardNo) {
         self.stopped.fetch_or(bit(shard), Ordering::SeqCst);
+    }
+
+    fn goes_on(&self, shard: ShardNo) {
+        self.stopped.fetch_and(!bit(shard), Ordering::SeqCst);
     }
 }
 

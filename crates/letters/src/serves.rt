@@ -97,6 +97,10 @@ pub trait Serves {
         false
     }
 
+    /// Is called while it is stopped, with its chores: 640 ms pass at most between two calls. It may open its disk again, and then it is not stopped any
+    /// more. How often it tries that is up to it.
+    fn heal<W: Wait, C: Clock>(&self, _rt: &W, _clock: &mut C) {}
+
     /// Gives the allocator of letters that wait.
     fn alloc(&self) -> Global;
 }
@@ -112,7 +116,7 @@ const READS_AT_MOST: usize = 1_024;
 ///
 /// - **Chores**: the node does them whenever no letter is there, and then waits for a letter until more are due. While letters come, it does
 ///   them after 64 letters, or after the first letter that ends more than a millisecond after the last chores. After them the gate is told if
-///   the node has stopped.
+///   the node has stopped, and if it has gone on after that. One that is stopped is asked to heal.
 /// - **Letters that are no reads** are taken together if they are there at the same time: 64 at most, besides those that a session has sent
 ///   again, and no more once they are to write a megabyte. Their records are logged together, and each is answered after that, in order. One
 ///   that a session has sent again takes the place of the one that waits. If the last groups took 2 ms or more, they wait for others, for
@@ -196,7 +200,7 @@ fn round_of<N: Serves, W: Wait>(node: &N, rt: &W) -> Round {
     }
 }
 
-// Does the chores, and tells the gate if the node has stopped. After many letters, reads that wait are taken first: chores that were late
+// Does the chores, and tells the gate how the node stands. After many letters, reads that wait are taken first: chores that were late
 // meanwhile do not put them off. Returns for how long nothing more is due.
 fn tend<N: Serves, W: Wait + time::Clock, P: Post, C: Clock, G: Gate>(
     node: &N,
@@ -212,12 +216,36 @@ fn tend<N: Serves, W: Wait + time::Clock, P: Post, C: Clock, G: Gate>(
     }
     round.kept.look_after(node, rt, post, clock);
     let pause = do_chores(node, rt, post, clock, round);
-    let stopped = node.is_stopped(rt);
-    if stopped && !round.stopped {
+    if heals(node, rt, clock, gate, round) {
+        return Duration::ZERO;
+    }
+    round.kept.pause(rt, pause)
+}
+
+// Tells the gate if the node has stopped, and asks a stopped one to heal. Returns whether it has gone on: the gate is told of that too, and its chores
+// begin anew.
+fn heals<N: Serves, W: Wait, C: Clock, G: Gate>(
+    node: &N,
+    rt: &W,
+    clock: &mut C,
+    gate: &G,
+    round: &mut Round,
+) -> bool {
+    let had_stopped = round.stopped;
+    round.stopped = node.is_stopped(rt);
+    if !round.stopped {
+        return false;
+    }
+    if !had_stopped {
         gate.stopped(node.shard());
     }
-    round.stopped = stopped;
-    round.kept.pause(rt, pause)
+    node.heal(rt, clock);
+    round.stopped = node.is_stopped(rt);
+    if !round.stopped {
+        round.chores = Chores::new(node, rt);
+        gate.goes_on(node.shard());
+    }
+    !round.stopped
 }
 
 // Does what is due. Returns for how long nothing more is due.

@@ -5,8 +5,8 @@ use host_files::{LogFile, at_one_moment};
 use made::{Folder, stamp, with_slots};
 use record::Record;
 use std::alloc::Global;
-use std::thread;
 use std::thread::Threads;
+use std::{fs, thread};
 use units::Fault;
 
 // How many ceilings a log holds at first: more than are read at once.
@@ -54,33 +54,72 @@ fn opened(rt: &HostRuntime, path: &str) -> Result<GateLog<FileDisk>, Fault> {
     }
 }
 
+// What becomes of the logs each time that `TURN` ceilings were written: they grow on, are renewed in their files, or go on in new files.
+#[derive(Clone, Copy)]
+enum Way {
+    Grow,
+    Renew,
+    Move,
+}
+
+// The area of a renewed log: it holds this ceiling alone.
+fn area_of(alloc: Global, number: u32) -> Result<Area, Fault> {
+    let mut area = Area::new(alloc);
+    area.push(&Record::Ceiling { at: stamp(number) })?;
+    Ok(area)
+}
+
+// Makes a new file with a renewed log, which gets the name of the former one.
+fn moved(rt: &HostRuntime, path: &str, number: u32) -> Result<GateLog<FileDisk>, Fault> {
+    let alloc = rt.alloc();
+    let copy = format!(in alloc; "{path}.copy")?;
+    let mut log = match GateLog::format(FileDisk::create(rt, &copy)?) {
+        Ok(log) => log,
+        Err((fault, disk)) => {
+            drop(disk);
+            return Err(fault);
+        }
+    };
+    let staged = log.stage_area(area_of(alloc, number)?)?;
+    log.turn_over(staged)?;
+    match fs::rename(rt, &copy, path) {
+        Ok(()) => Ok(log),
+        Err(_) => Err(Fault::Device),
+    }
+}
+
 // Logs a ceiling, and renews the log if it is to be: then it holds that ceiling alone.
 fn put(
-    alloc: Global,
+    rt: &HostRuntime,
+    path: &str,
     log: &mut GateLog<FileDisk>,
     number: u32,
-    renewed: bool,
+    way: Way,
 ) -> Result<(), Fault> {
+    let alloc = rt.alloc();
     let item = Record::Ceiling { at: stamp(number) };
     let staged = log.stage(alloc, item)?;
     drop(log.append(staged)?.spend());
-    if renewed && number % TURN == 0 {
-        let mut area = Area::new(alloc);
-        area.push(&Record::Ceiling { at: stamp(number) })?;
-        let staged = log.stage_area(area)?;
-        log.turn_over(staged)?;
+    match way {
+        Way::Renew if number % TURN == 0 => {
+            let staged = log.stage_area(area_of(alloc, number)?)?;
+            log.turn_over(staged)
+        }
+        Way::Move if number % TURN == 0 => {
+            *log = moved(rt, path, number)?;
+            Ok(())
+        }
+        _ => Ok(()),
     }
-    Ok(())
 }
 
 // Logs the other ceilings in both logs, each of them in the second log first.
-fn write(rt: &HostRuntime, paths: [&str; 2], renewed: bool) -> Result<(), Fault> {
-    let alloc = rt.alloc();
+fn write(rt: &HostRuntime, paths: [&str; 2], way: Way) -> Result<(), Fault> {
     let mut low = opened(rt, paths[0])?;
     let mut high = opened(rt, paths[1])?;
     for number in FIRST + 1..LAST + 1 {
-        put(alloc, &mut high, number, renewed)?;
-        put(alloc, &mut low, number, renewed)?;
+        put(rt, paths[1], &mut high, number, way)?;
+        put(rt, paths[0], &mut low, number, way)?;
     }
     drop(low);
     drop(high);
@@ -123,7 +162,7 @@ fn opened_to_read(rt: &HostRuntime, path: &str) -> Result<LogFile, Fault> {
 fn read(rt: &HostRuntime, paths: [&str; 2]) -> Result<Option<(u64, u64)>, Fault> {
     let alloc = rt.alloc();
     let mut logs = [opened_to_read(rt, paths[0])?, opened_to_read(rt, paths[1])?];
-    at_one_moment(alloc, &mut logs)?;
+    at_one_moment(rt, alloc, &mut logs)?;
     let [low, high] = logs;
     let low = last_in(alloc, low);
     let high = last_in(alloc, high)?;
@@ -157,7 +196,7 @@ fn are_read<R: Threads + Sync>(
     rt: &HostRuntime,
     threads: &R,
     folder: &Folder,
-    renewed: bool,
+    way: Way,
 ) -> Result<bool, Fault> {
     let alloc = rt.alloc();
     let bytes = first_bytes(alloc)?;
@@ -166,11 +205,7 @@ fn are_read<R: Threads + Sync>(
     let low = folder.path(alloc, "low")?;
     let high = folder.path(alloc, "high")?;
     let paths = [low.as_str(), high.as_str()];
-    let (written, read) = thread::join(
-        threads,
-        || write(rt, paths, renewed),
-        || read_all(rt, paths),
-    );
+    let (written, read) = thread::join(threads, || write(rt, paths, way), || read_all(rt, paths));
     drop(low);
     drop(high);
     written?;
@@ -183,7 +218,7 @@ pub fn are_read_beside_appends<R: Threads + Sync>(
     threads: &R,
     folder: &Folder,
 ) -> bool {
-    are_read(rt, threads, folder, false) == Ok(true)
+    are_read(rt, threads, folder, Way::Grow) == Ok(true)
 }
 
 /// Tells whether logs are read beside a thread that renews them too.
@@ -192,5 +227,14 @@ pub fn are_read_beside_turnovers<R: Threads + Sync>(
     threads: &R,
     folder: &Folder,
 ) -> bool {
-    are_read(rt, threads, folder, true) == Ok(true)
+    are_read(rt, threads, folder, Way::Renew) == Ok(true)
+}
+
+/// Tells whether logs are read beside a thread that puts renewed logs in their places.
+pub fn are_read_beside_moves<R: Threads + Sync>(
+    rt: &HostRuntime,
+    threads: &R,
+    folder: &Folder,
+) -> bool {
+    are_read(rt, threads, folder, Way::Move) == Ok(true)
 }

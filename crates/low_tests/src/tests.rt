@@ -79,7 +79,7 @@ fn turned_and_migrated_logs(rt: HostRuntime) {
     end(&rt, wrong);
 }
 
-/// Shows that logs are read at one moment while another thread appends to them or renews them.
+/// Shows that logs are read at one moment while another thread appends to them, renews them, or moves them to new files.
 #[test]
 fn logs_that_are_written_to(rt: HostRuntime) {
     let folder = Folder::new(&rt).ok().expect(&rt, "a folder");
@@ -91,6 +91,10 @@ fn logs_that_are_written_to(rt: HostRuntime) {
     wrong.unless(
         beside::are_read_beside_turnovers(&rt, &rt, &folder),
         "renewed",
+    );
+    wrong.unless(
+        beside::are_read_beside_moves(&rt, &rt, &folder),
+        "moved to new files",
     );
     wrong.unless(folder.remove(&rt), "the folder");
     end(&rt, wrong);

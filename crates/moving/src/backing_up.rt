@@ -156,7 +156,7 @@ fn logs_of<R: Files<File = File>>(
             Err(refused) => return Err(refused.of(name)),
         }
     }
-    at_one_moment(alloc, &mut logs)?;
+    at_one_moment(rt, alloc, &mut logs)?;
     Ok(logs)
 }
 

@@ -8,6 +8,7 @@ mod InStep
 mod Gone
 mod Kept
 mod Lists
+mod Moved
 pub mod Outcomes
 pub mod Refusals
 mod Renewed

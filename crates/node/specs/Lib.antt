@@ -3,6 +3,7 @@ pub mod DeskFaults
 pub mod Faults
 pub mod Grouped
 pub mod InStep
+pub mod Moved
 pub mod Opening
 pub mod Openings
 pub mod Renewed

@@ -65,6 +65,10 @@ IsRenewed past image disk =
 abbrev pub has_grown : Measure → ℕ → ℕ → Bool
 has_grown measure gate least = nat_lt measure.held (gate - measure.ended) && nat_le least (gate - measure.ended)
 
+-- it begins more than so many bytes into its file, and more than twice what it held
+abbrev pub lies_far : Measure → ℕ → Bool
+lies_far measure beyond = nat_lt beyond measure.begins && nat_lt measure.held (measure.begins - measure.held)
+
 -- Behind a turnover of a log that ended at a former gate. The new area has what is between that one and its own gate. Where it was refused, what
 -- the log held is not known anew.
 abbrev pub measured : Measure → ℕ → ℕ → Result (Unit {0}) Fault → Measure

@@ -1,10 +1,11 @@
 //! The core of a shard, and the publisher of its board.
-ghost use Rattle.std.specs.Prelude.{◌≡◌, ◌<◌, ◌+◌, ◌++◌, true, length, min, IfOk, IfErr, IfSome, IfNone, IsTrue, OnOk};
+ghost use Rattle.std.specs.Prelude.{◌≡◌, ◌<◌, ◌+◌, ◌++◌, Some, true, length, min, IfOk, IfErr, IfSome, IfNone, IsTrue, OnOk};
 ghost use Rattle.board.specs.Board.{first_entries, horizon_on, is_board, AreInOrder};
 ghost use Rattle.disk.specs.File.{surface};
 ghost use Rattle.node.specs.DeskFaults.{refuses_input, refuses_advance, refuses_horizon, refuses_turnover};
 ghost use Rattle.node.specs.InStep.{InStep, IsInStep, IsNewBoard, AreOnBoard, IsNoDesk, StillShows, ShowsAll, HasAdvanced, HasNotAdvanced, HasTaken};
 ghost use Rattle.node.specs.InStep.{HasKept, HasLetGo, IsCount, horizon_for as horizon_kept, served_by};
+ghost use Rattle.node.specs.Moved.{HasMoved, HasMovedIf, IsLeftOf, IsLong, IsUnmoved, tried_of};
 ghost use Rattle.node.specs.Opening.{HasNoDesk, IsBegun};
 ghost use Rattle.node.specs.Standing.{gauges_of};
 ghost use Rattle.node.specs.Renewed.{HasTurnedOver, HasRenewed, IsFoundIn, found_at};
@@ -13,6 +14,7 @@ ghost use Rattle.shard.specs.Look.{safe_at};
 ghost use Rattle.shard.specs.Opened.{HasOpened};
 ghost use Rattle.shard.specs.Settled.{IsDurablySettled};
 
+use crate::folder::LogFolder;
 use crate::group::take_group;
 use crate::measure::Measure;
 use crate::rest::Rest;
@@ -304,6 +306,120 @@ impl<D: Disk + Drop, R: Wait + Drop> Desk<D, R> {
             return Ok(());
         }
         self.turn_over()
+    }
+
+    /// Writes a renewed log into a new disk, puts that in the place of the core's log, and goes on there. Returns whether it did. The log has to have
+    /// grown, as `renew` has it, and to begin more than so many bytes into its file, and more than twice what it held.
+    ///
+    /// If there is no new disk, or it does not get the place, nothing happens. If the renewed log is refused the log stays, and is not tried again
+    /// until it has grown anew. If nobody knows which of the disks has the place, the former one is left, and the board, as after a group that failed.
+    pub fn move_on<F: LogFolder<D>>(
+        self,
+        folder: &F,
+        least: u64,
+        beyond: u64,
+    ) -> Result<(Desk<D, R>, Result<bool, Fault>), Rest<D, R>>
+        ensures moved { IfOk result (λ done. IfOk done.1 (λ moved.
+            HasMoved D.keeps_model D.file least beyond moved (seen_desk self) (seen_desk done.0))) }
+        ensures refused { IfOk result (λ done. IfErr done.1 (λ fault.
+            IsLong (seen_desk self) least beyond
+            × IsUnmoved (seen_desk self) (seen_desk done.0) fault)) }
+        ensures left { IfErr result (λ rest.
+            IsLong (seen_desk self) least beyond × IsLeftOf (seen_desk self) (seen_rest rest)) }
+    {
+        let is_long = self.measure.has_grown(self.core.gate(), least)
+            && self.measure.lies_far(beyond);
+        if !is_long {
+            return Ok((self, Ok(false)));
+        }
+        match folder.draft(self.core.setup().shard) {
+            Some(draft) => self.move_into(draft, folder),
+            None => Ok((self, Ok(false))),
+        }
+    }
+
+    // The same, with a new disk.
+    fn move_into<F: LogFolder<D>>(
+        self,
+        draft: D,
+        folder: &F,
+    ) -> Result<(Desk<D, R>, Result<bool, Fault>), Rest<D, R>>
+        ensures moved { IfOk result (λ done. IfOk done.1 (λ moved.
+            HasMovedIf D.keeps_model D.file moved (seen_desk self) (seen_desk done.0))) }
+        ensures refused { IfOk result (λ done. IfErr done.1
+            (IsUnmoved (seen_desk self) (seen_desk done.0))) }
+        ensures left { IfErr result (λ rest. IsLeftOf (seen_desk self) (seen_rest rest)) }
+    {
+        let renewed = match self.core.renew_into(self.alloc, draft) {
+            Ok(renewed) => renewed,
+            Err((fault, draft)) => {
+                drop(draft);
+                return Ok((self.has_tried(fault), Err(fault)));
+            }
+        };
+        match folder.put_in_place(self.core.setup().shard) {
+            Ok(true) => {
+                let Desk {
+                    alloc,
+                    core,
+                    publisher,
+                    handed,
+                    told,
+                    measure: _,
+                } = self;
+                let (core, former) = core.move_to(renewed);
+                drop(former);
+                let measure = Measure::found(core.begun());
+                Ok((
+                    Desk {
+                        alloc,
+                        core,
+                        publisher,
+                        handed,
+                        told,
+                        measure,
+                    },
+                    Ok(true),
+                ))
+            }
+            Ok(false) => {
+                drop(renewed.into_disk());
+                Ok((self, Ok(false)))
+            }
+            Err(_) => {
+                drop(renewed.into_disk());
+                Err(self.leave())
+            }
+        }
+    }
+
+    // Its log is measured as after a turnover that was refused.
+    fn has_tried(self, fault: Fault) -> Desk<D, R>
+        ensures { seen_desk result ≡ tried_of (seen_desk self) fault }
+    {
+        let mut desk = self;
+        let gate = desk.core.gate();
+        desk.measure = desk.measure.behind(gate, gate, &Err(fault));
+        desk
+    }
+
+    /// Ends it. The disk is left as it is, and the board.
+    pub(crate) fn leave(self) -> Rest<D, R>
+        ensures disk { (seen_rest result).disk ≡ (seen_desk self).core.disk }
+        ensures board { (seen_rest result).board ≡ Some (seen_desk self).board }
+    {
+        let Desk {
+            alloc: _,
+            core,
+            publisher,
+            handed: _,
+            told: _,
+            measure: _,
+        } = self;
+        Rest {
+            disk: core.stop(),
+            publisher: Some(publisher),
+        }
     }
 
     /// Advances the core, and publishes its new versions, its served time, and its horizon if that was raised. If memory for the board is

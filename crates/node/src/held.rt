@@ -2,9 +2,10 @@
 ghost use Rattle.std.specs.Prelude.{◌≡◌, ◌⊎◌, IfOk, IfErr, OnOk, IfSome, IfNone, IsSome, IsTrue, length, option_map};
 ghost use Rattle.board.specs.Board.{first_entries};
 ghost use Rattle.node.specs.DeskFaults.{refuses_input, refuses_advance, refuses_horizon, refuses_turnover};
-ghost use Rattle.node.specs.InStep.{IsCount, IsNoDesk};
+ghost use Rattle.node.specs.InStep.{IsCount, IsNoDesk, home_of};
 ghost use Rattle.node.specs.Faults.{RefusesRestart};
 ghost use Rattle.node.specs.Grouped.{HasTakenIn, HasStoppedIn, IsOneByOneIn};
+ghost use Rattle.node.specs.Moved.{HasMovedIn, HasNotMovedIn};
 ghost use Rattle.node.specs.Restart.{AreOnNewBoard, HasRestarted, HasNotRestarted, is_at_rest, disk_of_place, told_of};
 ghost use Rattle.node.specs.Seen.{seen_place};
 ghost use Rattle.node.specs.Standing.{gauges_in};
@@ -13,10 +14,13 @@ ghost use Rattle.node.specs.Under.{HasLetGoIn, HasTurnedIn, HasRenewedIn, HasPub
 ghost use Rattle.node.specs.Under.{is_ready_in, due_in, versions_in};
 ghost use Rattle.shard.specs.Core.{seen, book_of};
 ghost use Rattle.shard.specs.Look.{safe_at};
+ghost use Rattle.shard.specs.On.{CoreView};
 
 use crate::desk::Desk;
+use crate::folder::LogFolder;
 use crate::place::Place;
-use board::{Told, Viewer, check_viewers};
+use crate::rest::Restarted;
+use board::{Home, Told, Viewer, check_viewers};
 use disk::Disk;
 use letters::{Due, Gauges, Taken};
 use message::{Input, Outbox};
@@ -231,6 +235,28 @@ impl<D: Disk + Drop, R: Wait + Drop> Held<D, R> {
         }
     }
 
+    /// Puts a renewed log in a new disk in the place of the log, and goes on there (`Desk::move_on`). A disk alone says no. After `Device` either the
+    /// desk is as it was, and no renewed log was made; or a disk is left alone, beside a board that shows what was published.
+    pub fn move_on<F: LogFolder<D>>(
+        &mut self,
+        folder: &F,
+        least: u64,
+        beyond: u64,
+    ) -> Result<bool, Fault>
+        ensures moved { IfOk result (λ moved. Became (seen_held self.old) (seen_held self.new)
+            (λ old. λ new. HasMovedIn D.keeps_model D.file least beyond moved old new)) }
+        ensures refused { IfErr result (λ fault. Became (seen_held self.old) (seen_held self.new)
+            (λ old. λ new. HasNotMovedIn least beyond fault old new)) }
+        ensures faults { IfErr result (λ fault. IsTrue (refuses_turnover fault)) }
+    {
+        let Some(place) = self.place.take() else {
+            unreachable!()
+        };
+        let (place, moved) = place.move_on(folder, least, beyond);
+        self.place = Some(place);
+        moved
+    }
+
     /// Tells whether a transaction waits whose wait can be granted.
     pub fn is_ready(&self) -> bool
         ensures { IsUnder (seen_held self.now) (λ place. result ≡ is_ready_in place) }
@@ -294,24 +320,43 @@ impl<D: Disk + Drop, R: Wait + Drop> Held<D, R> {
         }
     }
 
-    /// Opens the shard again, as it was told before, with a new board and so many viewers (`Place::restart`).
-    pub fn restart(&mut self, rt: R, alloc: Global, n: usize) -> Result<Vec<Viewer>, Fault>
-        ensures restarted { IfOk result (λ viewers. Became (seen_held self.old) (seen_held self.new)
+    /// Gives the keys of the shard, as it was told them.
+    pub fn home(&self, alloc: Global) -> Result<Home, Fault>
+        ensures home { IfOk result (λ home. home ≡ home_of (seen_held self.now).setup) }
+        ensures memory { IfErr result (λ fault. fault ≡ Fault.Memory) }
+    {
+        let splits = self.setup.splits.copy(alloc)?;
+        let shard = self.setup.shard;
+        Ok(Home { splits, shard })
+    }
+
+    /// Opens the disk of the shard again that its folder finds, as the shard was told before, with a new board and so many viewers (`Place::restart`).
+    pub fn restart<F: LogFolder<D>>(
+        &mut self,
+        rt: R,
+        alloc: Global,
+        folder: &F,
+        n: usize,
+    ) -> Result<Restarted<R>, Fault>
+        ensures restarted { IfOk result (λ made. Became (seen_held self.old) (seen_held self.new)
             (λ old. λ new. HasRestarted D.keeps_model D.obeys D.file D.clock D.since D.failures D.plan
-            old new (seen_held self.old).setup n viewers.items)) }
+            F.may_find old new (seen_held self.old).setup n made.viewers.items made.former)) }
         ensures refused { IfErr result (λ fault. Became (seen_held self.old) (seen_held self.new)
             (λ old. λ new. HasNotRestarted D.keeps_model D.obeys D.file D.clock D.since D.failures D.plan
-            old new (seen_held self.old).setup n fault)) }
+            F.may_find old new (seen_held self.old).setup n fault)) }
+        ensures board { IfOk result (λ made. (core : CoreView D) × AreOnNewBoard n
+            (seen_held self.old).setup (first_entries core.facts.installs (safe_at core)
+            core.facts.horizon) made.viewers.items) }
         ensures count { OnOk result (IsCount n) }
-        ensures viewers { IfOk result (λ viewers. length viewers.items ≡ n) }
+        ensures viewers { IfOk result (λ made. length made.viewers.items ≡ n) }
         ensures faults { IfErr result (λ fault. RefusesRestart n fault) }
     {
         let Some(place) = self.place.take() else {
             unreachable!()
         };
-        let (place, viewers) = place.restart(rt, alloc, &self.setup, n);
+        let (place, made) = place.restart(rt, alloc, folder, &self.setup, n);
         self.place = Some(place);
-        viewers
+        made
     }
 
     /// Ends the desk, and gives its disk back as it is.

@@ -4,6 +4,7 @@
 
 mod desk;
 mod fleet;
+mod folder;
 mod group;
 mod held;
 mod machine_clock;
@@ -20,11 +21,13 @@ mod unopened;
 
 pub use desk::Desk;
 pub use fleet::{Closes, Opened, open_shards, run_of};
+pub use folder::LogFolder;
 pub use letters::{Gate, Letter, Post, Served, start};
 pub use machine_clock::MachineClock;
 pub use node::Node;
 pub use opening::open_all;
 pub use renewing::{Past, renew_disk};
+pub use rest::Restarted;
 pub use shard::Core;
 pub use steady::{SteadyClock, steady_over};
 pub use unopened::Unopened;

@@ -1,6 +1,6 @@
 //! How much of a log there is, and when it has grown.
 ghost use Rattle.std.specs.Prelude.{◌≡◌};
-ghost use Rattle.node.specs.Renewed.{found_at, has_grown, measured};
+ghost use Rattle.node.specs.Renewed.{found_at, has_grown, lies_far, measured};
 
 use shard::Begun;
 use units::Fault;
@@ -35,6 +35,13 @@ impl Measure {
     {
         let growth = gate.saturating_sub(self.ended);
         self.held < growth && least <= growth
+    }
+
+    /// Tells whether the log begins far into its file: more than so many bytes, and more than twice what it held.
+    pub fn lies_far(&self, beyond: u64) -> bool
+        ensures { result ≡ lies_far self.now beyond }
+    {
+        beyond < self.begins && self.held < self.begins.saturating_sub(self.held)
     }
 
     /// Measures the log after a turnover, which was done or refused. The new area begins right after the former gate.

@@ -4,12 +4,14 @@ ghost use Rattle.board.specs.Board.{first_entries};
 ghost use Rattle.node.specs.DeskFaults.{refuses_input, refuses_advance, refuses_horizon, refuses_turnover};
 ghost use Rattle.node.specs.InStep.{IsCount, IsNoDesk};
 ghost use Rattle.node.specs.Faults.{RefusesRestart};
-ghost use Rattle.node.specs.Restart.{AreOnNewBoard};
+ghost use Rattle.node.specs.Restart.{AreOnNewBoard, AreOpenedAgain};
 ghost use Rattle.shard.specs.Core.{seen, book_of};
 ghost use Rattle.shard.specs.Look.{safe_at};
 
+use crate::folder::LogFolder;
 use crate::held::Held;
-use board::{Told, Viewer};
+use crate::rest::Restarted;
+use board::{Home, Told, Viewer, check_viewers};
 use disk::Disk;
 use message::{Input, Outbox};
 use shard::Core;
@@ -113,23 +115,51 @@ impl<D: Disk + Drop, R: Wait + Drop> Node<D, R> {
         self.held.lock(rt).renew(now, micros, least)
     }
 
-    /// Opens the disk of a stopped node again, with a new board and so many viewers. The viewers of the old board are refused from then on. A
-    /// node that is not stopped is refused as `again`, and goes on.
+    /// Puts a renewed log in a new disk in the place of the log, and goes on there, under the lock. The log has to have grown by `least` bytes or more,
+    /// and to begin more than `beyond` bytes into its file (`Desk::move_on`). Returns whether it did.
     ///
-    /// If the opening or the board is refused, the node keeps the disk alone: call `restart` again. Until then it refuses letters as a
-    /// stopped core does.
-    pub fn restart<W: Wait>(
+    /// `Device` after which the node is stopped says that nobody knows which disk a crash leaves. Then `restart` is not to be called before the
+    /// device is sure of it.
+    pub fn move_on<W: Wait, F: LogFolder<D>>(
+        &self,
+        rt: &W,
+        folder: &F,
+        least: u64,
+        beyond: u64,
+    ) -> Result<bool, Fault>
+        ensures { IfErr result (λ fault. IsTrue (refuses_turnover fault)) }
+    {
+        self.held.lock(rt).move_on(folder, least, beyond)
+    }
+
+    /// Opens the disk of a stopped node again that its folder finds, with a new board and so many viewers. They come with the keys that it shows, and with
+    /// the publisher of the old board: viewers of that go on until it is dropped. A node that is not stopped is refused as `again`, and goes on.
+    ///
+    /// If the opening or the board is refused, the node keeps the disk alone beside the old board: call `restart` again. Until then it refuses
+    /// letters as a stopped core does. If the folder finds no disk, that is `Device`.
+    pub fn restart<W: Wait, F: LogFolder<D>>(
         &self,
         rt: &W,
         own: R,
         alloc: Global,
+        folder: &F,
         n: usize,
-    ) -> Result<Vec<Viewer>, Fault>
+    ) -> Result<(Home, Restarted<R>), Fault>
         ensures count { OnOk result (IsCount n) }
-        ensures viewers { IfOk result (λ viewers. length viewers.items ≡ n) }
+        ensures viewers { IfOk result (λ made. length made.1.viewers.items ≡ n) }
+        ensures board { IfOk result (λ made. AreOpenedAgain D n made.0 made.1.viewers.items) }
         ensures faults { IfErr result (λ fault. RefusesRestart n fault) }
     {
-        self.held.lock(rt).restart(own, alloc, n)
+        check_viewers(n)?;
+        let mut held = self.held.lock(rt);
+        let home = held.home(alloc)?;
+        match held.restart(own, alloc, folder, n) {
+            Ok(made) => Ok((home, made)),
+            Err(fault) => {
+                drop(home);
+                Err(fault)
+            }
+        }
     }
 
     /// Ends the node, and gives its disk back.

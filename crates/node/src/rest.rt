@@ -1,7 +1,7 @@
 //! The disk of a desk that was stopped.
 ghost use Rattle.std.specs.Prelude.{◌≡◌};
 
-use board::Publisher;
+use board::{Publisher, Viewer};
 use disk::Disk;
 use std::sync::Wait;
 
@@ -24,4 +24,13 @@ impl<D: Disk + Drop, R: Wait + Drop> Rest<D, R> {
         drop(publisher);
         disk
     }
+}
+
+/// What a stopped shard is looked at through, once it was opened again.
+#[derive(Drop)]
+pub struct Restarted<R: Wait + Drop> {
+    /// The viewers of the new board.
+    pub viewers: Vec<Viewer>,
+    /// The publisher of the old board, if that was still shown. Until it is dropped, viewers of that board go on with what was published last.
+    pub former: Option<Publisher<R>>,
 }

@@ -2,7 +2,6 @@
 use crate::opening::opened;
 use crate::refusal::Refusal;
 use commands::splits_of;
-use filedisk::FileDisk;
 use host_files::HostFiles;
 use service_words::Choices;
 use std::alloc::Global;
@@ -11,14 +10,14 @@ use std::random::RandomSource;
 use std::sync::Wait;
 use std::thread::Threads;
 use std::{rt, time};
-use store::{Client, Options, Store};
+use store::{Client, FolderStore, Options, Store};
 use units::{Fault, Reason};
 
 /// Opens the store in a folder for one client.
 pub fn opened_alone<
     'r,
     R: rt::Files<File = File> + Eprint + RandomSource + Threads + Wait + time::Clock + Sync,
->(rt: &'r R, alloc: Global, dir: &str) -> Result<Store<'r, R, FileDisk>, Refusal> {
+>(rt: &'r R, alloc: Global, dir: &str) -> Result<FolderStore<'r, R>, Refusal> {
     let files = HostFiles::new(rt, false);
     let splits = match splits_of(alloc, &files, dir) {
         Ok(splits) => splits,
@@ -31,6 +30,7 @@ pub fn opened_alone<
         stride: defaults.stride,
         keep: None,
         renew: None,
+        shrink: None,
         retire: None,
         patience: defaults.patience,
         idle: 1_000,

@@ -29,7 +29,13 @@ struct Exported {
 /// Writes the keys and values of the store in a folder, of the present or of a timestamp, and tells on `errors` how many they are. Gives the status:
 /// 0, or 2 if nobody reads them.
 pub fn export_folder<
-    R: rt::Files<File = File> + Eprint + RandomSource + Threads + Wait + time::Clock + Sync,
+    R: rt::Files<File = File, Dir = <HostRuntime as rt::Files>::Dir>
+        + Eprint
+        + RandomSource
+        + Threads
+        + Wait
+        + time::Clock
+        + Sync,
     O: Write + Drop,
     E: Write,
 >(

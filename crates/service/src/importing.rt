@@ -18,7 +18,13 @@ use units::{Fault, Reason};
 /// Puts the keys and values that come on `input` into the store in a folder, and prints how many. Gives the status: 0, or 1 if a transaction does not
 /// surely stand. A line that is none is refused by its number, after the number of those that were put.
 pub fn import_folder<
-    R: rt::Files<File = File> + Eprint + RandomSource + Threads + Wait + time::Clock + Sync,
+    R: rt::Files<File = File, Dir = <HostRuntime as rt::Files>::Dir>
+        + Eprint
+        + RandomSource
+        + Threads
+        + Wait
+        + time::Clock
+        + Sync,
     I: Read + Drop,
     O: Write + Drop,
 >(rt: &R, alloc: Global, dir: &str, csv: bool, input: I, output: O) -> Result<u8, Refusal>
@@ -42,7 +48,13 @@ pub fn import_folder<
 
 // Puts the keys and values that come from a text into the store in a folder.
 fn put_from<
-    R: rt::Files<File = File> + Eprint + RandomSource + Threads + Wait + time::Clock + Sync,
+    R: rt::Files<File = File, Dir = <HostRuntime as rt::Files>::Dir>
+        + Eprint
+        + RandomSource
+        + Threads
+        + Wait
+        + time::Clock
+        + Sync,
     P: Pairs,
 >(rt: &R, alloc: Global, dir: &str, source: &mut P) -> Result<Imported, Refusal> {
     let store = opened_alone(rt, alloc, dir)?;

@@ -42,6 +42,7 @@ pub fn make<
         stride,
         keep: None,
         renew: None,
+        shrink: None,
         retire: None,
         patience: 1,
         idle: 1_000,

@@ -1,6 +1,6 @@
 //! A store in a folder is opened.
 use crate::options::options_of;
-use filedisk::{Cause, FileDisk};
+use filedisk::Cause;
 use service_words::Choices;
 use std::alloc::Global;
 use std::fs::File;
@@ -10,7 +10,7 @@ use std::sync::Wait;
 use std::thread::Threads;
 use std::time::Duration;
 use std::{thread, time};
-use store::{Refused, Store, Why};
+use store::{FolderStore, Refused, Store, Why};
 use units::Splits;
 
 // How often the folder is tried while another process has it open, and how long in between, in milliseconds: a second.
@@ -26,7 +26,7 @@ pub fn opened<'r, R: Files<File = File> + RandomSource + Threads + Wait + time::
     splits: &Splits,
     choices: &Choices,
     is_new: bool,
-) -> Result<Store<'r, R, FileDisk>, Refused> {
+) -> Result<FolderStore<'r, R>, Refused> {
     for _try in 0..TRIES {
         match open_once(rt, alloc, dir, splits, choices, is_new) {
             Ok(store) => return Ok(store),
@@ -56,7 +56,7 @@ fn open_once<'r, R: Files<File = File> + RandomSource + Threads + Wait + time::C
     splits: &Splits,
     choices: &Choices,
     is_new: bool,
-) -> Result<Store<'r, R, FileDisk>, Refused> {
+) -> Result<FolderStore<'r, R>, Refused> {
     match options_of(alloc, splits, choices) {
         Ok(options) => {
             if is_new {

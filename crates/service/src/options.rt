@@ -13,7 +13,8 @@ pub fn options_of(alloc: Global, splits: &Splits, choices: &Choices) -> Result<O
     ensures times { IfOk result (λ options. (options.epsilon ≡ choices.now.epsilon)
         × (options.stride ≡ choices.now.stride) × (options.patience ≡ choices.now.patience)) }
     ensures logs { IfOk result (λ options. (options.keep ≡ choices.now.keep)
-        × (options.renew ≡ choices.now.renew) × (options.retire ≡ choices.now.retire)) }
+        × (options.renew ≡ choices.now.renew) × (options.shrink ≡ choices.now.shrink)
+        × (options.retire ≡ choices.now.retire)) }
     ensures memory { IfErr result (λ fault. fault ≡ Fault.Memory) }
 {
     let mut options = Options::new(splits.copy(alloc)?, choices.clients);
@@ -22,6 +23,7 @@ pub fn options_of(alloc: Global, splits: &Splits, choices: &Choices) -> Result<O
     options.patience = choices.patience;
     options.keep = choices.keep;
     options.renew = choices.renew;
+    options.shrink = choices.shrink;
     options.retire = choices.retire;
     Ok(options)
 }

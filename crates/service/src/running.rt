@@ -56,7 +56,13 @@ fn asks_help(words: &[&str]) -> bool {
 /// answers, or 1 if an import was cut short by a transaction that does not surely stand. A fault is printed as a line on `errors`. A second line
 /// tells the file in which it lies, or what is wrong with the words; after words, a third tells how they are called.
 pub fn service<
-    R: rt::Files<File = File> + Eprint + RandomSource + Threads + Wait + time::Clock + Sync,
+    R: rt::Files<File = File, Dir = <HostRuntime as rt::Files>::Dir>
+        + Eprint
+        + RandomSource
+        + Threads
+        + Wait
+        + time::Clock
+        + Sync,
     I: Read + Drop,
     O: Write + Drop + Send,
     E: Write,
@@ -86,7 +92,13 @@ pub fn service<
 
 // The status of a command that was not refused.
 fn carried_out<
-    R: rt::Files<File = File> + Eprint + RandomSource + Threads + Wait + time::Clock + Sync,
+    R: rt::Files<File = File, Dir = <HostRuntime as rt::Files>::Dir>
+        + Eprint
+        + RandomSource
+        + Threads
+        + Wait
+        + time::Clock
+        + Sync,
     I: Read + Drop,
     O: Write + Drop + Send,
     E: Write,
@@ -125,7 +137,13 @@ fn carried_out<
 
 // Serves the store in a folder.
 fn serve_folder<
-    R: rt::Files<File = File> + Eprint + RandomSource + Threads + Wait + time::Clock + Sync,
+    R: rt::Files<File = File, Dir = <HostRuntime as rt::Files>::Dir>
+        + Eprint
+        + RandomSource
+        + Threads
+        + Wait
+        + time::Clock
+        + Sync,
     I: Read + Drop,
     O: Write + Drop + Send,
 >(

@@ -9,6 +9,7 @@ pub struct Choices {
     pub stride: Stride,
     pub keep: Option<u64>,
     pub renew: Option<u64>,
+    pub shrink: Option<u64>,
     pub retire: Option<u64>,
     pub patience: u32,
     pub idle: u64,

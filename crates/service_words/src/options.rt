@@ -47,6 +47,13 @@ pub const RENEW: Numbered = Numbered {
     most: u64::MAX,
 };
 
+/// How many bytes into its file a log begins before it goes on in a new one.
+pub const SHRINK: Numbered = Numbered {
+    name: "shrink",
+    least: 0,
+    most: u64::MAX,
+};
+
 /// How many ids a shard retires at least at a time.
 pub const RETIRE: Numbered = Numbered {
     name: "retire",
@@ -69,8 +76,8 @@ pub const IDLE: Numbered = Numbered {
 };
 
 /// All options of `serve`.
-pub static OPTIONS: [Numbered; 8] = [
-    CLIENTS, EPSILON, STRIDE, KEEP, RENEW, RETIRE, PATIENCE, IDLE,
+pub static OPTIONS: [Numbered; 9] = [
+    CLIENTS, EPSILON, STRIDE, KEEP, RENEW, SHRINK, RETIRE, PATIENCE, IDLE,
 ];
 
 /// All options of `renew`.

@@ -4,7 +4,7 @@ ghost use Rattle.std.specs.Prelude.{◌≡◌, ◌≤◌, IfOk};
 use crate::choices::Choices;
 use crate::move_words::{backup, export, import, renew, with_moving};
 use crate::options::{
-    CLIENTS, EPSILON, IDLE, KEEP, Numbered, OPTIONS, PATIENCE, RENEW, RETIRE, STRIDE,
+    CLIENTS, EPSILON, IDLE, KEEP, Numbered, OPTIONS, PATIENCE, RENEW, RETIRE, SHRINK, STRIDE,
 };
 use clap::error::ErrorKind;
 use clap::{Arg, ArgMatches, Command};
@@ -52,6 +52,9 @@ pub enum Asked<'a> {
         keep: Option<u64>,
     },
 }
+
+// By so many bytes a log grows before it is renewed, and so far into its file it begins before it goes on in a new one: 64 MiB.
+const LONG_LOG: u64 = 67_108_864;
 
 // The parts in which a client's patience is counted, in milliseconds.
 const SILENCE: u64 = 20;
@@ -137,8 +140,9 @@ fn serve<'a>(given: &ArgMatches<'a>) -> Result<Asked<'a>, Fault> {
         epsilon: within(given, &EPSILON, 1_000)?,
         stride: stride(given)?,
         keep: chosen(given, &KEEP)?,
-        renew: chosen(given, &RENEW)?,
-        retire: chosen(given, &RETIRE)?,
+        renew: Some(within(given, &RENEW, LONG_LOG)?),
+        shrink: Some(within(given, &SHRINK, LONG_LOG)?),
+        retire: Some(within(given, &RETIRE, 10_000)?),
         patience: patience(given)?,
         idle: within(given, &IDLE, 10_000)?,
     };

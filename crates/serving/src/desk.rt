@@ -5,6 +5,7 @@ use requests::{Answer, answer_line};
 use std::alloc::Global;
 use std::io::Write;
 use std::sync::Wait;
+use std::sync::atomic::{AtomicBool, Ordering};
 use units::Fault;
 
 /// The stream of all answers; on a terminal each is followed by a prompt.
@@ -13,6 +14,8 @@ pub struct Desk<W: Write + Drop> {
     alloc: Global,
     answers: Answers<W>,
     is_terminal: bool,
+    // Whether a thread looks for its next line.
+    looking: AtomicBool,
 }
 
 impl<W: Write + Drop> Desk<W> {
@@ -22,6 +25,7 @@ impl<W: Write + Drop> Desk<W> {
             alloc,
             answers: Answers::new(alloc, writer),
             is_terminal,
+            looking: AtomicBool::new(false),
         }
     }
 
@@ -34,6 +38,16 @@ impl<W: Write + Drop> Desk<W> {
     /// Whether a line could not be told, so that no more are to be taken.
     pub fn is_gone<R: Wait>(&self, rt: &R) -> bool {
         self.answers.is_gone(rt)
+    }
+
+    /// Notes that a thread looks for its next line. `false` says that another one does, so it does not.
+    pub fn begins_to_look(&self) -> bool {
+        !self.looking.swap(true, Ordering::SeqCst)
+    }
+
+    /// Notes that it does so no more.
+    pub fn looks_no_more(&self) {
+        self.looking.store(false, Ordering::SeqCst);
     }
 
     /// No more is to be told.

@@ -2,15 +2,21 @@
 use crate::asks::{Asks, Exchange, Heard};
 use crate::desk::Desk;
 use crate::prompt::Open;
-use crossbeam_channel::{Receiver, RecvTimeoutError};
+use crossbeam_channel::{Receiver, RecvTimeoutError, TryRecvError};
 use growing::Growing;
 use requests::{Request, request, words_of};
 use std::alloc::Global;
 use std::io::Write;
 use std::sync::Wait;
-use std::time::Duration;
-use std::{str, time};
+use std::time::{Duration, Instant};
+use std::{str, thread, time};
 use units::{Fault, Reason};
+
+// For so many microseconds a thread looks for the next line before it sleeps.
+const LOOK_MICROS: u64 = 100;
+
+// It looks no more often than this.
+const MOST_LOOKS: u32 = 10_000;
 
 /// What is asked of one client, and to where it answers.
 #[derive(Drop)]
@@ -32,6 +38,9 @@ impl<R: Wait + time::Clock, W: Write + Drop> Asks for Talk<'_, R, W> {
     ghost said = { λ t. t.said.entries };
 
     fn next(&mut self) -> Heard {
+        if let Some(line) = self.soon() {
+            return heard(self.alloc, &line);
+        }
         match self.inbox.recv(self.rt) {
             Ok(line) => heard(self.alloc, &line),
             Err(_) => Heard::Nothing,
@@ -39,6 +48,9 @@ impl<R: Wait + time::Clock, W: Write + Drop> Asks for Talk<'_, R, W> {
     }
 
     fn next_of_open(&mut self) -> Heard {
+        if let Some(line) = self.soon() {
+            return heard(self.alloc, &line);
+        }
         match self.inbox.recv_timeout(self.rt, self.idle) {
             Ok(line) => heard(self.alloc, &line),
             Err(RecvTimeoutError::Timeout) => Heard::Silence,
@@ -54,6 +66,35 @@ impl<R: Wait + time::Clock, W: Write + Drop> Asks for Talk<'_, R, W> {
         drop(exchange);
         Ok(())
     }
+}
+
+impl<R: Wait + time::Clock, W: Write + Drop> Talk<'_, R, W> {
+    // The next line, if it comes at once. Whoever has an answer mostly asks on, and a thread that sleeps takes long to wake. One thread of all
+    // looks at a time, and lets others run meanwhile.
+    fn soon(&self) -> Option<Vec<u8>> {
+        if !self.desk.begins_to_look() {
+            return None;
+        }
+        let found = look(self.rt, &self.inbox);
+        self.desk.looks_no_more();
+        found
+    }
+}
+
+// Looks for a line again and again, for a short time.
+fn look<R: Wait + time::Clock>(rt: &R, inbox: &Receiver<Vec<u8>>) -> Option<Vec<u8>> {
+    let start = Instant::now(rt).ok()?;
+    for _look in 0..MOST_LOOKS {
+        match inbox.try_recv(rt) {
+            Ok(line) => return Some(line),
+            Err(TryRecvError::Disconnected) => return None,
+            Err(TryRecvError::Empty) => thread::yield_now(),
+        }
+        if start.elapsed(rt).ok()? >= Duration::from_micros(LOOK_MICROS) {
+            return None;
+        }
+    }
+    None
 }
 
 fn heard(alloc: Global, line: &[u8]) -> Heard {

@@ -104,7 +104,7 @@ fn stopped_shards_are_told(rt: HostRuntime) {
     }
     let parts: [(u64, &[u8]); 2] = [
         (0, b"put a 1\nput a 2\nput a 3\nput a 4\nput a 5\nput a 6\n"),
-        (1_000, b"1 begin\n1 get a\n1 get z\n1 put z 1\n"),
+        (400, b"1 begin\n1 get a\n1 get z\n1 put z 1\n"),
     ];
     let paper = Paper {
         bytes: Vec::new(alloc),

@@ -267,7 +267,14 @@ static REFUSED: [Step; 20] = [
 
 // Carries out a step: what is printed to both outputs, and the status.
 fn carried_out<
-    R: Files<File = File> + Eprint + RandomSource + Threads + Wait + time::Clock + Sync + Abort,
+    R: Files<File = File, Dir = <HostRuntime as Files>::Dir>
+        + Eprint
+        + RandomSource
+        + Threads
+        + Wait
+        + time::Clock
+        + Sync
+        + Abort,
 >(rt: &R, host: &HostRuntime, folder: &Folder, step: &Step) -> (Vec<u8>, Vec<u8>, u8) {
     let alloc = host.alloc();
     let owned = owned_words(rt, alloc, folder, step.words);
@@ -325,7 +332,14 @@ fn is_printed(step: &Step, output: &[u8]) -> bool {
 
 /// Carries out some steps in a folder, and notes those that come to something else.
 pub fn go_over<
-    R: Files<File = File> + Eprint + RandomSource + Threads + Wait + time::Clock + Sync + Abort,
+    R: Files<File = File, Dir = <HostRuntime as Files>::Dir>
+        + Eprint
+        + RandomSource
+        + Threads
+        + Wait
+        + time::Clock
+        + Sync
+        + Abort,
 >(rt: &R, host: &HostRuntime, steps: &[Step]) -> WrongRows {
     let folder = Folder::new(host).ok().expect(rt, "a folder");
     let mut wrong = WrongRows::none(host.alloc());

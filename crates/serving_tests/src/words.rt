@@ -7,16 +7,19 @@ const COMMAND: Fault = Fault::BadRequest(Reason::Command);
 
 const SETTINGS: Fault = Fault::BadRequest(Reason::Settings);
 
-/// Words of `serve`, and what they choose: clients, epsilon, stride, keep, renew, retire, patience and idle.
-type Row = (&'static [&'static str], [u64; 8]);
+/// Words of `serve`, and what they choose: clients, epsilon, stride, keep, renew, shrink, retire, patience and idle.
+type Row = (&'static [&'static str], [u64; 9]);
 
-// What is kept for good, a log that is never renewed, and ids that are never retired.
+// What is kept for good.
 const NONE: u64 = u64::MAX;
+
+// What is chosen for a log that nothing is said of.
+const LONG: u64 = 67_108_864;
 
 static ROWS: [Row; 3] = [
     (
         &["serve", "d"],
-        [64, 1_000, 500_000, NONE, NONE, NONE, 5, 10_000],
+        [64, 1_000, 500_000, NONE, LONG, LONG, 10_000, 5, 10_000],
     ),
     (
         &[
@@ -32,6 +35,8 @@ static ROWS: [Row; 3] = [
             "8",
             "--renew",
             "9",
+            "--shrink",
+            "11",
             "--retire",
             "10",
             "--patience",
@@ -39,16 +44,16 @@ static ROWS: [Row; 3] = [
             "--idle",
             "1000",
         ],
-        [3, 0, 7, 8, 9, 10, 3, 1_000],
+        [3, 0, 7, 8, 9, 11, 10, 3, 1_000],
     ),
     (
         &["serve", "--idle", "3600000", "--patience", "61", "d"],
-        [64, 1_000, 500_000, NONE, NONE, NONE, 4, 3_600_000],
+        [64, 1_000, 500_000, NONE, LONG, LONG, 10_000, 4, 3_600_000],
     ),
 ];
 
 // What words of `serve` choose for the store in `d`, if they ask for that.
-fn chosen(alloc: Global, words: &[&str]) -> Option<[u64; 8]> {
+fn chosen(alloc: Global, words: &[&str]) -> Option<[u64; 9]> {
     match service_asked(alloc, words) {
         Ok(asked) => match asked {
             Asked::Serve { dir, choices } => in_d(dir, &choices),
@@ -62,7 +67,7 @@ fn chosen(alloc: Global, words: &[&str]) -> Option<[u64; 8]> {
     }
 }
 
-fn in_d(dir: &str, choices: &Choices) -> Option<[u64; 8]> {
+fn in_d(dir: &str, choices: &Choices) -> Option<[u64; 9]> {
     if dir != "d" {
         return None;
     }
@@ -72,6 +77,7 @@ fn in_d(dir: &str, choices: &Choices) -> Option<[u64; 8]> {
         choices.stride.micros(),
         choices.keep.unwrap_or(NONE),
         choices.renew.unwrap_or(NONE),
+        choices.shrink.unwrap_or(NONE),
         choices.retire.unwrap_or(NONE),
         u64::from(choices.patience),
         choices.idle,

@@ -1,9 +1,10 @@
 -- Where a log begins, as an opening finds it.
-use Rattle.std.specs.Prelude.{◌≡◌, ℕ, List, [], ◌∷◌, Option, Some, None, Result, Ok, Err}
+use Rattle.std.specs.Prelude.{◌≡◌, ℕ, ◌+◌, List, [], ◌∷◌, Option, Some, None, Result, Ok, Err}
 use Rattle.std.specs.Option.{unwrap_or}
 use Rattle.units.specs.declared.fault.Fault.{Fault}
 use Rattle.record.specs.declared.record.Record.{Record}
 use Rattle.frames.specs.Placed.{Placed}
+use Rattle.gatelog.specs.Gates.{first_gate}
 use Rattle.gatelog.specs.Log.{scan}
 use Rattle.shard.specs.declared.begun.Begun.{Begun}
 use Rattle.shard.specs.declared.begun.Found.{Found}
@@ -38,6 +39,10 @@ growth_in (e ∷ es) = or_else (growth_at e) (growth_in es)
 -- where a log with these entries begins that ends at this gate
 abbrev pub begun_in : List Placed → ℕ → Begun
 begun_in es gate = record { at = unwrap_or (first_in es) gate; grown = unwrap_or (growth_in es) gate }
+
+-- where a renewed log begins that has a file for itself, and grows from its gate on
+abbrev pub begun_anew : ℕ → Begun
+begun_anew gate = record { at = first_gate + 1; grown = gate }
 
 -- so it begins by what a scan finds
 abbrev pub IsBegunBy : Result (List Placed × ℕ) Fault → Begun → Type 0

@@ -1,9 +1,9 @@
 //! Where a log begins, as an opening finds it.
 ghost use Rattle.std.specs.Prelude.{◌≡◌};
 ghost use Rattle.std.specs.Option.{unwrap_or};
-ghost use Rattle.shard.specs.Beginnings.{and_found, growth_at};
+ghost use Rattle.shard.specs.Beginnings.{and_found, begun_anew, growth_at};
 
-use gatelog::Entry;
+use gatelog::{Entry, FIRST_GATE};
 use record::Record;
 
 /// Where the area of a log begins, and from where on it has grown. Both are offsets in the file, in bytes. What stands between them in a
@@ -14,6 +14,18 @@ pub struct Begun {
     pub at: u64,
     /// The offset of the first record that no renewal writes of what has ended, or of the log's end if it had none.
     pub grown: u64,
+}
+
+impl Begun {
+    // Where a renewed log begins that has a file for itself, and from where on it grows: it ends at this gate.
+    pub(crate) fn anew(gate: u64) -> Begun
+        ensures { result ≡ begun_anew gate }
+    {
+        Begun {
+            at: FIRST_GATE + 1,
+            grown: gate,
+        }
+    }
 }
 
 // What was found so far of where a log begins.

@@ -1,5 +1,6 @@
 -- What a view tells of a key, why it tells nothing, and of which time it is.
-use Rattle.std.specs.Prelude.{◌≡◌, ◌⊎◌, ◌+◌, ◌-◌, ◌≤◌, ◌<◌, ℕ, true, false, nat_lt, List, ◌∷◌, take, slice_get, slice_set, Option, Some, None, IsTrue, IsSome}
+use Rattle.std.specs.Prelude.{◌≡◌, ◌⊎◌, ◌+◌, ◌-◌, ◌≤◌, ◌<◌, ℕ, true, false, nat_lt, List, ◌∷◌, length, take, slice_get, slice_set}
+use Rattle.std.specs.Prelude.{Option, Some, None, IsTrue, IsSome}
 use mathlib.Core.List.{IsPrefix}
 use Rattle.truetime.specs.Interval.{Interval}
 use Rattle.units.specs.Keys.{Bytes}
@@ -76,3 +77,13 @@ IsPresent w told at =
     (w.from ≤ at)
     × ((now : Interval) × (told ≡ now ∷ w.readings) × (now.latest ≡ at)
     × ((micros : ℕ) × (now.earliest ≡ micros - w.epsilon) × (micros + w.epsilon ≤ at)))
+
+-- the keys of a shard between splits
+abbrev pub home_at : List Bytes → ℕ → Home
+home_at splits shard = record { splits = splits; shard = shard }
+
+-- Some viewers by shard, once what is new was put in their places: each is what it was, or one that shows the keys of its shard.
+pub record AreRenewed (splits : List Bytes) (old new : List Viewing) : Type 0 where
+  pub count : length new ≡ length old
+  pub each : (shard : ℕ) (viewer : Viewing) → slice_get new shard ≡ Some viewer
+      → (slice_get old shard ≡ Some viewer) ⊎ (viewer.home ≡ home_at splits shard)

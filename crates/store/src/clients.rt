@@ -4,7 +4,7 @@ ghost use Rattle.message.specs.Ends.{End};
 ghost use Rattle.message.specs.declared.message.Envelope.{Envelope};
 ghost use Rattle.client.specs.Outcomes.{IsFound};
 ghost use Rattle.store.specs.Attempts.{Attempt, CannotBegin, ComesTo, ComesWithin, Ends, HasTried, IsAtWork, IsCutShort, beginning, drew};
-ghost use Rattle.store.specs.Views.{IsPresent};
+ghost use Rattle.store.specs.Views.{AreRenewed, IsPresent};
 
 use crate::ended::{kept, ran_of, runs_again, told_of};
 use crate::numbers::Numbers;
@@ -35,6 +35,8 @@ pub struct Client<'s, R> {
     pub(crate) drawer: Drawer,
     pub(crate) past: Wires<'s, 's, R>,
     pub(crate) viewers: Vec<Viewer>,
+    // How often new viewers had been offered when it took its last ones.
+    pub(crate) renewed: u64,
     // Where its views read a value, one after the other.
     pub(crate) room: Box<[u8; MOST_BYTES]>,
     pub(crate) clock: ClientClock<'s, R>,
@@ -284,8 +286,8 @@ impl<'s, R: Wait + time::Clock> Client<'s, R> {
     /// waits as long as the client does for an end. The client keeps its last 16 such transactions, while there is memory. Of any other id, of one
     /// of another client, and of one that the store may have retired, the answer is `Unknown` at once.
     ///
-    /// After `Open` and `Unknown` the same call may be answered later. If the shard that decides has stopped it is not: open the store again,
-    /// and look for a key of your own that the transaction wrote. `Memory` if memory runs out.
+    /// After `Open` and `Unknown` the same call may be answered later. If the shard that decides has stopped it is not, until
+    /// its disk is opened again. `Memory` if memory runs out.
     pub fn outcome(&mut self, id: TxnId) -> Result<Outcome, Fault>
         ensures asked { MatchResult result
             (λ outcome. ((outcome ≡ Outcome.Unknown) × (self.new ≡ self.old))
@@ -312,15 +314,32 @@ impl<'s, R: Wait + time::Clock> Client<'s, R> {
         Ok(outcome)
     }
 
+    // Takes the viewers of shards that were opened again, if some were offered since it took its last ones.
+    fn renew(&mut self)
+        ensures viewers { AreRenewed self.old.splits self.old.viewers self.new.viewers }
+        ensures others { self.new ≡ record self.old { viewers = self.new.viewers } }
+    {
+        let shared = self.shared;
+        let count = shared.offers.count();
+        if count != self.renewed {
+            self.renewed = count;
+            shared
+                .offers
+                .renew(self.rt, self.number, &shared.splits, &mut self.viewers);
+        }
+    }
+
     /// A view of the whole store at the present: its timestamp is the latest of a reading of the client's clock that is taken now. There is
-    /// none if that gives no reading.
+    /// none if that gives no reading. It looks at the new board of each shard that was opened again.
     pub fn view(&mut self) -> Option<View<'_, 's, R>>
         ensures present { IfSome result
             (λ view. IsPresent self.old view.readings.now.entries view.at) }
         ensures splits { IfSome result (λ view. view.shared.now.splits ≡ self.old.splits) }
-        ensures viewers { IfSome result (λ view. view.viewers.now.items ≡ self.old.viewers) }
+        ensures viewers { IfSome result (λ view.
+            AreRenewed self.old.splits self.old.viewers view.viewers.now.items) }
     {
         let now = self.clock.now()?;
+        self.renew();
         Some(View {
             rt: self.rt,
             shared: self.shared,
@@ -336,12 +355,13 @@ impl<'s, R: Wait + time::Clock> Client<'s, R> {
     ///
     /// - `TooOld`: the key's shard has forgotten that time (`Options::keep`), for good;
     /// - `NotYet`: the shard does not serve it yet, and is asked to. A time that has passed by the clock is served a few milliseconds later;
-    /// - `Stopped`: the shard has stopped, and never serves it before the store is opened again.
+    /// - `Stopped`: the shard has stopped, and does not serve it before its disk is opened again. Then another view has to be opened.
     pub fn view_at(&mut self, at: Stamp) -> View<'_, 's, R>
         ensures at { result.at ≡ at }
         ensures splits { result.shared.now.splits ≡ self.old.splits }
-        ensures viewers { result.viewers.now.items ≡ self.old.viewers }
+        ensures viewers { AreRenewed self.old.splits self.old.viewers result.viewers.now.items }
     {
+        self.renew();
         View {
             rt: self.rt,
             shared: self.shared,
@@ -359,7 +379,8 @@ impl<'s, R: Wait + time::Clock> Client<'s, R> {
         &*shared.numbers
     }
 
-    /// Tells whether the shard has stopped, since its device failed. It takes no more, and views up to the time that it served go on.
+    /// Tells whether the shard has stopped, since its device failed. It takes no more, and views up to the time that it served go on. Its disk is opened
+    /// again after a second, and then every ten seconds until that succeeds.
     pub fn has_stopped(&self, shard: ShardNo) -> bool {
         self.shared.network.has_stopped(shard)
     }

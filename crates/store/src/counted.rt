@@ -150,6 +150,10 @@ impl<N: Serves> Serves for Counted<'_, N> {
         self.node.tidy(rt, clock)
     }
 
+    fn heal<W: Wait, C: Clock>(&self, rt: &W, clock: &mut C) {
+        self.node.heal(rt, clock);
+    }
+
     fn alloc(&self) -> Global {
         self.node.alloc()
     }

@@ -53,6 +53,7 @@ impl Crew {
             drawer,
             past: Wires::none(),
             viewers,
+            renewed: 0,
             room,
             clock: ClientClock::new(clock),
             patience,

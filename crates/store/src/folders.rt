@@ -4,7 +4,7 @@ ghost use Rattle.node.specs.Unopened.{IsUnmade};
 ghost use Rattle.host_files.specs.Folders.{IsFolderFault};
 
 use crate::timed::{check_time, expected_by};
-use crate::{Options, Store};
+use crate::{FolderStore, LogFiles, Options, Store};
 use filedisk::FileDisk;
 use host_files::{Causes, Expected, FoundLogs, Refused, found_in};
 use std::alloc::Global;
@@ -16,10 +16,9 @@ use std::thread::Threads;
 use std::time;
 use units::Fault;
 
-impl<'r, R: Files<File = File> + RandomSource + Threads + Wait + time::Clock + Sync> Store<
+impl<'r, R: Files<File = File> + RandomSource + Threads + Wait + time::Clock + Sync> FolderStore<
     'r,
     R,
-    FileDisk,
 > {
     /// Makes a store in a folder, which has to be there and to hold none, and opens it. If one is there it is refused as `Device`, and left as
     /// it is; a store that was cut off while it was made is made whole. Else it is refused as `open_folder` says.
@@ -28,7 +27,7 @@ impl<'r, R: Files<File = File> + RandomSource + Threads + Wait + time::Clock + S
         alloc: Global,
         folder: &str,
         options: Options,
-    ) -> Result<Store<'r, R, FileDisk>, Refused>
+    ) -> Result<FolderStore<'r, R>, Refused>
         ensures splits { IfOk result (λ store. store.splits ≡ options.splits) }
         ensures shards { IfOk result (λ store. store.shards ≡ length options.splits + 1) }
         ensures clients { IfOk result (λ store. store.clients ≡ options.clients) }
@@ -42,7 +41,7 @@ impl<'r, R: Files<File = File> + RandomSource + Threads + Wait + time::Clock + S
             (λ refused. IfNone refused.file (IsFolderFault refused.fault)) }
     {
         match found_in(rt, alloc, folder, &options.splits, Expected::NoStore) {
-            Ok(found) => open_found(rt, alloc, found, options),
+            Ok(found) => open_found(rt, alloc, found, folder, options),
             Err(refused) => {
                 drop(options);
                 Err(refused)
@@ -65,7 +64,7 @@ impl<'r, R: Files<File = File> + RandomSource + Threads + Wait + time::Clock + S
         alloc: Global,
         folder: &str,
         options: Options,
-    ) -> Result<Store<'r, R, FileDisk>, Refused>
+    ) -> Result<FolderStore<'r, R>, Refused>
         ensures splits { IfOk result (λ store. store.splits ≡ options.splits) }
         ensures shards { IfOk result (λ store. store.shards ≡ length options.splits + 1) }
         ensures clients { IfOk result (λ store. store.clients ≡ options.clients) }
@@ -79,7 +78,7 @@ impl<'r, R: Files<File = File> + RandomSource + Threads + Wait + time::Clock + S
             (λ refused. IfNone refused.file (IsFolderFault refused.fault)) }
     {
         match found_in(rt, alloc, folder, &options.splits, expected_by(&options)) {
-            Ok(found) => open_found(rt, alloc, found, options),
+            Ok(found) => open_found(rt, alloc, found, folder, options),
             Err(refused) => {
                 drop(options);
                 Err(refused)
@@ -93,8 +92,9 @@ fn open_found<'r, R: Threads + Wait + time::Clock + Sync>(
     rt: &'r R,
     alloc: Global,
     found: FoundLogs,
+    folder: &str,
     options: Options,
-) -> Result<Store<'r, R, FileDisk>, Refused>
+) -> Result<FolderStore<'r, R>, Refused>
     ensures splits { IfOk result (λ store. store.splits ≡ options.splits) }
     ensures shards { IfOk result (λ store. store.shards ≡ length found.disks.items) }
     ensures clients { IfOk result (λ store. store.clients ≡ options.clients) }
@@ -109,7 +109,7 @@ fn open_found<'r, R: Threads + Wait + time::Clock + Sync>(
 {
     let FoundLogs { disks, newest } = found;
     match check_time(rt, &options, newest) {
-        Ok(()) => open_told(rt, alloc, disks, options),
+        Ok(()) => open_told(rt, alloc, disks, folder, options),
         Err(refused) => {
             drop(disks);
             drop(options);
@@ -123,8 +123,9 @@ fn open_told<'r, R: Threads + Wait + Sync>(
     rt: &'r R,
     alloc: Global,
     disks: Vec<FileDisk>,
+    folder: &str,
     options: Options,
-) -> Result<Store<'r, R, FileDisk>, Refused>
+) -> Result<FolderStore<'r, R>, Refused>
     ensures splits { IfOk result (λ store. store.splits ≡ options.splits) }
     ensures shards { IfOk result (λ store. store.shards ≡ length disks.items) }
     ensures clients { IfOk result (λ store. store.clients ≡ options.clients) }
@@ -137,14 +138,19 @@ fn open_told<'r, R: Threads + Wait + Sync>(
         (λ refused. IfNone refused.file (IsFolderFault refused.fault)) }
 {
     let mut disks = disks;
-    let Ok(causes) = Causes::of(alloc, &mut disks) else {
+    let Ok(path) = format!(in alloc; "{folder}") else {
         drop(disks);
         drop(options);
         return Err(Refused::from(Fault::Memory));
     };
-    let opened = Store::open(rt, alloc, disks, options);
-    let told = match opened {
-        Ok(store) => Ok(store),
+    let Ok(causes) = Causes::of(alloc, &mut disks) else {
+        drop(path);
+        drop(disks);
+        drop(options);
+        return Err(Refused::from(Fault::Memory));
+    };
+    let told = match Store::open(rt, alloc, disks, options) {
+        Ok(store) => Ok(store.stands_in(LogFiles { rt, alloc, path })),
         Err(unopened) => Err(causes.refuse(unopened.fault, unopened.shard)),
     };
     drop(causes);

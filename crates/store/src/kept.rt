@@ -2,34 +2,53 @@
 ghost use Rattle.std.specs.Prelude.{◌≡◌, IfErr};
 
 use crate::Options;
+use crate::healing::Healing;
 use crate::numbers::{Numbers, ShardCounts};
+use crate::offers::Offers;
+use board::Publisher;
 use disk::Disk;
 use letters::{Due, Gauges, Serves, Taken};
 use message::{Input, Outbox};
-use node::Node;
+use node::{LogFolder, Node, Restarted};
 use std::alloc::Global;
 use std::sync::atomic::{AtomicBool, AtomicU64, Ordering};
-use std::sync::{Arc, Wait};
+use std::sync::{Arc, Mutex, Wait};
 use truetime::Clock;
 use units::{Fault, Run, ShardNo, Stamp, TxnId};
 
 /// A node that is served as it is. Before it advances it forgets what is older than so many microseconds, and renews its log once that has
-/// grown by so many bytes. It also retires ids, once there are so many. After it has shown something it lets versions go that its horizon has
-/// passed. For that it keeps when it may forget again, whether its log is looked at next, how many versions were left, and what it knows of ids.
-/// Besides, it keeps the numbers that count its requests.
+/// grown by so many bytes. It does so in its file, or into a new one of its folder once the log begins so many bytes into its file. It
+/// also retires ids, once there are so many. After it has shown something it lets versions go that its horizon has passed.
+///
+/// For that it keeps when it may forget again, whether its log is looked at next, and how many versions were left. It also keeps whether it has
+/// put off to let some go, what it knows of ids, and the numbers that count its requests.
+///
+/// If the node stops, its disk is opened again. The viewers of the new board are offered to the clients. The old board is shown until each of them has
+/// taken one.
 #[derive(Drop)]
-pub struct Kept<'n, D: Disk + Drop, H: Wait + Drop> {
+pub struct Kept<'n, D: Disk + Drop, H: Wait + Drop, L> {
     node: &'n Node<D, H>,
+    folder: &'n L,
     keep: Option<u64>,
     renew: Option<u64>,
+    shrink: Option<u64>,
     retire: Option<u64>,
     run: Run,
     again: AtomicU64,
     renews: AtomicBool,
     left: AtomicU64,
+    put_off: AtomicBool,
     ids: Ids,
     numbers: Arc<Numbers, Global>,
     place: usize,
+    // The handle of its boards, and how many viewers each has.
+    own: H,
+    clients: usize,
+    healing: Healing,
+    offers: Arc<Offers, Global>,
+    // The old boards, as long as some client may look at them, and whether there are any.
+    formers: Mutex<Vec<Publisher<H>>>,
+    has_formers: AtomicBool,
 }
 
 // What a node knows of ids: when it looks again, whether no letter waited for it since it looked last, and of which number no client spoke any
@@ -62,13 +81,16 @@ const SHARE_OF_PAUSE: u64 = 8;
 // Fewer versions than these are all kept.
 const FEW_VERSIONS: u64 = 1_024;
 
+// To show something took long if it took so many microseconds: a board has let versions go.
+const LONG_SHOWING: u64 = 5_000;
+
 // For so many microseconds it does not look again which ids can be retired.
 const IDS_PAUSE: u64 = 1_000_000;
 
 // It takes no more than so small a share of the time, also on a slow device.
 const SHARE_OF_TIME: u64 = 16;
 
-impl<D: Disk + Drop, H: Wait + Drop> Kept<'_, D, H> {
+impl<D: Disk + Drop, H: Wait + Drop + Copy, L: LogFolder<D>> Kept<'_, D, H, L> {
     fn counts(&self) -> Option<&ShardCounts> {
         self.numbers.counts(self.place)
     }
@@ -116,7 +138,22 @@ impl<D: Disk + Drop, H: Wait + Drop> Kept<'_, D, H> {
         }
     }
 
-    // Retires the ids of which nobody speaks any more, if there are so many, and if it did not look a second ago. If that is refused, it asks
+    // Lets versions go (`let_go`) after it has shown something, which began at this time. If that took long clients wait already, so this is put
+    // off until it has shown something again, but not twice.
+    fn let_go_after<W: Wait, C: Clock>(&self, rt: &W, clock: &mut C, start: Option<u64>) {
+        let (Some(start), Some(end)) = (start, micros_of(clock)) else {
+            return;
+        };
+        let is_long = end.saturating_sub(start) >= LONG_SHOWING;
+        let puts_off = is_long && !self.put_off.load(Ordering::SeqCst);
+        self.put_off.store(puts_off, Ordering::SeqCst);
+        if !puts_off {
+            self.let_go(rt);
+        }
+    }
+
+    // Retires the ids of which nobody speaks any more, if there are so many, and if it did not look a second ago. Before so many were drawn it does not
+    // ask who speaks of which: so a client may ask how its last transactions ended. If that is refused, it asks
     // again when it looks again. Returns whether it was asked.
     fn retire<W: Wait, C: Clock>(&self, rt: &W, clock: &mut C, start: u64) -> bool {
         let Some(many) = self.retire else {
@@ -127,10 +164,15 @@ impl<D: Disk + Drop, H: Wait + Drop> Kept<'_, D, H> {
         }
         let again = start.saturating_add(IDS_PAUSE);
         self.ids.again.store(again, Ordering::SeqCst);
-        self.tell_left(rt);
-        let below = self.numbers.retiring().left_by_shards();
         let retired = self.ids.retired.load(Ordering::SeqCst);
-        if below < retired.saturating_add(many) {
+        let enough = retired.saturating_add(many);
+        let retiring = self.numbers.retiring();
+        if !retiring.has_drawn(enough) {
+            return false;
+        }
+        self.tell_left(rt);
+        let below = retiring.left_by_shards();
+        if below < enough {
             return false;
         }
         let Some(id) = TxnId::new(self.run.number(), below) else {
@@ -146,9 +188,13 @@ impl<D: Disk + Drop, H: Wait + Drop> Kept<'_, D, H> {
         true
     }
 
-    // Tells of which transactions this shard speaks no more. A letter that came before it looked last was taken meanwhile, if no letter waited
-    // once: so what clients spoke of no more at that time is not prepared any more, unless it is now.
+    // Tells of which transactions this shard speaks no more. One that has stopped may have more in its log than it says, and tells nothing. A letter
+    // that came before it looked last was taken meanwhile, if no letter waited once. So what clients spoke of no more at that time is not prepared any
+    // more, unless it is now.
     fn tell_left<W: Wait>(&self, rt: &W) {
+        if self.node.is_stopped(rt) {
+            return;
+        }
         let retiring = self.numbers.retiring();
         if self.ids.quiet.swap(false, Ordering::SeqCst) {
             let before = self.ids.before.load(Ordering::SeqCst);
@@ -167,13 +213,57 @@ impl<D: Disk + Drop, H: Wait + Drop> Kept<'_, D, H> {
         }
     }
 
-    // Renews the log if it has grown. What is kept for good goes back to the beginning, so no horizon is asked for.
+    // Renews the log if it has grown, into a new file or else in its own.
     fn renew<W: Wait, C: Clock>(&self, rt: &W, clock: &mut C) {
-        if let Some(least) = self.renew {
-            let asked = self.node.renew_by(rt, clock, u64::MAX, least);
-            if let Some(counts) = self.counts() {
-                counts.count_turnover(&asked);
-            }
+        let Some(least) = self.renew else {
+            return;
+        };
+        let asked = match self.move_on(rt, least) {
+            Ok(true) => Ok(()),
+            Ok(false) => self.node.renew_by(rt, clock, u64::MAX, least),
+            Err(fault) => Err(fault),
+        };
+        if let Some(counts) = self.counts() {
+            counts.count_turnover(&asked);
+        }
+    }
+
+    // Goes on in a new file if the log begins far into its own. Returns whether it did. What is kept for good goes back to the
+    // beginning, so no horizon is asked for.
+    fn move_on<W: Wait>(&self, rt: &W, least: u64) -> Result<bool, Fault> {
+        match self.shrink {
+            Some(beyond) => self.node.move_on(rt, self.folder, least, beyond),
+            None => Ok(false),
+        }
+    }
+
+    // Opens the disk of the stopped node again, and offers the viewers of its new board.
+    fn restart<W: Wait>(&self, rt: &W) {
+        let alloc = self.node.alloc();
+        let restarted = self
+            .node
+            .restart(rt, self.own, alloc, self.folder, self.clients);
+        let Ok((home, restarted)) = restarted else {
+            return;
+        };
+        let Restarted { viewers, former } = restarted;
+        self.offers.offer(rt, self.place, home, viewers);
+        self.healing.has_healed();
+        if let Some(former) = former {
+            let _ = self.formers.lock(rt).push(former);
+            self.has_formers.store(true, Ordering::SeqCst);
+        }
+        if let Some(counts) = self.counts() {
+            counts.count_restart();
+        }
+    }
+
+    // Ends the old boards once each client has a viewer of the new one.
+    fn end_formers<W: Wait>(&self, rt: &W) {
+        let has_formers = self.has_formers.load(Ordering::SeqCst);
+        if has_formers && self.offers.are_taken(rt, self.place) {
+            *self.formers.lock(rt) = Vec::new(self.node.alloc());
+            self.has_formers.store(false, Ordering::SeqCst);
         }
     }
 }
@@ -184,7 +274,7 @@ fn micros_of<C: Clock>(clock: &mut C) -> Option<u64> {
     Some(now.latest().micros())
 }
 
-impl<D: Disk + Drop, H: Wait + Drop> Serves for Kept<'_, D, H> {
+impl<D: Disk + Drop, H: Wait + Drop + Copy, L: LogFolder<D>> Serves for Kept<'_, D, H, L> {
     fn shard(&self) -> ShardNo {
         self.node.shard()
     }
@@ -238,18 +328,21 @@ impl<D: Disk + Drop, H: Wait + Drop> Serves for Kept<'_, D, H> {
     }
 
     fn keep_up<W: Wait, C: Clock>(&self, rt: &W, clock: &mut C) -> Option<Stamp> {
+        let start = micros_of(clock);
         let served = self.node.keep_up(rt, clock);
-        self.let_go(rt);
+        self.let_go_after(rt, clock, start);
         served
     }
 
     fn publish<W: Wait, C: Clock>(&self, rt: &W, clock: &mut C) -> Option<Stamp> {
+        let start = micros_of(clock);
         let served = self.node.publish(rt, clock);
-        self.let_go(rt);
+        self.let_go_after(rt, clock, start);
         served
     }
 
     fn tidy<W: Wait, C: Clock>(&self, rt: &W, clock: &mut C) -> bool {
+        self.end_formers(rt);
         if self.keep.is_none() && self.renew.is_none() && self.retire.is_none() {
             return false;
         }
@@ -263,36 +356,57 @@ impl<D: Disk + Drop, H: Wait + Drop> Serves for Kept<'_, D, H> {
         self.retire(rt, clock, start) || self.forget(rt, clock, start)
     }
 
+    fn heal<W: Wait, C: Clock>(&self, rt: &W, clock: &mut C) {
+        if let Some(now) = micros_of(clock) {
+            if self.healing.is_due(now) {
+                self.restart(rt);
+            }
+        }
+    }
+
     fn alloc(&self) -> Global {
         self.node.alloc()
     }
 }
 
-/// The nodes, each of which keeps the past, renews its log and retires ids of this run as the options say. What they ask for is counted in these
-/// numbers.
-pub fn kept_nodes<'n, D: Disk + Drop, H: Wait + Drop>(
+/// The nodes, each of which keeps the past, renews its log in this folder and retires ids of this run as the options say. What they ask for is counted
+/// in these numbers. Boards that are opened again have this handle, and a viewer for each of so many clients, which is offered to it.
+pub fn kept_nodes<'n, D: Disk + Drop, H: Wait + Drop + Copy, L: LogFolder<D>>(
     alloc: Global,
     nodes: &'n [Node<D, H>],
+    own: H,
+    clients: usize,
+    folder: &'n L,
     run: Run,
     options: &Options,
     numbers: &Arc<Numbers, Global>,
-) -> Result<Vec<Kept<'n, D, H>>, Fault>
+    offers: &Arc<Offers, Global>,
+) -> Result<Vec<Kept<'n, D, H, L>>, Fault>
     ensures { IfErr result (λ fault. fault ≡ Fault.Memory) }
 {
     let mut kept = Vec::new(alloc);
     for (place, node) in nodes.iter().enumerate() {
         kept.push(Kept {
             node,
+            folder,
             keep: options.keep,
             renew: options.renew,
+            shrink: options.shrink,
             retire: options.retire,
             run,
             again: AtomicU64::new(0),
             renews: AtomicBool::new(false),
             left: AtomicU64::new(0),
+            put_off: AtomicBool::new(false),
             ids: Ids::new(),
             numbers: Arc::try_clone(numbers)?,
             place,
+            own,
+            clients,
+            healing: Healing::none(),
+            offers: Arc::try_clone(offers)?,
+            formers: Mutex::new(Vec::new(alloc)),
+            has_formers: AtomicBool::new(false),
         })?;
     }
     Ok(kept)

@@ -49,6 +49,8 @@ pub struct ShardNumbers {
     pub late: u64,
     /// Whether it has stopped. It stops for one reason: its device failed.
     pub has_stopped: bool,
+    /// How often its disk was opened again after it had stopped.
+    pub restarts: u64,
     /// Transactions that it has promised to commit and of whose end it has not heard: 64 at most. They are counted ten times a second at most,
     /// and when it shows something.
     pub in_doubt: u64,
@@ -82,6 +84,7 @@ pub(crate) struct ShardCounts {
     advances: AtomicU64,
     late: AtomicU64,
     stopped: AtomicU64,
+    restarts: AtomicU64,
     in_doubt: AtomicU64,
     doubt_since: AtomicU64,
     forgets: AtomicU64,
@@ -116,6 +119,7 @@ impl ShardCounts {
             advances: AtomicU64::new(0),
             late: AtomicU64::new(0),
             stopped: AtomicU64::new(0),
+            restarts: AtomicU64::new(0),
             in_doubt: AtomicU64::new(0),
             doubt_since: AtomicU64::new(0),
             forgets: AtomicU64::new(0),
@@ -233,6 +237,12 @@ impl ShardCounts {
         }
     }
 
+    /// Counts that its disk was opened again.
+    pub(crate) fn count_restart(&self) {
+        more(&self.restarts, 1);
+        self.stopped.store(0, Ordering::SeqCst);
+    }
+
     fn read(&self) -> ShardNumbers {
         ShardNumbers {
             taken: self.taken.load(Ordering::SeqCst),
@@ -252,6 +262,7 @@ impl ShardCounts {
             advances: self.advances.load(Ordering::SeqCst),
             late: self.late.load(Ordering::SeqCst),
             has_stopped: self.stopped.load(Ordering::SeqCst) != 0,
+            restarts: self.restarts.load(Ordering::SeqCst),
             in_doubt: self.in_doubt.load(Ordering::SeqCst),
             doubt_since: self.doubt_since.load(Ordering::SeqCst),
             forgets: self.forgets.load(Ordering::SeqCst),
@@ -421,7 +432,7 @@ pub(crate) fn numbers_of(
 }
 
 // The names of the numbers that only rise.
-static COUNTS: [&'static str; 9] = [
+static COUNTS: [&'static str; 10] = [
     "taken",
     "refused",
     "commits",
@@ -431,6 +442,7 @@ static COUNTS: [&'static str; 9] = [
     "late",
     "forgets",
     "turnovers_refused",
+    "restarts",
 ];
 
 // The names of those that tell how a shard stands.
@@ -473,6 +485,7 @@ fn value_of(numbers: &ShardNumbers, name: &str) -> u64 {
         "doubt_since" => numbers.doubt_since,
         "forgets" => numbers.forgets,
         "turnovers_refused" => numbers.turnovers_refused,
+        "restarts" => numbers.restarts,
         "fault" => numbers.fault,
         _ => number_of(numbers.has_stopped),
     }

@@ -1,5 +1,5 @@
 //! How a store is parted and served.
-ghost use Rattle.std.specs.Prelude.{◌≡◌, ◌⊎◌, ◌+◌, ◌<◌, ◌≤◌, Err, IfErr, IfOk, None, false};
+ghost use Rattle.std.specs.Prelude.{◌≡◌, ◌⊎◌, ◌+◌, ◌<◌, ◌≤◌, Err, IfErr, IfOk, None, Some, false};
 
 use host_files::Limit;
 use units::{Fault, Reason, Splits, Stamp, Stride};
@@ -29,9 +29,13 @@ pub struct Options {
     /// if the store is opened again by other options.
     pub keep: Option<u64>,
     /// By how many bytes the log of a shard has to grow before it is turned over, in its file, into one of what the shard holds. It also has
-    /// to be more than twice as long as it was after the last turnover of this opening. Or `None`, never. The file does not shrink, and takes
-    /// 1,024 turnovers: of a few bytes they are soon spent, and then its log grows on.
+    /// to be more than twice as long as it was after the last turnover of this opening. Or `None`, never. A file takes 1,024 turnovers: of a few
+    /// bytes they are soon spent, and then its log grows on.
     pub renew: Option<u64>,
+    /// How far into its file a log may begin, in bytes, when it is turned over. If it begins farther, and farther than twice what it held, it goes on
+    /// in a new file, which gets the name of the former one: so files stay small. Or `None`: they do not shrink. A store that was opened over disks
+    /// (`Store::open`) stays in them.
+    pub shrink: Option<u64>,
     /// After how many more transactions a shard retires their ids, or `None`, never. It retires those that no client speaks of any more and that
     /// no shard has prepared, at most once a second. It then keeps nothing of how they ended, in memory and in a log that is turned over. Else
     /// it keeps that for good, some 150 bytes each. `Client::outcome` of a retired id is `Unknown`, and `inspect` passes over it.
@@ -50,19 +54,27 @@ pub(crate) const STRIDE: u64 = 500_000;
 // Ten seconds.
 pub(crate) const AHEAD: u64 = 10_000_000;
 
+// 64 MiB.
+const LONG_LOG: u64 = 67_108_864;
+
+const MANY_IDS: u64 = 10_000;
+
 // A millisecond.
 pub(crate) const EPSILON: u64 = 1_000;
 
 impl Options {
     /// So many clients over these shards: a stride of 500,000 microseconds, an epsilon of 1,000, a patience of 100 milliseconds, and 30 seconds
-    /// for a shard that says nothing. Nothing is forgotten, no log is turned over, no id is retired, and a folder without a store gets
-    /// none. Logs may be 10 seconds ahead of the clock.
+    /// for a shard that says nothing. All versions are kept. A log is turned over once it has grown by 64 MiB, and goes on in a new file once it
+    /// begins so far into its own. Ids are retired after 10,000 transactions. A folder without a store gets none. Logs may be 10 seconds
+    /// ahead of the clock.
     pub fn new(splits: Splits, clients: u64) -> Options
         ensures splits { result.splits ≡ splits }
         ensures clients { result.clients ≡ clients }
         ensures times { (result.stride ≡ 500000) × (result.epsilon ≡ 1000) × (result.patience ≡ 5)
             × (result.give_up ≡ 30000) }
-        ensures all { (result.keep ≡ None) × (result.renew ≡ None) × (result.retire ≡ None) }
+        ensures all { result.keep ≡ None }
+        ensures flat { (result.renew ≡ Some 67108864) × (result.shrink ≡ Some 67108864)
+            × (result.retire ≡ Some 10000) }
         ensures ahead { result.ahead ≡ 10000000 }
         ensures make { result.make ≡ false }
     {
@@ -78,8 +90,9 @@ impl Options {
             patience: 5,
             give_up: 30_000,
             keep: None,
-            renew: None,
-            retire: None,
+            renew: Some(LONG_LOG),
+            shrink: Some(LONG_LOG),
+            retire: Some(MANY_IDS),
             ahead: AHEAD,
             make: false,
         }

@@ -40,6 +40,11 @@ impl Retiring {
         self.speak(client, self.next.load(Ordering::SeqCst));
     }
 
+    /// Tells whether all numbers below this one were drawn and noted.
+    pub(crate) fn has_drawn(&self, number: u64) -> bool {
+        number <= self.next.load(Ordering::SeqCst)
+    }
+
     /// Notes the id that the client drew.
     pub(crate) fn drew(&self, client: usize, id: TxnId) {
         self.next.fetch_max(id.number() + 1, Ordering::SeqCst);

@@ -11,6 +11,7 @@ use crate::crew::{Crew, clients_of};
 use crate::door::Door;
 use crate::kept::kept_nodes;
 use crate::numbers::Numbers;
+use crate::offers::Offers;
 use crate::shared::Shared;
 use crate::steady::StoreClock;
 use board::Viewers;
@@ -18,7 +19,7 @@ use client::Stop;
 use crossbeam_channel::Receiver;
 use disk::Disk;
 use letters::{Inboxes, Letter, Network, Post, Served, Serves, start_in, to_serve};
-use node::{Node, run_of};
+use node::{LogFolder, Node, run_of};
 use std::alloc::Global;
 use std::sync::atomic::AtomicU64;
 use std::sync::{Arc, Wait};
@@ -29,11 +30,12 @@ use truetime::Clock;
 use units::{Epoch, Fault, Stamp};
 
 /// Serves nodes, each on a thread, while `work` goes on with its clients. They keep the past for as long as the options say, and
-/// renew their logs as these say.
+/// renew their logs as these say, into new files if their folder has some. A node that stops is opened again, with this handle for its board.
 pub fn serve_kept<
     R: Threads + Wait + time::Clock + Sync,
     D: Disk + Drop + Send,
-    H: Wait + Drop + Send,
+    H: Wait + Drop + Copy + Send + Sync,
+    L: LogFolder<D> + Sync,
     T,
     F: for<'s> FnOnce(Vec<Client<'s, R>>) -> T,
 >(
@@ -43,6 +45,8 @@ pub fn serve_kept<
     epoch: Epoch,
     last: Stamp,
     nodes: &[Node<D, H>],
+    own: H,
+    folder: &L,
     viewers: Viewers,
     numbers: Arc<Numbers, Global>,
     work: F,
@@ -55,10 +59,15 @@ pub fn serve_kept<
         → length viewers.by_worker.items ≤ 256
         → IfErr result (λ fault. fault ≡ Fault.Memory) }
 {
-    let kept = kept_nodes(alloc, nodes, run_of(epoch), options, &numbers)?;
+    let offers = Arc::new(alloc, Offers::none(alloc, nodes.len())?)?;
+    let run = run_of(epoch);
+    let clients = viewers.by_worker.len();
+    let kept = kept_nodes(
+        alloc, nodes, own, clients, folder, run, options, &numbers, &offers,
+    )?;
     let counted = counted_nodes(alloc, &kept, &numbers)?;
     serve_nodes(
-        rt, alloc, options, epoch, last, &counted, numbers, viewers, work,
+        rt, alloc, options, epoch, last, &counted, numbers, offers, viewers, work,
     )
 }
 
@@ -76,6 +85,7 @@ fn serve_nodes<
     last: Stamp,
     nodes: &[N],
     numbers: Arc<Numbers, Global>,
+    offers: Arc<Offers, Global>,
     viewers: Viewers,
     work: F,
 ) -> Result<T, Fault>
@@ -87,7 +97,7 @@ fn serve_nodes<
         → length viewers.by_worker.items ≤ 256
         → IfErr result (λ fault. fault ≡ Fault.Memory) }
 {
-    let made = shared_of(alloc, options, epoch, nodes.len(), numbers, viewers);
+    let made = shared_of(alloc, options, epoch, nodes.len(), numbers, offers, viewers);
     let (shared, to_nodes, crew) = made?;
     let reached = AtomicU64::new(last.micros());
     let clock = StoreClock::new(rt, options, last, &reached);
@@ -107,6 +117,7 @@ fn shared_of(
     epoch: Epoch,
     nodes: usize,
     numbers: Arc<Numbers, Global>,
+    offers: Arc<Offers, Global>,
     viewers: Viewers,
 ) -> Result<(Shared, Vec<Receiver<Letter>>, Crew), Fault>
     ensures drawers { IfOk result
@@ -137,6 +148,7 @@ fn shared_of(
         give_up: options.give_up,
         door: Door::new(options.give_up, options.epsilon),
         numbers,
+        offers,
     };
     let crew = Crew {
         inboxes: to_clients,

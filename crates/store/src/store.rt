@@ -6,11 +6,13 @@ ghost use Rattle.store.specs.Attempts.{IsFresh};
 
 use crate::Options;
 use crate::clients::Client;
+use crate::log_files::{LogFiles, NoFolder};
 use crate::numbers::{Numbers, numbers_of};
 use crate::serving::serve_kept;
 use crate::timed::lead_by;
 use disk::Disk;
-use node::{Node, Opened, Unopened, open_shards};
+use filedisk::FileDisk;
+use node::{LogFolder, Node, Opened, Unopened, open_shards};
 use std::alloc::Global;
 use std::marker::Model;
 use std::sync::{Arc, Wait};
@@ -20,16 +22,22 @@ use units::{Fault, Reason};
 
 /// A store whose shards are open, each over a disk of its own. Contracts see the run of its ids, its splits, and how many shards and clients it
 /// has. Of its clock they see the epsilon and the timestamp from which it goes on. They also see the viewers that its clients get.
+///
+/// Its logs stand in a folder of the kind `L`, or stay in their disks.
 #[derive(Drop)]
-pub struct Store<'r, R: Wait, D: Disk + Drop> {
+pub struct Store<'r, R: Wait, D: Disk + Drop, L = NoFolder> {
     rt: &'r R,
     alloc: Global,
     options: Options,
     opened: Opened<Node<D, &'r R>>,
     numbers: Arc<Numbers, Global>,
+    folder: L,
 }
 
-impl<'r, R: Wait, D: Disk + Drop> Model for Store<'r, R, D> {
+/// A store whose logs are files in a folder.
+pub type FolderStore<'r, R> = Store<'r, R, FileDisk, LogFiles<'r, R>>;
+
+impl<'r, R: Wait, D: Disk + Drop, L> Model for Store<'r, R, D, L> {
     ghost use Rattle.std.specs.Prelude.{◌<◌, ◌≤◌, length};
     ghost use Rattle.board.specs.Dealing.{lists_of};
     ghost use Rattle.store.specs.Standing.{Standing};
@@ -102,11 +110,39 @@ impl<'r, R: Threads + Wait + Sync, D: Disk + Drop + Send> Store<'r, R, D> {
             options,
             opened,
             numbers,
+            folder: NoFolder,
         })
+    }
+
+    // The same store, whose logs stand in a folder.
+    pub(crate) fn stands_in<L>(self, folder: L) -> Store<'r, R, D, L>
+        ensures { result ≡ self.entry }
+    {
+        let Store {
+            rt,
+            alloc,
+            options,
+            opened,
+            numbers,
+            folder: _,
+        } = self;
+        Store {
+            rt,
+            alloc,
+            options,
+            opened,
+            numbers,
+            folder,
+        }
     }
 }
 
-impl<'r, R: Threads + Wait + time::Clock + Sync, D: Disk + Drop + Send> Store<'r, R, D> {
+impl<
+    'r,
+    R: Threads + Wait + time::Clock + Sync,
+    D: Disk + Drop + Send,
+    L: LogFolder<D> + Drop + Sync,
+> Store<'r, R, D, L> {
     /// Tells by how many microseconds the greatest timestamp of the logs lies ahead of the machine's clock now: 0 if the clock has passed it. `None`
     /// if the clock gives no reading. Commits have later timestamps, so they wait until the clock has passed it. After a restart it may be as much
     /// as the stride; if it is more, a clock is or was wrong.
@@ -128,6 +164,9 @@ impl<'r, R: Threads + Wait + time::Clock + Sync, D: Disk + Drop + Send> Store<'r
     /// Serves the store on threads of its own while `work` goes on with its clients, and closes it after that. What `work` gave comes
     /// with the disks, by shard. It is refused as `Memory` if there is no thread or no memory for it, and then `work` has not begun. So what
     /// `work` gave is never lost: its type need not be one that may be dropped.
+    ///
+    /// A shard whose device fails stops. Its disk is opened again after a second, and then every ten seconds until that succeeds. Commits go on there
+    /// then, and each client sees it in the next view that it opens. What was acknowledged is there.
     pub fn serve<T, F: for<'s> FnOnce(Vec<Client<'s, R>>) -> T>(
         self,
         work: F,
@@ -145,6 +184,7 @@ impl<'r, R: Threads + Wait + time::Clock + Sync, D: Disk + Drop + Send> Store<'r
             options,
             opened,
             numbers,
+            folder,
         } = self;
         let Opened {
             nodes,
@@ -157,13 +197,15 @@ impl<'r, R: Threads + Wait + time::Clock + Sync, D: Disk + Drop + Send> Store<'r
             drop(nodes);
             drop(viewers);
             drop(numbers);
+            drop(folder);
             drop(work);
             return Err(Fault::Memory);
         };
         let answer = serve_kept(
-            rt, alloc, &options, epoch, last, &nodes, viewers, numbers, work,
+            rt, alloc, &options, epoch, last, &nodes, rt, &folder, viewers, numbers, work,
         );
         drop(options);
+        drop(folder);
         match answer {
             Ok(answer) => Ok((answer, closed(nodes, disks))),
             Err(fault) => {

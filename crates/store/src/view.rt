@@ -58,8 +58,10 @@ impl<R: Wait + time::Clock> View<'_, '_, R> {
     /// A view of the present waits until the key's shard serves the timestamp, some seconds at most; one that `Client::view_at` opened does not
     /// wait. Then it is refused as `NotYet`, and the same call may be answered a few milliseconds later.
     ///
-    /// If the shard has stopped and does not serve the timestamp, it is refused as `Stopped` at once, until the store is opened again. If the
-    /// shard has forgotten what its keys were then, it is refused as `TooOld`: then another view has to be opened.
+    /// If the shard has stopped and does not serve the timestamp, it is refused as `Stopped` at once. Once the disk of the shard was opened again, a view
+    /// that is opened then sees what it has, and this one goes on with what it served before.
+    ///
+    /// If the shard has forgotten what its keys were then, it is refused as `TooOld`: then another view has to be opened.
     pub fn get(&mut self, key: &Key) -> Result<Option<Value>, Fault>
         ensures at { self.new.at ≡ self.old.at }
         ensures splits { self.new.shared.now.splits ≡ self.old.shared.now.splits }

@@ -158,11 +158,15 @@ fn work<R: Threads + Wait + time::Clock + Sync>(
 }
 
 // What a copy tells: what all accounts have, and the number that was put before it.
-fn told<R: Files<File = File> + RandomSource + Threads + Wait + time::Clock + Sync + Abort>(
-    rt: &R,
-    alloc: Global,
-    copy: &str,
-) -> Option<(u64, u64)> {
+fn told<
+    R: Files<File = File, Dir = <HostRuntime as Files>::Dir>
+        + RandomSource
+        + Threads
+        + Wait
+        + time::Clock
+        + Sync
+        + Abort,
+>(rt: &R, alloc: Global, copy: &str) -> Option<(u64, u64)> {
     let store = Store::open_folder(rt, alloc, copy, options(rt, alloc, 1)).ok()?;
     let (told, disks) = store
         .serve(|clients: Vec<Client<'_, R>>| -> Option<(u64, u64)> {
@@ -179,7 +183,15 @@ fn told<R: Files<File = File> + RandomSource + Threads + Wait + time::Clock + Sy
 }
 
 // Whether the store is made and copied as said, and each copy has all money, and what was acknowledged before it was begun.
-fn are_right<R: Files<File = File> + RandomSource + Threads + Wait + time::Clock + Sync + Abort>(
+fn are_right<
+    R: Files<File = File, Dir = <HostRuntime as Files>::Dir>
+        + RandomSource
+        + Threads
+        + Wait
+        + time::Clock
+        + Sync
+        + Abort,
+>(
     rt: &R,
     files: &HostRuntime,
     alloc: Global,
@@ -230,11 +242,15 @@ fn copies_beside_clients_are_whole(rt: HostRuntime) {
 }
 
 // Makes a store of an account in a folder, and closes it.
-fn made<R: Files<File = File> + RandomSource + Threads + Wait + time::Clock + Sync + Abort>(
-    rt: &R,
-    alloc: Global,
-    folder: &str,
-) -> bool {
+fn made<
+    R: Files<File = File, Dir = <HostRuntime as Files>::Dir>
+        + RandomSource
+        + Threads
+        + Wait
+        + time::Clock
+        + Sync
+        + Abort,
+>(rt: &R, alloc: Global, folder: &str) -> bool {
     let mut chosen = options(rt, alloc, 1);
     chosen.make = true;
     let store = Store::open_folder(rt, alloc, folder, chosen);
@@ -255,11 +271,15 @@ fn made<R: Files<File = File> + RandomSource + Threads + Wait + time::Clock + Sy
 }
 
 // Whether a store in a folder is opened, and refused as none if it is not.
-fn opens<R: Files<File = File> + RandomSource + Threads + Wait + time::Clock + Sync + Abort>(
-    rt: &R,
-    alloc: Global,
-    folder: &str,
-) -> Result<(), Fault> {
+fn opens<
+    R: Files<File = File, Dir = <HostRuntime as Files>::Dir>
+        + RandomSource
+        + Threads
+        + Wait
+        + time::Clock
+        + Sync
+        + Abort,
+>(rt: &R, alloc: Global, folder: &str) -> Result<(), Fault> {
     match Store::open_folder(rt, alloc, folder, options(rt, alloc, 1)) {
         Ok(store) => {
             drop(store);

@@ -45,6 +45,11 @@ pub fn store_of<'r, R: Threads + Wait + Sync + Abort>(
     store.ok().expect(rt, "a store")
 }
 
+/// Tells whether a transaction was committed.
+pub fn is_committed(ended: &Result<Ended, Fault>) -> bool {
+    matches!(ended, Ok(Ended::Committed { .. }))
+}
+
 /// Writes a value to keys in a transaction, and returns how it ended.
 pub fn write<R: Wait + time::Clock>(
     alloc: Global,

@@ -30,6 +30,8 @@ mod forgetting;
 #[cfg(test)]
 mod gates;
 #[cfg(test)]
+mod healed;
+#[cfg(test)]
 mod hot_keys;
 #[cfg(test)]
 mod kept;
@@ -57,6 +59,8 @@ mod retiring;
 mod services;
 #[cfg(test)]
 mod slow;
+#[cfg(test)]
+mod small_files;
 #[cfg(test)]
 mod standing;
 #[cfg(test)]

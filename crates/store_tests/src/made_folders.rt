@@ -137,11 +137,15 @@ fn stores_are_made_or_opened(rt: HostRuntime) {
 }
 
 // The run of the ids of a store in a folder, and the time of a view there.
-fn seen_in<R: Files<File = File> + RandomSource + Threads + Wait + Clock + Sync + Abort>(
-    rt: &R,
-    alloc: Global,
-    path: &str,
-) -> Option<(u64, u64)> {
+fn seen_in<
+    R: Files<File = File, Dir = <HostRuntime as Files>::Dir>
+        + RandomSource
+        + Threads
+        + Wait
+        + Clock
+        + Sync
+        + Abort,
+>(rt: &R, alloc: Global, path: &str) -> Option<(u64, u64)> {
     let mut options = of_one_shard(rt, alloc, 1);
     options.make = true;
     let store = Store::open_folder(rt, alloc, path, options).ok()?;

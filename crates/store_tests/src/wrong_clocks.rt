@@ -103,11 +103,15 @@ fn options(rt: &impl Abort, alloc: Global) -> Options {
 }
 
 // Writes to a store in a folder, by a clock that is ahead.
-fn is_written<R: Files<File = File> + RandomSource + Threads + Wait + Clock + Sync + Abort>(
-    rt: &R,
-    alloc: Global,
-    path: &str,
-) -> bool {
+fn is_written<
+    R: Files<File = File, Dir = <HostRuntime as Files>::Dir>
+        + RandomSource
+        + Threads
+        + Wait
+        + Clock
+        + Sync
+        + Abort,
+>(rt: &R, alloc: Global, path: &str) -> bool {
     let options = options(rt, alloc);
     let Ok(logs) = logs_in(rt, alloc, path, &options.splits, Expected::NoStore) else {
         drop(options);
@@ -128,11 +132,15 @@ fn is_written<R: Files<File = File> + RandomSource + Threads + Wait + Clock + Sy
 }
 
 // Why the folder is not opened, if it is not; else whether a view has what was written.
-fn opened<R: Files<File = File> + RandomSource + Threads + Wait + Clock + Sync + Abort>(
-    rt: &R,
-    alloc: Global,
-    path: &str,
-) -> Result<bool, Fault> {
+fn opened<
+    R: Files<File = File, Dir = <HostRuntime as Files>::Dir>
+        + RandomSource
+        + Threads
+        + Wait
+        + Clock
+        + Sync
+        + Abort,
+>(rt: &R, alloc: Global, path: &str) -> Result<bool, Fault> {
     let store = match Store::open_folder(rt, alloc, path, options(rt, alloc)) {
         Ok(store) => store,
         Err(unopened) => return Err(unopened.fault),
@@ -152,11 +160,15 @@ fn opened<R: Files<File = File> + RandomSource + Threads + Wait + Clock + Sync +
 }
 
 // Opens it again until it is not refused as `Future`, for ten seconds.
-fn opened_later<R: Files<File = File> + RandomSource + Threads + Wait + Clock + Sync + Abort>(
-    rt: &R,
-    alloc: Global,
-    path: &str,
-) -> Result<bool, Fault> {
+fn opened_later<
+    R: Files<File = File, Dir = <HostRuntime as Files>::Dir>
+        + RandomSource
+        + Threads
+        + Wait
+        + Clock
+        + Sync
+        + Abort,
+>(rt: &R, alloc: Global, path: &str) -> Result<bool, Fault> {
     let mut told = opened(rt, alloc, path);
     for _try in 0..100 {
         if told != Err(Fault::Future) {

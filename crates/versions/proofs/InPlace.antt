@@ -18,7 +18,7 @@ use Rattle.versions.proofs.Shorter.{within_each}
 
 module _ (installs : List Install) (p : Headed) (o : StandInOrder installs p) where
   -- they are read as they stand
-  stands : arranged installs p.places ≡ installs
+  pub stands : arranged installs p.places ≡ installs
   stands =
       same_lists (arranged installs p.places) installs (length_arranged installs p.places ∙ o.all)
       (λ k d less. each k d (omega (arith, less, length_arranged installs p.places)))

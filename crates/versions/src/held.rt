@@ -1,7 +1,8 @@
 //! The versions that a horizon leaves, in a list of their own.
-ghost use Rattle.std.specs.Prelude.{◌≡◌, ℕ, ◌+◌, ◌<◌, ◌++◌, ◌∷◌, [], length, vec_len, vec_capacity, IfOk, IfErr, OnOk};
-ghost use Rattle.versions.specs.Arranged.{arranged};
+ghost use Rattle.std.specs.Prelude.{◌≡◌, ℕ, ◌+◌, ◌<◌, ◌≤◌, ◌++◌, ◌∷◌, [], length, vec_len, vec_capacity, IfOk, IfErr, OnOk};
+ghost use Rattle.versions.specs.Arranged.{arranged, AreWithin};
 ghost use Rattle.versions.specs.Gathered.{StandInOrder};
+ghost use Rattle.versions.specs.Ordered.{AscendsByVersion};
 ghost use Rattle.versions.specs.Orders.{Orders};
 ghost use Rattle.versions.specs.Pruned.{pruned};
 
@@ -26,9 +27,34 @@ pub fn copy_held(
         → Orders from held.0.items (length held.0.items) held.1) }
     ensures memory { IfErr result (λ fault. fault ≡ Fault.Memory) }
 {
-    let mut held = Vec::with_capacity(alloc, places.len())?;
+    let (held, order) = held_with_room(alloc, installs, places, horizon, 0)?;
+    Ok((held, order))
+}
+
+/// Copies them (`copy_held`) with room for as many as it leaves out, and for so many more.
+pub(crate) fn held_with_room(
+    alloc: Global,
+    installs: &[Install],
+    places: &Places,
+    horizon: Stamp,
+    room: usize,
+) -> Result<(Vec<Install>, Places), Fault>
+    requires within { AreWithin places.now.places (length installs.now) }
+    requires order { AscendsByVersion (arranged installs.now places.now.places) }
+    ensures held { IfOk result (λ held. held.0.items ≡
+        pruned horizon (arranged installs.now places.now.places)) }
+    ensures order { IfOk result (λ held. StandInOrder held.0.items held.1) }
+    ensures room { IfOk result (λ held. (length places.now.places + room ≤ vec_capacity held.0)
+        × (length places.now.places + room ≤ length held.0.items + held.1.room)) }
+    ensures fewer { IfOk result (λ held. length held.0.items ≤ length places.now.places) }
+    ensures memory { IfErr result (λ fault. fault ≡ Fault.Memory) }
+{
+    let Some(all) = places.len().checked_add(room) else {
+        return Err(Fault::Memory);
+    };
+    let mut held = Vec::with_capacity(alloc, all)?;
     let mut order = places.beside(alloc);
-    order.reserve(places.len())?;
+    order.reserve(all)?;
     for at in 0..places.len() {
         if is_passed(installs, places, at, horizon) {
             continue;

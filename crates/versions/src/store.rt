@@ -1,12 +1,11 @@
 //! The versions of keys.
-ghost use Rattle.std.specs.Prelude.{◌≡◌, ℕ, ◌+◌, ◌-◌, ◌<◌, ◌≤◌, ◌^◌, ◌++◌, ◌∷◌, [], List, length, vec_len, vec_capacity, IsTrue, IsOk, IfOk, IfErr, OnOk};
+ghost use Rattle.std.specs.Prelude.{◌≡◌, ℕ, ◌+◌, ◌*◌, ◌<◌, ◌≤◌, ◌^◌, ◌++◌, ◌∷◌, [], List, length, nat_le, IsTrue, IsOk, IfOk, IfErr, OnOk};
 ghost use Rattle.std.specs.Option.{option_copied};
 ghost use Rattle.units.specs.Versions.{latest, at_time, versions, above_versions};
 ghost use Rattle.units.specs.declared.writes.Install.{Install};
 ghost use Rattle.units.specs.Keys.{write_before};
 ghost use Rattle.units.specs.Lists.{ascends};
-ghost use Rattle.versions.specs.Arranged.{arranged, AreWithin, IsPlaced};
-ghost use Rattle.versions.specs.Heads.{AreHeads};
+ghost use Rattle.versions.specs.Arranged.{arranged, AreWithin};
 ghost use Rattle.versions.specs.Next.{IsNextKey, IsNextVersion};
 ghost use Rattle.versions.specs.Ordered.{installed, all_installed, count_not_after, is_above, AscendsByVersion};
 ghost use Rattle.versions.specs.Orders.{Orders};
@@ -16,6 +15,7 @@ ghost use Rattle.versions.specs.Pruned.{pruned};
 
 use crate::copying::copy_install;
 use crate::forgetting::{forget, gather, is_due};
+use crate::held::held_with_room;
 use crate::placed::Places;
 use crate::search::{self, find, install, install_from};
 use counts::Count;
@@ -78,7 +78,7 @@ impl Versions {
             (λ versions. versions.installs ≡ arranged installs.now places.now.places) }
         ensures memory { IfErr result (λ fault. fault ≡ Fault.Memory) }
     {
-        Versions::in_order(alloc, installs, places, 0)
+        Versions::in_order(alloc, installs, places)
     }
 
     /// A copy, which shares the values.
@@ -86,48 +86,25 @@ impl Versions {
         ensures versions { IfOk result (λ copy. copy.installs ≡ self.now.installs) }
         ensures memory { IfErr result (λ fault. fault ≡ Fault.Memory) }
     {
-        Versions::in_order(alloc, &self.installs, &self.places, 0)
+        Versions::in_order(alloc, &self.installs, &self.places)
     }
 
-    // Copies of the versions at some places, with room for so many more.
-    fn in_order(
-        alloc: Global,
-        installs: &[Install],
-        places: &Places,
-        room: usize,
-    ) -> Result<Versions, Fault>
+    // Copies of the versions at some places.
+    fn in_order(alloc: Global, installs: &[Install], places: &Places) -> Result<Versions, Fault>
         requires within { AreWithin places.now.places (length installs.now) }
         requires order { AscendsByVersion (arranged installs.now places.now.places) }
         ensures versions { IfOk result
             (λ versions. versions.installs ≡ arranged installs.now places.now.places) }
-        ensures room { IfOk result (λ versions. room ≤ versions.room) }
         ensures memory { IfErr result (λ fault. fault ≡ Fault.Memory) }
     {
         let mut versions = Versions::none(alloc);
-        let Some(all) = places.len().checked_add(room) else {
-            return Err(Fault::Memory);
-        };
-        let Ok(()) = versions.reserve(all) else {
+        let Ok(()) = versions.reserve(places.len()) else {
             return Err(Fault::Memory);
         };
         for at in 0..places.len() {
             versions.append(&installs[places.get(at)])?;
         }
         Ok(versions)
-    }
-
-    // Gives the versions, and their places.
-    fn into_parts(self) -> (Vec<Install>, Places)
-        ensures items { arranged result.0.items result.1.places ≡ self.installs }
-        ensures placed { IsPlaced result.0.items result.1.places result.1.heads result.1.prefix
-            self.room (vec_capacity result.0 - vec_len result.0) result.1.room }
-    {
-        let Versions {
-            installs,
-            places,
-            room: _,
-        } = self;
-        (installs, places)
     }
 
     // Adds a copy of a version that comes after all others in order.
@@ -213,9 +190,27 @@ impl Versions {
     }
 
     /// Forgets the versions below a horizon: of each key all below it go, except the newest that is not above it. So values at the horizon or
-    /// later stay as they are, and so does what is taken as new. What goes leaves its room. If there is memory, the others are copied, each in its
-    /// place, which is quicker than to move them there.
+    /// later stay as they are, and so does what is taken as new. What goes leaves its room. If there is memory, the others are copied, each to
+    /// where it comes, which is quicker than to move them.
     pub fn forget(&mut self, horizon: Stamp)
+        ensures installs { self.new.installs ≡ pruned horizon self.old.installs }
+        ensures room { self.old.room ≤ self.new.room }
+        ensures freed { length self.new.installs + self.new.room ≡
+            length self.old.installs + self.old.room }
+    {
+        let alloc = *self.installs.allocator();
+        let held = held_with_room(alloc, &self.installs, &self.places, horizon, self.room);
+        let Ok((installs, places)) = held else {
+            self.forget_in_place(horizon);
+            return;
+        };
+        self.room += self.places.len() - places.len();
+        self.installs = installs;
+        self.places = places;
+    }
+
+    // Forgets them (`forget`) without memory.
+    fn forget_in_place(&mut self, horizon: Stamp)
         ensures installs { self.new.installs ≡ pruned horizon self.old.installs }
         ensures room { self.old.room ≤ self.new.room }
         ensures freed { length self.new.installs + self.new.room ≡
@@ -224,20 +219,23 @@ impl Versions {
         let before = self.places.len();
         forget(&self.installs, &mut self.places, horizon);
         self.room += before - self.places.len();
-        bring_together(&mut self.installs, &mut self.places, self.room);
+        gather(&mut self.installs, &mut self.places);
     }
 
     /// Forgets the versions below a horizon (`forget`) if that is due: if there are twice as many as were left the last time, and 1,024 more.
-    /// `left` says how many that were. So a pass over all versions is paid for by those that came since the last one.
-    pub fn forget_if_due(&mut self, horizon: Stamp, left: &mut usize)
+    /// `left` says how many that were. So a pass over all versions is paid for by those that came since the last one. Returns whether it was due.
+    pub fn forget_if_due(&mut self, horizon: Stamp, left: &mut usize) -> bool
         ensures forgotten { ForgetsIfDue horizon left.old left.new
             self.old.installs self.new.installs }
         ensures room { self.old.room ≤ self.new.room }
+        ensures told { result ≡ nat_le (2 * left.old + 1024) (length self.old.installs) }
     {
-        if is_due(*left, self.places.len()) {
+        let due = is_due(*left, self.places.len());
+        if due {
             self.forget(horizon);
             *left = self.places.len();
         }
+        due
     }
 
     /// Gives the most recent value of a key: `None` if there is none or it was erased.
@@ -278,37 +276,5 @@ impl Versions {
         ensures counted { compared.new.number ≡ compared.old.number + result.1 }
     {
         find(&self.installs, &self.places, key, at.micros(), compared)
-    }
-}
-
-// Brings the versions that have a place to the front, in the order of the places, and drops the others. There is room for so many more. If there
-// is memory they are copied, each to where it comes, which is quicker than to move them.
-fn bring_together(installs: &mut Vec<Install>, places: &mut Places, room: usize)
-    requires within { AreWithin places.old.places (length installs.old.items) }
-    requires order { AscendsByVersion (arranged installs.old.items places.old.places) }
-    requires heads { AreHeads places.old.prefix (arranged installs.old.items places.old.places)
-        places.old.heads }
-    requires few { length places.old.places ≤ vec_len installs.old }
-    requires room { (length places.old.places + room ≤ vec_capacity installs.old)
-        × (room ≤ places.old.room) }
-    ensures items { arranged installs.new.items places.new.places ≡
-        arranged installs.old.items places.old.places }
-    ensures within { AreWithin places.new.places (length installs.new.items) }
-    ensures heads { AreHeads places.new.prefix (arranged installs.new.items places.new.places)
-        places.new.heads }
-    ensures all { vec_len installs.new ≡ length places.new.places }
-    ensures room { (vec_len installs.new + room ≤ vec_capacity installs.new)
-        × (room ≤ places.new.room) }
-{
-    if places.len() >= installs.len() {
-        return;
-    }
-    match Versions::in_order(*installs.allocator(), installs, places, room) {
-        Ok(gathered) => {
-            let (all, order) = gathered.into_parts();
-            *installs = all;
-            *places = order;
-        }
-        Err(_) => gather(installs, places),
     }
 }

@@ -59,7 +59,14 @@ fn words(rt: &HostRuntime) -> Option<Todo> {
 }
 
 fn serve<
-    R: rt::Files<File = File> + RandomSource + Threads + Wait + time::Clock + Sync + Print + Eprint,
+    R: rt::Files<File = File, Dir = <HostRuntime as rt::Files>::Dir>
+        + RandomSource
+        + Threads
+        + Wait
+        + time::Clock
+        + Sync
+        + Print
+        + Eprint,
 >(rt: &R, host: &HostRuntime, alloc: Global, todo: &Todo) -> Result<bool, Refused> {
     let mut options = Options::new(splits(alloc)?, u64::from(WORKERS) + 2);
     options.make = true;

@@ -1,5 +1,5 @@
 use Rattle.std.proofs.Common.{arith}
-use Rattle.store.proofs.store.Store.open.Goals as goal
+use Rattle.store.proofs.store.Store+R+D.open.Goals as goal
 
 -- there are as many viewers as clients, and these are within their limits
 pub invariant_of-result : goal.invariant_of-result

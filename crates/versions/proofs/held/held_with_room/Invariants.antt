@@ -2,14 +2,14 @@ use Rattle.std.proofs.Common.{◌≡◌, ◌+◌, ◌≤◌, ◌++◌, drop, len
 use Rattle.versions.specs.Arranged.{arranged}
 use Rattle.versions.specs.Gathered.{StandInOrder}
 use Rattle.versions.proofs.Passed.{left_of}
-use Rattle.versions.proofs.held.copy_held.Given as goal
+use Rattle.versions.proofs.held.held_with_room.Given as goal
 
 abbrev pub invariant-loop-at : goal.invariant-loop-at
 invariant-loop-at l = record {
   behind : length l.held.items ≤ l.at;
   order : StandInOrder l.held.items l.order;
-  vector : length l.places.places ≤ vec_capacity l.held;
-  room : length l.places.places ≤ length l.held.items + l.order.room;
+  vector : length l.places.places + l.room ≤ vec_capacity l.held;
+  room : length l.places.places + l.room ≤ length l.held.items + l.order.room;
   left : l.held.items ++ left_of l.horizon (drop l.at (arranged l.installs l.places.places))
       ≡ left_of l.horizon (arranged l.installs l.places.places);
 }
