@@ -109,12 +109,10 @@ fn told_by<R: Wait + time::Clock>(
 // Lends the two clients.
 fn work<R: Wait + time::Clock>(rt: &R, alloc: Global, clients: Vec<Client<'_, R>>) -> Option<Told> {
     let mut clients = clients;
-    let told = match clients.as_mut_slice() {
-        [writer, other] => told_by(rt, alloc, writer, other),
-        _ => None,
-    };
+    let mut other = clients.pop()?;
+    let mut writer = clients.pop()?;
     drop(clients);
-    told
+    told_by(rt, alloc, &mut writer, &mut other)
 }
 
 // Serves a store of two shards, the disk of one of which fails at this call.
