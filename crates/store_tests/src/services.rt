@@ -10,7 +10,7 @@ use std::thread::Threads;
 use std::time::{Duration, Instant};
 use std::{thread, time};
 use store::{Client, Ended, Halt, Store, Transaction, Unopened, View};
-use units::{Fault, Key, ShardNo};
+use units::{Fault, Key, ShardNo, Value};
 
 // Which shard's disk fails, at which of its calls from the opening on, and how a transaction ends that writes there and on the other shard:
 // shard 0 decides.
@@ -141,7 +141,18 @@ fn services_hear_of_stopped_shards(rt: HostRuntime) {
     end(&rt, wrong);
 }
 
-// Whether the numbers tell of one transaction that shard 1 has promised and not heard the end of, within two seconds of commits there.
+// Writes 128 keys of shard 1, others than what is in doubt, which holds its locks. After a few such transactions the shard shows soon what it has.
+fn write_many<R: Wait + time::Clock>(alloc: Global, client: &mut Client<'_, R>) {
+    let _ = client.transact(5, |tx: &mut Transaction<'_, R>| -> Result<(), Halt> {
+        for n in 0..128_u8 {
+            tx.put(&Key::new(&[b'n', n])?, Value::new(alloc, b"1")?)?;
+        }
+        Ok(())
+    });
+}
+
+// Whether the numbers tell of one transaction that shard 1 has promised and not heard the end of, within two seconds of commits there. The stopped
+// shard is opened again after a second, so they are to tell it before that.
 fn is_counted<R: Wait + time::Clock>(rt: &R, alloc: Global, client: &mut Client<'_, R>) -> bool {
     for _commit in 0..100 {
         if let Some(numbers) = client.numbers().of(1) {
@@ -149,7 +160,7 @@ fn is_counted<R: Wait + time::Clock>(rt: &R, alloc: Global, client: &mut Client<
                 return true;
             }
         }
-        let _ = write_soon(rt, alloc, client, &FREE[1..]);
+        write_many(alloc, client);
         thread::sleep(rt, Duration::from_millis(20));
     }
     false
