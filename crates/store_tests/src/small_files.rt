@@ -47,7 +47,7 @@ static ROWS: [Row; 3] = [
 ];
 
 // So many commits at least, and at most, one each five milliseconds, of 73 bytes in the log. A shard looks at its log about once a second.
-const COMMITS: u32 = 200;
+const COMMITS: u32 = 60;
 
 const MOST_COMMITS: u32 = 6_000;
 
