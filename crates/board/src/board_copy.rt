@@ -143,8 +143,8 @@ impl BoardCopy {
         Ok(())
     }
 
-    /// Shows what is prepared. If its horizon rose, it lets go the versions that are no longer needed, but not before there are twice as many as
-    /// were left the last time. It does not if it `waits`: the other copy has just looked at all of its own, and both at once would keep a
+    /// Shows what is prepared. If its horizon rose, it lets go the versions that are no longer needed, but not before there are half as many more
+    /// as were left the last time. It does not if it `waits`: the other copy has just looked at all of its own, and both at once would keep a
     /// shard from its letters for twice as long. It takes no memory.
     pub(crate) fn commit(&mut self, waits: bool)
         ensures { self.new ≡ record self.old { list = self.old.ahead } }

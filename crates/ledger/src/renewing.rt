@@ -6,7 +6,7 @@ ghost use Rattle.units.specs.Ids.{Id};
 ghost use Rattle.units.specs.Lists.{gather};
 ghost use Rattle.record.specs.declared.record.Record.{Record};
 ghost use Rattle.facts.specs.Shown.{meant};
-ghost use Rattle.versions.specs.Arranged.{arranged};
+ghost use Rattle.versions.specs.Arranged.{arranged, AreWithin};
 ghost use Rattle.versions.specs.Orders.{Orders};
 ghost use Rattle.versions.specs.Pruned.{first_left};
 ghost use Rattle.protocol.specs.Showable.{rises_by_key};
@@ -17,7 +17,7 @@ use facts::{Facts, Status};
 use record::{Committed, Prepared, Record};
 use std::alloc::Global;
 use units::{Epoch, Fault, Install, TxnId};
-use versions::Places;
+use versions::{Places, left};
 
 /// What takes the records of a renewed log, one by one, in order.
 pub trait Recorder {
@@ -96,8 +96,10 @@ fn hand_versions<R: Recorder>(
         ++ map Record.Version (versions_held facts.now.facts)) }
     ensures memory { IfErr result (λ fault. fault ≡ Fault.Memory) }
 {
-    for at in 0..places.len() {
-        if let Some(install) = held(facts, places, at) {
+    let list = places.list(alloc)?;
+    let order = list.as_slice();
+    for at in 0..order.len() {
+        if let Some(install) = held(facts, order, at) {
             hand(alloc, Record::Version(install.copy()?), recorder)?;
         }
     }
@@ -105,14 +107,13 @@ fn hand_versions<R: Recorder>(
 }
 
 // The version at a place in order, if the horizon leaves it.
-fn held<'f>(facts: &'f Facts, places: &Places, at: usize) -> Option<&'f Install>
-    requires orders { Orders facts.now.facts.horizon facts.now.facts.installs
-        (length facts.now.facts.installs) places.now }
-    requires at { at < length places.now.places }
+fn held<'f>(facts: &'f Facts, order: &[usize], at: usize) -> Option<&'f Install>
+    requires within { AreWithin order.now (length facts.now.facts.installs) }
+    requires at { at < length order.now }
     ensures { option_copied result ≡ first_left facts.now.facts.horizon
-        (drop at (arranged facts.now.facts.installs places.now.places)) }
+        (drop at (arranged facts.now.facts.installs order.now)) }
 {
-    places.left(facts.installs(), at, facts.horizon())
+    left(facts.installs(), order, at, facts.horizon())
 }
 
 // Hands on the id below which all are retired, if there is one.

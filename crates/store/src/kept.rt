@@ -38,6 +38,8 @@ pub struct Kept<'n, D: Disk + Drop, H: Wait + Drop, L> {
     renews: AtomicBool,
     left: AtomicU64,
     put_off: AtomicBool,
+    // Whether the log was to be renewed, and versions went first.
+    waited: AtomicBool,
     ids: Ids,
     numbers: Arc<Numbers, Global>,
     place: usize,
@@ -80,6 +82,11 @@ const SHARE_OF_PAUSE: u64 = 8;
 
 // Fewer versions than these are all kept.
 const FEW_VERSIONS: u64 = 1_024;
+
+// By how many eighths of those that were left the versions have to be more before some go: by half of them, and by less before a log is renewed.
+const HALF_MORE: u64 = 4;
+
+const AN_EIGHTH_MORE: u64 = 1;
 
 // To show something took long if it took so many microseconds: a board has let versions go.
 const LONG_SHOWING: u64 = 5_000;
@@ -124,18 +131,21 @@ impl<D: Disk + Drop, H: Wait + Drop + Copy, L: LogFolder<D>> Kept<'_, D, H, L> {
         true
     }
 
-    // Lets versions go that the horizon has passed, if there are twice as many as were left the last time. So those that came since then pay for it.
-    // The board has all of them, since it was just shown.
-    fn let_go<W: Wait>(&self, rt: &W) {
+    // Lets versions go that the horizon has passed, if there are so many eighths more than were left the last time. So those that came since then
+    // pay for it. Returns whether it did: not if the board lacks some of them.
+    fn let_go<W: Wait>(&self, rt: &W, eighths: u64) -> bool {
         let left = self.left.load(Ordering::SeqCst);
-        let many = left.saturating_mul(2).saturating_add(FEW_VERSIONS);
+        let more = (left / 8).saturating_mul(eighths);
+        let many = left.saturating_add(more).saturating_add(FEW_VERSIONS);
         if self.keep.is_none() || (self.node.versions(rt) as u64) < many {
-            return;
+            return false;
         }
-        if let Ok(true) = self.node.let_go(rt) {
+        let went = self.node.let_go(rt).unwrap_or(false);
+        if went {
             let left = self.node.versions(rt) as u64;
             self.left.store(left, Ordering::SeqCst);
         }
+        went
     }
 
     // Lets versions go (`let_go`) after it has shown something, which began at this time. If that took long clients wait already, so this is put
@@ -148,7 +158,7 @@ impl<D: Disk + Drop, H: Wait + Drop + Copy, L: LogFolder<D>> Kept<'_, D, H, L> {
         let puts_off = is_long && !self.put_off.load(Ordering::SeqCst);
         self.put_off.store(puts_off, Ordering::SeqCst);
         if !puts_off {
-            self.let_go(rt);
+            self.let_go(rt, HALF_MORE);
         }
     }
 
@@ -213,11 +223,22 @@ impl<D: Disk + Drop, H: Wait + Drop + Copy, L: LogFolder<D>> Kept<'_, D, H, L> {
         }
     }
 
-    // Renews the log if it has grown, into a new file or else in its own.
+    // Renews the log if it has grown, into a new file or else in its own. The fewer versions there are, the sooner that is done: so those go first
+    // that the horizon has passed, as a piece by itself, and the log is renewed in the next one.
     fn renew<W: Wait, C: Clock>(&self, rt: &W, clock: &mut C) {
         let Some(least) = self.renew else {
             return;
         };
+        let gauges = self.node.gauges(rt);
+        let is_long = gauges.log_ends.saturating_sub(gauges.area_begins) >= least;
+        let waits = is_long
+            && !self.waited.load(Ordering::SeqCst)
+            && self.let_go(rt, AN_EIGHTH_MORE);
+        self.waited.store(waits, Ordering::SeqCst);
+        if waits {
+            self.renews.store(true, Ordering::SeqCst);
+            return;
+        }
         let asked = match self.move_on(rt, least) {
             Ok(true) => Ok(()),
             Ok(false) => self.node.renew_by(rt, clock, u64::MAX, least),
@@ -398,6 +419,7 @@ pub fn kept_nodes<'n, D: Disk + Drop, H: Wait + Drop + Copy, L: LogFolder<D>>(
             renews: AtomicBool::new(false),
             left: AtomicU64::new(0),
             put_off: AtomicBool::new(false),
+            waited: AtomicBool::new(false),
             ids: Ids::new(),
             numbers: Arc::try_clone(numbers)?,
             place,

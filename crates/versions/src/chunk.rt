@@ -1,5 +1,5 @@
 //! A piece of a long list of places, each with the head of its key.
-ghost use Rattle.std.specs.Prelude.{◌≡◌, ◌-◌, ◌<◌, ◌≤◌, [], length, take, drop, IfOk, IfErr, vec_len, vec_capacity, slice_index_or, slice_set};
+ghost use Rattle.std.specs.Prelude.{◌≡◌, ◌-◌, ◌<◌, ◌≤◌, ◌++◌, [], length, map, take, drop, IfOk, OnOk, IfErr, vec_len, vec_capacity, slice_index_or, slice_set};
 ghost use Rattle.std.specs.List.{insert};
 ghost use Rattle.versions.specs.Pieces.{heads_of, last_head};
 
@@ -79,6 +79,18 @@ impl Piece {
         ensures { result ≡ last_head self.now }
     {
         self.last
+    }
+
+    /// Adds the places to a list, in order.
+    pub fn add_to(&self, list: &mut Vec<usize>) -> Result<(), Fault>
+        ensures places { OnOk result
+            (list.new.items ≡ list.old.items ++ map (λ s. s.place) self.now) }
+        ensures memory { IfErr result (λ fault. fault ≡ Fault.Memory) }
+    {
+        for spot in &self.spots {
+            list.push(spot.place)?;
+        }
+        Ok(())
     }
 
     /// Finds the first place whose head is not below a number, if heads ascend. It is a loop of its own, because the library's search waits for

@@ -3,7 +3,7 @@ ghost use Rattle.std.specs.Prelude.{◌≡◌, ◌+◌, ◌*◌, ◌<◌, ◌≤
 ghost use Rattle.versions.specs.Arranged.{arranged, no_install, AreWithin};
 ghost use Rattle.versions.specs.Gathered.{AreSettled, IsRedirected};
 ghost use Rattle.versions.specs.Heads.{AreHeads};
-ghost use Rattle.versions.specs.Ordered.{AscendsByVersion};
+ghost use Rattle.versions.specs.Ordered.{is_by, AscendsByVersion};
 ghost use Rattle.versions.specs.Pruned.{pruned, is_passed};
 
 use crate::placed::Places;
@@ -45,9 +45,9 @@ pub fn forget(installs: &[Install], places: &mut Places, horizon: Stamp)
 
 /// Tells whether a pass over all versions is due, if so many were left by the last one.
 pub fn is_due(left: usize, len: usize) -> bool
-    ensures { result ≡ nat_le (2 * left + 1024) len }
+    ensures { result ≡ nat_le (3 * left + 2048) (2 * len) }
 {
-    len >= FEW && (len - FEW) / 2 >= left
+    len >= FEW && len - FEW >= left && len - FEW - left >= left - left / 2
 }
 
 /// Tells whether the next version is of the same key, and not above the horizon. Then no look from the horizon up reads the one at this
@@ -63,8 +63,32 @@ pub fn is_passed(installs: &[Install], places: &Places, at: usize, horizon: Stam
     if at + 1 >= len {
         return false;
     }
-    let next = &installs[places.get(at + 1)];
-    next.key == installs[places.get(at)].key && next.at <= horizon
+    passes(
+        &installs[places.get(at)],
+        &installs[places.get(at + 1)],
+        horizon,
+    )
+}
+
+/// Tells it (`is_passed`) by a list of the places.
+pub fn is_passed_in(installs: &[Install], order: &[usize], at: usize, horizon: Stamp) -> bool
+    requires within { AreWithin order.now (length installs.now) }
+    requires at { at < length order.now }
+    ensures { result ≡ is_passed horizon
+        (slice_index_or (arranged installs.now order.now) at no_install)
+        (drop (at + 1) (arranged installs.now order.now)) }
+{
+    if at + 1 >= order.len() {
+        return false;
+    }
+    passes(&installs[order[at]], &installs[order[at + 1]], horizon)
+}
+
+// Whether the next version is of this one's key, and not above the horizon.
+fn passes(install: &Install, next: &Install, horizon: Stamp) -> bool
+    ensures { result ≡ is_by install.now.key horizon next.now }
+{
+    next.key == install.key && next.at <= horizon
 }
 
 /// Brings the versions that have a place to the front, in the order of the places, and drops the others.

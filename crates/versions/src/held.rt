@@ -7,7 +7,7 @@ ghost use Rattle.versions.specs.Orders.{Orders};
 ghost use Rattle.versions.specs.Pruned.{pruned};
 
 use crate::copying::copy_install;
-use crate::forgetting::is_passed;
+use crate::forgetting::is_passed_in;
 use crate::placed::Places;
 use std::alloc::Global;
 use units::{Fault, Install, Stamp};
@@ -55,11 +55,12 @@ pub(crate) fn held_with_room(
     let mut held = Vec::with_capacity(alloc, all)?;
     let mut order = places.beside(alloc);
     order.reserve(all)?;
-    for at in 0..places.len() {
-        if is_passed(installs, places, at, horizon) {
+    let list = places.list(alloc)?;
+    for at in 0..list.len() {
+        if is_passed_in(installs, &list, at, horizon) {
             continue;
         }
-        add_last(&mut held, &mut order, &installs[places.get(at)])?;
+        add_last(&mut held, &mut order, &installs[list[at]])?;
     }
     Ok((held, order))
 }

@@ -16,5 +16,6 @@ mod store;
 pub use copying::copy_install;
 pub use held::copy_held;
 pub use laws::{forgotten_is_not_missed, place_does_not_matter};
+pub use order::left;
 pub use placed::Places;
 pub use store::Versions;

@@ -2,13 +2,13 @@
 ghost use Rattle.std.specs.Prelude.{◌≡◌, ℕ, ◌+◌, ◌<◌, ◌≤◌, drop, length, max};
 ghost use Rattle.std.specs.Option.{option_copied};
 ghost use Rattle.units.specs.Versions.{latest, at_time};
-ghost use Rattle.versions.specs.Arranged.{arranged};
+ghost use Rattle.versions.specs.Arranged.{arranged, AreWithin};
 ghost use Rattle.versions.specs.Orders.{Orders, AreBehind};
 ghost use Rattle.versions.specs.Ordered.{is_above};
 ghost use Rattle.versions.specs.Due.{ForgetsIfDue};
 ghost use Rattle.versions.specs.Pruned.{first_left, pruned};
 
-use crate::forgetting::{self, is_due, is_passed};
+use crate::forgetting::{self, is_due, is_passed_in};
 use crate::placed::Places;
 use crate::search::{self, place_from};
 use units::{Install, Key, Stamp, Value};
@@ -37,24 +37,6 @@ impl Places {
         ensures { option_copied result ≡ at_time installs.now key.now at }
     {
         search::value_at(installs, self, key, at)
-    }
-
-    /// Gives the version at a place in order, if a horizon leaves it: if the next one does not make it unneeded (`is_passed`).
-    pub fn left<'a>(
-        &self,
-        installs: &'a [Install],
-        at: usize,
-        horizon: Stamp,
-    ) -> Option<&'a Install>
-        requires orders { (before : ℕ) × Orders before installs.now (length installs.now) self.now }
-        requires at { at < length self.now.places }
-        ensures { option_copied result ≡
-            first_left horizon (drop at (arranged installs.now self.now.places)) }
-    {
-        if is_passed(installs, self, at, horizon) {
-            return None;
-        }
-        Some(&installs[self.get(at)])
     }
 
     /// Takes in the versions after the first so many, whose places are known. They are the writes of one transaction, above their keys'
@@ -88,7 +70,7 @@ impl Places {
         forgetting::forget(installs, self, horizon);
     }
 
-    /// Forgets the versions below a horizon (`forget`) if that is due: if there are twice as many places as were left the last time, and 1,024 more.
+    /// Forgets the versions below a horizon (`forget`) if that is due: if there are half as many more places as were left the last time, and 1,024.
     /// `left` says how many that were. So a pass over all places is paid for by those that came since the last one.
     pub fn forget_if_due(&mut self, installs: &[Install], horizon: Stamp, left: &mut usize)
         requires { (before : ℕ) × Orders before installs.now (length installs.now) self.old }
@@ -103,4 +85,21 @@ impl Places {
             *left = self.len();
         }
     }
+}
+
+/// Gives the version at a place of a list, if a horizon leaves it: if the next one does not make it unneeded (`is_passed`).
+pub fn left<'a>(
+    installs: &'a [Install],
+    order: &[usize],
+    at: usize,
+    horizon: Stamp,
+) -> Option<&'a Install>
+    requires within { AreWithin order.now (length installs.now) }
+    requires at { at < length order.now }
+    ensures { option_copied result ≡ first_left horizon (drop at (arranged installs.now order.now)) }
+{
+    if is_passed_in(installs, order, at, horizon) {
+        return None;
+    }
+    Some(&installs[order[at]])
 }

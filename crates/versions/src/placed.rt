@@ -1,5 +1,5 @@
 //! The places of versions in order, each with the head of its key.
-ghost use Rattle.std.specs.Prelude.{◌≡◌, ℕ, List, ◌+◌, ◌-◌, ◌<◌, ◌≤◌, ◌++◌, [], length, take, drop, IsOk, IfErr, OnOk, slice_index_or, slice_set};
+ghost use Rattle.std.specs.Prelude.{◌≡◌, ℕ, List, ◌+◌, ◌-◌, ◌<◌, ◌≤◌, ◌++◌, [], length, take, drop, IsOk, IfOk, IfErr, OnOk, slice_index_or, slice_set};
 ghost use Rattle.std.specs.List.{insert};
 ghost use Rattle.units.specs.Keys.{same_key};
 ghost use Rattle.units.specs.declared.writes.Install.{Install};
@@ -75,6 +75,14 @@ impl Places {
         ensures { result ≡ slice_index_or self.now.places at 0 }
     {
         self.spots.get(at).place
+    }
+
+    /// Lists the places, in order.
+    pub fn list(&self, alloc: Global) -> Result<Vec<usize>, Fault>
+        ensures places { IfOk result (λ list. list.items ≡ self.now.places) }
+        ensures memory { IfErr result (λ fault. fault ≡ Fault.Memory) }
+    {
+        self.spots.list(alloc)
     }
 
     /// Gives the head beside a place.

@@ -1,6 +1,6 @@
 //! A long list of places, each with its head, in pieces, so that one more moves few of them.
-ghost use Rattle.std.specs.Prelude.{◌≡◌, ◌+◌, ◌-◌, ◌^◌, ◌<◌, ◌≤◌, ◌++◌, ◌∷◌, [], length, take, drop, vec_len};
-ghost use Rattle.std.specs.Prelude.{vec_capacity, IsOk, IfErr, OnOk, OnErr, slice_index_or, slice_set};
+ghost use Rattle.std.specs.Prelude.{◌≡◌, ◌+◌, ◌-◌, ◌^◌, ◌<◌, ◌≤◌, ◌++◌, ◌∷◌, [], length, map, take, drop, vec_len};
+ghost use Rattle.std.specs.Prelude.{vec_capacity, IsOk, IfOk, IfErr, OnOk, OnErr, slice_index_or, slice_set};
 ghost use Rattle.std.specs.List.{insert};
 ghost use Rattle.versions.specs.Pieces.{heads_of, last_head, joined, ends_from, start_by, divided, IsLaid, IsWithin};
 
@@ -67,6 +67,18 @@ impl Sequence {
     {
         let number = piece_of(&self.ends, at + 1);
         self.pieces[number].get(at - start_of(&self.ends, number))
+    }
+
+    /// Lists the places of the versions, in order. Who goes over all of them reads the list, and searches for no piece.
+    pub fn list(&self, alloc: Global) -> Result<Vec<usize>, Fault>
+        ensures places { IfOk result (λ list. list.items ≡ map (λ s. s.place) self.now.spots) }
+        ensures memory { IfErr result (λ fault. fault ≡ Fault.Memory) }
+    {
+        let mut list = Vec::with_capacity(alloc, self.len)?;
+        for piece in &self.pieces {
+            piece.add_to(&mut list)?;
+        }
+        Ok(list)
     }
 
     /// Finds the first place whose head is not below a number, if heads ascend. It halves the pieces, and then the places in one. The

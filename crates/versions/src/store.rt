@@ -101,8 +101,9 @@ impl Versions {
         let Ok(()) = versions.reserve(places.len()) else {
             return Err(Fault::Memory);
         };
-        for at in 0..places.len() {
-            versions.append(&installs[places.get(at)])?;
+        let list = places.list(alloc)?;
+        for at in 0..list.len() {
+            versions.append(&installs[list[at]])?;
         }
         Ok(versions)
     }
@@ -222,13 +223,13 @@ impl Versions {
         gather(&mut self.installs, &mut self.places);
     }
 
-    /// Forgets the versions below a horizon (`forget`) if that is due: if there are twice as many as were left the last time, and 1,024 more.
+    /// Forgets the versions below a horizon (`forget`) if that is due: if there are half as many more as were left the last time, and 1,024.
     /// `left` says how many that were. So a pass over all versions is paid for by those that came since the last one. Returns whether it was due.
     pub fn forget_if_due(&mut self, horizon: Stamp, left: &mut usize) -> bool
         ensures forgotten { ForgetsIfDue horizon left.old left.new
             self.old.installs self.new.installs }
         ensures room { self.old.room ≤ self.new.room }
-        ensures told { result ≡ nat_le (2 * left.old + 1024) (length self.old.installs) }
+        ensures told { result ≡ nat_le (3 * left.old + 2048) (2 * length self.old.installs) }
     {
         let due = is_due(*left, self.places.len());
         if due {

@@ -1,9 +1,9 @@
-use Rattle.std.proofs.Common.{◌++◌, ◌∙◌, ◌+◌, ◌<◌, ◌≤◌, List, ◌∷◌, length, drop, map, ap, sym, arith}
+use Rattle.std.proofs.Common.{◌≡◌, ◌++◌, ◌∙◌, ◌+◌, ◌<◌, ◌≤◌, ℕ, List, ◌∷◌, length, drop, map, ap, sym, subst, arith}
 use Rattle.std.proofs.lemmas.List.{append-nil, drop_all}
 use Rattle.std.specs.Option.{option_copied}
 use Rattle.units.specs.declared.writes.Install.{Install}
 use Rattle.record.specs.declared.record.Record.TheVariants.{Version}
-use Rattle.versions.specs.Arranged.{arranged}
+use Rattle.versions.specs.Arranged.{arranged, AreWithin}
 use Rattle.versions.proofs.Arranged.{length_arranged}
 use Rattle.versions.proofs.Orders.{same_by}
 use Rattle.versions.proofs.Passed.{left_of, left-is-pruned, no_first, one_first}
@@ -16,12 +16,13 @@ pub loop-at-preserved : goal.loop-at-preserved
 loop-at-preserved g c =
     let facts = c.args.facts.now.facts in
     let h = facts.horizon in
-    let t = arranged facts.installs c.args.places.now.places in
+    let order = c.as_slice-order.result.now in
+    let t = arranged facts.installs order in
     let at = c.loop-at.at in
     let taken = g.R.Recorder.records c.loop-at.recorder in
     let new = g.R.Recorder.records c.match-held.recorder in
     let before = g.R.Recorder.records c.args.recorder.now in
-    let lt : at < length t = omega (arith, c.loop-at-test.true, c.len-at-end.ensures, length_arranged facts.installs c.args.places.now.places) in
+    let lt : at < length t = omega (arith, c.loop-at-test.true, length_arranged facts.installs order) in
     elim c.match-held.branch [
       | in-Some+in_ok-copy+in_ok-hand w ↦
           handed_one taken new (Version w.in_ok-copy.field-0) (map Version (left_of h (drop at t))) (map Version (left_of h (drop (at + 1) t)))
@@ -35,6 +36,10 @@ loop-at-preserved g c =
           c.loop-at.invariant
     ]
 
+pub held-requires-clause-within : goal.held-requires-clause-within
+held-requires-clause-within g c =
+    subst (λ (l : List ℕ). AreWithin l (length c.args.facts.now.facts.installs)) (sym (c.as_slice-order.ensures.value ∙ c.in_ok-list.ensures.places)) c.requires.orders.within
+
 pub returns-clause-added : goal.returns-clause-added
 returns-clause-added g c =
     let facts = c.args.facts.now.facts in
@@ -43,10 +48,13 @@ returns-clause-added g c =
     let t = arranged facts.installs places in
     let before = g.R.Recorder.records c.args.recorder.now in
     let after = g.R.Recorder.records c.loop-at.recorder in
-    let le : length t ≤ c.loop-at.at = omega (arith, c.loop-at-test.false, c.len-at-end.ensures, length_arranged facts.installs places) in
+    let order = c.as_slice-order.result.now in
+    let is : arranged facts.installs order ≡ t = ap (arranged facts.installs) (c.as_slice-order.ensures.value ∙ c.in_ok-list.ensures.places) in
+    let le : length (arranged facts.installs order) ≤ c.loop-at.at = omega (arith, c.loop-at-test.false, length_arranged facts.installs order) in
     sym (append-nil after)
-    ∙ ap (λ (left : List Install). after ++ map Version (left_of h left)) (sym (drop_all c.loop-at.at t le))
+    ∙ ap (λ (left : List Install). after ++ map Version (left_of h left)) (sym (drop_all c.loop-at.at (arranged facts.installs order) le))
     ∙ c.loop-at.invariant
+    ∙ ap (λ (all : List Install). before ++ map Version (left_of h all)) is
     ∙ ap (λ (left : List Install). before ++ map Version left)
     (left-is-pruned h t c.requires.orders.kept.order
     ∙ held-in_order facts t c.requires.rising c.requires.orders.kept.order (same_by h facts.installs c.args.places.now c.requires.orders))

@@ -1,4 +1,4 @@
-use Rattle.std.proofs.Common.{arith}
+use Rattle.std.proofs.Common.{length, ap, arith}
 use Rattle.versions.specs.Arranged.{arranged}
 use Rattle.versions.proofs.Arranged.{length_arranged}
 use Rattle.versions.proofs.InPlace.{left_all}
@@ -9,4 +9,4 @@ returns-clause-held c =
     let i = c.loop-at.invariant in
     let t = arranged c.args.installs.now c.args.places.now.places in
     left_all c.args.horizon t c.loop-at.held.items c.loop-at.at
-    (omega (arith, length_arranged c.args.installs.now c.args.places.now.places, c.loop-at-test.false, c.len-at-end.ensures)) c.requires.order i.left
+    (omega (arith, length_arranged c.args.installs.now c.args.places.now.places, c.loop-at-test.false, ap length c.in_ok-list.ensures.places)) c.requires.order i.left
