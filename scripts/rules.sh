@@ -2,7 +2,7 @@
 # Checks the page of rules, docs/RULES.md: that each definition, function and wrong body that it names exists; that the wrong bodies exist
 # which docs/CHEATS.md names with their crates; and that no document has the marks of a merge that was not ended. And that no other files
 # than these make an end of a transaction for which nothing was waited: of what a log tells, of the messages of a model, and of tests; or an
-# aborted end.
+# aborted end. And that each file of rows is named by the words of its program.
 set -eu
 cd "$(dirname "$(dirname "$(readlink -f "$0")")")"
 missing=0
@@ -51,6 +51,10 @@ for file in $(grep -rlE 'Done::aborted\b' crates/*/src | sort); do
     crates/coordinator/src/commits.rt | crates/memory/src/planning.rt | crates/*_tests/src/*) ;;
     *) say "an aborted end that no shard told: $file" ;;
     esac
+done
+# The program that plays rows goes over the files that its words name, and no others.
+for file in crates/*/data/*.rows; do
+    grep -qx "${file##*/}" "${file%/data/*}/args" || say "no word names $file"
 done
 [ "$missing" = 0 ] && echo "rules: $(wc -l <"$rows") stand"
 exit "$missing"

@@ -1,17 +1,6 @@
 //! Schedules are played by the program, and what their reports say is compared.
 use crate::given::{AMPLE, File, PLAY, print};
-use made::WrongRows;
 use std::alloc::Global;
-
-/// A schedule, and what its report has to say.
-pub struct Case {
-    /// What the row is called.
-    pub name: &'static str,
-    /// The text of the schedule.
-    pub schedule: &'static str,
-    /// The report without the events that were only done: the other events, the messages, the logs, the lines, and the verdict yes.
-    pub report: &'static str,
-}
 
 // A report says what is wanted: first of the events that were not only done, and then of all else.
 fn is_wanted(report: &str, wanted: &str) -> bool {
@@ -43,14 +32,4 @@ pub fn reports(alloc: Global, schedule: &str, wanted: &str) -> bool {
     let right = right && printed.err.is_empty() && printed.status == 0;
     drop(printed);
     right
-}
-
-/// Plays tables of schedules, each of which has to come to what is wanted.
-pub fn go_over(wrong: &mut WrongRows, alloc: Global, tables: &[&[Case]]) {
-    for cases in tables {
-        for case in *cases {
-            let right = reports(alloc, case.schedule, case.report);
-            wrong.unless(right, case.name);
-        }
-    }
 }

@@ -4,11 +4,7 @@
 #[cfg(test)]
 mod asked;
 #[cfg(test)]
-mod cases;
-#[cfg(test)]
 mod comparing;
-#[cfg(test)]
-mod crashes;
 #[cfg(test)]
 mod drawing;
 #[cfg(test)]
@@ -21,8 +17,6 @@ mod explained;
 mod files;
 #[cfg(test)]
 mod given;
-#[cfg(test)]
-mod horizons;
 #[cfg(test)]
 mod judging;
 #[cfg(test)]
@@ -55,10 +49,6 @@ mod told_as;
 mod totals;
 #[cfg(test)]
 mod turned;
-#[cfg(test)]
-mod turnovers;
-#[cfg(test)]
-mod unlawful;
 #[cfg(test)]
 mod verdict;
 #[cfg(test)]

@@ -12,8 +12,8 @@ struct Played {
     status: u8,
 }
 
-/// One write at one shard. The first settling comes too early.
-pub const ONE_SHARD: &str = "shards 2
+// One write at one shard. The first settling comes too early.
+const ONE_SHARD: &str = "shards 2
 split m
 stride 0
 100 begin 1.1
@@ -24,8 +24,8 @@ stride 0
 115 settle 0 1.1 112 121
 ";
 
-/// A write at each of two shards. The number of the outcome's message is 4.
-pub const TWO_SHARDS: &str = "shards 2
+// A write at each of two shards. The number of the outcome's message is 4.
+const TWO_SHARDS: &str = "shards 2
 split m
 stride 0
 100 begin 1.2

@@ -1,12 +1,8 @@
 //! The tests of written runs and of the program, each of some areas.
-use crate::cases::cases;
-use crate::crashes::crashes;
-use crate::horizons::horizons;
-use crate::turnovers::turnovers;
 use crate::verdict::end;
 use crate::{
-    asked, comparing, each_call, explained, outside, places, played, pruned, schedule_texts, stops,
-    told_as, unlawful, words,
+    asked, each_call, explained, outside, places, played, pruned, schedule_texts, stops, told_as,
+    words,
 };
 use made::WrongRows;
 
@@ -26,20 +22,7 @@ fn answers(rt: HostRuntime) {
     places::go_over(wrong.of("places of faults"), alloc);
     explained::go_over(wrong.of("words that are explained"), alloc);
     schedule_texts::go_over(wrong.of("texts"), alloc);
-    unlawful::go_over(wrong.of("lists"), alloc);
     outside::go_over(wrong.of("outside"), alloc);
-    end(&rt, wrong);
-}
-
-// Fails if a written run with crashes, horizons or turnovers reports anything but its row.
-#[test]
-fn whole_runs(rt: HostRuntime) {
-    let alloc = rt.alloc();
-    let mut wrong = WrongRows::none(alloc);
-    comparing::go_over(wrong.of("runs"), alloc, &cases());
-    comparing::go_over(wrong.of("crashes"), alloc, &crashes());
-    comparing::go_over(wrong.of("horizons"), alloc, &[horizons()]);
-    comparing::go_over(wrong.of("turnovers"), alloc, &[turnovers()]);
     end(&rt, wrong);
 }
 
