@@ -1,20 +1,16 @@
 //! The program: what it answers to words.
-ghost use Rattle.std.specs.Prelude.{◌≡◌, ◌≢◌, ◌⊎◌, ◌<◌, ◌*◌, Some, Ok, Err, IfOk, IfErr, map, true, List, ℕ, string_bytes};
+ghost use Rattle.std.specs.Prelude.{◌≡◌, ◌<◌, ◌*◌, Ok, Err, IfOk, IfErr, map, string_bytes};
 ghost use Rattle.std.specs.Io.KnownBytes.{Appends};
 ghost use Rattle.units.specs.declared.fault.Fault.{Fault};
-ghost use Rattle.units.specs.declared.fault.Fault.TheVariants.{Memory};
-ghost use Rattle.command_line.specs.Commands.{are_covered, command_of};
-ghost use Rattle.output.specs.Replies.{Is};
-ghost use Rattle.commands.specs.Faults.{MayRefuseTo};
-ghost use Rattle.cli.specs.Ends.{IsDriven};
-ghost use Rattle.cli.specs.Written.{IsUnwritten, IsWritten};
+ghost use Rattle.output.specs.Streams.{failures_of, writer_of};
 ghost use Rattle.client.specs.declared.ended.Ended.{Ended};
-ghost use Rattle.commands.specs.declared.engine.Put.{Put};
-ghost use Rattle.drive.specs.Told.{HasNoVerdict, IsTold};
 ghost use Rattle.system.specs.declared.asked.Driven.{Driven};
 ghost use Rattle.system.specs.declared.asked.NoVerdict.{NoVerdict};
-ghost use Rattle.commands.specs.Replies.{Tells, TellsTo, reply_of, reply_to};
-ghost use Rattle.output.specs.Streams.{failures_of, fault_line, writer_of};
+ghost use Rattle.commands.specs.declared.engine.Put.{Put};
+ghost use Rattle.drive.specs.Told.{HasNoVerdict, IsTold};
+ghost use Rattle.cli.specs.Answered.{Answered};
+ghost use Rattle.cli.specs.Ends.{IsDriven};
+ghost use Rattle.cli.specs.Written.{IsUnwritten, IsWritten};
 
 use crate::host_put::put_in_store;
 use commands::{Drive, Driven, Ended, Engine, Hints, NoVerdict, Put, Stream, System, answer};
@@ -64,42 +60,11 @@ pub fn program<
     out: &mut Stream<O>,
     err: &mut Stream<E>,
 ) -> u8
-    ensures status { (result ≡ 0) ⊎ (result ≡ 1) ⊎ (result ≡ 2) }
-    ensures printed { are_covered (map (λ w. w.now) words.entry.now) ≡ true → result ≢ 2
-        → (text : List ℕ) × Is (reply_to (map (λ w. w.now) words.entry.now)) (Ok (text, result))
-        × Appends (O.contents (writer_of out.old)) (O.contents (writer_of out.new)) text }
-    ensures refused { are_covered (map (λ w. w.now) words.entry.now) ≡ true → (fault : Fault)
-        → reply_to (map (λ w. w.now) words.entry.now) ≡ Some (Err fault) → (result ≡ 2)
-        × (out.new ≡ out.old) }
-    // What files tell: a format and a migration print nothing, an inspection a verdict, which its status goes with, and a dump lines of records.
-    // What becomes of a write is what the attempts to put it came to.
-    ensures tells { are_covered (map (λ w. w.now) words.entry.now) ≡ true → result ≢ 2
-        → (text : List ℕ) × TellsTo IsDriven IsWritten
-        (command_of (map (λ w. w.now) words.entry.now)) result text
-        × Appends (O.contents (writer_of out.old)) (O.contents (writer_of out.new)) text }
-    ensures quiet { result ≢ 2 → err.new ≡ err.old }
-    // A status of 2 has a reason: a write to standard output that failed, or a fault, whose line is on standard error.
-    ensures told { are_covered (map (λ w. w.now) words.entry.now) ≡ true → result ≡ 2
-        → (failures_of out.old < failures_of out.new)
-        ⊎ ((fault : Fault) × ((fault ≡ Memory)
-        ⊎ Is (reply_to (map (λ w. w.now) words.entry.now)) (Err fault))
-        × ((failures_of err.old < failures_of err.new)
-        ⊎ Appends (E.contents (writer_of err.old)) (E.contents (writer_of err.new))
-        (fault_line fault))) }
-    // The fault of a command over files is one of its own, and so are that of a drive and that of a put.
-    ensures numbered { are_covered (map (λ w. w.now) words.entry.now) ≡ true → result ≡ 2
-        → (failures_of out.old < failures_of out.new)
-        ⊎ ((fault : Fault) × MayRefuseTo HasNoVerdict IsUnwritten
-        (command_of (map (λ w. w.now) words.entry.now)) fault
-        × ((failures_of err.old < failures_of err.new)
-        ⊎ Appends (E.contents (writer_of err.old)) (E.contents (writer_of err.new))
-        (fault_line fault))) }
-    // So it is for any words.
-    ensures explained { result ≡ 2 → (failures_of out.old < failures_of out.new)
-        ⊎ ((fault : Fault) × ((failures_of err.old < failures_of err.new)
-        ⊎ Appends (E.contents (writer_of err.old)) (E.contents (writer_of err.new))
-        (fault_line fault))) }
-    ensures silent { failures_of out.old < failures_of out.new → err.new ≡ err.old }
+    ensures { Answered (map (λ w. w.now) words.entry.now) result
+        (Appends (O.contents (writer_of out.old)) (O.contents (writer_of out.new)))
+        (Appends (E.contents (writer_of err.old)) (E.contents (writer_of err.new)))
+        (failures_of out.old < failures_of out.new) (failures_of err.old < failures_of err.new)
+        (out.new ≡ out.old) (err.new ≡ err.old) }
 {
     let noted = Noted::none();
     let drive = |alloc: Global, drive: Drive<'_>| -> Result<Driven, NoVerdict>
@@ -170,42 +135,11 @@ fn answer_by<
         → IsWritten write.folder.now write.key.now write.value.now ended }
     requires unwritten { (write : Put) (fault : Fault) → P.post engine.put alloc write (Err fault)
         → IsUnwritten fault }
-    ensures status { (result ≡ 0) ⊎ (result ≡ 1) ⊎ (result ≡ 2) }
-    ensures printed { are_covered (map (λ w. w.now) words.entry.now) ≡ true → result ≢ 2
-        → (text : List ℕ) × Is (reply_to (map (λ w. w.now) words.entry.now)) (Ok (text, result))
-        × Appends (O.contents (writer_of out.old)) (O.contents (writer_of out.new)) text }
-    ensures refused { are_covered (map (λ w. w.now) words.entry.now) ≡ true → (fault : Fault)
-        → reply_to (map (λ w. w.now) words.entry.now) ≡ Some (Err fault) → (result ≡ 2)
-        × (out.new ≡ out.old) }
-    // What files tell: a format and a migration print nothing, an inspection a verdict, which its status goes with, and a dump lines of records.
-    // What becomes of a write is what the attempts to put it came to.
-    ensures tells { are_covered (map (λ w. w.now) words.entry.now) ≡ true → result ≢ 2
-        → (text : List ℕ) × TellsTo IsDriven IsWritten
-        (command_of (map (λ w. w.now) words.entry.now)) result text
-        × Appends (O.contents (writer_of out.old)) (O.contents (writer_of out.new)) text }
-    ensures quiet { result ≢ 2 → err.new ≡ err.old }
-    // A status of 2 has a reason: a write to standard output that failed, or a fault, whose line is on standard error.
-    ensures told { are_covered (map (λ w. w.now) words.entry.now) ≡ true → result ≡ 2
-        → (failures_of out.old < failures_of out.new)
-        ⊎ ((fault : Fault) × ((fault ≡ Memory)
-        ⊎ Is (reply_to (map (λ w. w.now) words.entry.now)) (Err fault))
-        × ((failures_of err.old < failures_of err.new)
-        ⊎ Appends (E.contents (writer_of err.old)) (E.contents (writer_of err.new))
-        (fault_line fault))) }
-    // The fault of a command over files is one of its own, and so are that of a drive and that of a put.
-    ensures numbered { are_covered (map (λ w. w.now) words.entry.now) ≡ true → result ≡ 2
-        → (failures_of out.old < failures_of out.new)
-        ⊎ ((fault : Fault) × MayRefuseTo HasNoVerdict IsUnwritten
-        (command_of (map (λ w. w.now) words.entry.now)) fault
-        × ((failures_of err.old < failures_of err.new)
-        ⊎ Appends (E.contents (writer_of err.old)) (E.contents (writer_of err.new))
-        (fault_line fault))) }
-    // So it is for any words.
-    ensures explained { result ≡ 2 → (failures_of out.old < failures_of out.new)
-        ⊎ ((fault : Fault) × ((failures_of err.old < failures_of err.new)
-        ⊎ Appends (E.contents (writer_of err.old)) (E.contents (writer_of err.new))
-        (fault_line fault))) }
-    ensures silent { failures_of out.old < failures_of out.new → err.new ≡ err.old }
+    ensures { Answered (map (λ w. w.now) words.entry.now) result
+        (Appends (O.contents (writer_of out.old)) (O.contents (writer_of out.new)))
+        (Appends (E.contents (writer_of err.old)) (E.contents (writer_of err.new)))
+        (failures_of out.old < failures_of out.new) (failures_of err.old < failures_of err.new)
+        (out.new ≡ out.old) (err.new ≡ err.old) }
 {
     let system = System {
         files,
