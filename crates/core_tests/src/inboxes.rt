@@ -107,6 +107,7 @@ struct Meeting<'a, R> {
     holds: bool,
     first: AtomicU64,
     second: AtomicU64,
+    // Letters that were held in vain, or told of in another order.
     missed: AtomicU64,
     posted: AtomicU64,
     right: AtomicU64,
@@ -138,7 +139,10 @@ impl<R: time::Clock> Gate for Meeting<'_, R> {
         } else {
             (&self.second, &self.first)
         };
-        own.fetch_add(1, Ordering::SeqCst);
+        // It is told of each letter once, in order, also of those that are taken together.
+        if own.fetch_add(1, Ordering::SeqCst) != n {
+            self.missed.fetch_add(1, Ordering::SeqCst);
+        }
         if self.holds && self.missed.load(Ordering::SeqCst) == 0 && !self.has_come(other, n) {
             self.missed.fetch_add(1, Ordering::SeqCst);
         }
