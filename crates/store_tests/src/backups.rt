@@ -1,6 +1,9 @@
 //! Stores that are backed up while clients work, and what a backup leaves that is cut off.
-use crate::clients::{KEYS, disks_of, of_two_shards, sees, store_of, write};
+use crate::clients::{KEYS, disks_of, is_committed, of_two_shards, two_parts};
 use crate::faulty::Faulty;
+use crate::served::{
+    Commits, EachClient, OneClient, Sees, lend_each, opened, serve_folder, serve_one,
+};
 use crate::verdict::end;
 use made::{Folder, WrongRows};
 use moving::{Whole, backup};
@@ -13,8 +16,8 @@ use std::rt::Files;
 use std::sync::Wait;
 use std::sync::atomic::{AtomicBool, Ordering};
 use std::thread::Threads;
-use std::{thread, time};
-use store::{Client, Ended, Halt, Options, Store, Transaction, View};
+use std::time;
+use store::{Client, Halt, Options, Store, Transaction};
 use units::{Fault, Key, Splits};
 
 // Accounts, two on each shard, and what each has at first.
@@ -30,24 +33,35 @@ const MARK: &[u8] = b"mark";
 // The folders that get copies, one after the other.
 const COPIES: [&str; 5] = ["0", "1", "2", "3", "4"];
 
-fn splits(test: &impl Abort, alloc: Global) -> Splits {
-    let split = Key::new(b"m").ok().expect(test, "a key");
-    Splits::new(alloc, &[split]).ok().expect(test, "splits")
-}
-
-fn options(test: &impl Abort, alloc: Global, clients: u64) -> Options {
-    Options::new(splits(test, alloc), clients)
-}
-
-// Puts what each account has at first.
-fn fill<R: Wait + time::Clock>(client: &mut Client<'_, R>) -> bool {
+// Puts a number to keys in a transaction. Tells whether it was committed.
+fn put<R: Wait + time::Clock>(client: &mut Client<'_, R>, keys: &[&[u8]], number: u64) -> bool {
     let ended = client.transact(100, |tx: &mut Transaction<'_, R>| -> Result<(), Halt> {
-        for account in &ACCOUNTS {
-            tx.put_as(&Key::new(*account)?, &EACH)?;
+        for key in keys {
+            tx.put_as(&Key::new(key)?, &number)?;
         }
         Ok(())
     });
-    matches!(ended, Ok(Ended::Committed { .. }))
+    is_committed(&ended)
+}
+
+// A client that puts what each account has at first.
+#[derive(Clone, Copy)]
+struct Filling;
+
+impl<R: Wait + time::Clock> OneClient<R> for Filling {
+    fn work(
+        &self,
+        _rt: &R,
+        _alloc: Global,
+        client: &mut Client<'_, R>,
+        _wrong: &mut WrongRows,
+    ) -> Option<()> {
+        if put(client, &ACCOUNTS, EACH) {
+            Some(())
+        } else {
+            None
+        }
+    }
 }
 
 // Moves one from an account to another.
@@ -63,16 +77,6 @@ fn transfer<R: Wait + time::Clock>(client: &mut Client<'_, R>, from: &[u8], to: 
         Ok(())
     });
     ended.is_ok()
-}
-
-// What all accounts have in a view.
-fn total<R: Wait + time::Clock>(view: &mut View<'_, '_, R>) -> Result<u64, Fault> {
-    let mut total = 0_u64;
-    for account in &ACCOUNTS {
-        let has = view.get_as::<u64>(&Key::new(*account)?)?.unwrap_or(0);
-        total = total.saturating_add(has);
-    }
-    Ok(total)
 }
 
 // Moves money until all copies are made.
@@ -94,126 +98,98 @@ fn tell_money<R: Wait + time::Clock>(
     true
 }
 
+// A store in a folder, of which copies are made while clients move money.
+#[derive(Clone, Copy)]
+struct Copying<'c> {
+    files: &'c HostRuntime,
+    folder: &'c str,
+    splits: &'c Splits,
+    copies: &'c [String],
+    is_over: &'c AtomicBool,
+}
+
 // Makes the copies. Before each its number is committed.
 fn copy_often<R: Wait + time::Clock>(
-    files: &HostRuntime,
     alloc: Global,
     client: &mut Client<'_, R>,
-    folder: &str,
-    splits: &Splits,
-    copies: &[String],
+    copying: &Copying<'_>,
 ) -> bool {
-    for (place, copy) in copies.iter().enumerate() {
-        let mark = place as u64;
-        let ended = client.transact(100, |tx: &mut Transaction<'_, R>| -> Result<(), Halt> {
-            tx.put_as(&Key::new(MARK)?, &mark)?;
-            Ok(())
-        });
-        let is_marked = matches!(ended, Ok(Ended::Committed { .. }));
-        if !is_marked || backup(files, alloc, folder, splits, copy.as_str()).is_err() {
+    for (place, copy) in copying.copies.iter().enumerate() {
+        let is_marked = put(client, &[MARK], place as u64);
+        let (folder, splits) = (copying.folder, copying.splits);
+        if !is_marked || backup(copying.files, alloc, folder, splits, copy.as_str()).is_err() {
             return false;
         }
     }
     true
 }
 
-// Fills the accounts, and lets two clients move money while a third makes copies.
-fn work<R: Threads + Wait + time::Clock + Sync>(
-    rt: &R,
-    files: &HostRuntime,
-    alloc: Global,
-    clients: Vec<Client<'_, R>>,
-    folder: &str,
-    splits: &Splits,
-    copies: &[String],
-) -> Result<bool, Fault> {
-    let mut clients = clients;
-    let Some(first) = clients.iter_mut().next() else {
-        return Ok(false);
-    };
-    if !fill(first) {
-        return Ok(false);
+impl<R: Wait + time::Clock> EachClient<R> for Copying<'_> {
+    // The first client makes the copies, the others move money.
+    fn work(&self, _rt: &R, alloc: Global, place: u64, client: &mut Client<'_, R>) -> bool {
+        if place > 0 {
+            return tell_money(client, place as usize, self.is_over);
+        }
+        let copied = copy_often(alloc, client, self);
+        self.is_over.store(true, Ordering::SeqCst);
+        copied
     }
-    let is_over = AtomicBool::new(false);
-    let mut jobs = Vec::new(alloc);
-    for client in clients {
-        jobs.push((jobs.len(), client))?;
-    }
-    let done = thread::map_vec(
-        rt,
-        jobs,
-        &|job: (usize, Client<'_, R>)| -> bool {
-            let (place, mut client) = job;
-            if place > 0 {
-                return tell_money(&mut client, place, &is_over);
-            }
-            let copied = copy_often(files, alloc, &mut client, folder, splits, copies);
-            is_over.store(true, Ordering::SeqCst);
-            copied
-        },
-    )?;
-    let all = done.iter().all(|did| *did);
-    drop(done);
-    Ok(all)
 }
 
-// What a copy tells: what all accounts have, and the number that was put before it.
-fn told<
+// A copy of this number.
+#[derive(Clone, Copy)]
+struct Copied {
+    place: u64,
+}
+
+impl<R: Wait + time::Clock> OneClient<R> for Copied {
+    // Whether all accounts have all money, and the number was put before the copy.
+    fn work(
+        &self,
+        _rt: &R,
+        _alloc: Global,
+        client: &mut Client<'_, R>,
+        wrong: &mut WrongRows,
+    ) -> Option<()> {
+        let mut view = client.view()?;
+        let mut has = 0_u64;
+        for account in &ACCOUNTS {
+            let money = view.get_as::<u64>(&Key::new(account).ok()?).ok()?;
+            has = has.saturating_add(money.unwrap_or(0));
+        }
+        let mark = view.get_as::<u64>(&Key::new(MARK).ok()?).ok()?;
+        wrong.unless_at(
+            has == TOTAL && mark == Some(self.place),
+            "a copy",
+            self.place,
+        );
+        Some(())
+    }
+}
+
+// The options of a store of so many clients, which is made where there is none.
+fn options(test: &impl Abort, alloc: Global, clients: u64, make: bool) -> Options {
+    let mut options = Options::new(two_parts(test, alloc), clients);
+    options.make = make;
+    options
+}
+
+// Serves the store to its clients, which copy it and move money. Returns how many of them went well, if it is served.
+fn copy_beside<
     R: Files<File = File, Dir = <HostRuntime as Files>::Dir>
         + RandomSource
         + Threads
         + Wait
         + time::Clock
-        + Sync
-        + Abort,
->(rt: &R, alloc: Global, copy: &str) -> Option<(u64, u64)> {
-    let store = Store::open_folder(rt, alloc, copy, options(rt, alloc, 1)).ok()?;
-    let (told, disks) = store
-        .serve(|clients: Vec<Client<'_, R>>| -> Option<(u64, u64)> {
-            let mut clients = clients;
-            let mut client = clients.pop()?;
-            let mut view = client.view()?;
-            let total = total(&mut view).ok()?;
-            let mark = view.get_as::<u64>(&Key::new(MARK).ok()?).ok()??;
-            Some((total, mark))
-        })
-        .ok()?;
-    drop(disks);
-    told
-}
-
-// Whether the store is made and copied as said, and each copy has all money, and what was acknowledged before it was begun.
-fn are_right<
-    R: Files<File = File, Dir = <HostRuntime as Files>::Dir>
-        + RandomSource
-        + Threads
-        + Wait
-        + time::Clock
-        + Sync
-        + Abort,
->(
-    rt: &R,
-    files: &HostRuntime,
-    alloc: Global,
-    folder: &str,
-    copies: &[String],
-    wrong: &mut WrongRows,
-) {
-    let mut chosen = options(rt, alloc, 3);
-    chosen.make = true;
-    let store = Store::open_folder(rt, alloc, folder, chosen);
-    let splits = splits(rt, alloc);
-    let served = store.ok().expect(rt, "a store").serve(|clients: Vec<Client<'_, R>>| work(
-        rt, files, alloc, clients, folder, &splits, copies,
-    ));
-    drop(splits);
-    let (worked, disks) = served.ok().expect(rt, "threads");
-    drop(disks);
-    wrong.unless(matches!(worked, Ok(true)), "the clients");
-    for (place, copy) in copies.iter().enumerate() {
-        let told = told(rt, alloc, copy.as_str());
-        let right = told == Some((TOTAL, place as u64));
-        wrong.unless_at(right, "a copy", place as u64);
+        + Sync,
+>(rt: &R, alloc: Global, options: Options, copying: &Copying<'_>) -> Option<u64> {
+    let store = Store::open_folder(rt, alloc, copying.folder, options).ok()?;
+    match store.serve(|clients: Vec<Client<'_, R>>| lend_each(rt, alloc, clients, copying)) {
+        Ok((well, disks)) => {
+            drop(disks);
+            Some(well)
+        }
+        Err(_) => None,
     }
 }
 
@@ -230,63 +206,54 @@ fn copies_in(test: &impl Abort, alloc: Global, folder: &Folder) -> Vec<String> {
 // Fails if a copy that is made beside clients has a transaction in part, or lacks what was acknowledged before it was begun.
 #[test]
 fn copies_beside_clients_are_whole(rt: HostRuntime) {
+    let alloc = rt.alloc();
     let folder = Folder::new(&rt).ok().expect(&rt, "a folder");
-    let path = folder.path(rt.alloc(), ".").ok().expect(&rt, "memory");
-    let copies = copies_in(&rt, rt.alloc(), &folder);
-    let mut wrong = WrongRows::none(rt.alloc());
-    are_right(&rt, &rt, rt.alloc(), path.as_str(), &copies, &mut wrong);
+    let path = folder.path(alloc, ".").ok().expect(&rt, "memory");
+    let copies = copies_in(&rt, alloc, &folder);
+    let splits = two_parts(&rt, alloc);
+    let mut wrong = WrongRows::none(alloc);
+    let chosen = options(&rt, alloc, 1, true);
+    let made = serve_folder(
+        &rt,
+        alloc,
+        path.as_str(),
+        chosen,
+        "the accounts",
+        &Filling,
+        &mut wrong,
+    );
+    wrong.unless(made == Ok(()), "the store");
+    let is_over = AtomicBool::new(false);
+    let copying = Copying {
+        files: &rt,
+        folder: path.as_str(),
+        splits: &splits,
+        copies: copies.as_slice(),
+        is_over: &is_over,
+    };
+    let well = copy_beside(&rt, alloc, options(&rt, alloc, 3, false), &copying);
+    drop(splits);
+    wrong.unless(well == Some(3), "the clients");
+    for (place, copy) in copies.iter().enumerate() {
+        let copied = Copied {
+            place: place as u64,
+        };
+        let chosen = options(&rt, alloc, 1, false);
+        let told = serve_folder(
+            &rt,
+            alloc,
+            copy.as_str(),
+            chosen,
+            "a copy",
+            &copied,
+            &mut wrong,
+        );
+        wrong.unless_at(told == Ok(()), "a copy", place as u64);
+    }
     drop(copies);
     drop(path);
     wrong.unless(folder.remove(&rt), "the folder");
     end(&rt, wrong);
-}
-
-// Makes a store of an account in a folder, and closes it.
-fn made<
-    R: Files<File = File, Dir = <HostRuntime as Files>::Dir>
-        + RandomSource
-        + Threads
-        + Wait
-        + time::Clock
-        + Sync
-        + Abort,
->(rt: &R, alloc: Global, folder: &str) -> bool {
-    let mut chosen = options(rt, alloc, 1);
-    chosen.make = true;
-    let store = Store::open_folder(rt, alloc, folder, chosen);
-    let served = store.ok().expect(rt, "a store").serve(|clients: Vec<Client<'_, R>>| -> bool {
-        let mut clients = clients;
-        match clients.pop() {
-            Some(mut client) => fill(&mut client),
-            None => false,
-        }
-    });
-    match served {
-        Ok((filled, disks)) => {
-            drop(disks);
-            filled
-        }
-        Err(_) => false,
-    }
-}
-
-// Whether a store in a folder is opened, and refused as none if it is not.
-fn opens<
-    R: Files<File = File, Dir = <HostRuntime as Files>::Dir>
-        + RandomSource
-        + Threads
-        + Wait
-        + time::Clock
-        + Sync
-        + Abort,
->(rt: &R, alloc: Global, folder: &str) -> Result<(), Fault> {
-    match Store::open_folder(rt, alloc, folder, options(rt, alloc, 1)) {
-        Ok(store) => {
-            drop(store);
-            Ok(())
-        }
-        Err(refused) => Err(refused.fault),
-    }
 }
 
 // Fails if a backup of which any call fails leaves a store that opens, or one that ends well leaves none.
@@ -296,19 +263,30 @@ fn a_backup_that_is_cut_off_is_no_store(rt: HostRuntime) {
     let alloc = rt.alloc();
     let path = folder.path(alloc, ".").ok().expect(&rt, "memory");
     let mut wrong = WrongRows::none(alloc);
-    wrong.unless(made(&rt, alloc, path.as_str()), "the store");
+    let chosen = options(&rt, alloc, 1, true);
+    let made = serve_folder(
+        &rt,
+        alloc,
+        path.as_str(),
+        chosen,
+        "the accounts",
+        &Filling,
+        &mut wrong,
+    );
+    wrong.unless(made == Ok(()), "the store");
     let mut ended = false;
     for fails in 0..200_u64 {
         let copy = format!(in alloc; "{}/copy-{fails}", path.as_str())
             .ok()
             .expect(&rt, "memory");
         let faulty = Faulty::new(&rt, fails);
-        let splits = splits(&rt, alloc);
+        let splits = two_parts(&rt, alloc);
         let backed_up = backup(&faulty, alloc, path.as_str(), &splits, copy.as_str());
         drop(splits);
         ended = !faulty.has_failed();
         drop(faulty);
-        let opened = opens(&rt, alloc, copy.as_str());
+        let chosen = options(&rt, alloc, 1, false);
+        let opened = opened(&rt, alloc, copy.as_str(), chosen, false);
         let right = match backed_up {
             Ok(()) => opened == Ok(()),
             Err(_) => opened == Err(Fault::Device),
@@ -325,50 +303,27 @@ fn a_backup_that_is_cut_off_is_no_store(rt: HostRuntime) {
     end(&rt, wrong);
 }
 
-// The disks of a store of two shards, over which a transaction was committed.
-fn written<R: Threads + Wait + time::Clock + Sync + Abort>(rt: &R, alloc: Global) -> Vec<SimDisk> {
-    let store = store_of(
-        rt,
-        alloc,
-        disks_of(rt, alloc, 2),
-        of_two_shards(rt, alloc, 0),
-    );
-    let served = store.serve(|clients: Vec<Client<'_, R>>| -> bool {
-        let mut clients = clients;
-        let Some(mut client) = clients.pop() else {
-            return false;
-        };
-        let ended = write(alloc, &mut client, 100, &KEYS, b"1");
-        matches!(ended, Ok(Ended::Committed { .. }))
-    });
-    let (wrote, disks) = served.ok().expect(rt, "threads");
-    assert!(rt; wrote, "the transaction");
-    disks
-}
+// A transaction over both shards.
+static COMMIT: Commits<'static> = Commits {
+    tries: 100,
+    keys: &KEYS,
+    value: b"1",
+};
 
-// Whether a store over copies of these disks has what was written.
-fn has_all<R: Threads + Wait + time::Clock + Sync + Abort>(
-    rt: &R,
-    alloc: Global,
-    disks: Vec<SimDisk>,
-) -> bool {
-    let whole = Whole::of(alloc, disks).ok().expect(rt, "whole logs");
+// What it wrote.
+static SEEN: Sees<'static> = Sees {
+    keys: &KEYS,
+    value: b"1",
+};
+
+// Copies of the logs on these disks.
+fn copies_of(test: &impl Abort, alloc: Global, disks: Vec<SimDisk>) -> Vec<SimDisk> {
+    let whole = Whole::of(alloc, disks).ok().expect(test, "whole logs");
     let mut files = Vec::new(alloc);
     for _file in 0..2 {
-        files.push(SimDisk::new(alloc)).ok().expect(rt, "memory");
+        files.push(SimDisk::new(alloc)).ok().expect(test, "memory");
     }
-    let copies = whole.copy_onto(alloc, files).ok().expect(rt, "copies");
-    let store = store_of(rt, alloc, copies, of_two_shards(rt, alloc, 0));
-    let served = store.serve(|clients: Vec<Client<'_, R>>| -> bool {
-        let mut clients = clients;
-        match clients.pop() {
-            Some(mut client) => sees(&mut client, &KEYS, b"1") == Ok(()),
-            None => false,
-        }
-    });
-    let (has, disks) = served.ok().expect(rt, "threads");
-    drop(disks);
-    has
+    whole.copy_onto(alloc, files).ok().expect(test, "copies")
 }
 
 // Fails if logs are copied of which one lacks its part of a transaction, or a copy lacks what was committed.
@@ -376,9 +331,31 @@ fn has_all<R: Threads + Wait + time::Clock + Sync + Abort>(
 fn logs_of_two_moments_are_refused(rt: HostRuntime) {
     let alloc = rt.alloc();
     let mut wrong = WrongRows::none(alloc);
-    wrong.unless(has_all(&rt, alloc, written(&rt, alloc)), "the copies");
+    let (disks, chosen) = (disks_of(&rt, alloc, 2), of_two_shards(&rt, alloc, 0));
+    let served = serve_one(
+        &rt,
+        alloc,
+        disks,
+        chosen,
+        "the transaction",
+        &COMMIT,
+        &mut wrong,
+    );
+    let copies = copies_of(&rt, alloc, served.expect(&rt, "a service"));
+    let chosen = of_two_shards(&rt, alloc, 0);
+    drop(serve_one(&rt, alloc, copies, chosen, "the copies", &SEEN, &mut wrong));
     // Shard 0 decides. Shard 1 has lost its promise.
-    let mut disks = written(&rt, alloc);
+    let (disks, chosen) = (disks_of(&rt, alloc, 2), of_two_shards(&rt, alloc, 0));
+    let served = serve_one(
+        &rt,
+        alloc,
+        disks,
+        chosen,
+        "the transaction",
+        &COMMIT,
+        &mut wrong,
+    );
+    let mut disks = served.expect(&rt, "a service");
     let mut older = disks_of(&rt, alloc, 1);
     if let (Some(disk), Some(old)) = (disks.get_mut(1), older.pop()) {
         *disk = old;

@@ -1,14 +1,13 @@
 //! Stores whose clock may be wrong: how long a commit takes at least.
-use crate::clients::{disks_of, of_one_shard, store_of, write};
+use crate::clients::{disks_of, is_committed, of_one_shard, write};
+use crate::served::{OneClient, serve_one};
 use crate::verdict::end;
 use made::WrongRows;
 use std::alloc::Global;
-use std::process::Abort;
 use std::sync::Wait;
-use std::thread::Threads;
 use std::time;
 use std::time::{Duration, Instant};
-use store::{Client, Ended};
+use store::Client;
 
 // How many microseconds the true time may be from the machine's clock, and how many milliseconds the quickest of some commits takes. That is
 // at least twice the former, less one, and less than `most`. A client asks again only after 20 milliseconds in silence: what is told sooner
@@ -52,66 +51,50 @@ fn took<R: Wait + time::Clock>(
     client: &mut Client<'_, R>,
 ) -> Option<Duration> {
     let start = Instant::now(rt).ok()?;
-    match write(alloc, client, 1, &[b"a"], b"1") {
-        Ok(Ended::Committed { .. }) => start.elapsed(rt).ok(),
-        _ => None,
+    if is_committed(&write(alloc, client, 1, &[b"a"], b"1")) {
+        start.elapsed(rt).ok()
+    } else {
+        None
     }
 }
 
-// How long the quickest of so many takes.
-fn quickest<R: Wait + time::Clock>(
-    rt: &R,
-    alloc: Global,
-    clients: Vec<Client<'_, R>>,
-    commits: u32,
-) -> Option<Duration> {
-    let mut clients = clients;
-    let mut client = clients.pop()?;
-    let mut least = None;
-    for _commit in 0..commits {
-        least = match (least, took(rt, alloc, &mut client)) {
-            (Some(least), Some(took)) if least < took => Some(least),
-            (_, took) => took,
-        };
-    }
-    drop(client);
-    drop(clients);
-    least
-}
-
-// Whether it takes so long over a new store. Its client waits two seconds for what it asks.
-fn goes<R: Threads + Wait + time::Clock + Sync + Abort>(rt: &R, alloc: Global, row: &Row) -> bool {
-    let mut options = of_one_shard(rt, alloc, 1);
-    options.epsilon = row.epsilon;
-    options.patience = 100;
-    let store = store_of(rt, alloc, disks_of(rt, alloc, 1), options);
-    let served = store.serve(|clients: Vec<Client<'_, R>>| quickest(
-        rt,
-        alloc,
-        clients,
-        row.commits,
-    ));
-    match served {
-        Ok((took, disks)) => {
-            drop(disks);
-            match took {
-                Some(took) => {
-                    took >= Duration::from_millis(row.least)
-                        && took < Duration::from_millis(row.most)
-                }
-                None => false,
-            }
+impl<R: Wait + time::Clock> OneClient<R> for Row {
+    // Whether the quickest of so many commits takes so long.
+    fn work(
+        &self,
+        rt: &R,
+        alloc: Global,
+        client: &mut Client<'_, R>,
+        _wrong: &mut WrongRows,
+    ) -> Option<()> {
+        let mut least = None;
+        for _commit in 0..self.commits {
+            least = match (least, took(rt, alloc, client)) {
+                (Some(least), Some(took)) if least < took => Some(least),
+                (_, took) => took,
+            };
         }
-        Err(_) => false,
+        let least = least?;
+        if least >= Duration::from_millis(self.least) && least < Duration::from_millis(self.most) {
+            Some(())
+        } else {
+            None
+        }
     }
 }
 
-// Fails if a store's clock has a smaller epsilon than its options, or if no client is told that its transaction has settled.
+// Fails if a store's clock has a smaller epsilon than its options, or if no client is told that its transaction has settled. The client of
+// each store waits two seconds for what it asks.
 #[test]
 fn commits_wait_for_the_epsilon(rt: HostRuntime) {
-    let mut wrong = WrongRows::none(rt.alloc());
+    let alloc = rt.alloc();
+    let mut wrong = WrongRows::none(alloc);
     for row in &ROWS {
-        wrong.unless(goes(&rt, rt.alloc(), row), row.name);
+        let mut options = of_one_shard(&rt, alloc, 1);
+        options.epsilon = row.epsilon;
+        options.patience = 100;
+        let disks = disks_of(&rt, alloc, 1);
+        drop(serve_one(&rt, alloc, disks, options, row.name, row, &mut wrong));
     }
     end(&rt, wrong);
 }

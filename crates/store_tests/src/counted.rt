@@ -1,12 +1,11 @@
 //! The numbers of a store that is served.
-use crate::clients::{KEYS, disks_of, of_two_shards, sees, store_of, write};
+use crate::clients::{KEYS, disks_of, is_committed, of_two_shards, sees, write};
 use crate::verdict::end;
 use made::{FIRST_GATE, WrongRows};
 use std::alloc::Global;
-use std::process::Abort;
 use std::sync::Wait;
 use std::time;
-use store::{Client, ClientNumbers, Ended, Halt, Key, ShardNumbers, Transaction, Value};
+use store::{Client, ClientNumbers, Ended, Halt, Key, ShardNumbers, Store, Transaction, Value};
 
 // So many transactions write to shard 0 alone, and so many to both shards, which shard 0 decides.
 const ALONE: u64 = 3;
@@ -18,22 +17,6 @@ const ABANDONED: u64 = 4;
 
 // A commit waits for two epsilons of a millisecond, in microseconds.
 const EPSILONS: u64 = 2_000;
-
-// What the numbers tell of each shard, and as a text.
-#[derive(Clone, Copy)]
-struct Told {
-    first: ShardNumbers,
-    second: ShardNumbers,
-    client: ClientNumbers,
-    shards: usize,
-    third: bool,
-    text: bool,
-    at: u64,
-}
-
-fn is_committed(ended: Result<Ended, store::Fault>) -> bool {
-    matches!(ended, Ok(Ended::Committed { .. }))
-}
 
 // Whether a transaction that reads and writes a key of shard 0 is abandoned.
 fn is_abandoned<R: Wait + time::Clock>(alloc: Global, client: &mut Client<'_, R>) -> bool {
@@ -70,20 +53,43 @@ fn has_lines(text: &str) -> bool {
     true
 }
 
-// What is told after these transactions, once a view has seen what the last one wrote.
-fn work<R: Wait + time::Clock>(alloc: Global, clients: Vec<Client<'_, R>>) -> Option<Told> {
+// Notes what is told wrong of the shards after the transactions. A view stands at this time after them.
+fn are_told(first: &ShardNumbers, second: &ShardNumbers, at: u64, wrong: &mut WrongRows) {
+    wrong.unless(first.commits == ALONE + BOTH, "commits of shard 0");
+    wrong.unless(second.commits == 0, "commits of shard 1");
+    wrong.unless(first.aborts == 0 && second.aborts == 0, "aborts");
+    wrong.unless(first.versions == ALONE + BOTH, "versions of shard 0");
+    wrong.unless(second.versions == BOTH, "versions of shard 1");
+    let served = first.served >= at && second.served >= at;
+    wrong.unless(served, "what is served");
+    wrong.unless(first.taken > ALONE + BOTH + ABANDONED, "letters of shard 0");
+    wrong.unless(first.advances > 0, "advances");
+    let last = first.last >= at && second.last >= at;
+    wrong.unless(last, "the last timestamps");
+    wrong.unless(is_not_turned(first) && is_not_turned(second), "the logs");
+    let none = !first.has_stopped && !second.has_stopped;
+    wrong.unless(none, "none has stopped");
+}
+
+// What a client has counted after these transactions, if each ended as it should, once a view has seen what the last one wrote. Notes what else
+// is told wrong.
+fn told<R: Wait + time::Clock>(
+    alloc: Global,
+    clients: Vec<Client<'_, R>>,
+    wrong: &mut WrongRows,
+) -> Option<ClientNumbers> {
     let mut clients = clients;
     let mut client = clients.pop()?;
     drop(clients);
     let mut right = true;
     for _alone in 0..ALONE {
-        right = right && is_committed(write(alloc, &mut client, 5, &KEYS[..1], b"1"));
+        right = right && is_committed(&write(alloc, &mut client, 5, &KEYS[..1], b"1"));
     }
     for _abandoned in 0..ABANDONED {
         right = right && is_abandoned(alloc, &mut client);
     }
     for _both in 0..BOTH {
-        right = right && is_committed(write(alloc, &mut client, 5, &KEYS, b"2"));
+        right = right && is_committed(&write(alloc, &mut client, 5, &KEYS, b"2"));
     }
     let at = client.view()?.at().micros();
     if !right || sees(&mut client, &KEYS, b"2").is_err() {
@@ -91,18 +97,15 @@ fn work<R: Wait + time::Clock>(alloc: Global, clients: Vec<Client<'_, R>>) -> Op
     }
     let numbers = client.numbers();
     let text = numbers.text().ok()?;
-    let told = Told {
-        first: numbers.of(0)?,
-        second: numbers.of(1)?,
-        client: numbers.of_client(0)?,
-        shards: numbers.shards(),
-        third: numbers.of(2).is_some(),
-        text: has_lines(text.as_str()),
-        at,
-    };
+    wrong.unless(has_lines(text.as_str()), "the text");
     drop(text);
+    let shards = numbers.shards() == 2 && numbers.of(2).is_none();
+    wrong.unless(shards, "the shards");
+    are_told(&numbers.of(0)?, &numbers.of(1)?, at, wrong);
+    let counted = numbers.of_client(0)?;
+    wrong.unless(is_counted(&counted), "the client");
     drop(client);
-    Some(told)
+    Some(counted)
 }
 
 // Whether a client has counted these transactions, each with one attempt, and closings within and beyond what a commit waits: two epsilons.
@@ -150,37 +153,20 @@ fn is_not_turned(told: &ShardNumbers) -> bool {
 fn numbers_are_counted(rt: HostRuntime) {
     let alloc = rt.alloc();
     let options = of_two_shards(&rt, alloc, 100_000);
-    let store = store_of(&rt, alloc, disks_of(&rt, alloc, 2), options);
+    let store = Store::open(&rt, alloc, disks_of(&rt, alloc, 2), options);
+    let store = store.ok().expect(&rt, "a store");
     let numbers = store.numbers().ok().expect(&rt, "numbers");
     let before = numbers.of(0).expect(&rt, "shard 0");
-    let served = store.serve(|clients: Vec<Client<'_, HostRuntime>>| work(alloc, clients));
+    let mut wrong = WrongRows::none(alloc);
+    let served = store.serve(|clients: Vec<Client<'_, HostRuntime>>| told(
+        alloc, clients, &mut wrong,
+    ));
     let (told, disks) = served.ok().expect(&rt, "a service");
     drop(disks);
-    let told = told.expect(&rt, "numbers");
-    let (first, second) = (told.first, told.second);
-    let mut wrong = WrongRows::none(alloc);
     let after = numbers.of_client(0);
     drop(numbers);
     wrong.unless(before.taken == 0, "nothing is counted before");
-    wrong.unless(after == Some(told.client), "the same is told after");
-    wrong.unless(told.shards == 2 && !told.third, "the shards");
-    wrong.unless(first.commits == ALONE + BOTH, "commits of shard 0");
-    wrong.unless(second.commits == 0, "commits of shard 1");
-    wrong.unless(first.aborts == 0 && second.aborts == 0, "aborts");
-    wrong.unless(first.versions == ALONE + BOTH, "versions of shard 0");
-    wrong.unless(second.versions == BOTH, "versions of shard 1");
-    let served = first.served >= told.at && second.served >= told.at;
-    wrong.unless(served, "what is served");
-    wrong.unless(first.taken > ALONE + BOTH + ABANDONED, "letters of shard 0");
-    wrong.unless(first.advances > 0, "advances");
-    let last = first.last >= told.at && second.last >= told.at;
-    wrong.unless(last, "the last timestamps");
-    wrong.unless(is_not_turned(&first) && is_not_turned(&second), "the logs");
-    wrong.unless(
-        !first.has_stopped && !second.has_stopped,
-        "none has stopped",
-    );
-    wrong.unless(is_counted(&told.client), "the client");
-    wrong.unless(told.text, "the text");
+    wrong.unless(told.is_some(), "the transactions");
+    wrong.unless(after == told, "the same is told after");
     end(&rt, wrong);
 }

@@ -1,5 +1,6 @@
 //! Transactions that have a deadline.
-use crate::clients::{disks_of, of_one_shard, store_of};
+use crate::clients::{disks_of, of_one_shard};
+use crate::served::{OneClient, serve_one};
 use crate::verdict::end;
 use made::WrongRows;
 use std::alloc::Global;
@@ -74,31 +75,28 @@ fn goes<R: Wait + time::Clock>(
     }
 }
 
-// Whether they all do. It gives what is wrong, by their places.
-fn go<R: Wait + time::Clock>(rt: &R, alloc: Global, clients: Vec<Client<'_, R>>) -> [bool; 3] {
-    let mut clients = clients;
-    let mut went = [false; 3];
-    if let Some(mut client) = clients.pop() {
-        for (place, row) in ROWS.iter().enumerate() {
-            went[place] = goes(rt, alloc, &mut client, row);
+impl<R: Wait + time::Clock> OneClient<R> for [Row; 3] {
+    // Whether they all do.
+    fn work(
+        &self,
+        rt: &R,
+        alloc: Global,
+        client: &mut Client<'_, R>,
+        wrong: &mut WrongRows,
+    ) -> Option<()> {
+        for row in self {
+            wrong.unless(goes(rt, alloc, client, row), row.name);
         }
+        Some(())
     }
-    drop(clients);
-    went
 }
 
 // It fails where an attempt begins after the deadline, where the first one is not made, or where one that commits is told as aborted.
 #[test]
 fn no_attempt_begins_after_the_deadline(rt: HostRuntime) {
     let alloc = rt.alloc();
-    let options = of_one_shard(&rt, alloc, 1);
-    let store = store_of(&rt, alloc, disks_of(&rt, alloc, 1), options);
-    let served = store.serve(|clients: Vec<Client<'_, HostRuntime>>| go(&rt, alloc, clients));
-    let (went, disks) = served.ok().expect(&rt, "a service");
-    drop(disks);
     let mut wrong = WrongRows::none(alloc);
-    for (place, row) in ROWS.iter().enumerate() {
-        wrong.unless(went[place], row.name);
-    }
+    let (disks, options) = (disks_of(&rt, alloc, 1), of_one_shard(&rt, alloc, 1));
+    drop(serve_one(&rt, alloc, disks, options, "a service", &ROWS, &mut wrong));
     end(&rt, wrong);
 }

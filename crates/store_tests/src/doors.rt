@@ -1,16 +1,15 @@
 //! The door of a store: few transactions are open at first, and none is unknown though clients hardly wait for a silent shard.
-use crate::clients::{disks_of, of_one_shard};
-use crate::slow::Slow;
+use crate::clients::{is_committed, of_one_shard};
+use crate::served::{EachClient, serve_each};
+use crate::slow::slow_disks;
 use crate::verdict::end;
 use made::WrongRows;
 use std::alloc::Global;
-use std::process::Abort;
 use std::sync::Wait;
 use std::sync::atomic::{AtomicU64, Ordering};
-use std::thread::Threads;
 use std::time::Duration;
 use std::{thread, time};
-use store::{Client, Ended, Halt, Store, Transaction};
+use store::{Client, Halt, Transaction};
 use units::{Key, Value};
 
 // So many clients, each of which writes a key of its own so often, over a device whose syncs take so many milliseconds. A client waits for
@@ -60,115 +59,55 @@ static ROWS: [Row; 3] = [
     },
 ];
 
-// What all clients count: the transactions that have begun, those whose code has ended, those that began before that, and those that were
-// committed.
-#[derive(Drop)]
-struct Counted {
-    begun: AtomicU64,
-    ended: AtomicU64,
-    first: AtomicU64,
-    committed: AtomicU64,
+// A row that is worked. All clients count the transactions whose code has ended, and those that began before that.
+#[derive(Clone, Copy)]
+struct Worked<'w> {
+    row: &'w Row,
+    ended: &'w AtomicU64,
+    first: &'w AtomicU64,
 }
 
-impl Counted {
-    fn none() -> Counted {
-        Counted {
-            begun: AtomicU64::new(0),
-            ended: AtomicU64::new(0),
-            first: AtomicU64::new(0),
-            committed: AtomicU64::new(0),
-        }
-    }
-}
-
-// The code of a transaction, which writes the key of this number.
-fn run<R: Wait + time::Clock>(
-    rt: &R,
-    alloc: Global,
-    tx: &mut Transaction<'_, R>,
-    own: u8,
-    row: &Row,
-    counted: &Counted,
-) -> Result<(), Halt> {
-    if counted.ended.load(Ordering::SeqCst) == 0 {
-        counted.first.fetch_add(1, Ordering::SeqCst);
-    }
-    if row.code > 0 {
-        thread::sleep(rt, Duration::from_millis(row.code));
-    }
-    counted.ended.fetch_add(1, Ordering::SeqCst);
-    tx.put(&Key::new(&[own])?, Value::new(alloc, b"1")?)?;
-    Ok(())
-}
-
-// All clients at work.
-fn work<R: Threads + Wait + time::Clock + Sync>(
-    rt: &R,
-    alloc: Global,
-    clients: Vec<Client<'_, R>>,
-    row: &Row,
-    counted: &Counted,
-) {
-    let done = thread::map_vec(
-        rt,
-        clients,
-        &|client: Client<'_, R>| {
-            let mut client = client;
-            let own = (counted.begun.fetch_add(1, Ordering::SeqCst) % 64) as u8;
-            for _turn in 0..row.turns {
-                let ended = client.transact(
-                    20,
-                    |tx: &mut Transaction<'_, R>| -> Result<(), Halt> {
-                        run(rt, alloc, tx, own, row, counted)
-                    },
-                );
-                if matches!(ended, Ok(Ended::Committed { .. })) {
-                    counted.committed.fetch_add(1, Ordering::SeqCst);
+impl<R: Wait + time::Clock> EachClient<R> for Worked<'_> {
+    // Whether each transaction of a client commits. It writes the key of its place.
+    fn work(&self, rt: &R, alloc: Global, place: u64, client: &mut Client<'_, R>) -> bool {
+        let own = (place % 64) as u8;
+        let mut all = true;
+        for _turn in 0..self.row.turns {
+            let ended = client.transact(20, |tx: &mut Transaction<'_, R>| -> Result<(), Halt> {
+                if self.ended.load(Ordering::SeqCst) == 0 {
+                    self.first.fetch_add(1, Ordering::SeqCst);
                 }
-            }
-            drop(client);
-        },
-    );
-    drop(done);
-}
-
-// Whether a new store goes as the row says, and each transaction commits.
-fn goes<R: Threads + Wait + time::Clock + Sync + Abort>(rt: &R, alloc: Global, row: &Row) -> bool {
-    let mut slow = Vec::new(alloc);
-    for disk in disks_of(rt, alloc, 1) {
-        let pushed = slow.push(Slow {
-            disk,
-            rt,
-            millis: row.sync,
-        });
-        pushed.ok().expect(rt, "memory");
-    }
-    let mut options = of_one_shard(rt, alloc, row.clients);
-    options.give_up = row.give_up;
-    let Ok(store) = Store::open(rt, alloc, slow, options) else {
-        return false;
-    };
-    let counted = Counted::none();
-    let served = store.serve(|clients: Vec<Client<'_, R>>| work(rt, alloc, clients, row, &counted));
-    let first = counted.first.load(Ordering::SeqCst);
-    let committed = counted.committed.load(Ordering::SeqCst);
-    drop(counted);
-    match served {
-        Ok(((), disks)) => {
-            drop(disks);
-            let all = row.clients.checked_mul(row.turns);
-            first >= row.least && first <= row.most && Some(committed) == all
+                if self.row.code > 0 {
+                    thread::sleep(rt, Duration::from_millis(self.row.code));
+                }
+                self.ended.fetch_add(1, Ordering::SeqCst);
+                tx.put(&Key::new(&[own])?, Value::new(alloc, b"1")?)?;
+                Ok(())
+            });
+            all = is_committed(&ended) && all;
         }
-        Err(_) => false,
+        all
     }
 }
 
 /// Shows how many transactions a store opens at once, and that none is unknown while a device is slow.
 #[test]
 fn doors_let_few_in(rt: HostRuntime) {
-    let mut wrong = WrongRows::none(rt.alloc());
+    let alloc = rt.alloc();
+    let mut wrong = WrongRows::none(alloc);
     for row in &ROWS {
-        wrong.unless(goes(&rt, rt.alloc(), row), row.name);
+        let mut options = of_one_shard(&rt, alloc, row.clients);
+        options.give_up = row.give_up;
+        let (ended, first) = (AtomicU64::new(0), AtomicU64::new(0));
+        let worked = Worked {
+            row,
+            ended: &ended,
+            first: &first,
+        };
+        let disks = slow_disks(&rt, alloc, 1, row.sync);
+        let all = serve_each(&rt, alloc, disks, options, &worked) == Some(row.clients);
+        let first = first.load(Ordering::SeqCst);
+        wrong.unless(all && first >= row.least && first <= row.most, row.name);
     }
     end(&rt, wrong);
 }

@@ -174,32 +174,46 @@ fn is_sound(summary: &Summary, tried: u64) -> bool {
     sum == tried && matches!(summary.verdict, Verdict::Yes)
 }
 
-// Whether each transaction has a line of its begin, each that committed one of its acknowledgement, and each answered look its own.
-fn are_told(summary: &Summary, tried: u64, lines: &[Line]) -> bool {
-    let mut begins: u64 = 0;
-    let mut acks: u64 = 0;
-    let mut looks: u64 = 0;
-    for line in lines {
-        match line {
-            Line::Begin(_, _) => begins = begins.saturating_add(1),
-            Line::Ack(_, _, _) => acks = acks.saturating_add(1),
-            Line::Read(_, _, _) => {}
-            Line::Look(_, _, _) => looks = looks.saturating_add(1),
-        }
-    }
-    begins == tried && acks == summary.counts.committed && looks == summary.counts.looks
+// What lines tell: how many there are of each kind, the greatest timestamp of a look, and whether each transaction that began is of the run.
+#[derive(Clone, Copy)]
+struct Summed {
+    begins: u64,
+    acks: u64,
+    reads: u64,
+    looks: u64,
+    last: u64,
+    of_run: bool,
 }
 
-// Whether each transaction that began is of the run.
-fn are_of(lines: &[Line], run: u64) -> bool {
+fn sum_of(lines: &[Line], run: u64) -> Summed {
+    let mut sum = Summed {
+        begins: 0,
+        acks: 0,
+        reads: 0,
+        looks: 0,
+        last: 0,
+        of_run: true,
+    };
     for line in lines {
-        if let Line::Begin(txn, _) = line {
-            if txn.run() != run {
-                return false;
+        match line {
+            Line::Begin(txn, _) => {
+                sum.begins = sum.begins.saturating_add(1);
+                sum.of_run = sum.of_run & (txn.run() == run);
+            }
+            Line::Ack(_, _, _) => sum.acks = sum.acks.saturating_add(1),
+            Line::Read(_, _, _) => sum.reads = sum.reads.saturating_add(1),
+            Line::Look(_, at, _) => {
+                sum.looks = sum.looks.saturating_add(1);
+                sum.last = at.micros().max(sum.last);
             }
         }
     }
-    true
+    sum
+}
+
+// Whether each transaction has a line of its begin, each that committed one of its acknowledgement, and each answered look its own.
+fn are_told(summary: &Summary, tried: u64, sum: Summed) -> bool {
+    sum.begins == tried && sum.acks == summary.counts.committed && sum.looks == summary.counts.looks
 }
 
 // Whether one worker's lines are in order. Their moments are 0, 1, 2 and so on, each drawn once, when what it tells of is done. Each
@@ -229,17 +243,6 @@ fn are_in_turn(lines: &[Line]) -> bool {
     right
 }
 
-// How many lines are of reads.
-fn reads_in(lines: &[Line]) -> u64 {
-    let mut reads: u64 = 0;
-    for line in lines {
-        if let Line::Read(_, _, _) = line {
-            reads = reads.saturating_add(1);
-        }
-    }
-    reads
-}
-
 fn is_driven(summary: &Summary, lines: &[Line], comes: Comes) -> bool {
     match comes {
         Comes::Refused(_) => false,
@@ -248,11 +251,14 @@ fn is_driven(summary: &Summary, lines: &[Line], comes: Comes) -> bool {
             committed,
             looks,
             run,
-        } => is_sound(summary, tried)
-            && are_told(summary, tried, lines)
-            && summary.counts.committed >= committed
-            && summary.counts.looks >= looks
-            && are_of(lines, run),
+        } => {
+            let sum = sum_of(lines, run);
+            is_sound(summary, tried)
+                && are_told(summary, tried, sum)
+                && summary.counts.committed >= committed
+                && summary.counts.looks >= looks
+                && sum.of_run
+        }
     }
 }
 
@@ -402,24 +408,6 @@ impl Watch for Shortest {
     }
 }
 
-// The greatest timestamp of a look.
-fn last_look(lines: &[Line]) -> u64 {
-    let mut last = 0;
-    for line in lines {
-        if let Line::Look(_, at, _) = line {
-            last = at.micros().max(last);
-        }
-    }
-    last
-}
-
-// Whether each number that was written is the next of its key, and each key was written that a commit has read.
-fn are_counted(kept: &Kept, summary: &Summary, reads: u64) -> bool {
-    kept.writes > 0
-        && kept.sum() == kept.writes
-        && (summary.counts.unknown > 0 || kept.writes == reads)
-}
-
 // A drive of one worker, with a stride of ten seconds and a clock that is within a tenth of one. Commit wait takes as long as a reading is
 // wide, but for how far two clocks of the machine go apart meanwhile. Ceilings are logged a stride ahead: one at each shard that is looked
 // at, since all is over within five seconds. And what was written after a number is the next one, at each key that was read.
@@ -442,18 +430,21 @@ fn as_settings_say(rt: HostRuntime) {
         lines,
         disks,
     } = driven.ok().expect(&rt, "a drive");
-    let told = is_sound(&summary, 6) && are_told(&summary, 6, &lines);
-    let (last, reads) = (last_look(&lines), reads_in(&lines));
+    let sum = sum_of(&lines, 1);
     drop(lines);
+    let told = is_sound(&summary, 6) && are_told(&summary, 6, sum);
     let kept = Kept::of(&rt, rt.alloc(), disks);
     let shortest = watch.micros.load(Ordering::SeqCst);
     let waited = summary.counts.committed > 0 && shortest >= 199_000 && shortest < u64::MAX;
     let looks_told = watch.looks.load(Ordering::SeqCst) == summary.counts.looks;
     let ahead = kept.ceilings >= 1
         && kept.ceilings <= 2
-        && last > 0
-        && kept.least_ceiling > last.saturating_add(5_000_000);
-    let counted = are_counted(&kept, &summary, reads);
+        && sum.last > 0
+        && kept.least_ceiling > sum.last.saturating_add(5_000_000);
+    // Each number that was written is the next of its key, and each key was written that a commit has read.
+    let counted = kept.writes > 0
+        && kept.sum() == kept.writes
+        && (summary.counts.unknown > 0 || kept.writes == sum.reads);
     drop(kept);
     let mut wrong = WrongRows::none(rt.alloc());
     wrong.unless(told, "what is told of transactions");

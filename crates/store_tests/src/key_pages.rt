@@ -1,13 +1,13 @@
 //! Pages of keys at a time: over both shards, without erased keys and later ones, in ranges.
-use crate::clients::{disks_of, of_two_shards, store_of};
+use crate::clients::{commit, disks_of, of_two_shards};
+use crate::served::{OneClient, serve_one};
 use crate::verdict::end;
 use made::WrongRows;
 use std::alloc::Global;
-use std::process::Abort;
 use std::sync::Wait;
 use std::time;
 use std::time::Duration;
-use store::{Client, Ended, Fault, Halt, Key, Stamp, Transaction, Value, View};
+use store::{Client, Fault, Key, Stamp};
 
 // The keys of a range at the time of the first commit or of the second, by pages. No end is an empty key. Each letter is a key.
 struct Row {
@@ -104,30 +104,15 @@ static ROWS: [Row; 9] = [
     },
 ];
 
-// Writes and erases keys in a transaction. Gives its timestamp.
-fn commit<R: Wait + time::Clock>(
-    alloc: Global,
+// Whether a view at a time, which waits so many seconds for that to be served, lists the keys of a row, in pages that are no longer than it says.
+fn lists<R: Wait + time::Clock>(
     client: &mut Client<'_, R>,
-    writes: &[(&[u8], Option<&[u8]>)],
-) -> Option<Stamp> {
-    let ended = client.transact(5, |tx: &mut Transaction<'_, R>| -> Result<(), Halt> {
-        for write in writes {
-            let key = Key::new(write.0)?;
-            match write.1 {
-                Some(value) => tx.put(&key, Value::new(alloc, value)?)?,
-                None => tx.erase(&key)?,
-            }
-        }
-        Ok(())
-    });
-    match &ended {
-        Ok(Ended::Committed { at, .. }) => Some(*at),
-        _ => None,
-    }
-}
-
-// Whether a view lists the keys of a row, in pages that are no longer than it says.
-fn lists<R: Wait + time::Clock>(view: &mut View<'_, '_, R>, row: &Row) -> Result<bool, Fault> {
+    at: Stamp,
+    seconds: u64,
+    row: &Row,
+) -> Result<bool, Fault> {
+    let mut view = client.view_at(at);
+    view.wait_at_most(Duration::from_secs(seconds));
     let to = Key::new(row.to).ok();
     let mut next = Key::new(row.from).ok();
     let mut found = 0_usize;
@@ -148,40 +133,26 @@ fn lists<R: Wait + time::Clock>(view: &mut View<'_, '_, R>, row: &Row) -> Result
     Ok(right && next.is_none() && found == row.keys.len())
 }
 
-// Whether the view of a row's time lists its keys, once it is served.
-fn goes<R: Wait + time::Clock>(client: &mut Client<'_, R>, at: Stamp, row: &Row) -> bool {
-    let mut view = client.view_at(at);
-    view.wait_at_most(Duration::from_secs(2));
-    lists(&mut view, row) == Ok(true)
-}
-
-// Whether a time that has not come is refused.
-fn is_early<R: Wait + time::Clock>(client: &mut Client<'_, R>, at: Stamp) -> bool {
-    let Ok(later) = Stamp::new(at.micros().saturating_add(60_000_000)) else {
-        return false;
-    };
-    let mut view = client.view_at(later);
-    lists(&mut view, &ROWS[0]) == Err(Fault::NotYet)
-}
-
-// Which rows go wrong.
-fn work<R: Wait + time::Clock>(
-    alloc: Global,
-    clients: Vec<Client<'_, R>>,
-    wrong: &mut WrongRows,
-) -> Option<()> {
-    let mut clients = clients;
-    let mut client = clients.pop()?;
-    drop(clients);
-    let first = commit(alloc, &mut client, &FIRST)?;
-    let second = commit(alloc, &mut client, &SECOND)?;
-    for row in &ROWS {
-        let at = if row.second { second } else { first };
-        wrong.unless(goes(&mut client, at, row), row.name);
+impl<R: Wait + time::Clock> OneClient<R> for [Row; 9] {
+    // Whether all rows go so.
+    fn work(
+        &self,
+        _rt: &R,
+        alloc: Global,
+        client: &mut Client<'_, R>,
+        wrong: &mut WrongRows,
+    ) -> Option<()> {
+        let first = commit(alloc, client, &FIRST)?;
+        let second = commit(alloc, client, &SECOND)?;
+        for row in self {
+            let at = if row.second { second } else { first };
+            wrong.unless(lists(client, at, 2, row) == Ok(true), row.name);
+        }
+        let later = Stamp::new(second.micros().saturating_add(60_000_000)).ok()?;
+        let early = lists(client, later, 0, &self[0]) == Err(Fault::NotYet);
+        wrong.unless(early, "a time that has not come");
+        Some(())
     }
-    wrong.unless(is_early(&mut client, second), "a time that has not come");
-    drop(client);
-    Some(())
 }
 
 /// Shows that pages of keys have each key with a value at their time, once and in order, over all shards.
@@ -189,13 +160,7 @@ fn work<R: Wait + time::Clock>(
 fn views_list_keys(rt: HostRuntime) {
     let alloc = rt.alloc();
     let mut wrong = WrongRows::none(alloc);
-    let options = of_two_shards(&rt, alloc, 100_000);
-    let store = store_of(&rt, alloc, disks_of(&rt, alloc, 2), options);
-    let served = store.serve(|clients: Vec<Client<'_, HostRuntime>>| work(
-        alloc, clients, &mut wrong,
-    ));
-    let (done, disks) = served.ok().expect(&rt, "a service");
-    drop(disks);
-    wrong.unless(done.is_some(), "two commits");
+    let (disks, options) = (disks_of(&rt, alloc, 2), of_two_shards(&rt, alloc, 100_000));
+    drop(serve_one(&rt, alloc, disks, options, "two commits", &ROWS, &mut wrong));
     end(&rt, wrong);
 }

@@ -1,13 +1,13 @@
 //! Versions of a key in a view: in ranges of time, in parts, up to the view's time, and once they are forgotten.
-use crate::clients::{disks_of, of_two_shards, store_of};
+use crate::clients::{commit, disks_of, of_two_shards};
+use crate::served::{OneClient, serve_one};
 use crate::verdict::end;
 use made::WrongRows;
 use std::alloc::Global;
-use std::process::Abort;
 use std::sync::Wait;
 use std::time::Duration;
 use std::{thread, time};
-use store::{Client, Ended, Fault, Halt, Install, Key, Stamp, Transaction, Value, View};
+use store::{Client, Fault, Install, Key, Stamp};
 
 // How long is kept, in microseconds.
 const KEEP: u64 = 10_000_000;
@@ -19,11 +19,11 @@ struct Times {
 }
 
 // A key of shard 1 after each of four commits. The second writes another key, the third erases the key.
-const COMMITS: [(&[u8], Option<&[u8]>); 4] = [
-    (b"x", Some(b"1")),
-    (b"y", Some(b"2")),
-    (b"x", None),
-    (b"x", Some(b"4")),
+const COMMITS: [[(&[u8], Option<&[u8]>); 1]; 4] = [
+    [(b"x", Some(b"1"))],
+    [(b"y", Some(b"2"))],
+    [(b"x", None)],
+    [(b"x", Some(b"4"))],
 ];
 
 // What a key has from the time of one commit to that of another, in a view at the time of a third, in parts. Each version is the number of its
@@ -122,26 +122,6 @@ static ROWS: [Row; 9] = [
     },
 ];
 
-// Writes or erases a key in a transaction. Gives its timestamp.
-fn commit<R: Wait + time::Clock>(
-    alloc: Global,
-    client: &mut Client<'_, R>,
-    write: &(&[u8], Option<&[u8]>),
-) -> Option<Stamp> {
-    let ended = client.transact(5, |tx: &mut Transaction<'_, R>| -> Result<(), Halt> {
-        let key = Key::new(write.0)?;
-        match write.1 {
-            Some(value) => tx.put(&key, Value::new(alloc, value)?),
-            None => tx.erase(&key),
-        }?;
-        Ok(())
-    });
-    match &ended {
-        Ok(Ended::Committed { at, .. }) => Some(*at),
-        _ => None,
-    }
-}
-
 // Whether a version of a row's key is this one of the row.
 fn is_listed(
     version: &Install,
@@ -161,12 +141,14 @@ fn is_listed(
         && value == *bytes
 }
 
-// Whether a view tells the versions of a row, in parts that are no longer than it says.
+// Whether the view of a row's time tells the versions of the row once it is served, in parts that are no longer than it says.
 fn lists<R: Wait + time::Clock>(
-    view: &mut View<'_, '_, R>,
+    client: &mut Client<'_, R>,
     row: &Row,
     times: &Times,
 ) -> Result<bool, Fault> {
+    let mut view = client.view_at(times.at[row.view % 4]);
+    view.wait_at_most(Duration::from_secs(2));
     let key = Key::new(row.key)?;
     let to = times.at[row.to % 4];
     let mut next = Some(times.at[row.from % 4]);
@@ -186,13 +168,6 @@ fn lists<R: Wait + time::Clock>(
         drop(history);
     }
     Ok(right && next.is_none() && found == row.versions.len())
-}
-
-// Whether the view of a row's time lists its versions, once it is served.
-fn goes<R: Wait + time::Clock>(client: &mut Client<'_, R>, row: &Row, times: &Times) -> bool {
-    let mut view = client.view_at(times.at[row.view % 4]);
-    view.wait_at_most(Duration::from_secs(2));
-    lists(&mut view, row, times) == Ok(true)
 }
 
 // Why the versions of the first row are refused in a view that does not wait, from the first commit to so much later than that of the view.
@@ -229,33 +204,32 @@ fn is_forgotten<R: Wait + time::Clock>(
     false
 }
 
-// Which rows go wrong.
-fn work<R: Wait + time::Clock>(
-    rt: &R,
-    alloc: Global,
-    clients: Vec<Client<'_, R>>,
-    wrong: &mut WrongRows,
-) -> Option<()> {
-    let mut clients = clients;
-    let mut client = clients.pop()?;
-    drop(clients);
-    let times = Times {
-        at: [
-            commit(alloc, &mut client, &COMMITS[0])?,
-            commit(alloc, &mut client, &COMMITS[1])?,
-            commit(alloc, &mut client, &COMMITS[2])?,
-            commit(alloc, &mut client, &COMMITS[3])?,
-        ],
-    };
-    for row in &ROWS {
-        wrong.unless(goes(&mut client, row, &times), row.name);
+impl<R: Wait + time::Clock> OneClient<R> for [Row; 9] {
+    // Whether all rows go so.
+    fn work(
+        &self,
+        rt: &R,
+        alloc: Global,
+        client: &mut Client<'_, R>,
+        wrong: &mut WrongRows,
+    ) -> Option<()> {
+        let times = Times {
+            at: [
+                commit(alloc, client, &COMMITS[0])?,
+                commit(alloc, client, &COMMITS[1])?,
+                commit(alloc, client, &COMMITS[2])?,
+                commit(alloc, client, &COMMITS[3])?,
+            ],
+        };
+        for row in self {
+            wrong.unless(lists(client, row, &times) == Ok(true), row.name);
+        }
+        let early = refused(client, &times, 60_000_000) == Some(Fault::NotYet);
+        wrong.unless(early, "a time that has not come");
+        let old = is_forgotten(rt, alloc, client, &times);
+        wrong.unless(old, "a time that is forgotten");
+        Some(())
     }
-    let early = refused(&mut client, &times, 60_000_000) == Some(Fault::NotYet);
-    wrong.unless(early, "a time that has not come");
-    let old = is_forgotten(rt, alloc, &mut client, &times);
-    wrong.unless(old, "a time that is forgotten");
-    drop(client);
-    Some(())
 }
 
 /// Shows that a view tells each version of a key in a range of time, once and in order, and none after the view's time.
@@ -265,12 +239,15 @@ fn views_tell_versions(rt: HostRuntime) {
     let mut wrong = WrongRows::none(alloc);
     let mut options = of_two_shards(&rt, alloc, 100_000);
     options.keep = Some(KEEP);
-    let store = store_of(&rt, alloc, disks_of(&rt, alloc, 2), options);
-    let served = store.serve(|clients: Vec<Client<'_, HostRuntime>>| work(
-        &rt, alloc, clients, &mut wrong,
+    let disks = disks_of(&rt, alloc, 2);
+    drop(serve_one(
+        &rt,
+        alloc,
+        disks,
+        options,
+        "four commits",
+        &ROWS,
+        &mut wrong,
     ));
-    let (done, disks) = served.ok().expect(&rt, "a service");
-    drop(disks);
-    wrong.unless(done.is_some(), "four commits");
     end(&rt, wrong);
 }

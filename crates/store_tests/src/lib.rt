@@ -56,6 +56,8 @@ mod renewing;
 #[cfg(test)]
 mod retiring;
 #[cfg(test)]
+mod served;
+#[cfg(test)]
 mod services;
 #[cfg(test)]
 mod slow;

@@ -1,9 +1,8 @@
 //! A drive over a folder whose log loses what it has told meanwhile.
+use crate::disks::settings_in;
 use drive::run;
 use letters::Gate;
 use made::{FIRST_GATE, Folder};
-use settings::Settings;
-use std::process::Abort;
 use units::ShardNo;
 
 // The log of the only shard.
@@ -22,43 +21,25 @@ struct Losing<'a> {
 impl Gate for Losing<'_> {
     fn before(&self, _shard: ShardNo, _n: u64) {}
 
+    // The log goes on after the closed gate, and nothing of it is read.
     fn after(&self, _shard: ShardNo, n: u64) {
         if n == LETTER {
-            lose(self.rt, self.folder);
+            if let Ok(mut log) = self.folder.read(self.rt, LOG) {
+                if let Some(gate) = log.get_mut(FIRST_GATE as usize) {
+                    *gate = 0;
+                }
+                let _ = self.folder.put(self.rt, LOG, &log);
+                drop(log);
+            }
         }
     }
-}
-
-// The log goes on after the closed gate, and nothing of it is read.
-fn lose(rt: &HostRuntime, folder: &Folder) {
-    let Ok(mut log) = folder.read(rt, LOG) else {
-        return;
-    };
-    if let Some(gate) = log.get_mut(FIRST_GATE as usize) {
-        *gate = 0;
-    }
-    let _ = folder.put(rt, LOG, &log);
-    drop(log);
-}
-
-// One worker and one shard, with its log in the folder.
-fn settings_in(rt: &HostRuntime, test: &impl Abort, folder: &Folder) -> Settings {
-    let dir = folder.path(rt.alloc(), ".").ok().expect(test, "memory");
-    let text = format!(in rt.alloc();
-        "shards = 1\nsplits = []\nstride = 1000\nepsilon = 100\nworkers = 1\ntransactions = 50\nkeys = 2\ndir = \"{dir}\"\n"
-    );
-    drop(dir);
-    let text = text.ok().expect(test, "settings");
-    let settings = Settings::read(rt.alloc(), &text).expect(test, "settings");
-    drop(text);
-    settings
 }
 
 // Fails if a drive over files says yes whatever its logs have lost.
 #[test]
 fn a_drive_that_lost_its_log(rt: HostRuntime) {
     let folder = Folder::new(&rt).ok().expect(&rt, "a folder");
-    let settings = settings_in(&rt, &rt, &folder);
+    let settings = settings_in(&rt, &rt, &folder, "shards = 1\nsplits = []", 50);
     let gate = Losing {
         rt: &rt,
         folder: &folder,

@@ -1,21 +1,15 @@
 //! Stores that are made in a folder, and opened.
 use crate::clients::{KEYS, of_one_shard};
-use crate::services::seen;
+use crate::served::{opened, serve_folder};
+use crate::services::Finding;
 use crate::verdict::end;
-use made::{Folder, WrongRows};
-use std::alloc::Global;
-use std::fs::File;
-use std::process::Abort;
-use std::random::RandomSource;
-use std::rt::Files;
-use std::sync::Wait;
-use std::thread::Threads;
-use std::time::Clock;
-use store::{Client, Expected, Name, Store, Why, refusal_in};
+use made::{Folder, WrongRows, is_text};
+use std::sync::atomic::{AtomicU64, Ordering};
+use store::{Expected, Name, refusal_in};
 use units::{Fault, Splits};
 
 // What is done in one folder, one row after the other, and how it ends.
-#[derive(Clone, Copy, PartialEq, Eq)]
+#[derive(Clone, Copy)]
 enum Does {
     Open,
     Make,
@@ -61,28 +55,6 @@ static ROWS: [Row; 6] = [
     },
 ];
 
-// How it ends.
-fn ended<R: Files<File = File> + RandomSource + Threads + Wait + Clock + Sync + Abort>(
-    rt: &R,
-    alloc: Global,
-    folder: &str,
-    does: Does,
-) -> Result<(), Fault> {
-    let mut options = of_one_shard(rt, alloc, 1);
-    options.make = does == Does::Either;
-    let store = match does {
-        Does::Open | Does::Either => Store::open_folder(rt, alloc, folder, options),
-        Does::Make => Store::make_folder(rt, alloc, folder, options),
-    };
-    match store {
-        Ok(store) => {
-            drop(store);
-            Ok(())
-        }
-        Err(unopened) => Err(unopened.fault),
-    }
-}
-
 // Whether the manifest is told as what is wrong, in these words.
 fn is_told(rt: &HostRuntime, folder: &str, expected: Expected, words: &str) -> bool {
     let alloc = rt.alloc();
@@ -95,19 +67,8 @@ fn is_told(rt: &HostRuntime, folder: &str, expected: Expected, words: &str) -> b
         return false;
     };
     match (refused.file, refused.why) {
-        (Some(Name::Manifest), Some(why)) => is_spelled(alloc, why, words),
+        (Some(Name::Manifest), Some(why)) => is_text(format!(in alloc; "{why}"), words),
         _ => false,
-    }
-}
-
-fn is_spelled(alloc: Global, why: Why, words: &str) -> bool {
-    match format!(in alloc; "{why}") {
-        Ok(text) => {
-            let same = text.as_str() == words;
-            drop(text);
-            same
-        }
-        Err(_) => false,
     }
 }
 
@@ -122,10 +83,11 @@ fn stores_are_made_or_opened(rt: HostRuntime) {
         "what an empty folder is refused for",
     );
     for row in &ROWS {
-        wrong.unless(
-            ended(&rt, rt.alloc(), path.as_str(), row.does) == row.ends,
-            row.name,
-        );
+        let mut options = of_one_shard(&rt, rt.alloc(), 1);
+        options.make = matches!(row.does, Does::Either);
+        let makes = matches!(row.does, Does::Make);
+        let ended = opened(&rt, rt.alloc(), path.as_str(), options, makes);
+        wrong.unless(ended == row.ends, row.name);
     }
     wrong.unless(
         is_told(&rt, path.as_str(), Expected::NoStore, "is there already"),
@@ -136,36 +98,40 @@ fn stores_are_made_or_opened(rt: HostRuntime) {
     end(&rt, wrong);
 }
 
-// The run of the ids of a store in a folder, and the time of a view there.
-fn seen_in<
-    R: Files<File = File, Dir = <HostRuntime as Files>::Dir>
-        + RandomSource
-        + Threads
-        + Wait
-        + Clock
-        + Sync
-        + Abort,
->(rt: &R, alloc: Global, path: &str) -> Option<(u64, u64)> {
-    let mut options = of_one_shard(rt, alloc, 1);
-    options.make = true;
-    let store = Store::open_folder(rt, alloc, path, options).ok()?;
-    let served = store.serve(|clients: Vec<Client<'_, R>>| seen(clients, &KEYS[..1]));
-    let (seen, disks) = served.ok()?;
-    drop(disks);
-    seen
-}
-
 // Fails if the ids of a store in a folder begin anew once it is opened again, or views go back.
 #[test]
 fn folders_go_on_from_their_logs(rt: HostRuntime) {
+    let alloc = rt.alloc();
     let folder = Folder::new(&rt).ok().expect(&rt, "a folder");
-    let path = folder.path(rt.alloc(), ".").ok().expect(&rt, "memory");
-    let (first, at) = seen_in(&rt, rt.alloc(), path.as_str()).expect(&rt, "a store");
-    let (second, later) = seen_in(&rt, rt.alloc(), path.as_str()).expect(&rt, "it again");
+    let path = folder.path(alloc, ".").ok().expect(&rt, "memory");
+    let mut wrong = WrongRows::none(alloc);
+    let (run, at) = (AtomicU64::new(0), AtomicU64::new(0));
+    let finding = Finding {
+        keys: &KEYS[..1],
+        run: &run,
+        at: &at,
+    };
+    let mut found = [(0, 0), (0, 0)];
+    for told in &mut found {
+        let mut options = of_one_shard(&rt, alloc, 1);
+        options.make = true;
+        let name = "a client";
+        let served = serve_folder(
+            &rt,
+            alloc,
+            path.as_str(),
+            options,
+            name,
+            &finding,
+            &mut wrong,
+        );
+        wrong.unless(served == Ok(()), "a store");
+        *told = (run.load(Ordering::SeqCst), at.load(Ordering::SeqCst));
+    }
     drop(path);
-    let mut wrong = WrongRows::none(rt.alloc());
+    let [(first, then), (second, later)] = found;
     wrong.unless((first, second) == (1, 2), "the runs of ids");
-    wrong.unless(at > 0 && later > at, "the times of views");
+    wrong.unless(then > 0 && later > then, "the times of views");
     wrong.unless(folder.remove(&rt), "the folder");
     end(&rt, wrong);
 }

@@ -1,15 +1,14 @@
 //! How a transaction ended that nobody told of: what is asked later, by its id.
-use crate::clients::{disks_of, of_one_shard, of_two_shards, store_of, write};
-use crate::slow::Slow;
+use crate::clients::{disks_of, of_one_shard, of_two_shards, write};
+use crate::served::{OneClient, TwoClients, serve_one, serve_two};
+use crate::slow::slow_disks;
 use crate::verdict::end;
 use made::WrongRows;
 use std::alloc::Global;
-use std::process::Abort;
 use std::sync::Wait;
-use std::thread::Threads;
 use std::time::{Duration, Instant};
 use std::{thread, time};
-use store::{Client, Ended, Fault, Options, Outcome, Store, TxnId};
+use store::{Client, Ended, Fault, Outcome, TxnId};
 
 // So many milliseconds a client waits for a shard that says nothing new.
 const GIVE_UP: u64 = 50;
@@ -55,134 +54,106 @@ fn unknown<R: Wait + time::Clock>(
     }
 }
 
-// What is told of 17 transactions whose commits wait: of the last at once, and later of it, of the second and of the first. Another client is
-// asked of the last too, and has to answer at once.
-#[derive(Clone, Copy, PartialEq, Eq)]
-struct Waited {
-    open: Option<Told>,
-    first: Option<Told>,
-    second: Option<Told>,
-    last: Option<Told>,
-    other: Option<Told>,
-    soon: bool,
-}
+// Whether it is right what is told of 17 transactions whose commits wait: of the last at once, and later of it, of the second and of the first.
+// Another client is asked of the last too, and has to answer at once.
+#[derive(Clone, Copy)]
+struct Waiting;
 
-const WAITED: Waited = Waited {
-    open: Some(Told::Open),
-    first: Some(Told::Unknown),
-    second: Some(Told::Committed),
-    last: Some(Told::Committed),
-    other: Some(Told::Unknown),
-    soon: true,
-};
-
-fn wait<R: Wait + time::Clock>(
-    rt: &R,
-    alloc: Global,
-    clients: Vec<Client<'_, R>>,
-) -> Option<Waited> {
-    let mut clients = clients;
-    let (mut client, mut other) = (clients.pop()?, clients.pop()?);
-    drop(clients);
-    let mut ids = Vec::new(alloc);
-    for number in 0..MANY {
-        ids.push(unknown(alloc, &mut client, &[&[b'a', number]])?)
-            .ok()?;
+impl<R: Wait + time::Clock> TwoClients<R> for Waiting {
+    fn work(
+        &self,
+        rt: &R,
+        alloc: Global,
+        client: &mut Client<'_, R>,
+        other: &mut Client<'_, R>,
+        wrong: &mut WrongRows,
+    ) -> Option<()> {
+        let first = unknown(alloc, client, &[&[b'a', 0]])?;
+        let second = unknown(alloc, client, &[&[b'a', 1]])?;
+        let mut last = second;
+        for number in 2..MANY {
+            last = unknown(alloc, client, &[&[b'a', number]])?;
+        }
+        let told = kind_of(client.outcome(last));
+        wrong.unless(told == Some(Told::Open), "at once");
+        let start = Instant::now(rt).ok()?;
+        let of_another = kind_of(other.outcome(last));
+        let soon = start.elapsed(rt).ok()? < Duration::from_millis(GIVE_UP);
+        thread::sleep(rt, Duration::from_micros(3 * EPSILON));
+        let told = kind_of(client.outcome(first));
+        wrong.unless(told == Some(Told::Unknown), "the first of 17");
+        let told = kind_of(client.outcome(second));
+        wrong.unless(told == Some(Told::Committed), "the second of 17");
+        let told = kind_of(client.outcome(last));
+        wrong.unless(told == Some(Told::Committed), "the last of 17");
+        wrong.unless(of_another == Some(Told::Unknown), "of another client");
+        wrong.unless(soon, "another client answers at once");
+        Some(())
     }
-    let (first, second, last) = (*ids.first()?, *ids.get(1)?, *ids.last()?);
-    drop(ids);
-    let open = kind_of(client.outcome(last));
-    let start = Instant::now(rt).ok()?;
-    let of_another = kind_of(other.outcome(last));
-    let soon = start.elapsed(rt).ok()? < Duration::from_millis(GIVE_UP);
-    thread::sleep(rt, Duration::from_micros(3 * EPSILON));
-    let all = Waited {
-        open,
-        first: kind_of(client.outcome(first)),
-        second: kind_of(client.outcome(second)),
-        last: kind_of(client.outcome(last)),
-        other: of_another,
-        soon,
-    };
-    drop(client);
-    drop(other);
-    Some(all)
 }
 
 // What is told later of a transaction on slow devices: one that writes to shard 0 alone commits; of one over both shards the deciding shard
 // hears that it was given up before it hears the other's vote.
-fn late<R: Wait + time::Clock>(
-    rt: &R,
-    alloc: Global,
-    clients: Vec<Client<'_, R>>,
-    keys: &[&[u8]],
-) -> Option<Told> {
-    let mut clients = clients;
-    let mut client = clients.pop()?;
-    drop(clients);
-    let id = unknown(alloc, &mut client, keys)?;
-    thread::sleep(rt, Duration::from_millis(10 * SLOW));
-    let told = kind_of(client.outcome(id));
-    drop(client);
-    told
+struct Late {
+    name: &'static str,
+    keys: &'static [&'static [u8]],
+    told: Told,
 }
 
-fn given_up_soon(options: Options) -> Options {
-    let mut options = options;
-    options.give_up = GIVE_UP;
-    options
-}
+static LATE: [Late; 2] = [
+    Late {
+        name: "on one slow device",
+        keys: &[b"a"],
+        told: Told::Committed,
+    },
+    Late {
+        name: "on two slow devices",
+        keys: &[b"a", b"z"],
+        told: Told::Aborted,
+    },
+];
 
-// The same over new disks.
-fn late_of<R: Threads + Wait + time::Clock + Sync + Abort>(
-    rt: &R,
-    alloc: Global,
-    keys: &[&[u8]],
-) -> Option<Told> {
-    let mut slow = Vec::new(alloc);
-    for disk in disks_of(rt, alloc, 2) {
-        let millis = SLOW;
-        slow.push(Slow { disk, rt, millis })
-            .ok()
-            .expect(rt, "memory");
+impl<R: Wait + time::Clock> OneClient<R> for Late {
+    fn work(
+        &self,
+        rt: &R,
+        alloc: Global,
+        client: &mut Client<'_, R>,
+        _wrong: &mut WrongRows,
+    ) -> Option<()> {
+        let id = unknown(alloc, client, self.keys)?;
+        thread::sleep(rt, Duration::from_millis(10 * SLOW));
+        if kind_of(client.outcome(id)) == Some(self.told) {
+            Some(())
+        } else {
+            None
+        }
     }
-    let options = given_up_soon(of_two_shards(rt, alloc, 100_000));
-    let store = Store::open(rt, alloc, slow, options)
-        .ok()
-        .expect(rt, "a store");
-    let served = store.serve(|clients: Vec<Client<'_, R>>| late(rt, alloc, clients, keys));
-    let (told, disks) = served.ok().expect(rt, "a service");
-    drop(disks);
-    told
 }
 
 // Fails if an outcome is told that is not the transaction's: one that is open as aborted, say, or one that the client does not keep.
 #[test]
 fn outcomes_are_told_later(rt: HostRuntime) {
     let alloc = rt.alloc();
-    let mut options = given_up_soon(of_one_shard(&rt, alloc, 2));
-    options.epsilon = EPSILON;
-    let store = store_of(&rt, alloc, disks_of(&rt, alloc, 1), options);
-    let served = store.serve(|clients: Vec<Client<'_, HostRuntime>>| wait(&rt, alloc, clients));
-    let (waited, disks) = served.ok().expect(&rt, "a service");
-    drop(disks);
     let mut wrong = WrongRows::none(alloc);
-    let waited = waited.expect(&rt, "unknown ends");
-    wrong.unless(waited.open == WAITED.open, "at once");
-    wrong.unless(waited.first == WAITED.first, "the first of 17");
-    wrong.unless(waited.second == WAITED.second, "the second of 17");
-    wrong.unless(waited.last == WAITED.last, "the last of 17");
-    wrong.unless(waited.other == WAITED.other, "of another client");
-    wrong.unless(waited.soon, "another client answers at once");
-    let one: [&[u8]; 1] = [b"a"];
-    let both: [&[u8]; 2] = [b"a", b"z"];
-    wrong.unless(
-        late_of(&rt, alloc, &one) == Some(Told::Committed),
-        "on one slow device",
-    );
-    wrong.unless(
-        late_of(&rt, alloc, &both) == Some(Told::Aborted),
-        "on two slow devices",
-    );
+    let mut options = of_one_shard(&rt, alloc, 2);
+    options.epsilon = EPSILON;
+    options.give_up = GIVE_UP;
+    let disks = disks_of(&rt, alloc, 1);
+    drop(serve_two(
+        &rt,
+        alloc,
+        disks,
+        options,
+        "unknown ends",
+        &Waiting,
+        &mut wrong,
+    ));
+    for late in &LATE {
+        let mut options = of_two_shards(&rt, alloc, 100_000);
+        options.give_up = GIVE_UP;
+        let slow = slow_disks(&rt, alloc, 2, SLOW);
+        drop(serve_one(&rt, alloc, slow, options, late.name, late, &mut wrong));
+    }
     end(&rt, wrong);
 }

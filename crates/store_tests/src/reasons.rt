@@ -1,5 +1,6 @@
 //! How transactions end, and what is told of that: a value, a reason, a number of tries.
-use crate::clients::{disks_of, of_one_shard, store_of, tells};
+use crate::clients::{disks_of, of_one_shard, sees};
+use crate::served::{OneClient, serve_one};
 use crate::verdict::end;
 use made::WrongRows;
 use std::alloc::Global;
@@ -15,7 +16,7 @@ enum Why {
 }
 
 // What the code does in its n-th run, the first of which is 1.
-#[derive(Clone, Copy, PartialEq, Eq)]
+#[derive(Clone, Copy)]
 enum Does {
     Ends,
     Asks,
@@ -134,38 +135,32 @@ fn goes<R: Wait + time::Clock>(alloc: Global, client: &mut Client<'_, R>, row: &
         Ok(Ended::Unknown { .. }) => Told::Nothing,
         Err(fault) => Told::Fault(fault),
     };
-    let stands = match client.view() {
-        Some(mut view) => tells(&mut view, key, b"1").is_ok(),
-        None => false,
-    };
+    let stands = sees(client, &[key], b"1").is_ok();
     told == row.told && runs == row.runs && stands == matches!(row.told, Told::Value(_))
 }
 
-// Which rows go so, by their places.
-fn go<R: Wait + time::Clock>(alloc: Global, clients: Vec<Client<'_, R>>) -> [bool; 8] {
-    let mut clients = clients;
-    let mut went = [false; 8];
-    if let Some(mut client) = clients.pop() {
-        for (place, row) in ROWS.iter().enumerate() {
-            went[place] = goes(alloc, &mut client, row);
+impl<R: Wait + time::Clock> OneClient<R> for [Row; 8] {
+    // Whether all rows go so.
+    fn work(
+        &self,
+        _rt: &R,
+        alloc: Global,
+        client: &mut Client<'_, R>,
+        wrong: &mut WrongRows,
+    ) -> Option<()> {
+        for row in self {
+            wrong.unless(goes(alloc, client, row), row.name);
         }
+        Some(())
     }
-    drop(clients);
-    went
 }
 
 // Fails if an abandoned transaction is told as aborted or stands, if another value or reason is told, or another number of tries.
 #[test]
 fn ends_have_reasons(rt: HostRuntime) {
     let alloc = rt.alloc();
-    let options = of_one_shard(&rt, alloc, 1);
-    let store = store_of(&rt, alloc, disks_of(&rt, alloc, 1), options);
-    let served = store.serve(|clients: Vec<Client<'_, HostRuntime>>| go(alloc, clients));
-    let (went, disks) = served.ok().expect(&rt, "a service");
-    drop(disks);
     let mut wrong = WrongRows::none(alloc);
-    for (place, row) in ROWS.iter().enumerate() {
-        wrong.unless(went[place], row.name);
-    }
+    let (disks, options) = (disks_of(&rt, alloc, 1), of_one_shard(&rt, alloc, 1));
+    drop(serve_one(&rt, alloc, disks, options, "a service", &ROWS, &mut wrong));
     end(&rt, wrong);
 }

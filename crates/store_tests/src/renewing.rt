@@ -1,17 +1,15 @@
 //! Stores that renew their logs: what the log of a shard begins with, and what is seen once it is opened again.
-use crate::clients::{disks_of, of_one_shard, sees, store_of, write};
+use crate::clients::{disks_of, is_committed, of_one_shard, write};
+use crate::disks::held_by;
+use crate::served::{OneClient, Sees, serve_one};
 use crate::verdict::end;
-use gatelog::GateLog;
 use made::{FIRST_GATE, WrongRows};
-use record::Record;
-use simdisk::SimDisk;
 use std::alloc::Global;
 use std::process::Abort;
 use std::sync::Wait;
-use std::thread::Threads;
 use std::time::Duration;
 use std::{thread, time};
-use store::{Client, Ended, Store};
+use store::{Client, Options};
 
 // How many microseconds are kept, by how many bytes a log has to grow, and whether it was turned over after a second of commits.
 struct Row {
@@ -55,18 +53,19 @@ const COMMITS: u32 = 100;
 
 const PAUSE: u64 = 10;
 
-// A store of one client, as the row says.
-fn open<'r, R: Threads + Wait + Sync + Abort>(
-    rt: &'r R,
-    alloc: Global,
-    disks: Vec<SimDisk>,
-    row: &Row,
-) -> Store<'r, R, SimDisk> {
+// What was written.
+static SEEN: Sees<'static> = Sees {
+    keys: &[b"a"],
+    value: b"1",
+};
+
+// The options of a store of one client, as the row says.
+fn options_of(rt: &impl Abort, alloc: Global, row: &Row) -> Options {
     let mut options = of_one_shard(rt, alloc, 1);
     options.patience = 100;
     options.keep = row.keep;
     options.renew = row.renew;
-    store_of(rt, alloc, disks, options)
+    options
 }
 
 // Whether the numbers tell that the shard has forgotten something, or nothing if all is kept, and was never refused.
@@ -104,81 +103,42 @@ fn is_turned<R: Wait + time::Clock>(
     false
 }
 
-// Whether all commits were made, and what was forgotten meanwhile is counted. If the log is renewed, that is told.
-fn write_all<R: Wait + time::Clock>(
-    rt: &R,
-    alloc: Global,
-    clients: Vec<Client<'_, R>>,
-    row: &Row,
-) -> bool {
-    let mut clients = clients;
-    let Some(mut client) = clients.pop() else {
-        return false;
-    };
-    let mut wrote = true;
-    for _commit in 0..COMMITS {
-        let ended = write(alloc, &mut client, 5, &[b"a"], b"1");
-        wrote = wrote && matches!(ended, Ok(Ended::Committed { .. }));
-        thread::sleep(rt, Duration::from_millis(PAUSE));
-    }
-    wrote = wrote && is_counted(&client, row);
-    if row.renewed {
-        wrote = wrote && is_turned(rt, alloc, &mut client, row);
-    }
-    drop(client);
-    drop(clients);
-    wrote
-}
-
-// Whether a view sees what was written.
-fn is_seen<R: Wait + time::Clock>(clients: Vec<Client<'_, R>>) -> bool {
-    let mut clients = clients;
-    let seen = match clients.pop() {
-        Some(mut client) => sees(&mut client, &[b"a"], b"1").is_ok(),
-        None => false,
-    };
-    drop(clients);
-    seen
-}
-
-// Whether the log of the disk begins with a base.
-fn is_renewed(rt: &impl Abort, alloc: Global, disks: Vec<SimDisk>) -> (bool, Vec<SimDisk>) {
-    let mut disks = disks;
-    let disk = disks.pop().expect(rt, "a disk");
-    let (log, entries) = GateLog::open(alloc, disk).ok().expect(rt, "a log");
-    let renewed = match entries.first() {
-        Some(entry) => matches!(entry.item(), Record::Base { .. }),
-        None => false,
-    };
-    drop(entries);
-    disks.push(log.into_disk()).ok().expect(rt, "memory");
-    (renewed, disks)
-}
-
-// Whether a store's log is renewed as the row says, and what was written is seen over it.
-fn goes<R: Threads + Wait + time::Clock + Sync + Abort>(rt: &R, alloc: Global, row: &Row) -> bool {
-    let store = open(rt, alloc, disks_of(rt, alloc, 1), row);
-    let served = store.serve(|clients: Vec<Client<'_, R>>| write_all(rt, alloc, clients, row));
-    let Ok((wrote, disks)) = served else {
-        return false;
-    };
-    let (renewed, disks) = is_renewed(rt, alloc, disks);
-    let again = open(rt, alloc, disks, row);
-    match again.serve(|clients: Vec<Client<'_, R>>| is_seen(clients)) {
-        Ok((seen, disks)) => {
-            drop(disks);
-            wrote && seen && renewed == row.renewed
+impl<R: Wait + time::Clock> OneClient<R> for Row {
+    // Whether all commits were made, and what was forgotten meanwhile is counted. If the log is renewed, that is told.
+    fn work(
+        &self,
+        rt: &R,
+        alloc: Global,
+        client: &mut Client<'_, R>,
+        _wrong: &mut WrongRows,
+    ) -> Option<()> {
+        let mut right = true;
+        for _commit in 0..COMMITS {
+            right = is_committed(&write(alloc, client, 5, &[b"a"], b"1")) && right;
+            thread::sleep(rt, Duration::from_millis(PAUSE));
         }
-        Err(_) => false,
+        right = right && is_counted(client, self);
+        if self.renewed {
+            right = right && is_turned(rt, alloc, client, self);
+        }
+        if right { Some(()) } else { None }
     }
 }
 
-// Fails if a store renews no log, or each.
+// Fails if a store renews no log, or each, or if what was written is not seen over a renewed one.
 #[test]
 fn logs_of_stores_are_renewed(rt: HostRuntime) {
-    let mut wrong = WrongRows::none(rt.alloc());
+    let alloc = rt.alloc();
+    let mut wrong = WrongRows::none(alloc);
     for row in &ROWS {
-        wrong.unless(goes(&rt, rt.alloc(), row), row.name);
+        let options = options_of(&rt, alloc, row);
+        let disks = disks_of(&rt, alloc, 1);
+        if let Some(disks) = serve_one(&rt, alloc, disks, options, row.name, row, &mut wrong) {
+            let (held, disks) = held_by(&rt, alloc, disks);
+            wrong.unless((held.bases == 1) == row.renewed, row.name);
+            let options = options_of(&rt, alloc, row);
+            drop(serve_one(&rt, alloc, disks, options, row.name, &SEEN, &mut wrong));
+        }
     }
     end(&rt, wrong);
 }

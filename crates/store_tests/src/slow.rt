@@ -1,6 +1,9 @@
 //! A disk in memory on a slow device.
+use crate::clients::disks_of;
 use disk::Disk;
 use simdisk::SimDisk;
+use std::alloc::Global;
+use std::process::Abort;
 use std::time::Duration;
 use std::{thread, time};
 use units::Fault;
@@ -14,6 +17,21 @@ pub struct Slow<'a, R> {
     pub rt: &'a R,
     /// How many milliseconds each sync takes.
     pub millis: u64,
+}
+
+/// Makes so many slow disks with an empty log.
+pub fn slow_disks<'r, R: Abort>(
+    rt: &'r R,
+    alloc: Global,
+    logs: usize,
+    millis: u64,
+) -> Vec<Slow<'r, R>> {
+    let mut slow = Vec::new(alloc);
+    for disk in disks_of(rt, alloc, logs) {
+        let pushed = slow.push(Slow { disk, rt, millis });
+        pushed.ok().expect(rt, "memory");
+    }
+    slow
 }
 
 impl<R: time::Clock> Disk for Slow<'_, R> {

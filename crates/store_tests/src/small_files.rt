@@ -1,20 +1,17 @@
 //! Stores whose logs go on in new files, or stay in theirs, and what is left of a file if a call fails meanwhile.
 use crate::clients::{is_committed, of_one_shard, sees, write};
 use crate::faulty::Faulty;
+use crate::served::{OneClient, Sees, serve_folder};
 use crate::verdict::end;
 use disk::Disk;
 use host_files::{draft_beside, put_in_place};
 use made::{FIRST_GATE, Folder, WrongRows};
 use std::alloc::Global;
-use std::fs::File;
 use std::process::Abort;
-use std::random::RandomSource;
-use std::rt::Files;
 use std::sync::Wait;
-use std::thread::Threads;
 use std::time::Duration;
 use std::{thread, time};
-use store::{Client, Options, ShardNumbers, Store};
+use store::{Client, Options};
 
 // How far into its file a log may begin, how often the file was turned over after all commits, at least and at most, and whether its
 // log begins right after its slots.
@@ -66,149 +63,69 @@ fn options_of(test: &impl Abort, alloc: Global, row: &Row) -> Options {
     options
 }
 
-// Whether the shard tells that its log was turned over so often.
-fn has_turned<R: Wait + time::Clock>(client: &Client<'_, R>, least: u64) -> bool {
-    match client.numbers().of(0) {
-        Some(numbers) => least <= numbers.turnovers,
-        None => false,
-    }
-}
-
-// Makes commits until the log was turned over so often. Returns whether all were acknowledged.
+// Makes commits until the shard tells that its log was turned over so often, or as many as there may be. `None` if one was not acknowledged.
 fn write_until<R: Wait + time::Clock>(
     rt: &R,
     alloc: Global,
     client: &mut Client<'_, R>,
     least: u64,
-) -> bool {
+) -> Option<()> {
     for commit in 0..MOST_COMMITS {
         if !is_committed(&write(alloc, client, 5, &[b"a"], b"1")) {
-            return false;
+            return None;
         }
-        if COMMITS <= commit && has_turned(client, least) {
-            return true;
+        if COMMITS <= commit && client.numbers().of(0)?.turnovers >= least {
+            return Some(());
         }
         thread::sleep(rt, Duration::from_millis(PAUSE));
     }
-    true
+    Some(())
 }
 
-// Makes all commits, and gives the numbers of the shard after them. `None` if one was not acknowledged, or is not seen.
-fn numbers_after<R: Wait + time::Clock>(
-    rt: &R,
-    alloc: Global,
-    client: &mut Client<'_, R>,
-    least: u64,
-) -> Option<ShardNumbers> {
-    let wrote = write_until(rt, alloc, client, least);
-    let last = is_committed(&write(alloc, client, 5, &[b"a"], b"2"));
-    let seen = sees(client, &[b"a"], b"2").is_ok();
-    if wrote && last && seen {
-        client.numbers().of(0)
-    } else {
-        None
+impl<R: Wait + time::Clock> OneClient<R> for Row {
+    // Whether all commits are acknowledged, a view sees the last one, and the file of the shard is then as the row says.
+    fn work(
+        &self,
+        rt: &R,
+        alloc: Global,
+        client: &mut Client<'_, R>,
+        _wrong: &mut WrongRows,
+    ) -> Option<()> {
+        let (least, most) = self.turnovers;
+        write_until(rt, alloc, client, least)?;
+        let last = is_committed(&write(alloc, client, 5, &[b"a"], b"2"));
+        let seen = sees(client, &[b"a"], b"2").is_ok();
+        let numbers = client.numbers().of(0)?;
+        let right = last
+            && seen
+            && least <= numbers.turnovers
+            && numbers.turnovers <= most
+            && numbers.turnovers_refused == 0
+            && (numbers.area_begins == FIRST_GATE + 1) == self.is_small;
+        if right { Some(()) } else { None }
     }
 }
 
-// Lends the client.
-fn write_all<R: Wait + time::Clock>(
-    rt: &R,
-    alloc: Global,
-    clients: Vec<Client<'_, R>>,
-    least: u64,
-) -> Option<ShardNumbers> {
-    let mut clients = clients;
-    let numbers = match clients.as_mut_slice() {
-        [client] => numbers_after(rt, alloc, client, least),
-        _ => None,
-    };
-    drop(clients);
-    numbers
-}
-
-// Whether a view sees what was committed last.
-fn is_seen<R: Wait + time::Clock>(clients: Vec<Client<'_, R>>) -> bool {
-    let mut clients = clients;
-    let seen = match clients.as_mut_slice() {
-        [client] => sees(client, &[b"a"], b"2").is_ok(),
-        _ => false,
-    };
-    drop(clients);
-    seen
-}
-
-// Makes the store of a row in a folder, and gives the numbers of its shard after all commits.
-fn written<
-    R: Files<File = File, Dir = <HostRuntime as Files>::Dir>
-        + RandomSource
-        + Threads
-        + Wait
-        + time::Clock
-        + Sync
-        + Abort,
->(rt: &R, alloc: Global, path: &str, row: &Row) -> Option<ShardNumbers> {
-    let store = Store::open_folder(rt, alloc, path, options_of(rt, alloc, row)).ok()?;
-    let (least, _most) = row.turnovers;
-    match store.serve(|clients: Vec<Client<'_, R>>| write_all(rt, alloc, clients, least)) {
-        Ok((numbers, disks)) => {
-            drop(disks);
-            numbers
-        }
-        Err(_) => None,
-    }
-}
-
-// Whether what was committed last is there when the store is opened again.
-fn is_there<
-    R: Files<File = File, Dir = <HostRuntime as Files>::Dir>
-        + RandomSource
-        + Threads
-        + Wait
-        + time::Clock
-        + Sync
-        + Abort,
->(rt: &R, alloc: Global, path: &str, row: &Row) -> bool {
-    let Ok(store) = Store::open_folder(rt, alloc, path, options_of(rt, alloc, row)) else {
-        return false;
-    };
-    match store.serve(|clients: Vec<Client<'_, R>>| is_seen(clients)) {
-        Ok((seen, disks)) => {
-            drop(disks);
-            seen
-        }
-        Err(_) => false,
-    }
-}
-
-// Whether the file of a row is as it says, and what was committed last is there.
-fn is_right<
-    R: Files<File = File, Dir = <HostRuntime as Files>::Dir>
-        + RandomSource
-        + Threads
-        + Wait
-        + time::Clock
-        + Sync
-        + Abort,
->(rt: &R, alloc: Global, path: &str, row: &Row) -> bool {
-    let Some(numbers) = written(rt, alloc, path, row) else {
-        return false;
-    };
-    let (least, most) = row.turnovers;
-    least <= numbers.turnovers
-        && numbers.turnovers <= most
-        && numbers.turnovers_refused == 0
-        && (numbers.area_begins == FIRST_GATE + 1) == row.is_small
-        && is_there(rt, alloc, path, row)
-}
+// What was committed last.
+static LAST: Sees<'static> = Sees {
+    keys: &[b"a"],
+    value: b"2",
+};
 
 // Fails if a log that goes on in a new file is not found there, or one goes on in a new file that is to stay.
 #[test]
 fn files_stay_small(rt: HostRuntime) {
-    let mut wrong = WrongRows::none(rt.alloc());
+    let alloc = rt.alloc();
+    let mut wrong = WrongRows::none(alloc);
     for row in &ROWS {
         let folder = Folder::new(&rt).ok().expect(&rt, "a folder");
-        let path = folder.path(rt.alloc(), ".").ok().expect(&rt, "memory");
-        wrong.unless(is_right(&rt, rt.alloc(), path.as_str(), row), row.name);
+        let path = folder.path(alloc, ".").ok().expect(&rt, "memory");
+        let path_in = path.as_str();
+        let options = options_of(&rt, alloc, row);
+        let made = serve_folder(&rt, alloc, path_in, options, row.name, row, &mut wrong);
+        let options = options_of(&rt, alloc, row);
+        let again = serve_folder(&rt, alloc, path_in, options, row.name, &LAST, &mut wrong);
+        wrong.unless(made == Ok(()) && again == Ok(()), row.name);
         drop(path);
         wrong.unless(folder.remove(&rt), "the folder");
     }
@@ -248,27 +165,25 @@ fn is_left(rt: &HostRuntime, folder: &Folder, placed: Option<bool>) -> bool {
     }
 }
 
-// Whether all is right while each call fails in turn, and then none.
-fn are_left(rt: &HostRuntime, test: &impl Abort) -> bool {
-    for fails in 0..100 {
-        let folder = Folder::new(rt).ok().expect(test, "a folder");
-        let path = folder.path(rt.alloc(), ".").ok().expect(test, "memory");
-        let put = folder.put(rt, "shard-0.log", FORMER).is_ok();
-        let (placed, failed) = placed(rt, rt.alloc(), path.as_str(), fails);
-        drop(path);
-        let right = put && is_left(rt, &folder, placed) && (failed || placed == Some(true));
-        if !folder.remove(rt) || !right {
-            return false;
-        }
-        if !failed {
-            return true;
-        }
-    }
-    false
-}
-
-// Fails if a log's name leads to no file, to the new one before that has the place, or to the former one after that.
+// Fails if a log's name leads to no file, to the new one before that has the place, or to the former one after that. Each call fails in turn, and
+// then none.
 #[test]
 fn a_log_is_the_former_file_or_the_new_one(rt: HostRuntime) {
-    assert!(rt; are_left(&rt, &rt));
+    let alloc = rt.alloc();
+    let mut right = true;
+    let mut ended = false;
+    for fails in 0..100 {
+        let folder = Folder::new(&rt).ok().expect(&rt, "a folder");
+        let path = folder.path(alloc, ".").ok().expect(&rt, "memory");
+        let put = folder.put(&rt, "shard-0.log", FORMER).is_ok();
+        let (placed, failed) = placed(&rt, alloc, path.as_str(), fails);
+        drop(path);
+        right = right && put && is_left(&rt, &folder, placed) && (failed || placed == Some(true));
+        right = folder.remove(&rt) && right;
+        ended = !failed;
+        if ended {
+            break;
+        }
+    }
+    assert!(rt; right && ended);
 }

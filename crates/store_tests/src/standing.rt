@@ -1,34 +1,28 @@
 //! How shards stand, as the numbers of a store tell: which transactions have a row, which were ended by an older one, and how many letters wait.
-use crate::clients::{disks_of, of_one_shard, store_of, write};
-use crate::slow::Slow;
+use crate::clients::{disks_of, is_committed, of_one_shard, write};
+use crate::served::{EachClient, serve_each, wait_for};
+use crate::slow::slow_disks;
 use crate::verdict::end;
 use made::WrongRows;
 use std::alloc::Global;
 use std::ops::RangeInclusive;
 use std::sync::Wait;
 use std::sync::atomic::{AtomicBool, AtomicU64, Ordering};
-use std::thread::Threads;
 use std::time::Duration;
 use std::{thread, time};
-use store::{Client, Ended, Halt, Numbers, Store, Transaction};
+use store::{Client, Halt, Numbers, Transaction};
 use units::{Key, Value};
 
-// The older transaction has begun; the younger one has read; the older one has ended.
+// The older transaction has begun; the younger one has read; its row was told; the older one has ended; the younger one has.
 const BEGUN: u64 = 1;
 
 const READ: u64 = 2;
 
-const ENDED: u64 = 3;
+const TOLD: u64 = 3;
 
-// Waits for a stage, for ten seconds at most.
-fn wait_for<R: Wait + time::Clock>(rt: &R, stage: &AtomicU64, at_least: u64) {
-    for _milli in 0..10_000 {
-        if stage.load(Ordering::SeqCst) >= at_least {
-            return;
-        }
-        thread::sleep(rt, Duration::from_millis(1));
-    }
-}
+const ENDED: u64 = 4;
+
+const BOTH: u64 = 5;
 
 // Whether the numbers tell of so many rows within ten seconds, while a client writes another key. A shard tells how it stands when it shows
 // something.
@@ -50,24 +44,21 @@ fn has_rows<R: Wait + time::Clock>(
     false
 }
 
-// Writes a key that a younger transaction has read meanwhile. Whether it commits, and the younger one had a row.
+// Writes a key that a younger transaction has read meanwhile. Whether it commits.
 fn be_older<R: Wait + time::Clock>(
     rt: &R,
     alloc: Global,
     client: &mut Client<'_, R>,
-    third: &mut Client<'_, R>,
     stage: &AtomicU64,
 ) -> bool {
-    let mut had = false;
     let ended = client.transact(1, |tx: &mut Transaction<'_, R>| -> Result<(), Halt> {
         stage.store(BEGUN, Ordering::SeqCst);
-        wait_for(rt, stage, READ);
-        had = has_rows(rt, alloc, third, 1..=3);
+        wait_for(rt, stage, TOLD);
         tx.put(&Key::new(b"a")?, Value::new(alloc, b"1")?)?;
         Ok(())
     });
     stage.store(ENDED, Ordering::SeqCst);
-    had && matches!(ended, Ok(Ended::Committed { .. }))
+    is_committed(&ended)
 }
 
 // Reads a key, and another one once an older transaction has written the first. Whether it commits at its second attempt.
@@ -88,52 +79,57 @@ fn be_younger<R: Wait + time::Clock>(
         drop(tx.get(&Key::new(b"b")?)?);
         Ok(())
     });
-    attempts >= 2 && matches!(ended, Ok(Ended::Committed { .. }))
+    stage.store(BOTH, Ordering::SeqCst);
+    attempts >= 2 && is_committed(&ended)
 }
 
-// Whether both come to that, one wound is counted at least, and no row is left.
-fn goes<R: Threads + Wait + time::Clock + Sync>(
+// Whether the numbers tell of a row while the older transaction waits, and of none once both have ended, and one wound is counted at least.
+fn look_on<R: Wait + time::Clock>(
     rt: &R,
     alloc: Global,
-    clients: Vec<Client<'_, R>>,
+    client: &mut Client<'_, R>,
+    stage: &AtomicU64,
 ) -> bool {
-    let mut clients = clients;
-    let (Some(mut older), Some(mut younger), Some(mut third)) = (
-        clients.pop(),
-        clients.pop(),
-        clients.pop(),
-    ) else {
-        return false;
-    };
-    drop(clients);
-    let stage = AtomicU64::new(0);
-    let (one, other) = thread::join(
-        rt,
-        || be_older(rt, alloc, &mut older, &mut third, &stage),
-        || be_younger(rt, &mut younger, &stage),
-    );
-    let wounds = match third.numbers().of(0) {
+    wait_for(rt, stage, READ);
+    let had = has_rows(rt, alloc, client, 1..=3);
+    stage.store(TOLD, Ordering::SeqCst);
+    wait_for(rt, stage, BOTH);
+    let wounds = match client.numbers().of(0) {
         Some(numbers) => numbers.wounds,
         None => 0,
     };
-    let none = has_rows(rt, alloc, &mut third, 0..=0);
-    drop(older);
-    drop(younger);
-    drop(third);
-    one && other && wounds >= 1 && none
+    had && wounds >= 1 && has_rows(rt, alloc, client, 0..=0)
+}
+
+// Three clients: of an older transaction, of a younger one, and one that looks on. The number is the stage that they have come to.
+#[derive(Clone, Copy)]
+struct Wounding<'a>(&'a AtomicU64);
+
+impl<R: Wait + time::Clock> EachClient<R> for Wounding<'_> {
+    fn work(&self, rt: &R, alloc: Global, place: u64, client: &mut Client<'_, R>) -> bool {
+        match place {
+            0 => be_older(rt, alloc, client, self.0),
+            1 => be_younger(rt, client, self.0),
+            _ => look_on(rt, alloc, client, self.0),
+        }
+    }
 }
 
 // Fails if no wound is counted, if no transaction has a row, or if one keeps its row.
 #[test]
 fn rows_and_wounds_are_told(rt: HostRuntime) {
     let alloc = rt.alloc();
-    let options = of_one_shard(&rt, alloc, 3);
-    let store = store_of(&rt, alloc, disks_of(&rt, alloc, 1), options);
-    let served = store.serve(|clients: Vec<Client<'_, HostRuntime>>| goes(&rt, alloc, clients));
-    let (went, disks) = served.ok().expect(&rt, "a service");
-    drop(disks);
     let mut wrong = WrongRows::none(alloc);
-    wrong.unless(went, "rows and wounds");
+    let stage = AtomicU64::new(0);
+    let options = of_one_shard(&rt, alloc, 3);
+    let well = serve_each(
+        &rt,
+        alloc,
+        disks_of(&rt, alloc, 1),
+        options,
+        &Wounding(&stage),
+    );
+    wrong.unless(well == Some(3), "rows and wounds");
     end(&rt, wrong);
 }
 
@@ -168,53 +164,33 @@ fn write_on<R: Wait + time::Clock>(
     }
 }
 
-// Whether the numbers tell of a letter that waits while two clients write, each a key of its own, and of none some time after that.
-fn waits<R: Threads + Wait + time::Clock + Sync>(
-    rt: &R,
-    alloc: Global,
-    clients: Vec<Client<'_, R>>,
-) -> bool {
-    let mut clients = clients;
-    let (Some(mut one), Some(mut other)) = (clients.pop(), clients.pop()) else {
-        return false;
-    };
-    drop(clients);
-    let numbers = one.numbers();
-    let is_seen = AtomicBool::new(false);
-    thread::join(
-        rt,
-        || thread::join(
-            rt,
-            || write_on(alloc, &mut one, b"a", &is_seen),
-            || write_on(alloc, &mut other, b"b", &is_seen),
-        ),
-        || is_seen.store(tells_waiting(rt, numbers, 1..=1_000), Ordering::SeqCst),
-    );
-    let none = tells_waiting(rt, numbers, 0..=0);
-    drop(one);
-    drop(other);
-    is_seen.load(Ordering::SeqCst) && none
+// Three clients, of which two write, each a key of its own. The third tells them once it has seen a letter that waits.
+#[derive(Clone, Copy)]
+struct Writing<'a>(&'a AtomicBool);
+
+impl<R: Wait + time::Clock> EachClient<R> for Writing<'_> {
+    // The third tells whether a letter waits while the others write, and none some time after that.
+    fn work(&self, rt: &R, alloc: Global, place: u64, client: &mut Client<'_, R>) -> bool {
+        if place < 2 {
+            let key: &[u8] = if place == 0 { b"a" } else { b"b" };
+            write_on(alloc, client, key, self.0);
+            return true;
+        }
+        let numbers = client.numbers();
+        let waits = tells_waiting(rt, numbers, 1..=1_000);
+        self.0.store(waits, Ordering::SeqCst);
+        waits && tells_waiting(rt, numbers, 0..=0)
+    }
 }
 
 // Fails if the numbers never tell of a letter that waits, or always do.
 #[test]
 fn waiting_letters_are_told(rt: HostRuntime) {
     let alloc = rt.alloc();
-    let mut slow = Vec::new(alloc);
-    for disk in disks_of(&rt, alloc, 1) {
-        let pushed = slow.push(Slow {
-            disk,
-            rt: &rt,
-            millis: SYNC,
-        });
-        pushed.ok().expect(&rt, "memory");
-    }
-    let store = Store::open(&rt, alloc, slow, of_one_shard(&rt, alloc, 2));
-    let store = store.ok().expect(&rt, "a store");
-    let served = store.serve(|clients: Vec<Client<'_, HostRuntime>>| waits(&rt, alloc, clients));
-    let (told, disks) = served.ok().expect(&rt, "a service");
-    drop(disks);
     let mut wrong = WrongRows::none(alloc);
-    wrong.unless(told, "letters that wait");
+    let is_seen = AtomicBool::new(false);
+    let (slow, options) = (slow_disks(&rt, alloc, 1, SYNC), of_one_shard(&rt, alloc, 3));
+    let well = serve_each(&rt, alloc, slow, options, &Writing(&is_seen));
+    wrong.unless(well == Some(3), "letters that wait");
     end(&rt, wrong);
 }

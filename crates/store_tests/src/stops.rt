@@ -1,5 +1,6 @@
 //! Drives over disks in memory, one of which fails.
-use crate::disks::{failing, settings_of, three_parts};
+use crate::clients::failing_disks;
+use crate::disks::settings_of;
 use crate::drives::Ends;
 use crate::gates::Meeting;
 use crate::verdict::end;
@@ -9,12 +10,9 @@ use progress::{Turn, Watch};
 use settings::Settings;
 use std::alloc::Global;
 use std::process::Abort;
-use std::sync::Wait;
 use std::sync::atomic::{AtomicU64, Ordering};
-use std::thread::Threads;
-use std::time;
 use std::time::{Duration, Instant};
-use units::Fault;
+use units::{Fault, Key, Splits};
 use workers::Counts;
 
 // How many shards there are, two or three; whose disk fails, and at which of its calls from the opening on. `begins` says whether the drive
@@ -106,13 +104,6 @@ struct Told {
 }
 
 impl Told {
-    fn new() -> Told {
-        Told {
-            ends: Ends::none(),
-            stops: [AtomicU64::new(0), AtomicU64::new(0), AtomicU64::new(0)],
-        }
-    }
-
     // One stop was told, of this shard, if there is one.
     fn has_stop(&self, stopped: Option<usize>) -> bool {
         for (shard, stops) in self.stops.iter().enumerate() {
@@ -152,44 +143,46 @@ impl Watch for Told {
     }
 }
 
-// The settings of a drive over so many shards.
+// The settings of a drive over so many shards: two, or three, which part at `k0003` and `k0006`.
 fn settings_for(rt: &impl Abort, alloc: Global, shards: u8) -> Settings {
     let mut settings = settings_of(rt, alloc, WORKERS, TRANSACTIONS, 10);
     if shards == 3 {
-        settings.splits = three_parts(rt, alloc);
+        let first = Key::new(b"k0003").expect(rt, "a key");
+        let second = Key::new(b"k0006").expect(rt, "a key");
+        settings.splits = Splits::new(alloc, &[first, second]).expect(rt, "splits");
     }
     settings
 }
 
-// Whether a drive as the row says is refused as `Device` within ten seconds, though each turn that waits for a shard in vain takes two. What
-// is told of it has to be right.
-fn goes<R: Threads + Wait + time::Clock + Sync + Abort>(rt: &R, alloc: Global, row: &Row) -> bool {
-    let settings = settings_for(rt, alloc, row.shards);
-    let told = Told::new();
-    let start = Instant::now(rt).ok().expect(rt, "a clock");
-    let disks = failing(rt, alloc, row.shards, row.shard, row.call);
-    let gate = Meeting::new(rt, false);
-    let clock = clock_of(rt, &settings);
-    let driven = drive_by(rt, alloc, &settings, disks, clock, &gate, &told);
-    drop(settings);
-    drop(gate);
-    let took = start.elapsed(rt).ok().expect(rt, "a clock");
-    let is_refused = match driven {
-        Ok(driven) => {
-            drop(driven);
-            false
-        }
-        Err(none) => none.fault == Fault::Device && told.is_right(row, none.counts),
-    };
-    is_refused && took < Duration::from_secs(10)
-}
-
-// Fails if a drive goes on for long after a device has failed, or tells it wrong.
+// Fails if a drive goes on for long after a device has failed, or tells it wrong. It has to be refused as `Device` within ten seconds, though each
+// turn that waits for a shard in vain takes two.
 #[test]
 fn stops(rt: HostRuntime) {
-    let mut wrong = WrongRows::none(rt.alloc());
+    let alloc = rt.alloc();
+    let mut wrong = WrongRows::none(alloc);
     for row in &ROWS {
-        wrong.unless(goes(&rt, rt.alloc(), row), row.name);
+        let settings = settings_for(&rt, alloc, row.shards);
+        let told = Told {
+            ends: Ends::none(),
+            stops: [AtomicU64::new(0), AtomicU64::new(0), AtomicU64::new(0)],
+        };
+        let start = Instant::now(&rt).ok().expect(&rt, "a clock");
+        let disks = failing_disks(&rt, alloc, usize::from(row.shards), row.shard, row.call);
+        let gate = Meeting::new(&rt, false);
+        let clock = clock_of(&rt, &settings);
+        let driven = drive_by(&rt, alloc, &settings, disks, clock, &gate, &told);
+        drop(settings);
+        drop(gate);
+        let took = start.elapsed(&rt).ok().expect(&rt, "a clock");
+        let is_refused = match driven {
+            Ok(driven) => {
+                drop(driven);
+                false
+            }
+            Err(none) => none.fault == Fault::Device && told.is_right(row, none.counts),
+        };
+        drop(told);
+        wrong.unless(is_refused && took < Duration::from_secs(10), row.name);
     }
     end(&rt, wrong);
 }

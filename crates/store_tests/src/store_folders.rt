@@ -1,4 +1,6 @@
 //! Folders of a store of two shards, which part at `m`: what is taken, what is refused, and what is left under which name.
+use crate::clients::two_parts;
+use crate::disks::{logs_of, settings_in};
 use crate::faulty::Faulty;
 use crate::folder_scenes::{MADE, Named, Scene, beside, emptied, logs, stores, strange, strangers};
 use crate::verdict::end;
@@ -15,12 +17,7 @@ use std::rt::Files;
 use std::sync::Wait;
 use std::thread::Threads;
 use std::time;
-use units::{Fault, Key, Splits};
-
-fn splits(test: &impl Abort, alloc: Global) -> Splits {
-    let split = Key::new(b"m").expect(test, "a key");
-    Splits::new(alloc, &[split]).expect(test, "splits")
-}
+use units::Fault;
 
 // The path of a name in a folder.
 fn path_of(rt: &HostRuntime, test: &impl Abort, folder: &Folder, name: &str) -> String {
@@ -83,7 +80,7 @@ fn asked(
 ) -> (Option<Fault>, bool) {
     let faulty = Faulty::new(rt, fails);
     let path = path_of(rt, test, folder, ".");
-    let splits = splits(test, rt.alloc());
+    let splits = two_parts(test, rt.alloc());
     let logs = logs_in(
         &faulty,
         rt.alloc(),
@@ -183,48 +180,29 @@ fn names_of_stores(rt: HostRuntime) {
     assert!(rt; !same);
 }
 
-// One worker, four transactions, over a folder.
-fn settings_of(rt: &HostRuntime, test: &impl Abort, folder: &Folder) -> Settings {
-    let dir = path_of(rt, test, folder, ".");
-    let text = format!(in rt.alloc();
-        "shards = 2\nsplits = [\"k0001\"]\nstride = 1000\nepsilon = 100\nworkers = 1\ntransactions = 4\nkeys = 2\ndir = \"{dir}\"\n"
-    );
-    drop(dir);
-    let text = text.ok().expect(test, "settings");
-    let settings = Settings::read(rt.alloc(), &text).expect(test, "settings");
-    drop(text);
-    settings
-}
+// The shards of a drive of four transactions.
+const SHARDS: &str = "shards = 2\nsplits = [\"k0001\"]";
 
-// Whether a drive that printed this has committed something, and its verdict is yes.
-fn went_well(text: &str) -> bool {
-    text.starts_with("committed ")
-        && !text.starts_with("committed 0\n")
-        && text.ends_with("\nverdict yes\n")
-}
-
-// The logs after a drive over a folder, which goes well.
-fn driven<R: Files<File = File> + RandomSource + Threads + Wait + time::Clock + Sync + Abort>(
-    rt: &HostRuntime,
-    test: &R,
-    folder: &Folder,
+// Whether a drive over a folder goes well: it has committed something, and its verdict is yes. Or why it is refused.
+fn driven<R: Files<File = File> + RandomSource + Threads + Wait + time::Clock + Sync>(
+    rt: &R,
+    alloc: Global,
     settings: &Settings,
-) -> [Vec<u8>; 2] {
-    let driven = drive_shards(
-        test,
-        rt.alloc(),
-        settings,
-        None::<Vec<u8>>,
-        false,
-        &Noted::none(),
-    );
-    let driven = driven.ok().expect(test, "a drive");
-    let well = went_well(&driven.text);
-    drop(driven);
-    assert!(test; well);
-    let first = folder.read(rt, "shard-0.log").ok();
-    let second = folder.read(rt, "shard-1.log").ok();
-    [first.expect(test, "a log"), second.expect(test, "a log")]
+) -> Result<bool, Fault> {
+    match drive_shards(rt, alloc, settings, None::<Vec<u8>>, false, &Noted::none()) {
+        Ok(driven) => {
+            let text = driven.text.as_str();
+            let some = text.starts_with("committed ") && !text.starts_with("committed 0\n");
+            let well = some && text.ends_with("\nverdict yes\n");
+            drop(driven);
+            Ok(well)
+        }
+        Err(none) => {
+            let fault = none.fault;
+            drop(none);
+            Err(fault)
+        }
+    }
 }
 
 // What a log has after what it was.
@@ -245,51 +223,36 @@ fn goes_on(before: &[u8], after: &[u8]) -> bool {
 #[test]
 fn a_second_drive(rt: HostRuntime) {
     let folder = Folder::new(&rt).ok().expect(&rt, "a folder");
-    let settings = settings_of(&rt, &rt, &folder);
-    let [first, second] = driven(&rt, &rt, &folder, &settings);
-    let [first_again, second_again] = driven(&rt, &rt, &folder, &settings);
+    let settings = settings_in(&rt, &rt, &folder, SHARDS, 4);
+    let once = driven(&rt, rt.alloc(), &settings);
+    let [first, second] = logs_of(&rt, &folder).expect(&rt, "logs");
+    let twice = driven(&rt, rt.alloc(), &settings);
+    let [first_again, second_again] = logs_of(&rt, &folder).expect(&rt, "logs");
     drop(settings);
     let went = goes_on(&first, &first_again) && goes_on(&second, &second_again);
     drop(first);
     drop(second);
     drop(first_again);
     drop(second_again);
-    assert!(rt; folder.remove(&rt) && went);
-}
-
-// Why a drive over a folder is refused, if it is.
-fn drive_refused<R: Files<File = File> + RandomSource + Threads + Wait + time::Clock + Sync>(
-    rt: &R,
-    alloc: Global,
-    settings: &Settings,
-) -> Option<Fault> {
-    match drive_shards(rt, alloc, settings, None::<Vec<u8>>, false, &Noted::none()) {
-        Ok(driven) => {
-            drop(driven);
-            None
-        }
-        Err(none) => {
-            let fault = none.fault;
-            drop(none);
-            Some(fault)
-        }
-    }
+    assert!(rt; folder.remove(&rt) && went && once == Ok(true) && twice == Ok(true));
 }
 
 // A log that is emptied between two drives is refused, and no drive makes it anew; the other one loses nothing.
 #[test]
 fn an_emptied_log(rt: HostRuntime) {
     let folder = Folder::new(&rt).ok().expect(&rt, "a folder");
-    let settings = settings_of(&rt, &rt, &folder);
-    let [first, second] = driven(&rt, &rt, &folder, &settings);
+    let settings = settings_in(&rt, &rt, &folder, SHARDS, 4);
+    let once = driven(&rt, rt.alloc(), &settings);
+    let [first, second] = logs_of(&rt, &folder).expect(&rt, "logs");
     drop(second);
     let put = folder.put(&rt, "shard-1.log", b"");
     put.ok().expect(&rt, "an empty file");
-    let fault = drive_refused(&rt, rt.alloc(), &settings);
+    let twice = driven(&rt, rt.alloc(), &settings);
     drop(settings);
     let after = folder.read(&rt, "shard-0.log").ok().expect(&rt, "a log");
     let kept = rest_of(&first, &after).is_some() && folder.has(&rt, "shard-1.log", b"");
     drop(first);
     drop(after);
-    assert!(rt; folder.remove(&rt) && fault == Some(Fault::NotALog) && kept);
+    let refused = once == Ok(true) && twice == Err(Fault::NotALog);
+    assert!(rt; folder.remove(&rt) && refused && kept);
 }

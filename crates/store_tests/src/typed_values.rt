@@ -1,9 +1,9 @@
 //! Values that are written and read by type.
-use crate::clients::{disks_of, of_two_shards, store_of};
+use crate::clients::{disks_of, of_two_shards};
+use crate::served::{OneClient, serve_one};
 use crate::verdict::end;
 use made::WrongRows;
 use std::alloc::Global;
-use std::process::Abort;
 use std::sync::Wait;
 use std::time;
 use store::{Client, Ended, Halt, Halted, Transaction};
@@ -21,7 +21,6 @@ struct Read {
     sum: bool,
     too_small: bool,
     other: bool,
-    view: bool,
 }
 
 const NOTHING: Read = Read {
@@ -32,7 +31,6 @@ const NOTHING: Read = Read {
     sum: false,
     too_small: false,
     other: false,
-    view: false,
 };
 
 // Writes by type, and reads that.
@@ -61,46 +59,52 @@ fn write_and_read<R: Wait + time::Clock>(
     Ok(read)
 }
 
-// What a transaction and a view read.
-fn work<R: Wait + time::Clock>(alloc: Global, clients: Vec<Client<'_, R>>) -> Result<Read, Fault> {
-    let mut clients = clients;
-    let Some(mut client) = clients.pop() else {
-        return Err(Fault::Room);
-    };
-    drop(clients);
-    let ended = client.transact(5, |tx: &mut Transaction<'_, R>| -> Result<Read, Halt> {
-        write_and_read(alloc, tx)
-    })?;
-    let Ended::Committed { value, .. } = ended else {
-        return Err(Fault::TimeSpent);
-    };
-    let mut read = value;
+// Whether a view has the numbers.
+fn has_numbers<R: Wait + time::Clock>(client: &mut Client<'_, R>) -> Result<bool, Fault> {
     let Some(mut view) = client.view() else {
         return Err(Fault::TimeSpent);
     };
     let (a, b) = (Key::new(b"a")?, Key::new(b"b")?);
-    read.view = view.get_as::<u64>(&a)? == Some(4) && view.get_as::<u64>(&b)? == Some(5);
-    Ok(read)
+    Ok(view.get_as::<u64>(&a)? == Some(4) && view.get_as::<u64>(&b)? == Some(5))
+}
+
+// What a transaction and a view read.
+#[derive(Clone, Copy)]
+struct Typing;
+
+impl<R: Wait + time::Clock> OneClient<R> for Typing {
+    fn work(
+        &self,
+        _rt: &R,
+        alloc: Global,
+        client: &mut Client<'_, R>,
+        wrong: &mut WrongRows,
+    ) -> Option<()> {
+        let ended = client.transact(5, |tx: &mut Transaction<'_, R>| -> Result<Read, Halt> {
+            write_and_read(alloc, tx)
+        });
+        let read = match &ended {
+            Ok(Ended::Committed { value, .. }) => *value,
+            _ => return None,
+        };
+        wrong.unless(read.number, "a number");
+        wrong.unless(read.text, "a text");
+        wrong.unless(read.bytes, "bytes");
+        wrong.unless(read.none, "a key without a value");
+        wrong.unless(read.sum, "a sum");
+        wrong.unless(read.too_small, "a sum below 0");
+        wrong.unless(read.other, "a value of another type");
+        wrong.unless(has_numbers(client) == Ok(true), "in a view");
+        Some(())
+    }
 }
 
 // Fails if what was written by type is read otherwise.
 #[test]
 fn values_have_types(rt: HostRuntime) {
     let alloc = rt.alloc();
-    let options = of_two_shards(&rt, alloc, 100_000);
-    let store = store_of(&rt, alloc, disks_of(&rt, alloc, 2), options);
-    let served = store.serve(|clients: Vec<Client<'_, HostRuntime>>| work(alloc, clients));
-    let (read, disks) = served.ok().expect(&rt, "a service");
-    drop(disks);
-    let read = read.ok().expect(&rt, "values");
     let mut wrong = WrongRows::none(alloc);
-    wrong.unless(read.number, "a number");
-    wrong.unless(read.text, "a text");
-    wrong.unless(read.bytes, "bytes");
-    wrong.unless(read.none, "a key without a value");
-    wrong.unless(read.sum, "a sum");
-    wrong.unless(read.too_small, "a sum below 0");
-    wrong.unless(read.other, "a value of another type");
-    wrong.unless(read.view, "in a view");
+    let (disks, options) = (disks_of(&rt, alloc, 2), of_two_shards(&rt, alloc, 100_000));
+    drop(serve_one(&rt, alloc, disks, options, "values", &Typing, &mut wrong));
     end(&rt, wrong);
 }

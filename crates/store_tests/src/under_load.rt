@@ -1,17 +1,17 @@
 //! Clients that wait: for slow devices, for long epsilons, and for each other. None is told `Unknown`, since nothing fails.
-use crate::clients::disks_of;
-use crate::slow::Slow;
+use crate::clients::{is_committed, two_parts, write};
+use crate::served::{EachClient, serve_each, wait_for};
+use crate::slow::slow_disks;
 use crate::verdict::end;
 use made::WrongRows;
 use std::alloc::Global;
 use std::process::Abort;
 use std::sync::Wait;
 use std::sync::atomic::{AtomicU64, Ordering};
-use std::thread::Threads;
 use std::time::{Duration, Instant};
 use std::{thread, time};
-use store::{Client, Ended, Halt, Options, Store, Transaction};
-use units::{Key, Splits, Value};
+use store::{Client, Halt, Options, Transaction};
+use units::{Key, Value};
 
 // So many clients, each of which writes a key of its own to each of two shards so often. The devices' syncs take so many milliseconds, and
 // the epsilon is in microseconds. No two clients are in each other's way, so each transaction commits at once, however long that takes.
@@ -40,21 +40,9 @@ static ROWS: [Row; 2] = [
     },
 ];
 
-// Slow disks with an empty log.
-fn slow_disks<'r, R: Abort>(rt: &'r R, alloc: Global, millis: u64) -> Vec<Slow<'r, R>> {
-    let mut slow = Vec::new(alloc);
-    for disk in disks_of(rt, alloc, 2) {
-        let pushed = slow.push(Slow { disk, rt, millis });
-        pushed.ok().expect(rt, "memory");
-    }
-    slow
-}
-
 // Options of a store over two shards, which part at `m`.
 fn options_of(rt: &impl Abort, alloc: Global, clients: u64, epsilon: u64) -> Options {
-    let split = Key::new(b"m").ok().expect(rt, "a key");
-    let splits = Splits::new(alloc, &[split]).ok().expect(rt, "splits");
-    let mut options = Options::new(splits, clients);
+    let mut options = Options::new(two_parts(rt, alloc), clients);
     options.epsilon = epsilon;
     options
 }
@@ -73,57 +61,31 @@ fn commits_at_once<R: Wait + time::Clock>(
         }
         Ok(())
     });
-    attempts == 1 && matches!(ended, Ok(Ended::Committed { .. }))
+    attempts == 1 && is_committed(&ended)
 }
 
-// How many transactions of all clients commit at once.
-fn committed<R: Threads + Wait + time::Clock + Sync>(
-    rt: &R,
-    alloc: Global,
-    clients: Vec<Client<'_, R>>,
-    turns: u64,
-) -> u64 {
-    let number = AtomicU64::new(0);
-    let all = AtomicU64::new(0);
-    let done = thread::map_vec(
-        rt,
-        clients,
-        &|client: Client<'_, R>| {
-            let mut client = client;
-            let own = (number.fetch_add(1, Ordering::SeqCst) % 64) as u8;
-            for _turn in 0..turns {
-                if commits_at_once(alloc, &mut client, own) {
-                    all.fetch_add(1, Ordering::SeqCst);
-                }
-            }
-            drop(client);
-        },
-    );
-    drop(done);
-    all.load(Ordering::SeqCst)
-}
-
-// Whether all do over new disks.
-fn goes<R: Threads + Wait + time::Clock + Sync + Abort>(rt: &R, alloc: Global, row: &Row) -> bool {
-    let options = options_of(rt, alloc, row.clients, row.epsilon);
-    let Ok(store) = Store::open(rt, alloc, slow_disks(rt, alloc, row.millis), options) else {
-        return false;
-    };
-    match store.serve(|clients: Vec<Client<'_, R>>| committed(rt, alloc, clients, row.turns)) {
-        Ok((all, disks)) => {
-            drop(disks);
-            Some(all) == row.clients.checked_mul(row.turns)
+impl<R: Wait + time::Clock> EachClient<R> for Row {
+    // Whether all transactions of a client commit at once.
+    fn work(&self, _rt: &R, alloc: Global, place: u64, client: &mut Client<'_, R>) -> bool {
+        let own = (place % 64) as u8;
+        let mut all = true;
+        for _turn in 0..self.turns {
+            all = commits_at_once(alloc, client, own) && all;
         }
-        Err(_) => false,
+        all
     }
 }
 
 // Fails if a client gives up a transaction that is under way at its shards, or tells it `Unknown`.
 #[test]
 fn clients_wait_for_slow_shards(rt: HostRuntime) {
-    let mut wrong = WrongRows::none(rt.alloc());
+    let alloc = rt.alloc();
+    let mut wrong = WrongRows::none(alloc);
     for row in &ROWS {
-        wrong.unless(goes(&rt, rt.alloc(), row), row.name);
+        let options = options_of(&rt, alloc, row.clients, row.epsilon);
+        let disks = slow_disks(&rt, alloc, 2, row.millis);
+        let all = serve_each(&rt, alloc, disks, options, row);
+        wrong.unless(all == Some(row.clients), row.name);
     }
     end(&rt, wrong);
 }
@@ -147,63 +109,22 @@ fn add<R: Wait + time::Clock>(
         tx.put(&Key::new(b"z")?, Value::new(alloc, b"1")?)?;
         Ok(())
     });
-    matches!(ended, Ok(Ended::Committed { .. }))
+    is_committed(&ended)
 }
 
-// Writes both keys, once the other client has read the first: shard 1 promises that, and shard 0 waits for who has read there, which is older.
-fn write_both<R: Wait + time::Clock>(
-    rt: &R,
-    alloc: Global,
-    client: &mut Client<'_, R>,
-    begun: &AtomicU64,
-) -> bool {
-    for _turn in 0..10_000 {
-        if begun.load(Ordering::SeqCst) > 0 {
-            break;
-        }
-        thread::sleep(rt, Duration::from_millis(1));
-    }
-    let ended = client.transact(50, |tx: &mut Transaction<'_, R>| -> Result<(), Halt> {
-        for key in [b"a", b"z"] {
-            tx.put(&Key::new(key)?, Value::new(alloc, b"2")?)?;
-        }
-        Ok(())
-    });
-    matches!(ended, Ok(Ended::Committed { .. }))
-}
+// Two clients that wait for each other. The number is 1 once the first has read.
+#[derive(Clone, Copy)]
+struct Meeting<'a>(&'a AtomicU64);
 
-// Whether two clients that wait for each other both commit.
-fn both<R: Threads + Wait + time::Clock + Sync>(
-    rt: &R,
-    alloc: Global,
-    clients: Vec<Client<'_, R>>,
-) -> bool {
-    let begun = AtomicU64::new(0);
-    let mut jobs = Vec::new(alloc);
-    for client in clients {
-        if jobs.push((jobs.is_empty(), client)).is_err() {
-            return false;
+impl<R: Wait + time::Clock> EachClient<R> for Meeting<'_> {
+    // Whether a client commits. The second writes both keys, once the first has read one: shard 1 promises that, and shard 0 waits for who has
+    // read there, which is older.
+    fn work(&self, rt: &R, alloc: Global, place: u64, client: &mut Client<'_, R>) -> bool {
+        if place == 0 {
+            return add(rt, alloc, client, self.0);
         }
-    }
-    let ended = thread::map_vec(
-        rt,
-        jobs,
-        &|job: (bool, Client<'_, R>)| -> bool {
-            let (reads, mut client) = job;
-            if reads {
-                add(rt, alloc, &mut client, &begun)
-            } else {
-                write_both(rt, alloc, &mut client, &begun)
-            }
-        },
-    );
-    match ended {
-        Ok(ended) => {
-            let both = !ended.contains(&false);
-            drop(ended);
-            both
-        }
-        Err(_) => false,
+        wait_for(rt, self.0, 1);
+        is_committed(&write(alloc, client, 50, &[b"a", b"z"], b"2"))
     }
 }
 
@@ -212,16 +133,16 @@ fn both<R: Threads + Wait + time::Clock + Sync>(
 #[test]
 fn deadlocks(rt: HostRuntime) {
     let alloc = rt.alloc();
-    let options = options_of(&rt, alloc, 2, 1_000);
-    let store = Store::open(&rt, alloc, slow_disks(&rt, alloc, 0), options).ok();
-    let store = store.expect(&rt, "a store");
+    let (options, slow) = (
+        options_of(&rt, alloc, 2, 1_000),
+        slow_disks(&rt, alloc, 2, 0),
+    );
+    let begun = AtomicU64::new(0);
     let start = Instant::now(&rt).ok().expect(&rt, "a clock");
-    let served = store.serve(|clients: Vec<Client<'_, HostRuntime>>| both(&rt, alloc, clients));
+    let well = serve_each(&rt, alloc, slow, options, &Meeting(&begun));
     let took = start.elapsed(&rt).ok().expect(&rt, "a clock");
-    let (committed, disks) = served.ok().expect(&rt, "a service");
-    drop(disks);
     let mut wrong = WrongRows::none(alloc);
-    wrong.unless(committed, "both commit");
+    wrong.unless(well == Some(2), "both commit");
     wrong.unless(took < Duration::from_secs(1), "soon");
     end(&rt, wrong);
 }

@@ -1,32 +1,16 @@
 //! Stores over two shards: at which timestamp a view stands that is opened after a commit, and what views tell, also once the store is opened
 //! again.
-use crate::clients::{KEYS, disks_of, of_two_shards, sees, store_of, write};
+use crate::clients::{KEYS, answered_at, disks_of, of_two_shards, sees, stamp_of, write};
+use crate::served::{OneClient, Sees, serve_one};
 use crate::verdict::end;
 use drive::MachineClock;
 use made::WrongRows;
-use simdisk::SimDisk;
 use std::alloc::Global;
 use std::process::Abort;
 use std::sync::Wait;
-use std::thread::Threads;
 use std::time;
-use store::{Client, Ended, Options, Store};
+use store::{Client, Options};
 use truetime::Clock;
-
-// What is so of a view after a commit. It stands no sooner, and between two readings of the machine's clock. A view tells what was written on
-// both shards.
-#[derive(Clone, Copy)]
-struct Told {
-    behind: bool,
-    present: bool,
-    seen: bool,
-}
-
-static NOTHING: Told = Told {
-    behind: false,
-    present: false,
-    seen: false,
-};
 
 // How many microseconds the true time may be from the machine's clock.
 const EPSILON: u64 = 1_000;
@@ -36,23 +20,6 @@ fn options(rt: &impl Abort, alloc: Global) -> Options {
     let mut options = of_two_shards(rt, alloc, 100_000);
     options.epsilon = EPSILON;
     options
-}
-
-// The timestamp of a commit to both shards, in microseconds.
-fn committed<R: Wait + time::Clock>(alloc: Global, client: &mut Client<'_, R>) -> Option<u64> {
-    let ended = write(alloc, client, 5, &KEYS, b"1");
-    match &ended {
-        Ok(Ended::Committed { at, .. }) => Some(at.micros()),
-        _ => None,
-    }
-}
-
-// That of a view.
-fn opened<R: Wait + time::Clock>(client: &mut Client<'_, R>) -> Option<u64> {
-    let view = client.view()?;
-    let at = view.at().micros();
-    drop(view);
-    Some(at)
 }
 
 // The latest of a reading of the machine's clock.
@@ -67,80 +34,65 @@ fn latest<R: time::Clock>(rt: &R) -> Option<u64> {
     }
 }
 
-// What is so after a commit.
-fn behind_commit<R: Wait + time::Clock>(
-    rt: &R,
-    alloc: Global,
-    clients: Vec<Client<'_, R>>,
-) -> Told {
-    let mut clients = clients;
-    let Some(mut client) = clients.pop() else {
-        return NOTHING;
-    };
-    let since = committed(alloc, &mut client);
-    let before = latest(rt);
-    let at = opened(&mut client);
-    let behind = latest(rt);
-    let seen = sees(&mut client, &KEYS, b"1").is_ok();
-    drop(client);
-    drop(clients);
-    match (since, before, at, behind) {
-        (Some(since), Some(before), Some(at), Some(behind)) => Told {
-            behind: since <= at,
-            present: before <= at && at <= behind,
-            seen,
-        },
-        _ => NOTHING,
+// What is so of a view after a commit. It stands no sooner, and between two readings of the machine's clock. A view tells what was written on
+// both shards.
+#[derive(Clone, Copy)]
+struct Looking;
+
+impl<R: Wait + time::Clock> OneClient<R> for Looking {
+    fn work(
+        &self,
+        rt: &R,
+        alloc: Global,
+        client: &mut Client<'_, R>,
+        wrong: &mut WrongRows,
+    ) -> Option<()> {
+        let since = stamp_of(&write(alloc, client, 5, &KEYS, b"1"))?;
+        let before = latest(rt)?;
+        let at = answered_at(client, &[])?;
+        let after = latest(rt)?;
+        let seen = sees(client, &KEYS, b"1").is_ok();
+        let later = since.micros() <= at;
+        wrong.unless(later, "a view stands no sooner than what is committed");
+        let present = before <= at && at <= after;
+        wrong.unless(present, "a view stands at the present");
+        wrong.unless(seen, "a view tells what is committed");
+        Some(())
     }
 }
 
-// Whether a view tells what was written.
-fn stays<R: Wait + time::Clock>(clients: Vec<Client<'_, R>>) -> bool {
-    let mut clients = clients;
-    let seen = match clients.pop() {
-        Some(mut client) => sees(&mut client, &KEYS, b"1").is_ok(),
-        None => false,
-    };
-    drop(clients);
-    seen
-}
-
-// Whether that is so of a store over the disks, if they are taken.
-fn stays_over<R: Threads + Wait + time::Clock + Sync + Abort>(
-    rt: &R,
-    alloc: Global,
-    disks: Vec<SimDisk>,
-) -> bool {
-    let Ok(store) = Store::open(rt, alloc, disks, options(rt, alloc)) else {
-        return false;
-    };
-    match store.serve(|clients: Vec<Client<'_, R>>| stays(clients)) {
-        Ok((seen, disks)) => {
-            drop(disks);
-            seen
-        }
-        Err(_) => false,
-    }
-}
+// What was written.
+static SEEN: Sees<'static> = Sees {
+    keys: &KEYS,
+    value: b"1",
+};
 
 // Fails if the clock of a store is not the machine's, or a view stands by a reading from before. It also fails if the disks of a store that
 // is closed are not handed back by shard.
 #[test]
 fn views_tell_what_was_committed(rt: HostRuntime) {
     let alloc = rt.alloc();
-    let store = store_of(&rt, alloc, disks_of(&rt, alloc, 2), options(&rt, alloc));
-    let served = store.serve(|clients: Vec<Client<'_, HostRuntime>>| behind_commit(
-        &rt, alloc, clients,
-    ));
-    let (told, disks) = served.ok().expect(&rt, "a service");
-    let stays = stays_over(&rt, alloc, disks);
     let mut wrong = WrongRows::none(alloc);
-    wrong.unless(
-        told.behind,
-        "a view stands no sooner than what is committed",
+    let (disks, options_then) = (disks_of(&rt, alloc, 2), options(&rt, alloc));
+    let served = serve_one(
+        &rt,
+        alloc,
+        disks,
+        options_then,
+        "a commit",
+        &Looking,
+        &mut wrong,
     );
-    wrong.unless(told.present, "a view stands at the present");
-    wrong.unless(told.seen, "a view tells what is committed");
-    wrong.unless(stays, "the same once the store is opened again");
+    let disks = served.expect(&rt, "a service");
+    let name = "the same once the store is opened again";
+    drop(serve_one(
+        &rt,
+        alloc,
+        disks,
+        options(&rt, alloc),
+        name,
+        &SEEN,
+        &mut wrong,
+    ));
     end(&rt, wrong);
 }
